@@ -1,0 +1,54 @@
+//! Numbers of 32 bits, with a sign or without one.
+
+use std::marker::Model;
+
+/// A number that implementations read as a signed or as an unsigned number of 32 bits (UInt32 of
+/// RFC 4120, 5.2.4, as it comes in practice): -2147483648 to 4294967295, kept as it came.
+#[derive(Clone, Copy, PartialEq, Eq, Debug)]
+pub struct Wide32 {
+    number: i64,
+}
+
+impl Model for Wide32 {
+    ghost use Rattle.std.specs.Prelude.{ℤ};
+    ghost use Rattle.krb_der.specs.Scalars.{IsWide32};
+
+    ghost Value = { ℤ };
+
+    ghost view = { λ wide32. wide32.number };
+
+    ghost invariant = { λ wide32. IsWide32 wide32.number };
+
+    ghost inverse = { λ number. record { number = number } };
+}
+
+ghost use Rattle.std.specs.Prelude.{◌≡◌, ◌↔◌, IsSome, IfSome};
+ghost use Rattle.krb_der.specs.Scalars.{IsWide32};
+
+impl Wide32 {
+    /// The least of them, -2147483648.
+    pub const LEAST: i64 = -2147483648;
+
+    /// The greatest of them, 4294967295.
+    pub const GREATEST: i64 = 4294967295;
+
+    /// The Wide32 of a number from `LEAST` to `GREATEST`, and `None` of any other.
+    pub fn new(number: i64) -> Option<Wide32>
+        ensures range { IsSome result ↔ IsWide32 number }
+        ensures value { IfSome result (λ wide32. wide32 ≡ number) }
+    {
+        if (Wide32::LEAST..=Wide32::GREATEST).contains(&number) {
+            Some(Wide32 { number })
+        } else {
+            None
+        }
+    }
+
+    /// The number.
+    pub fn get(self) -> i64
+        ensures value { result ≡ self }
+        ensures range { IsWide32 result }
+    {
+        self.number
+    }
+}

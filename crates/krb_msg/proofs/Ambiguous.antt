@@ -1,0 +1,23 @@
+-- Why the laws ask that a term is unambiguous: two terms whose optional fields are not told apart by their tags.
+use Rattle.std.proofs.Common.{◌≡◌, [], ◌∷◌, Some, None, true, false, refl}
+use Rattle.krb_der.specs.declared.why.Why.TheVariants as why
+use Rattle.krb_msg.specs.Term.{Term, Text, Sequence, End, Required, Optional, der}
+use Rattle.krb_msg.specs.Shape.{is_unambiguous}
+use Rattle.krb_msg.specs.Judgement.{Bad, item_outcome}
+
+abbrev text_or_two : Term
+text_or_two = Sequence 0 (Optional (Text 0) (Required (Text 0) End))
+
+abbrev two_options : Term
+two_options = Sequence 0 (Optional (Text 0) (Optional (Text 0) End))
+
+text_or_two-ambiguous : is_unambiguous text_or_two ≡ false
+text_or_two-ambiguous = refl
+
+-- a value that fits, whose octets are refused
+refused_value : item_outcome text_or_two 5 true (der text_or_two (None, (65 ∷ [], tt))) ≡ Bad 4 why.Missing
+refused_value = refl
+
+-- two values with the same octets
+same_octets : der two_options (Some (65 ∷ []), (None, tt)) ≡ der two_options (None, (Some (65 ∷ []), tt))
+same_octets = refl

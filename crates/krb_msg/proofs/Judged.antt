@@ -1,0 +1,147 @@
+-- The laws of the judgement and of DER, at the messages of the crate.
+use Rattle.std.proofs.Common.{◌≡◌, ℕ, suc, ◌+◌, ◌^◌, ◌<◌, ◌≤◌, ◌⊎◌, inl, inr, ℤ, pos, true, List, [], ◌∷◌, ◌++◌, length, take, refl, sym, ◌∙◌, ap, subst, arith, append-nil}
+use Rattle.std.specs.Prelude.{◌≤ℤ◌}
+use Rattle.std.proofs.lemmas.Int.{ints}
+use Rattle.std.proofs.lemmas.List.{take_all, length-take-le}
+use Rattle.krb_der.specs.Octets.{AreOctets}
+use Rattle.krb_der.specs.declared.why.Why.{Why}
+use Rattle.krb_der.specs.declared.verdict.Verdict.{Verdict}
+use Rattle.krb_der.specs.declared.verdict.Refusal.{Refusal}
+use Rattle.krb_der.specs.declared.verdict.Verdict.TheVariants as verdict
+use Rattle.krb_msg.specs.declared.message.Message.{Message}
+use Rattle.krb_msg.specs.declared.message.Message.TheVariants as message
+use Rattle.krb_msg.specs.declared.message.Kind.{Kind}
+use Rattle.krb_msg.specs.declared.message.Kind.TheVariants as kind
+use Rattle.krb_msg.specs.Term.{Term, tag_of, Value, der, Fits}
+use Rattle.krb_msg.specs.Grammar.{messages}
+use Rattle.krb_msg.specs.Judgement.{Outcome, Open, Bad, Done, message_outcome, judgement, verdict_of}
+use Rattle.krb_msg.specs.Views.{kind_of, kind_term, message_value, message_of, message_der, ap_rep_of, IsInProfile}
+use Rattle.krb_msg.specs.Laws.{AreMessage, IsFinal}
+use Rattle.krb_der.proofs.Items.{same_from_cons}
+use Rattle.krb_msg.proofs.Values.{der-append}
+use Rattle.krb_msg.proofs.Laws.{IsWhole, Settles, same_value}
+use Rattle.krb_msg.proofs.Messages.{IsChosen, IsWhole-message, Settles-message_outcome, message_outcome-decided, message-accepts, unambiguous_message}
+
+-- ---- the judgement and the outcome
+whole_outcome : (outcome : Outcome) → verdict_of outcome ≡ verdict.Whole → (count : ℕ) × (outcome ≡ Done count)
+whole_outcome Open e = absurd cc
+whole_outcome (Bad offset reason) e = absurd cc
+whole_outcome (Done count) e = (count, refl)
+
+refused_outcome : (outcome : Outcome) (place : ℕ) (reason : Why) → verdict_of outcome ≡ verdict.Refused (record { place = place; why = reason }) → outcome ≡ Bad place reason
+refused_outcome Open place reason e = absurd cc
+refused_outcome (Bad offset other) place reason e =
+    let there : Refusal = record { place = offset; why = other } in
+    let here : Refusal = record { place = place; why = reason } in
+    let same : there ≡ here = cc in
+    λ i. Bad ((same i).place) ((same i).why)
+refused_outcome (Done count) place reason e = absurd cc
+
+open_outcome : (outcome : Outcome) → verdict_of outcome ≡ verdict.Open → outcome ≡ Open
+open_outcome Open e = refl
+open_outcome (Bad offset reason) e = absurd cc
+open_outcome (Done count) e = absurd cc
+
+-- ---- messages of each kind
+chosen_kind : (k : Kind) → IsChosen (kind_term k) messages
+chosen_kind kind.ApRep = inl refl
+
+kind_of_chosen : (term : Term) → IsChosen term messages → (k : Kind) × (term ≡ kind_term k)
+kind_of_chosen term (inl e) = (kind.ApRep, e)
+kind_of_chosen term (inr c) = absurd c.1
+
+-- the kind whose messages begin with a tag
+abbrev kind_of_tag : ℕ → Kind
+kind_of_tag tag = kind.ApRep
+
+kind_of_tag-tag : (k : Kind) → kind_of_tag (tag_of (kind_term k)) ≡ k
+kind_of_tag-tag kind.ApRep = refl
+
+pub message_comes_back : (m : Message) → message_of (kind_of m) (message_value m) ≡ m
+message_comes_back (message.ApRep m) = refl
+
+exactly_one : (k : ℕ) (z : ℤ) → pos k ≤ℤ z → z ≤ℤ pos k → pos k ≡ z
+exactly_one k z low high = omega (arith, ints)
+
+-- the message that a value stands for
+pub record StandsFor (term : Term) (value : Value term) : Type 0 where
+  pub message : Message
+  pub fits : Fits (kind_term (kind_of message)) (message_value message)
+  pub form : message_der message ≡ der term value
+
+-- a message whose value is one that fits
+StandsFor-same : (m : Message) (value : Value (kind_term (kind_of m))) → message_value m ≡ value → Fits (kind_term (kind_of m)) value → StandsFor (kind_term (kind_of m)) value
+StandsFor-same m value e f = record {
+  message = m;
+  fits = subst (λ v. Fits (kind_term (kind_of m)) v) (sym e) f;
+  form = ap (der (kind_term (kind_of m))) e;
+}
+
+kind_stands : (k : Kind) (value : Value (kind_term k)) → Fits (kind_term k) value → StandsFor (kind_term k) value
+kind_stands kind.ApRep (five, (fifteen, (enc, none))) f =
+    let p : pos 5 ≡ five = exactly_one 5 five f.0.0 f.0.1 in
+    let q : pos 15 ≡ fifteen = exactly_one 15 fifteen f.1.0.0 f.1.0.1 in
+    StandsFor-same (message.ApRep (ap_rep_of (five, (fifteen, (enc, none))))) (five, (fifteen, (enc, none))) (λ i. (p i, (q i, (enc, none)))) f
+
+stands_for : (term : Term) → IsChosen term messages → (value : Value term) → Fits term value → StandsFor term value
+stands_for term c = let k : (k : Kind) × (term ≡ kind_term k) = kind_of_chosen term c in subst (λ t. (value : Value t) → Fits t value → StandsFor t value) (sym k.1) (kind_stands k.0)
+
+-- ---- the laws
+pub whole_is_message : (n : ℕ) (octets : List ℕ) → n < 2 ^ 31 → AreOctets octets → length octets ≤ n → judgement n octets ≡ verdict.Whole → AreMessage n octets
+whole_is_message n octets small a l e = by (whole_outcome (message_outcome messages n octets) e)
+  where
+    by : (count : ℕ) × (message_outcome messages n octets ≡ Done count) → AreMessage n octets
+    by (count, d) = of_whole (IsWhole-message messages n octets count a d)
+      where
+        of_whole : (term : Term) × (IsChosen term messages) × (IsWhole term n true octets count) → AreMessage n octets
+        of_whole (term, c, w) =
+            let s : StandsFor term w.value = stands_for term c w.value w.fits in
+            let fills : count ≡ n = w.fills refl in
+            let all : length octets ≡ n = omega (arith, w.within) in
+            let form : message_der s.message ≡ octets = s.form ∙ sym w.form ∙ take_all count octets (omega arith) in
+            record { message = s.message; in_profile = record { fits = s.fits; short = omega (arith, ap length form) }; form = form; all = all }
+
+pub message_is_whole : (m : Message) → IsInProfile m → judgement (length (message_der m)) (message_der m) ≡ verdict.Whole
+message_is_whole m p =
+    let e : message_outcome messages (length (message_der m)) (message_der m ++ []) ≡ Done (length (message_der m)) =
+    message-accepts (kind_term (kind_of m)) (chosen_kind (kind_of m)) (message_value m) p.fits (omega (arith, p.short)) [] in
+    ap verdict_of (ap (message_outcome messages (length (message_der m))) (sym (append-nil (message_der m))) ∙ e)
+
+pub refusal_is_final : (n : ℕ) (octets : List ℕ) (place : ℕ) (reason : Why) → length octets ≤ n → judgement n octets ≡ verdict.Refused (record { place = place; why = reason }) → IsFinal n octets place reason
+refusal_is_final n octets place reason l e =
+    let s : Settles n (message_outcome messages n) octets (Bad place reason) = Settles-message_outcome messages n octets (Bad place reason) l (refused_outcome (message_outcome messages n octets) place reason e) tt in
+    record {
+      within = s.within;
+      same = λ other k t. ap verdict_of (s.same other k t);
+      sooner = λ k h. ap verdict_of (s.sooner k (omega arith));
+    }
+
+pub refusal_is_right : (n : ℕ) (octets : List ℕ) (place : ℕ) (reason : Why) → length octets ≤ n → judgement n octets ≡ verdict.Refused (record { place = place; why = reason }) → (m : Message) → IsInProfile m → length (message_der m) ≡ n → take (suc place) (message_der m) ≡ take (suc place) octets → ⊥
+refusal_is_right n octets place reason l e m p same begins =
+    let whole : judgement n (message_der m) ≡ verdict.Whole = subst (λ k. judgement k (message_der m) ≡ verdict.Whole) same (message_is_whole m p) in
+    let refused : judgement n (message_der m) ≡ verdict.Refused (record { place = place; why = reason }) = (refusal_is_final n octets place reason l e).same (message_der m) (omega arith) begins in
+    cc
+
+pub all_is_decided : (n : ℕ) (octets : List ℕ) → 0 < n → length octets ≡ n → judgement n octets ≡ verdict.Open → ⊥
+all_is_decided n octets p l e = message_outcome-decided messages n octets p l (open_outcome (message_outcome messages n octets) e)
+
+same_kind : (k l : Kind) → tag_of (kind_term k) ≡ tag_of (kind_term l) → k ≡ l
+same_kind k l e = sym (kind_of_tag-tag k) ∙ ap kind_of_tag e ∙ kind_of_tag-tag l
+
+-- what an equation of octets tells, where the other message is of a kind
+abbrev Tells : (m : Message) (x y : List ℕ) → Kind → Type 0
+Tells m x y k = (v : Value (kind_term k)) → message_der m ++ x ≡ der (kind_term k) v ++ y → (message_of (kind_of m) (message_value m) ≡ message_of k v) × (x ≡ y)
+
+pub der_tells : (m other : Message) (x y : List ℕ) → message_der m ++ x ≡ message_der other ++ y → (m ≡ other) × (x ≡ y)
+der_tells m other x y e =
+    let p : (message_of (kind_of m) (message_value m) ≡ message_of (kind_of other) (message_value other)) × (x ≡ y) = at_kind (kind_of other) (same_kind (kind_of m) (kind_of other) tags) (message_value other) e in
+    (sym (message_comes_back m) ∙ p.0 ∙ message_comes_back other, p.1)
+  where
+    tags : tag_of (kind_term (kind_of m)) ≡ tag_of (kind_term (kind_of other))
+    tags = (same_from_cons _ _ _ _ (sym (der-append (kind_term (kind_of m)) (message_value m) x) ∙ e ∙ der-append (kind_term (kind_of other)) (message_value other) y)).0
+
+    at_same : Tells m x y (kind_of m)
+    at_same v e = let s : (message_value m ≡ v) × (x ≡ y) = same_value (kind_term (kind_of m)) (unambiguous_message (kind_term (kind_of m)) (chosen_kind (kind_of m))) (message_value m) v x y e in (ap (message_of (kind_of m)) s.0, s.1)
+
+    at_kind : (k : Kind) → kind_of m ≡ k → Tells m x y k
+    at_kind k same = subst (Tells m x y) same at_same

@@ -1,0 +1,194 @@
+-- The contents of numbers, octets, times and bit strings: their judgements are stable.
+use Rattle.std.proofs.Common.{◌≡◌, ℕ, zero, suc, ◌+◌, ◌-◌, ◌%◌, ◌^◌, ◌<◌, ◌≤◌, ◌⊎◌, inl, inr, Bool, true, false, cond, ◌&&◌, ◌||◌, ltb, leb, eqb, ℤ, List, [], ◌∷◌, ◌++◌, length, take, drop, refl, sym, ◌∙◌, ap, arith, length-append, append-nil, length-take, take-append-drop, lt-ltb, le-ltb}
+use Rattle.std.proofs.lemmas.Bool.{cases_lt, cases_Bool, true≢false}
+use Rattle.std.proofs.lemmas.List.{nil_from_length, length-take-le}
+use Rattle.krb_der.specs.Octets.{integer_value, last_or_zero}
+use Rattle.krb_der.specs.declared.why.Why.{Why}
+use Rattle.krb_der.specs.declared.why.Why.TheVariants as why
+use Rattle.krb_msg.specs.Judgement.{Outcome, Open, Bad, Done, is_padded, int_le, integer_contents, time_contents, bits_contents, any_contents}
+use Rattle.krb_msg.proofs.Stable.{need, IsDecided, Shown, IsStable, IsStable-same, not_open}
+
+-- ---- what is refused early, or else judged when all of it is there
+module _ (room place : ℕ) (reason : Why) (test : List ℕ → Bool) (full : List ℕ → Outcome) (later : (octets : List ℕ) → length octets ≤ place → test octets ≡ false) (kept : (octets rest : List ℕ) → place < length octets → test (octets ++ rest) ≡ test octets) (whole : (octets : List ℕ) → length octets ≡ room → need (full octets) ≡ room) where
+  abbrev early_or_full : List ℕ → Outcome
+  early_or_full octets = cond (test octets) (Bad place reason) (cond (ltb (length octets) room) Open (full octets))
+
+  at_early : (octets : List ℕ) → test octets ≡ true → early_or_full octets ≡ Bad place reason
+  at_early octets t = rw t
+
+  at_open : (octets : List ℕ) → test octets ≡ false → length octets < room → early_or_full octets ≡ Open
+  at_open octets t l = rw (t, lt-ltb (length octets) room l)
+
+  at_full : (octets : List ℕ) → test octets ≡ false → room ≤ length octets → early_or_full octets ≡ full octets
+  at_full octets t l = rw (t, le-ltb (length octets) room l)
+
+  pub IsStable-early_or_full : IsStable room 0 early_or_full
+  IsStable-early_or_full octets outcome fits e d = go (cases_Bool (test octets)) (cases_lt (length octets) room)
+    where
+      early : test octets ≡ true → place < length octets → Shown room 0 early_or_full octets outcome
+      early t l = record {
+        front = take (suc place) octets;
+        back = drop (suc place) octets;
+        parts = sym (take-append-drop (suc place) octets);
+        reached = ap need (sym (sym (at_early octets t) ∙ e)) ∙ sym (length-take-le (suc place) octets l) ∙ omega arith;
+        same = λ rest h. at_early (take (suc place) octets ++ rest) (front_test rest) ∙ (sym (at_early octets t) ∙ e);
+        sooner = λ k h. at_open (take k (take (suc place) octets)) (later _ (short k h)) (shorter k h);
+      }
+        where
+          front_length : length (take (suc place) octets) ≡ suc place
+          front_length = length-take-le (suc place) octets l
+
+          front_test : (rest : List ℕ) → test (take (suc place) octets ++ rest) ≡ true
+          front_test rest =
+              kept (take (suc place) octets) rest (omega (arith, front_length))
+              ∙ sym (kept (take (suc place) octets) (drop (suc place) octets) (omega (arith, front_length)))
+              ∙ ap test (take-append-drop (suc place) octets) ∙ t
+
+          short : (k : ℕ) → k < length (take (suc place) octets) → length (take k (take (suc place) octets)) ≤ place
+          short k h = rw length-take (omega (arith, front_length))
+
+          shorter : (k : ℕ) → k < length (take (suc place) octets) → length (take k (take (suc place) octets)) < room
+          shorter k h = rw length-take (omega (arith, front_length))
+
+      full_length : test octets ≡ false → room ≤ length octets → Shown room 0 early_or_full octets outcome
+      full_length t l = record {
+        front = octets;
+        back = [];
+        parts = sym (append-nil octets);
+        reached = ap need (sym e ∙ at_full octets t l) ∙ whole octets (omega arith) ∙ omega arith;
+        same = λ rest h. ap early_or_full (ap (λ r. octets ++ r) (nil_from_length rest (omega (arith, length-append octets rest))) ∙ append-nil octets) ∙ e;
+        sooner = λ k h. at_open (take k octets) (part_test k) (rw length-take (omega arith));
+      }
+        where
+          part_test : (k : ℕ) → test (take k octets) ≡ false
+          part_test k =
+              elim (cases_lt place (length (take k octets))) [
+                | inl h ↦ sym (kept (take k octets) (drop k octets) h) ∙ ap test (take-append-drop k octets) ∙ t
+                | inr h ↦ later (take k octets) h
+              ]
+
+      go : (test octets ≡ true) ⊎ (test octets ≡ false) → (length octets < room) ⊎ (room ≤ length octets) → Shown room 0 early_or_full octets outcome
+      go (inl t) c =
+          elim (cases_lt place (length octets)) [
+            | inl h ↦ early t h
+            | inr h ↦ absurd (true≢false (sym t ∙ later octets h))
+          ]
+      go (inr t) (inl l) = absurd (not_open outcome (sym (at_open octets t l) ∙ e) d)
+      go (inr t) (inr l) = full_length t l
+
+pub IsStable-any_contents : (room : ℕ) → IsStable room 0 (any_contents room)
+IsStable-any_contents room = IsStable-early_or_full room 0 why.Tag (λ octets. false) (λ octets. Done room) (λ octets h. refl) (λ octets rest h. refl) (λ octets h. refl)
+
+is_padded-short : (octets : List ℕ) → length octets ≤ 1 → is_padded octets ≡ false
+is_padded-short [] h = refl
+is_padded-short (first ∷ []) h = refl
+is_padded-short (first ∷ second ∷ octets) h = absurd (omega arith)
+
+is_padded-append : (octets rest : List ℕ) → 1 < length octets → is_padded (octets ++ rest) ≡ is_padded octets
+is_padded-append [] rest h = absurd (omega arith)
+is_padded-append (first ∷ []) rest h = absurd (omega arith)
+is_padded-append (first ∷ second ∷ octets) rest h = refl
+
+need-last : (test : Bool) (room : ℕ) (reason : Why) → 0 < room → need (cond test (Done room) (Bad (room - 1) reason)) ≡ room
+need-last true room reason h = refl
+need-last false room reason h = omega arith
+
+pub IsStable-integer_contents : (low high : ℤ) (room : ℕ) → 0 < room → IsStable room 0 (integer_contents low high room)
+IsStable-integer_contents low high room p =
+    IsStable-early_or_full room 1 why.IntegerNotMinimal is_padded
+    (λ octets. cond (int_le low (integer_value octets) && int_le (integer_value octets) high) (Done room) (Bad (room - 1) why.Range))
+    is_padded-short is_padded-append
+    (λ octets h. need-last (int_le low (integer_value octets) && int_le (integer_value octets) high) room why.Range p)
+
+-- ---- bit strings
+abbrev bits_early : ℕ → List ℕ → Bool
+bits_early room [] = false
+bits_early room (unused ∷ octets) = ltb 7 unused || (eqb room 1 && ltb 0 unused)
+
+abbrev bits_full : ℕ → List ℕ → Outcome
+bits_full room [] = Done room
+bits_full room (unused ∷ octets) = cond (eqb (last_or_zero octets % 2 ^ unused) 0) (Done room) (Bad (room - 1) why.Bits)
+
+bits_early-short : (room : ℕ) (octets : List ℕ) → length octets ≤ 0 → bits_early room octets ≡ false
+bits_early-short room [] h = refl
+bits_early-short room (unused ∷ octets) h = absurd (omega arith)
+
+bits_early-append : (room : ℕ) (octets rest : List ℕ) → 0 < length octets → bits_early room (octets ++ rest) ≡ bits_early room octets
+bits_early-append room [] rest h = absurd (omega arith)
+bits_early-append room (unused ∷ octets) rest h = refl
+
+need-bits_full : (room : ℕ) → 0 < room → (octets : List ℕ) → length octets ≡ room → need (bits_full room octets) ≡ room
+need-bits_full room p [] h = refl
+need-bits_full room p (unused ∷ octets) h = need-last (eqb (last_or_zero octets % 2 ^ unused) 0) room why.Bits p
+
+bits_contents-as : (room : ℕ) → 0 < room → (octets : List ℕ) → cond (bits_early room octets) (Bad 0 why.Bits) (cond (ltb (length octets) room) Open (bits_full room octets)) ≡ bits_contents room octets
+bits_contents-as room p [] = rw (lt-ltb 0 room p)
+bits_contents-as room p (unused ∷ octets) = refl
+
+pub IsStable-bits_contents : (room : ℕ) → 0 < room → IsStable room 0 (bits_contents room)
+IsStable-bits_contents room p =
+    IsStable-same room 0 _ (bits_contents room) (bits_contents-as room p)
+    (IsStable-early_or_full room 0 why.Bits (bits_early room) (bits_full room) (bits_early-short room) (bits_early-append room) (need-bits_full room p))
+
+-- ---- times
+abbrev pub time_test : ℕ → ℕ → Bool
+time_test place octet = cond (ltb place 14) (leb 48 octet && leb octet 57) (eqb octet 90)
+
+pub time_contents-next : (place octet : ℕ) (octets : List ℕ) → time_test place octet ≡ true → time_contents place (octet ∷ octets) ≡ time_contents (place + 1) octets
+time_contents-next place octet octets t = rw t
+
+pub time_contents-bad : (place octet : ℕ) (octets : List ℕ) → time_test place octet ≡ false → time_contents place (octet ∷ octets) ≡ Bad place why.Time
+time_contents-bad place octet octets t = rw t
+
+pub time_contents-open : (place : ℕ) → place < 15 → time_contents place [] ≡ Open
+time_contents-open place h = rw (lt-ltb place 15 h)
+
+pub time_contents-done : (place : ℕ) → 15 ≤ place → time_contents place [] ≡ Done 15
+time_contents-done place h = rw (le-ltb place 15 h)
+
+zero_from_lt_one : (k : ℕ) → k < 1 → k ≡ 0
+zero_from_lt_one k h = omega arith
+
+Shown-time_contents-cons : (place octet : ℕ) (octets : List ℕ) (outcome : Outcome) → place < 15 → time_test place octet ≡ true → Shown (15 - (place + 1)) (place + 1) (time_contents (place + 1)) octets outcome → Shown (15 - place) place (time_contents place) (octet ∷ octets) outcome
+Shown-time_contents-cons place octet octets outcome p t s = record {
+  front = octet ∷ s.front;
+  back = s.back;
+  parts = ap (λ l. octet ∷ l) s.parts;
+  reached = omega (arith, s.reached);
+  same = λ rest h. time_contents-next place octet (s.front ++ rest) t ∙ s.same rest (omega arith);
+  sooner = sooner;
+}
+  where
+    sooner : (k : ℕ) → k < suc (length s.front) → time_contents place (take k (octet ∷ s.front)) ≡ Open
+    sooner zero h = time_contents-open place p
+    sooner (suc k) h = time_contents-next place octet (take k s.front) t ∙ s.sooner k (omega arith)
+
+Shown-time_contents : (place : ℕ) (octets : List ℕ) (outcome : Outcome) → place ≤ 15 → length octets ≤ 15 - place → time_contents place octets ≡ outcome → IsDecided outcome → Shown (15 - place) place (time_contents place) octets outcome
+Shown-time_contents place [] outcome w fits e d =
+    elim (cases_lt place 15) [
+      | inl l ↦ absurd (not_open outcome (sym (time_contents-open place l) ∙ e) d)
+      | inr l ↦ record {
+        front = [];
+        back = [];
+        parts = refl;
+        reached = ap need (sym e ∙ time_contents-done place l) ∙ omega arith;
+        same = λ rest h. ap (time_contents place) (nil_from_length rest (omega arith)) ∙ e;
+        sooner = λ k h. absurd (omega arith);
+      }
+    ]
+Shown-time_contents place (octet ∷ octets) outcome w fits e d =
+    elim (cases_Bool (time_test place octet)) [
+      | inl t ↦ Shown-time_contents-cons place octet octets outcome (omega arith) t
+          (Shown-time_contents (place + 1) octets outcome (omega arith) (omega arith) (sym (time_contents-next place octet octets t) ∙ e) d)
+      | inr t ↦ record {
+        front = octet ∷ [];
+        back = octets;
+        parts = refl;
+        reached = ap need (sym e ∙ time_contents-bad place octet octets t) ∙ omega arith;
+        same = λ rest h. time_contents-bad place octet rest t ∙ (sym (time_contents-bad place octet octets t) ∙ e);
+        sooner = λ k h. rw (zero_from_lt_one k h) (time_contents-open place (omega arith));
+      }
+    ]
+
+pub IsStable-time_contents : IsStable 15 0 (time_contents 0)
+IsStable-time_contents octets outcome fits e d = Shown-time_contents 0 octets outcome (omega arith) (omega arith) e d

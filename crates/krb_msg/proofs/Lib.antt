@@ -1,0 +1,17 @@
+pub mod Stable
+pub mod Leaves
+pub mod Heads
+pub mod Items
+pub mod TermsStable
+pub mod LeavesDone
+pub mod TermsDecided
+pub mod Values
+pub mod Integers
+pub mod Accepts
+pub mod Whole
+pub mod Laws
+pub mod Messages
+pub mod Encoded
+pub mod Ambiguous
+pub mod Streams
+pub mod Judged

@@ -1,0 +1,177 @@
+-- What the octets present of an item decide, read from the front: nothing yet, that the item is whole, or the first fault (X.690).
+-- The octets present are no more than the room that the container has left.
+use Rattle.std.specs.Prelude.{ℕ, zero, suc, ℤ, pos, negsuc, ◌+◌, ◌-◌, ◌%◌, ◌^◌, Bool, true, false, ◌&&◌, ◌||◌, ◌==◌, nat_lt, nat_le, max, if◌then◌else◌, List, [], ◌∷◌, length, take, drop}
+use Rattle.krb_der.specs.Octets.{when, number, integer_octets, integer_value, last_or_zero}
+use Rattle.krb_der.specs.declared.why.Why.{Why}
+use Rattle.krb_der.specs.declared.why.Why.TheVariants as why
+use Rattle.krb_der.specs.declared.verdict.Verdict.{Verdict}
+use Rattle.krb_der.specs.declared.verdict.Verdict.TheVariants as verdict
+use Rattle.krb_der.specs.declared.verdict.Refusal.{Refusal}
+use Rattle.krb_msg.specs.Grammar.{messages}
+use Rattle.krb_msg.specs.Term.{Term, Fields, Integer, Text, Octets, Time, Bits, Sequence, SequenceOf, Tagged, Application, End, Required, Optional, tag_of}
+
+-- Of an item, or of a container's contents: more octets are needed, the octet at an offset is refused, or so many octets complete it.
+pub data Outcome : Type 0 where
+  Open : Outcome
+  Bad : (offset : ℕ) → (reason : Why) → Outcome
+  Done : (count : ℕ) → Outcome
+
+-- the outcome of a part behind so many octets
+abbrev pub behind : ℕ → Outcome → Outcome
+behind before Open = Open
+behind before (Bad offset reason) = Bad (before + offset) reason
+behind before (Done count) = Done (before + count)
+
+-- where the part behind so many octets is done, goes on with its count of octets
+abbrev pub then_after : ℕ → Outcome → (ℕ → Outcome) → Outcome
+then_after before Open next = Open
+then_after before (Bad offset reason) next = Bad (before + offset) reason
+then_after before (Done count) next = next count
+
+-- Of an item's tag and length octets: more are needed, one is refused, or how many they are and how many octets the contents have.
+pub data Head : Type 0 where
+  Partial : Head
+  Refused : (offset : ℕ) → (reason : Why) → Head
+  Got : (header contents : ℕ) → Head
+
+abbrev pub fitting : ℕ → ℕ → ℕ → Head
+fitting room header contents = if nat_lt room (header + contents) then Refused (header - 1) why.Overrun else Got header contents
+
+-- the k octets of a long length, as far as they are there
+abbrev pub long_head : ℕ → ℕ → List ℕ → Head
+long_head room k [] = Partial
+long_head room k (first ∷ octets) =
+    if (first == 0) || ((k == 1) && nat_lt first 128) then Refused 2 why.LengthNotMinimal
+    else if nat_lt (length (first ∷ octets)) k then Partial
+    else fitting room (2 + k) (number (take k (first ∷ octets)))
+
+-- of an item's octets in a room, from the tag on
+abbrev pub head : ℕ → List ℕ → Head
+head room [] = Partial
+head room (tag ∷ []) = Partial
+head room (tag ∷ octet ∷ octets) =
+    if nat_lt octet 0x80 then fitting room 2 octet
+    else if octet == 0x80 then Refused 1 why.Indefinite
+    else if nat_lt 0x84 octet then Refused 1 why.LengthWide
+    else if nat_lt room (2 + (octet - 0x80)) then Refused 1 why.Overrun
+    else long_head room (octet - 0x80) octets
+
+abbrev pub int_le : ℤ → ℤ → Bool
+int_le (pos a) (pos b) = nat_le a b
+int_le (pos a) (negsuc b) = false
+int_le (negsuc a) (pos b) = true
+int_le (negsuc a) (negsuc b) = nat_le b a
+
+-- whether the term has contents of this length
+abbrev pub has_size : Term → ℕ → Bool
+has_size (Integer node low high) contents = nat_lt 0 contents && nat_le contents (max (length (integer_octets low)) (length (integer_octets high)))
+has_size (Time node) contents = contents == 15
+has_size (Bits node) contents = nat_lt 0 contents
+has_size term contents = true
+
+-- the first nine bits are equal
+abbrev pub is_padded : List ℕ → Bool
+is_padded (first ∷ second ∷ octets) = ((first == 0) && nat_lt second 128) || ((first == 255) && nat_le 128 second)
+is_padded octets = false
+
+abbrev pub integer_contents : ℤ → ℤ → ℕ → List ℕ → Outcome
+integer_contents low high contents octets =
+    if is_padded octets then Bad 1 why.IntegerNotMinimal
+    else if nat_lt (length octets) contents then Open
+    else if int_le low (integer_value octets) && int_le (integer_value octets) high then Done contents
+    else Bad (contents - 1) why.Range
+
+-- the octets of a time from this place on
+abbrev pub time_contents : ℕ → List ℕ → Outcome
+time_contents place [] = if nat_lt place 15 then Open else Done 15
+time_contents place (octet ∷ octets) =
+    if (if nat_lt place 14 then nat_le 48 octet && nat_le octet 57 else octet == 90) then time_contents (place + 1) octets
+    else Bad place why.Time
+
+abbrev pub bits_contents : ℕ → List ℕ → Outcome
+bits_contents contents [] = Open
+bits_contents contents (unused ∷ octets) =
+    if nat_lt 7 unused || ((contents == 1) && nat_lt 0 unused) then Bad 0 why.Bits
+    else if nat_lt (length (unused ∷ octets)) contents then Open
+    else if last_or_zero octets % 2 ^ unused == 0 then Done contents
+    else Bad (contents - 1) why.Bits
+
+abbrev pub any_contents : ℕ → List ℕ → Outcome
+any_contents contents octets = if nat_lt (length octets) contents then Open else Done contents
+
+-- items one after another until the room is full; the first number bounds how many
+abbrev pub items_contents : (ℕ → List ℕ → Outcome) → ℕ → ℕ → ℕ → List ℕ → Outcome
+items_contents one bound before zero octets = Done before
+items_contents one zero before (suc room) octets = Open
+items_contents one (suc bound) before (suc room) octets =
+    then_after before (one (suc room) octets) (λ count. items_contents one bound (before + count) (suc room - count) (drop count octets))
+
+-- exactly one item
+abbrev pub only_contents : ℕ → ℕ → Outcome → Outcome
+only_contents before zero inner = Bad (before - 1) why.Missing
+only_contents before (suc room) inner = behind before inner
+
+abbrev pub of_head : Term → Head → ℕ → Bool → List ℕ → (ℕ → ℕ → List ℕ → Outcome) → Outcome
+of_head term Partial room sole octets contents_of = Open
+of_head term (Refused offset reason) room sole octets contents_of = Bad offset reason
+of_head term (Got header contents) room sole octets contents_of =
+    if sole && nat_lt (header + contents) room then Bad (header - 1) why.Loose
+    else if has_size term contents then contents_of header contents (take contents (drop header octets))
+    else Bad (header - 1) why.Size
+
+-- An item of the term in a room of at least one octet, which it fills if it is the sole item there. The last function judges its contents.
+abbrev pub item_with : (ℕ → ℕ → List ℕ → Outcome) → Term → ℕ → Bool → List ℕ → Outcome
+item_with contents_of term room sole [] = Open
+item_with contents_of term room sole (octet ∷ octets) =
+    when (octet == tag_of term)
+    (λ _. if room == 1 then Bad 0 why.Overrun else of_head term (head room (octet ∷ octets)) room sole (octet ∷ octets) contents_of)
+    (λ _. Bad 0 why.Tag)
+
+abbrev mutual
+  -- an item's contents of a length, behind its tag and length octets, from what is present of them
+  pub contents_outcome : Term → ℕ → ℕ → List ℕ → Outcome
+  contents_outcome (Integer node low high) before room octets = behind before (integer_contents low high room octets)
+  contents_outcome (Text node) before room octets = behind before (any_contents room octets)
+  contents_outcome (Octets node) before room octets = behind before (any_contents room octets)
+  contents_outcome (Time node) before room octets = behind before (time_contents 0 octets)
+  contents_outcome (Bits node) before room octets = behind before (bits_contents room octets)
+  contents_outcome (Sequence node fields) before room octets = fields_outcome fields before room octets
+  contents_outcome (SequenceOf node term) before room octets = items_contents (λ left. item_with (contents_outcome term) term left false) room before room octets
+  contents_outcome (Tagged node index term) before room octets = only_contents before room (item_with (contents_outcome term) term room true octets)
+  contents_outcome (Application node number term) before room octets = only_contents before room (item_with (contents_outcome term) term room true octets)
+
+  -- the fields that are left, in the room that is left
+  pub fields_outcome : Fields → ℕ → ℕ → List ℕ → Outcome
+  fields_outcome End before zero octets = Done before
+  fields_outcome End before (suc room) [] = Open
+  fields_outcome End before (suc room) (octet ∷ octets) = Bad before why.Tag
+  fields_outcome (Required term fields) before zero octets = Bad (before - 1) why.Missing
+  fields_outcome (Required term fields) before (suc room) octets =
+      then_after before (item_with (contents_outcome term) term (suc room) false octets) (λ count. fields_outcome fields (before + count) (suc room - count) (drop count octets))
+  fields_outcome (Optional term fields) before zero octets = fields_outcome fields before zero octets
+  fields_outcome (Optional term fields) before (suc room) [] = Open
+  fields_outcome (Optional term fields) before (suc room) (octet ∷ octets) =
+      when (octet == tag_of term)
+      (λ _. then_after before (item_with (contents_outcome term) term (suc room) false (octet ∷ octets)) (λ count. fields_outcome fields (before + count) (suc room - count) (drop count (octet ∷ octets))))
+      (λ _. fields_outcome fields before (suc room) (octet ∷ octets))
+
+-- an item of the term, from its octets present
+abbrev pub item_outcome : Term → ℕ → Bool → List ℕ → Outcome
+item_outcome term = item_with (contents_outcome term) term
+
+-- a message that is one of these terms, in a room of its own
+abbrev pub message_outcome : List Term → ℕ → List ℕ → Outcome
+message_outcome terms room [] = Open
+message_outcome [] room (octet ∷ octets) = Bad 0 why.Tag
+message_outcome (term ∷ terms) room (octet ∷ octets) =
+    when (octet == tag_of term) (λ _. item_outcome term room true (octet ∷ octets)) (λ _. message_outcome terms room (octet ∷ octets))
+
+-- an outcome as it is answered: an offset in a message is a place, and what is done is whole
+abbrev pub verdict_of : Outcome → Verdict
+verdict_of Open = verdict.Open
+verdict_of (Bad offset reason) = verdict.Refused (record { place = offset; why = reason })
+verdict_of (Done count) = verdict.Whole
+
+-- The judgement of the octets present of a message of n octets.
+abbrev pub judgement : ℕ → List ℕ → Verdict
+judgement n octets = verdict_of (message_outcome messages n octets)

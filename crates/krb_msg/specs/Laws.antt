@@ -1,0 +1,48 @@
+-- What holds of all messages and of all octets. Each is the contract of a function of the module `law`.
+use Rattle.std.specs.Prelude.{ℕ, suc, ◌≡◌, ◌^◌, ◌<◌, ◌≤◌, List, ◌++◌, length, take}
+use Rattle.krb_der.specs.Octets.{AreOctets}
+use Rattle.krb_der.specs.declared.why.Why.{Why}
+use Rattle.krb_der.specs.declared.verdict.Verdict.TheVariants.{Open, Whole, Refused}
+use Rattle.krb_msg.specs.declared.message.Message.{Message}
+use Rattle.krb_msg.specs.Views.{kind_of, message_value, message_of, message_der, IsInProfile}
+use Rattle.krb_msg.specs.Judgement.{judgement}
+
+-- the octets are all of the n, and the DER of a message
+pub record AreMessage (n : ℕ) (octets : List ℕ) : Type 0 where
+  pub message : Message
+  pub in_profile : IsInProfile message
+  pub form : message_der message ≡ octets
+  pub all : length octets ≡ n
+
+-- What is judged whole is the DER of a message.
+abbrev pub WholeIsMessage : Type 0
+WholeIsMessage = (n : ℕ) (octets : List ℕ) → n < 2 ^ 31 → AreOctets octets → length octets ≤ n → judgement n octets ≡ Whole → AreMessage n octets
+
+-- The DER of a message is judged whole.
+abbrev pub MessageIsWhole : Type 0
+MessageIsWhole = (m : Message) → IsInProfile m → judgement (length (message_der m)) (message_der m) ≡ Whole
+
+-- A refusal stands at an octet that is there. It is the same whatever follows that octet, and without that octet nothing is decided.
+pub record IsFinal (n : ℕ) (octets : List ℕ) (place : ℕ) (reason : Why) : Type 0 where
+  pub within : place < length octets
+  pub same : (other : List ℕ) → length other ≤ n → take (suc place) other ≡ take (suc place) octets → judgement n other ≡ Refused (record { place = place; why = reason })
+  pub sooner : (k : ℕ) → k ≤ place → judgement n (take k octets) ≡ Open
+
+abbrev pub RefusalIsFinal : Type 0
+RefusalIsFinal = (n : ℕ) (octets : List ℕ) (place : ℕ) (reason : Why) → length octets ≤ n → judgement n octets ≡ Refused (record { place = place; why = reason }) → IsFinal n octets place reason
+
+-- No message of n octets begins with the octets up to and with one that is refused.
+abbrev pub RefusalIsRight : Type 0
+RefusalIsRight = (n : ℕ) (octets : List ℕ) (place : ℕ) (reason : Why) → length octets ≤ n → judgement n octets ≡ Refused (record { place = place; why = reason }) → (m : Message) → IsInProfile m → length (message_der m) ≡ n → take (suc place) (message_der m) ≡ take (suc place) octets → ⊥
+
+-- With all n octets present, something is decided.
+abbrev pub AllIsDecided : Type 0
+AllIsDecided = (n : ℕ) (octets : List ℕ) → 0 < n → length octets ≡ n → judgement n octets ≡ Open → ⊥
+
+-- No message's DER begins another's, and different messages have different DER.
+abbrev pub DerTells : Type 0
+DerTells = (m other : Message) (x y : List ℕ) → message_der m ++ x ≡ message_der other ++ y → (m ≡ other) × (x ≡ y)
+
+-- The way back from the value of a message gives the message.
+abbrev pub MessageComesBack : Type 0
+MessageComesBack = (m : Message) → message_of (kind_of m) (message_value m) ≡ m

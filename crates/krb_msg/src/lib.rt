@@ -1,0 +1,17 @@
+//! The messages of Kerberos V5 (RFC 4120, section 5 and appendix A) as values, and in `specs/`
+//! their grammar, their one DER form, the judgement of octets and the frames of a stream.
+//!
+//! `specs/` reads from the bottom: `Term` (terms, their values and the DER of a value), `Grammar`
+//! (appendix A as terms), `Judgement` (what the octets present of a message decide), `Stream` (the
+//! frames of a stream), `Views` (the types of this crate as values of terms), and `Laws`, which
+//! the functions of [`law`] prove.
+#![tactic(auto)]
+
+mod ap_rep;
+mod encrypted_data;
+pub mod law;
+mod message;
+
+pub use ap_rep::ApRep;
+pub use encrypted_data::EncryptedData;
+pub use message::{Kind, Message};
