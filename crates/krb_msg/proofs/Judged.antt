@@ -23,12 +23,12 @@ use Rattle.krb_msg.proofs.Laws.{IsWhole, Settles, same_value}
 use Rattle.krb_msg.proofs.Messages.{IsChosen, IsWhole-message, Settles-message_outcome, message_outcome-decided, message-accepts, unambiguous_message}
 
 -- ---- the judgement and the outcome
-whole_outcome : (outcome : Outcome) → verdict_of outcome ≡ verdict.Whole → (count : ℕ) × (outcome ≡ Done count)
+pub whole_outcome : (outcome : Outcome) → verdict_of outcome ≡ verdict.Whole → (count : ℕ) × (outcome ≡ Done count)
 whole_outcome Open e = absurd cc
 whole_outcome (Bad offset reason) e = absurd cc
 whole_outcome (Done count) e = (count, refl)
 
-refused_outcome : (outcome : Outcome) (place : ℕ) (reason : Why) → verdict_of outcome ≡ verdict.Refused (record { place = place; why = reason }) → outcome ≡ Bad place reason
+pub refused_outcome : (outcome : Outcome) (place : ℕ) (reason : Why) → verdict_of outcome ≡ verdict.Refused (record { place = place; why = reason }) → outcome ≡ Bad place reason
 refused_outcome Open place reason e = absurd cc
 refused_outcome (Bad offset other) place reason e =
     let there : Refusal = record { place = offset; why = other } in
@@ -37,7 +37,7 @@ refused_outcome (Bad offset other) place reason e =
     λ i. Bad ((same i).place) ((same i).why)
 refused_outcome (Done count) place reason e = absurd cc
 
-open_outcome : (outcome : Outcome) → verdict_of outcome ≡ verdict.Open → outcome ≡ Open
+pub open_outcome : (outcome : Outcome) → verdict_of outcome ≡ verdict.Open → outcome ≡ Open
 open_outcome Open e = refl
 open_outcome (Bad offset reason) e = absurd cc
 open_outcome (Done count) e = absurd cc

@@ -22,7 +22,7 @@ frame contents = four_octets (length contents) ++ contents
 number-four_octets : (n : ℕ) → number (four_octets n) ≡ n
 number-four_octets n = omega arith
 
-length-drop_two : (octets : List ℕ) (b : ℕ) → length octets ≤ suc b → length (drop (number (take 4 octets)) (drop 4 octets)) ≤ b
+pub length-drop_two : (octets : List ℕ) (b : ℕ) → length octets ≤ suc b → length (drop (number (take 4 octets)) (drop 4 octets)) ≤ b
 length-drop_two octets b h = omega (arith, length-drop (number (take 4 octets)) (drop 4 octets), length-drop 4 octets)
 
 module _ (messages : List Term) (limit : ℕ) where
@@ -34,18 +34,18 @@ module _ (messages : List Term) (limit : ℕ) where
     pub whole : message_outcome messages (length contents) contents ≡ Done (length contents)
 
   -- ---- the bound on how many frames there are
-  length_and-same : (n : ℕ) (octets : List ℕ) (f g : List ℕ → Frames) → f (drop n octets) ≡ g (drop n octets) → length_and messages limit n octets f ≡ length_and messages limit n octets g
+  pub length_and-same : (n : ℕ) (octets : List ℕ) (f g : List ℕ → Frames) → f (drop n octets) ≡ g (drop n octets) → length_and messages limit n octets f ≡ length_and messages limit n octets g
   length_and-same n octets f g e = rw e
 
-  frames_within-step : (b : ℕ) (octets : List ℕ) → 4 ≤ length octets → frames_within (suc b) messages limit octets ≡ length_and messages limit (number (take 4 octets)) (drop 4 octets) (frames_within b messages limit)
+  pub frames_within-step : (b : ℕ) (octets : List ℕ) → 4 ≤ length octets → frames_within (suc b) messages limit octets ≡ length_and messages limit (number (take 4 octets)) (drop 4 octets) (frames_within b messages limit)
   frames_within-step b [] h = absurd (omega arith)
   frames_within-step b (octet ∷ rest) h = rw (le-ltb (length (octet ∷ rest)) 4 h)
 
-  frames_within-short : (b : ℕ) (octet : ℕ) (rest : List ℕ) → length (octet ∷ rest) < 4 → frames_within b messages limit (octet ∷ rest) ≡ ends (Within (length (octet ∷ rest)))
+  pub frames_within-short : (b : ℕ) (octet : ℕ) (rest : List ℕ) → length (octet ∷ rest) < 4 → frames_within b messages limit (octet ∷ rest) ≡ ends (Within (length (octet ∷ rest)))
   frames_within-short zero octet rest h = refl
   frames_within-short (suc b) octet rest h = rw (lt-ltb (length (octet ∷ rest)) 4 h)
 
-  frames_within-same : (b c : ℕ) (octets : List ℕ) → length octets ≤ b → length octets ≤ c → frames_within b messages limit octets ≡ frames_within c messages limit octets
+  pub frames_within-same : (b c : ℕ) (octets : List ℕ) → length octets ≤ b → length octets ≤ c → frames_within b messages limit octets ≡ frames_within c messages limit octets
   frames_within-same zero zero [] p q = refl
   frames_within-same zero (suc c) [] p q = refl
   frames_within-same (suc b) zero [] p q = refl
@@ -68,6 +68,7 @@ module _ (messages : List Term) (limit : ℕ) where
       rw (lt-leb (2 ^ 31) (length contents) m.short, le-ltb limit (length contents) m.within, ne_eqb (length contents) 0 (omega (arith, m.some)), take_at contents rest (length contents) refl, drop_at contents rest (length contents) refl, m.whole)
 
   pub frames-frame : (contents rest : List ℕ) → IsMessage contents → frames messages limit (frame contents ++ rest) ≡ with_first contents (frames messages limit rest)
+  unfolding frames
   frames-frame contents rest m =
       frames_within-step b (frame contents ++ rest) (omega arith)
       ∙ ap (λ n. length_and messages limit n (contents ++ rest) (frames_within b messages limit)) (number-four_octets (length contents))
@@ -86,6 +87,7 @@ module _ (messages : List Term) (limit : ℕ) where
     pub ended : frames messages limit tail ≡ ends found.end
 
   IsParse-end : (b : ℕ) (octets : List ℕ) (found : Frames) → length octets ≤ b → frames_within b messages limit octets ≡ found → found ≡ ends found.end → IsParse octets found
+  unfolding frames
   IsParse-end b octets found l e f =
       let n : found.contents ≡ [] = ap (λ x. x.contents) f in
       record {
@@ -159,6 +161,7 @@ module _ (messages : List Term) (limit : ℕ) where
       by_tests (inr t) (inr u) (inr v) = accepted t u v (message_outcome messages n (take n (drop 4 octets))) refl
 
   frames_within-parse : (b : ℕ) (octets : List ℕ) → AreOctets octets → length octets ≤ b → IsParse messages limit octets (frames_within b messages limit octets)
+  unfolding frames
   frames_within-parse zero [] a l = record { tail = []; parts = refl; are_messages = tt; ended = refl }
   frames_within-parse (suc b) [] a l = record { tail = []; parts = refl; are_messages = tt; ended = refl }
   frames_within-parse zero (octet ∷ rest) a l = absurd (omega arith)
@@ -173,4 +176,5 @@ module _ (messages : List Term) (limit : ℕ) where
       ]
 
   pub frames-parse : (stream : List ℕ) → AreOctets stream → IsParse messages limit stream (frames messages limit stream)
+  unfolding frames
   frames-parse stream a = frames_within-parse (length stream) stream a (le_refl (length stream))

@@ -48,5 +48,5 @@ frames_within (suc bound) messages limit octets =
     if nat_lt (length octets) 4 then ends (Within (length octets))
     else length_and messages limit (number (take 4 octets)) (drop 4 octets) (frames_within bound messages limit)
 
-abbrev pub frames : List Term → ℕ → List ℕ → Frames
+unfoldable pub frames : List Term → ℕ → List ℕ → Frames
 frames messages limit stream = frames_within (length stream) messages limit stream

@@ -1,0 +1,5 @@
+pub mod Fronts
+pub mod Texts
+pub mod Listings
+pub mod Transfers
+pub mod Runs

@@ -1,0 +1,21 @@
+-- Octets written piece by piece.
+use Rattle.std.proofs.Common.{◌≡◌, ℕ, ◌-◌, List, ◌++◌, length, take, drop, Option, refl, sym, ◌∙◌, ap, append_assoc, take-append-drop}
+use Rattle.std.specs.Io.KnownBytes.{Appends}
+use Rattle.std.proofs.KnownBytes.{Appends-trans}
+use Rattle.krb_tool.proofs.Listings.{take-drop-rest}
+
+-- a front of all the octets is written, and the rest is left
+abbrev pub IsWritten : Option (List ℕ) → Option (List ℕ) → List ℕ → List ℕ → Type 0
+IsWritten held holds all rest = (front : List ℕ) × Appends held holds front × (all ≡ front ++ rest)
+
+-- and then some octets more
+pub IsWritten-more : (held holds after : Option (List ℕ)) (all rest : List ℕ) (n : ℕ) → IsWritten held holds all rest → Appends holds after (take n rest) → IsWritten held after all (take (length rest - n) (drop n rest))
+IsWritten-more held holds after all rest n w a =
+    (
+      w.0 ++ take n rest,
+      Appends-trans held holds after w.0 (take n rest) w.1 a,
+      w.2
+      ∙ ap (λ l. w.0 ++ l) (sym (take-append-drop n rest))
+      ∙ sym (append_assoc w.0 (take n rest) (drop n rest))
+      ∙ ap (λ l. (w.0 ++ take n rest) ++ l) (sym (take-drop-rest n rest)),
+    )

@@ -1,0 +1,5 @@
+pub mod Lines
+pub mod Listing
+pub mod Fronts
+pub mod Transfers
+pub mod Listers

@@ -1,0 +1,43 @@
+-- The listing of a stream, and what a run does to its reader and its writer.
+use Rattle.std.specs.Prelude.{ℕ, ◌≡◌, List, ◌++◌, length, map, Option}
+use Rattle.std.specs.List.{flat_map}
+use Rattle.std.specs.Io.KnownBytes.{Consumes, Appends, IsAtEnd}
+use Rattle.krb_msg.specs.declared.message.Message.{Message}
+use Rattle.krb_msg.specs.Grammar.{messages}
+use Rattle.krb_msg.specs.Views.{message_der}
+use Rattle.krb_msg.specs.Stream.{End, Boundary, Within, Refused, frames}
+use Rattle.krb_tool.specs.Lines.{message_line, end_line}
+use Rattle.krb_tool.specs.declared.run.RunEnd.{RunEnd}
+use Rattle.krb_tool.specs.declared.run.RunEnd.TheVariants as run
+
+-- the end of a stream, with frames of at most so many octets
+abbrev pub end_of : ℕ → List ℕ → End
+end_of limit stream = (frames messages limit stream).end
+
+-- The text is the listing of the stream: the line of each message whose DER fills a frame, in order, and then the line of the end.
+pub record IsListing (limit : ℕ) (stream text : List ℕ) : Type 0 where
+  pub found : List Message
+  pub in_frames : map message_der found ≡ (frames messages limit stream).contents
+  pub lines : text ≡ flat_map message_line found ++ end_line (length found) (end_of limit stream)
+
+-- a run is clean where the stream ends between frames
+abbrev pub run_end : End → RunEnd
+run_end Boundary = run.Clean
+run_end (Within present) = run.Refused
+run_end (Refused place reason) = run.Refused
+
+-- unless the stream is refused, nothing of it is left unread
+abbrev pub AllIsRead : End → Option (List ℕ) → Type 0
+AllIsRead Boundary left = IsAtEnd left
+AllIsRead (Within present) left = IsAtEnd left
+AllIsRead (Refused place reason) left = Unit {0}
+
+-- A run took octets from what its reader had and left the rest, and added their listing to what its writer held.
+pub record Lists (limit : ℕ) (had left held holds : Option (List ℕ)) (ended : RunEnd) : Type 0 where
+  pub read : List ℕ
+  pub written : List ℕ
+  pub taken : Consumes had left read
+  pub added : Appends held holds written
+  pub listed : IsListing limit read written
+  pub ended_so : ended ≡ run_end (end_of limit read)
+  pub all_read : AllIsRead (end_of limit read) left

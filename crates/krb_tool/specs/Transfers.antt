@@ -1,0 +1,8 @@
+-- What a reader gives when it is asked.
+use Rattle.std.specs.Prelude.{ℕ, ◌≡◌, ◌<◌, List, [], Option}
+use Rattle.std.specs.Io.KnownBytes.{Consumes, IsAtEnd}
+
+-- a reader gave octets from the front of what it had, and none, where there was room for some, only at its end
+pub record Gives (had left : Option (List ℕ)) (octets : List ℕ) (room : ℕ) : Type 0 where
+  pub taken : Consumes had left octets
+  pub ended : octets ≡ [] → 0 < room → IsAtEnd left

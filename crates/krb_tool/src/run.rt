@@ -1,0 +1,97 @@
+//! Runs over a reader and a writer.
+
+ghost use Rattle.std.specs.Prelude.{◌≡◌, ◌^◌, ◌≤◌, IfOk};
+ghost use Rattle.krb_tool.specs.Listing.{Lists};
+ghost use Rattle.krb_tool.specs.declared.run.RunFault.TheVariants as fault;
+
+use crate::limit::Limit;
+use crate::listing::Lister;
+use crate::transfer::{Asks, ask, write_all};
+use std::alloc::{AllocError, AllocFailed, Global};
+use std::io::{Read, Write};
+
+/// How many octets a run asks its reader for at once: 64 KiB.
+const PIECE_OCTETS: usize = 1 << 16;
+
+/// How a run ended that neither its reader, its writer nor memory failed.
+#[derive(Clone, Copy, PartialEq, Eq, Debug)]
+pub enum RunEnd {
+    /// All was read, and nothing refused.
+    Clean,
+    /// Something was refused, and the last line says what.
+    Refused,
+}
+
+/// Why a run could not go on.
+#[derive(Clone, Copy, PartialEq, Eq, Debug)]
+pub enum RunFault {
+    /// A read failed, or the reader was asked 2^40 times and was not at its end.
+    Read,
+    /// A write failed, or took nothing.
+    Write,
+    /// A growth was refused.
+    Memory,
+}
+
+impl From<AllocError> for RunFault {
+    ghost from_gives = { λ _ e. e ≡ fault.Memory };
+
+    fn from(_error: AllocError) -> RunFault {
+        RunFault::Memory
+    }
+}
+
+impl<T: Drop> From<AllocFailed<T>> for RunFault {
+    ghost from_gives = { λ _ e. e ≡ fault.Memory };
+
+    fn from(_error: AllocFailed<T>) -> RunFault {
+        RunFault::Memory
+    }
+}
+
+/// Lists a stream of framed messages (RFC 4120, 7.2.2): a line for each message, then the line of
+/// the end, or of the first refusal, behind which nothing is looked at. Frames of more than
+/// `limit` octets are refused. The reader is asked at most 2^40 times, for 64 KiB each, and the
+/// lines of what came are written before it is asked again.
+pub fn run_stream<R: Read, W: Write>(
+    alloc: Global,
+    reader: &mut R,
+    writer: &mut W,
+    limit: Limit,
+) -> Result<RunEnd, RunFault>
+    ensures { IfOk result (Lists limit (R.remaining reader.old) (R.remaining reader.new) (W.contents writer.old) (W.contents writer.new)) }
+{
+    let mut asks = Asks::none();
+    list_all(alloc, reader, &mut asks, writer, limit)
+}
+
+fn list_all<R: Read, W: Write>(
+    alloc: Global,
+    reader: &mut R,
+    asks: &mut Asks,
+    writer: &mut W,
+    limit: Limit,
+) -> Result<RunEnd, RunFault>
+    requires { asks.old.made ≡ 0 }
+    ensures listed { IfOk result (Lists limit (R.remaining reader.old) (R.remaining reader.new) (W.contents writer.old) (W.contents writer.new)) }
+    ensures asks { asks.new.made ≤ 2 ^ 40 }
+{
+    let mut buffer = vec![in alloc; 0u8; PIECE_OCTETS]?;
+    let mut lister = Lister::new(alloc, limit);
+    'pieces: loop {
+        let count = ask(reader, asks, buffer.as_mut_slice())?;
+        if count == 0 {
+            let ended = lister.finish(None)?;
+            write_all(writer, lister.text().as_bytes())?;
+            return Ok(ended);
+        }
+        let refusal = lister.feed(&buffer[..count])?;
+        if refusal.is_some() {
+            let ended = lister.finish(refusal)?;
+            write_all(writer, lister.text().as_bytes())?;
+            return Ok(ended);
+        }
+        write_all(writer, lister.text().as_bytes())?;
+        lister.clear_text();
+    }
+}
