@@ -15,3 +15,4 @@ pub mod Encoded
 pub mod Ambiguous
 pub mod Streams
 pub mod Judged
+pub mod Table

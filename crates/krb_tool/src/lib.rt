@@ -1,0 +1,2 @@
+//! The judgement of octets.
+#![tactic(auto)]
