@@ -1,5 +1,5 @@
 -- Look-ups in the table of the grammar.
-use Rattle.std.proofs.Common.{◌≡◌, ℕ, zero, suc, ◌+◌, ◌<◌, ◌≤◌, true, false, eqb, eq-eqb, ne_eqb, List, [], ◌∷◌, length, map, drop, get_or, refl, sym, ap, ◌∙◌, subst, arith, rules, add-one}
+use Rattle.std.proofs.Common.{◌≡◌, ℕ, zero, suc, ◌+◌, ◌<◌, ◌≤◌, true, false, ◌&&◌, nat_lt, eqb, eq-eqb, ne_eqb, List, [], ◌∷◌, length, map, drop, get_or, refl, sym, ap, ◌∙◌, subst, arith, rules, add-one}
 use Rattle.std.proofs.lemmas.Bool.{ltb-true, and_parts}
 use Rattle.std.proofs.Math.Seq.{drop-cons}
 use Rattle.std.proofs.lemmas.List.{drop_all}
@@ -9,7 +9,7 @@ use Rattle.krb_msg.specs.Grammar.{messages}
 use Rattle.krb_msg.specs.Judgement.{Bad, item_outcome, message_outcome}
 use Rattle.krb_msg.specs.Term.{Term, tag_of}
 use Rattle.krb_msg.specs.Nodes.{term_at}
-use Rattle.krb_msg.specs.Table.{fields_from, IsFormOf, IsRowOf, RowsAre, IsSlot, is_known, are_known}
+use Rattle.krb_msg.specs.Table.{fields_from, IsFormOf, IsRowOf, RowsAre, IsSlot, has_more, is_known, are_known}
 use Rattle.krb_msg.specs.declared.grammar.Node.{Node}
 use Rattle.krb_msg.specs.declared.grammar.Slot.{Slot}
 use Rattle.krb_msg.specs.declared.grammar.Slot.TheVariants as slot
@@ -41,24 +41,35 @@ tag_at node none h = let same : 0 + node ≡ node = omega arith in rw same at (r
 pub form_at : (node : ℕ) (none : Node) → node < 111 → IsFormOf FIELDS (get_or GRAMMAR node none).form (term_at node)
 form_at node none h = let same : 0 + node ≡ node = omega arith in rw same at (row_at node none h).same_form
 
-known_from : (slots : List Slot) (place : ℕ) (none : Slot) → are_known slots ≡ true → place < length slots → is_known (get_or slots place none) ≡ true
+known_from : (slots : List Slot) (place : ℕ) (none : Slot) → are_known slots ≡ true → place < length slots → is_known (get_or slots place none) (drop (suc place) slots) ≡ true
 known_from [] place none known h = absurd (omega arith)
-known_from (first ∷ slots) zero none known h = (and_parts (is_known first) (are_known slots) known).0
-known_from (first ∷ slots) (suc place) none known h = known_from slots place none (and_parts (is_known first) (are_known slots) known).1 (omega arith)
+known_from (first ∷ slots) zero none known h = (and_parts (is_known first slots) (are_known slots) known).0
+known_from (first ∷ slots) (suc place) none known h = known_from slots place none (and_parts (is_known first slots) (are_known slots) known).1 (omega arith)
 
-slot_from : (slots : List Slot) (place : ℕ) (none : Slot) → are_known slots ≡ true → place < length slots → IsSlot slots place (get_or slots place none)
-slot_from slots place none known h = by_slot (get_or slots place none) (drop-cons slots place none h ∙ ap (λ k. get_or slots place none ∷ drop k slots) (sym (add-one place))) (known_from slots place none known h)
+more_from : (slots : List Slot) (place : ℕ) → has_more (drop place slots) ≡ true → place < length slots
+more_from [] zero h = absurd cc
+more_from [] (suc place) h = absurd cc
+more_from (first ∷ slots) zero h = omega arith
+more_from (first ∷ slots) (suc place) h = omega (arith, more_from slots place h)
+
+slot_from : (slots : List Slot) (place : ℕ) (none : Slot) → length slots ≡ 148 → are_known slots ≡ true → place < length slots → IsSlot slots place (get_or slots place none)
+slot_from slots place none l known h = by_slot (get_or slots place none) (drop-cons slots place none h ∙ ap (λ k. get_or slots place none ∷ drop k slots) (sym (add-one place))) (known_from slots place none known h)
   where
-    by_slot : (it : Slot) → drop place slots ≡ it ∷ drop (place + 1) slots → is_known it ≡ true → IsSlot slots place it
+    behind : (node : ℕ) → nat_lt node 111 && has_more (drop (suc place) slots) ≡ true → (node < 111) × (place + 1 < 148)
+    behind node k =
+        let parts : (nat_lt node 111 ≡ true) × (has_more (drop (suc place) slots) ≡ true) = and_parts (nat_lt node 111) (has_more (drop (suc place) slots)) k in
+        (ltb-true node 111 parts.0, omega (arith, more_from slots (suc place) parts.1))
+
+    by_slot : (it : Slot) → drop place slots ≡ it ∷ drop (place + 1) slots → is_known it (drop (suc place) slots) ≡ true → IsSlot slots place it
     by_slot slot.End f k = ap fields_from f
-    by_slot (slot.Required node) f k = (ap fields_from f, ltb-true node 111 k)
-    by_slot (slot.Optional node) f k = (ap fields_from f, ltb-true node 111 k)
+    by_slot (slot.Required node) f k = let b : (node < 111) × (place + 1 < 148) = behind node k in (ap fields_from f, b.0, b.1)
+    by_slot (slot.Optional node) f k = let b : (node < 111) × (place + 1 < 148) = behind node k in (ap fields_from f, b.0, b.1)
 
 fields_known : are_known FIELDS ≡ true
 fields_known = refl
 
 pub slot_at : (place : ℕ) (none : Slot) → place < 148 → IsSlot FIELDS place (get_or FIELDS place none)
-slot_at place none h = slot_from FIELDS place none fields_known h
+slot_at place none h = slot_from FIELDS place none refl fields_known h
 
 -- ---- the messages by their tags
 message_first : (term : Term) (terms : List Term) (tag : ℕ) → eqb tag (tag_of term) ≡ true → (room : ℕ) (octets : List ℕ) → message_outcome (term ∷ terms) room (tag ∷ octets) ≡ item_outcome term room true (tag ∷ octets)

@@ -1,5 +1,5 @@
 -- What the table of the grammar says of the terms.
-use Rattle.std.specs.Prelude.{ℕ, suc, ◌+◌, ◌≡◌, ◌<◌, Bool, true, false, ◌&&◌, nat_lt, List, [], ◌∷◌, length, drop, max, Option, Some, None}
+use Rattle.std.specs.Prelude.{ℕ, suc, ◌+◌, ◌≡◌, ◌<◌, ◌≤◌, Bool, true, false, ◌&&◌, nat_lt, List, [], ◌∷◌, length, drop, max, Option, Some, None}
 use Rattle.krb_der.specs.Octets.{integer_octets}
 use Rattle.krb_msg.specs.Term.{Term, Fields, Integer, Text, Octets, Time, Bits, Sequence, SequenceOf, Tagged, Application, End, Required, Optional, tag_of}
 use Rattle.krb_der.specs.declared.why.Why.TheVariants as why
@@ -21,7 +21,7 @@ fields_from (slot.Optional node ∷ slots) = Optional (term_at node) (fields_fro
 
 -- a form is that of the contents of a term
 abbrev pub IsFormOf : List Slot → Form → Term → Type 0
-IsFormOf slots (form.Integer low high widest) (Integer node from to) = (low ≡ from) × (high ≡ to) × (widest ≡ max (length (integer_octets from)) (length (integer_octets to)))
+IsFormOf slots (form.Integer low high widest) (Integer node from to) = (low ≡ from) × (high ≡ to) × (widest ≡ max (length (integer_octets from)) (length (integer_octets to))) × (widest ≤ 5)
 IsFormOf slots form.Text (Text node) = Unit {0}
 IsFormOf slots form.Octets (Octets node) = Unit {0}
 IsFormOf slots form.Time (Time node) = Unit {0}
@@ -46,18 +46,22 @@ RowsAre slots node (row ∷ rows) = IsRowOf slots node row (term_at node) × Row
 -- a slot, and what stands behind it in the lists of fields
 abbrev pub IsSlot : List Slot → ℕ → Slot → Type 0
 IsSlot slots place slot.End = fields_from (drop place slots) ≡ End
-IsSlot slots place (slot.Required node) = (fields_from (drop place slots) ≡ Required (term_at node) (fields_from (drop (place + 1) slots))) × (node < 111)
-IsSlot slots place (slot.Optional node) = (fields_from (drop place slots) ≡ Optional (term_at node) (fields_from (drop (place + 1) slots))) × (node < 111)
+IsSlot slots place (slot.Required node) = (fields_from (drop place slots) ≡ Required (term_at node) (fields_from (drop (place + 1) slots))) × (node < 111) × (place + 1 < 148)
+IsSlot slots place (slot.Optional node) = (fields_from (drop place slots) ≡ Optional (term_at node) (fields_from (drop (place + 1) slots))) × (node < 111) × (place + 1 < 148)
 
-abbrev pub is_known : Slot → Bool
-is_known slot.End = true
-is_known (slot.Required node) = nat_lt node 111
-is_known (slot.Optional node) = nat_lt node 111
+abbrev pub has_more : List Slot → Bool
+has_more [] = false
+has_more (one ∷ slots) = true
 
--- each slot names a node of the table
+abbrev pub is_known : Slot → List Slot → Bool
+is_known slot.End slots = true
+is_known (slot.Required node) slots = nat_lt node 111 && has_more slots
+is_known (slot.Optional node) slots = nat_lt node 111 && has_more slots
+
+-- each slot names a node of the table, and the last one ends a list
 abbrev pub are_known : List Slot → Bool
 are_known [] = true
-are_known (one ∷ slots) = is_known one && are_known slots
+are_known (one ∷ slots) = is_known one slots && are_known slots
 
 -- the node of the message that a tag octet chooses, if it chooses one
 abbrev pub IsMessageOf : ℕ → Option ℕ → Type 0

@@ -1,2 +1,4 @@
-//! The judgement of octets.
+//! Messages from octets: what octets decide, and the message that whole octets are.
 #![tactic(auto)]
+
+mod judge;
