@@ -1,5 +1,5 @@
-use Rattle.std.proofs.Common.{ℕ, ◌+◌, ◌-◌, ◌*◌, ◌^◌, ◌<◌, arith, sym, ap, ◌∙◌, get_or, drop}
-use Rattle.krb_der.specs.Octets.{number_from, complement}
+use Rattle.std.proofs.Common.{ℕ, ◌+◌, ◌*◌, ◌<◌, arith, sym, ap, ◌∙◌, drop}
+use Rattle.krb_der.specs.Octets.{number_from}
 use Rattle.krb_tool.proofs.Leaves.{number-next, number-end, small-next, small}
 use Rattle.krb_tool.proofs.judge.head.number.Goals as goal
 

@@ -1,4 +1,4 @@
-use Rattle.std.proofs.Common.{ℕ, ◌+◌, ◌-◌, ◌*◌, ◌^◌, ◌<◌, arith, sym, ap, ◌∙◌, get_or, drop}
+use Rattle.std.proofs.Common.{ℕ, ◌+◌, ◌*◌, ◌<◌, arith, sym, ap, ◌∙◌, drop}
 use Rattle.krb_der.specs.Octets.{number_from, complement}
 use Rattle.krb_tool.proofs.Leaves.{complement-next, complement-end, small-next, small}
 use Rattle.krb_tool.proofs.judge.head.number_of_complement.Goals as goal
