@@ -4,8 +4,8 @@
 //! the front and no further than the first that decides; those of a string are counted and not
 //! looked at.
 
-mod head;
-mod leaf;
+pub(crate) mod head;
+pub(crate) mod leaf;
 mod outcome;
 
 ghost use Rattle.std.specs.Prelude.{◌≡◌, ◌+◌, ◌-◌, ◌^◌, ◌<◌, ◌≤◌, length, drop, true, false};
