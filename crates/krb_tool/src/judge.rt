@@ -5,7 +5,8 @@
 //! looked at.
 
 pub(crate) mod head;
-pub(crate) mod leaf;
+mod leaf;
+pub(crate) mod number;
 mod outcome;
 
 ghost use Rattle.std.specs.Prelude.{◌≡◌, ◌+◌, ◌-◌, ◌^◌, ◌<◌, ◌≤◌, length, drop, true, false};
@@ -41,6 +42,7 @@ pub(crate) fn judge(n: u32, front: &[u8]) -> Verdict
     }
 }
 
+/// An outcome as it is answered: what is done is whole.
 fn verdict(outcome: Outcome) -> Verdict
     ensures { result ≡ verdict_of (outcome_of outcome) }
 {

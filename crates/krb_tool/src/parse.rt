@@ -11,7 +11,7 @@ ghost use Rattle.krb_msg.specs.Views.{encrypted_data_value, ap_rep_value, messag
 ghost use Rattle.krb_tool.specs.Reads.{HasItem, HasInteger, HasKvno, IsSplit, IsNumber, IsKvno, IsEncryptedData, IsApRep};
 
 use crate::judge::head::{Head, read_head};
-use crate::judge::leaf::integer_value;
+use crate::judge::number::integer_value;
 use krb_der::{Int32, Octets, Wide32};
 use krb_msg::{ApRep, EncryptedData, Message};
 use std::alloc::{AllocError, Global};

@@ -1,10 +1,10 @@
 //! An item's tag and length octets (X.690, 8.1.2, 8.1.3 and 10.1).
 
-ghost use Rattle.std.specs.Prelude.{◌≡◌, ◌+◌, ◌^◌, ◌<◌, ◌≤◌, length, take, drop};
-ghost use Rattle.krb_der.specs.Octets.{number as spelled, complement};
+ghost use Rattle.std.specs.Prelude.{◌≡◌, ◌<◌, ◌≤◌, length, take, drop};
 ghost use Rattle.krb_msg.specs.Judgement.{head as head_from, long_head as long_head_from, fitting as fits};
 ghost use Rattle.krb_tool.specs.Outcomes.{head_of, short_head};
 
+use crate::judge::number::number;
 use krb_der::Why;
 
 /// What an item's first octets say.
@@ -95,32 +95,6 @@ fn fitting(room: u32, header: u32, size: u64) -> Head
             size: size as u32,
         }
     }
-}
-
-/// The number that octets spell, the first the highest.
-pub(crate) fn number(octets: &[u8]) -> u64
-    requires { length octets.now ≤ 5 }
-    ensures value { result ≡ spelled octets.now }
-    ensures small { result < 2 ^ 40 }
-{
-    let mut number = 0;
-    for octet in octets {
-        number = number * 256 + u64::from(*octet);
-    }
-    number
-}
-
-/// The number that the complements of octets spell.
-pub(crate) fn number_of_complement(octets: &[u8]) -> u64
-    requires { length octets.now ≤ 5 }
-    ensures value { result ≡ spelled (complement octets.now) }
-    ensures small { result < 2 ^ 40 }
-{
-    let mut number = 0;
-    for octet in octets {
-        number = number * 256 + u64::from(255 - *octet);
-    }
-    number
 }
 
 /// The octets from a place on that are present, up to a size.

@@ -5,7 +5,7 @@ ghost use Rattle.krb_der.specs.Octets.{integer_value as value_of_octets, last_or
 ghost use Rattle.krb_msg.specs.Judgement.{behind, any_contents, integer_contents, time_contents, bits_contents, int_le, is_padded as padded};
 ghost use Rattle.krb_tool.specs.Outcomes.{outcome_of, time_octet};
 
-use crate::judge::head::{number, number_of_complement};
+use crate::judge::number::integer_value;
 use crate::judge::outcome::Outcome;
 use krb_der::Why;
 
@@ -60,21 +60,11 @@ fn is_padded(octets: &[u8]) -> bool
     }
 }
 
+/// Whether a number is in a range.
 fn is_between(low: i64, high: i64, value: i64) -> bool
     ensures { result ≡ (int_le low value && int_le value high) }
 {
     low <= value && value <= high
-}
-
-/// The number of an INTEGER's contents, in two's complement.
-pub(crate) fn integer_value(octets: &[u8]) -> i64
-    requires { length octets.now ≤ 5 }
-    ensures { result ≡ value_of_octets octets.now }
-{
-    match octets.first() {
-        Some(first) if *first >= 128 => -1 - number_of_complement(octets) as i64,
-        _ => number(octets) as i64,
-    }
 }
 
 /// A KerberosTime: fourteen digits and a Z (RFC 4120, 5.2.3).
@@ -105,9 +95,9 @@ fn is_time_octet(place: u32, octet: u8) -> bool
     ensures { result ≡ time_octet place octet }
 {
     if place < 14 {
-        (48..=57).contains(&octet)
+        octet.is_ascii_digit()
     } else {
-        octet == 90
+        octet == b'Z'
     }
 }
 
