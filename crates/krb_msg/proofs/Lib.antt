@@ -16,3 +16,4 @@ pub mod Ambiguous
 pub mod Streams
 pub mod Judged
 pub mod Fronts
+pub mod Table

@@ -5,3 +5,5 @@ pub mod Judgement
 pub mod Stream
 pub mod Views
 pub mod Laws
+pub mod Nodes
+pub mod Table

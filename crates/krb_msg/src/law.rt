@@ -5,41 +5,34 @@ ghost use Rattle.krb_msg.specs.Laws.{WholeIsMessage, MessageIsWhole, RefusalIsFi
 /// What is judged whole is the DER of a message.
 pub fn whole_is_message()
     ensures { WholeIsMessage }
-{
-}
+{}
 
 /// The DER of a message is judged whole.
 pub fn message_is_whole()
     ensures { MessageIsWhole }
-{
-}
+{}
 
 /// A refusal is the same whatever follows the octet that it stands at, and comes with that octet.
 pub fn refusal_is_final()
     ensures { RefusalIsFinal }
-{
-}
+{}
 
 /// No message begins with the octets up to and with one that is refused.
 pub fn refusal_is_right()
     ensures { RefusalIsRight }
-{
-}
+{}
 
 /// With all the octets of a message present, something is decided.
 pub fn all_is_decided()
     ensures { AllIsDecided }
-{
-}
+{}
 
 /// No message's DER begins another's, and different messages have different DER.
 pub fn der_tells()
     ensures { DerTells }
-{
-}
+{}
 
 /// The way back from the value of a message gives the message.
 pub fn message_comes_back()
     ensures { MessageComesBack }
-{
-}
+{}

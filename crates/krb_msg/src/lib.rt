@@ -9,6 +9,7 @@
 
 mod ap_rep;
 mod encrypted_data;
+pub mod grammar;
 pub mod law;
 mod message;
 

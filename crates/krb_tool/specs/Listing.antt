@@ -1,5 +1,5 @@
 -- The listing of a stream, and what a run does to its reader and its writer.
-use Rattle.std.specs.Prelude.{ℕ, ◌≡◌, List, ◌++◌, length, map, Option}
+use Rattle.std.specs.Prelude.{ℕ, ◌≡◌, List, ◌++◌, length, map, Option, Result, Ok, Err}
 use Rattle.std.specs.List.{flat_map}
 use Rattle.std.specs.Io.KnownBytes.{Consumes, Appends, IsAtEnd}
 use Rattle.krb_msg.specs.declared.message.Message.{Message}
@@ -9,6 +9,7 @@ use Rattle.krb_msg.specs.Stream.{End, Boundary, Within, Refused, frames}
 use Rattle.krb_tool.specs.Lines.{message_line, end_line}
 use Rattle.krb_tool.specs.declared.run.RunEnd.{RunEnd}
 use Rattle.krb_tool.specs.declared.run.RunEnd.TheVariants as run
+use Rattle.krb_tool.specs.declared.run.RunFault.{RunFault}
 
 -- the end of a stream, with frames of at most so many octets
 abbrev pub end_of : ℕ → List ℕ → End
@@ -41,3 +42,9 @@ pub record Lists (limit : ℕ) (had left held holds : Option (List ℕ)) (ended 
   pub listed : IsListing limit read written
   pub ended_so : ended ≡ run_end (end_of limit read)
   pub all_read : AllIsRead (end_of limit read) left
+
+-- the status of a process whose run gave this
+abbrev pub status_of : Result RunEnd RunFault → ℕ
+status_of (Ok run.Clean) = 0
+status_of (Ok run.Refused) = 1
+status_of (Err fault) = 3

@@ -24,7 +24,7 @@ ghost use Rattle.std.specs.Prelude.{◌≡◌, ◌<◌, ◌^◌, ◌↔◌, IsSo
 
 impl Limit {
     /// What the program uses where nothing else is said: 16777216.
-    pub const DEFAULT: u32 = 16777216;
+    pub const DEFAULT: Limit = Limit { octets: 16777216 };
 
     /// The limit of so many octets, and `None` of 0 and of more than 2147483647.
     pub fn new(octets: u32) -> Option<Limit>

@@ -1,7 +1,7 @@
 //! Runs over a reader and a writer.
 
 ghost use Rattle.std.specs.Prelude.{◌≡◌, ◌^◌, ◌≤◌, IfOk};
-ghost use Rattle.krb_tool.specs.Listing.{Lists};
+ghost use Rattle.krb_tool.specs.Listing.{Lists, status_of};
 ghost use Rattle.krb_tool.specs.declared.run.RunFault.TheVariants as fault;
 
 use crate::limit::Limit;
@@ -9,6 +9,7 @@ use crate::listing::Lister;
 use crate::transfer::{Asks, ask, write_all};
 use std::alloc::{AllocError, AllocFailed, Global};
 use std::io::{Read, Write};
+use thiserror::Error;
 
 /// How many octets a run asks its reader for at once: 64 KiB.
 const PIECE_OCTETS: usize = 1 << 16;
@@ -23,14 +24,29 @@ pub enum RunEnd {
 }
 
 /// Why a run could not go on.
-#[derive(Clone, Copy, PartialEq, Eq, Debug)]
+#[derive(Clone, Copy, PartialEq, Eq, Debug, Error)]
 pub enum RunFault {
     /// A read failed, or the reader was asked 2^40 times and was not at its end.
+    #[error("read")]
     Read,
     /// A write failed, or took nothing.
+    #[error("write")]
     Write,
     /// A growth was refused.
+    #[error("memory")]
     Memory,
+}
+
+/// The status that a run gives the process: 0 where it was clean, 1 where something was refused, 3
+/// for a fault.
+pub fn status(outcome: &Result<RunEnd, RunFault>) -> u8
+    ensures { result ≡ status_of outcome.now }
+{
+    match outcome {
+        Ok(RunEnd::Clean) => 0,
+        Ok(RunEnd::Refused) => 1,
+        Err(_) => 3,
+    }
 }
 
 impl From<AllocError> for RunFault {

@@ -1,0 +1,10 @@
+use Rattle.std.proofs.Common.{◌≡◌, ℕ, List, ◌∷◌, map, drop}
+use Rattle.krb_msg.specs.Grammar.{messages}
+use Rattle.krb_msg.specs.Judgement.{message_outcome}
+use Rattle.krb_msg.specs.Nodes.{term_at}
+use Rattle.krb_msg.specs.declared.grammar.TheConstants.{MESSAGES}
+use Rattle.krb_msg.proofs.grammar.message_of.Given as goal
+
+-- the messages passed so far have other tags
+abbrev pub invariant-loop-node : goal.invariant-loop-node
+invariant-loop-node l = (room : ℕ) (octets : List ℕ) → message_outcome messages room (l.tag ∷ octets) ≡ message_outcome (map term_at (drop l.node-index MESSAGES)) room (l.tag ∷ octets)
