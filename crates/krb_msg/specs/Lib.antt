@@ -7,3 +7,4 @@ pub mod Views
 pub mod Laws
 pub mod Nodes
 pub mod Table
+pub mod Examples

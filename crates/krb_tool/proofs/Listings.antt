@@ -32,13 +32,13 @@ pub HasListed-more : (limit : ℕ) (octets rest before text after : List ℕ) (c
 HasListed-more limit octets rest before text after count_before count size m h f d e = record {
   found = h.found ++ m ∷ [];
   goes_on = λ more.
-    h.goes_on more
-    ∙ ap (with_front (map message_der h.found)) (f.goes_on more)
-    ∙ with_front-with_first (map message_der h.found) (take size (drop 4 rest)) (frames messages limit (drop (4 + size) rest ++ more))
-    ∙ ap (λ l. with_front l (frames messages limit (drop (4 + size) rest ++ more))) (ap (λ o. map message_der h.found ++ o ∷ []) (sym d) ∙ sym (map-append message_der h.found (m ∷ [])));
+      h.goes_on more
+      ∙ ap (with_front (map message_der h.found)) (f.goes_on more)
+      ∙ with_front-with_first (map message_der h.found) (take size (drop 4 rest)) (frames messages limit (drop (4 + size) rest ++ more))
+      ∙ ap (λ l. with_front l (frames messages limit (drop (4 + size) rest ++ more))) (ap (λ o. map message_der h.found ++ o ∷ []) (sym d) ∙ sym (map-append message_der h.found (m ∷ [])));
   lines =
-    e ∙ ap (λ l. l ++ message_line m) h.lines ∙ append_assoc before (flat_map message_line h.found) (message_line m)
-    ∙ ap (λ l. before ++ l) (sym (flat_map-append message_line h.found (m ∷ []) ∙ ap (λ l. flat_map message_line h.found ++ l) (append-nil (message_line m))));
+      e ∙ ap (λ l. l ++ message_line m) h.lines ∙ append_assoc before (flat_map message_line h.found) (message_line m)
+      ∙ ap (λ l. before ++ l) (sym (flat_map-append message_line h.found (m ∷ []) ∙ ap (λ l. flat_map message_line h.found ++ l) (append-nil (message_line m))));
   counted = omega (arith, h.counted, length-append h.found (m ∷ []));
   fewer = omega (arith, h.fewer, f.within, length-append h.found (m ∷ []), length-drop (4 + size) rest);
 }
@@ -48,9 +48,9 @@ pub HasListed-fed : (limit : ℕ) (octets rest before text piece : List ℕ) (co
 HasListed-fed limit octets rest before text piece count_before count h = record {
   found = h.found;
   goes_on = λ more.
-    ap (frames messages limit) (append_assoc octets piece more)
-    ∙ h.goes_on (piece ++ more)
-    ∙ ap (λ l. with_front (map message_der h.found) (frames messages limit l)) (sym (append_assoc rest piece more));
+      ap (frames messages limit) (append_assoc octets piece more)
+      ∙ h.goes_on (piece ++ more)
+      ∙ ap (λ l. with_front (map message_der h.found) (frames messages limit l)) (sym (append_assoc rest piece more));
   lines = h.lines;
   counted = h.counted;
   fewer = omega (arith, h.fewer, length-append octets piece, length-append rest piece);
@@ -72,9 +72,9 @@ IsAt-start limit octets listing = record {
 pub IsAt-more : (limit : ℕ) (octets rest : List ℕ) (size : ℕ) (before text after : Listing) (m : Message) → IsAt limit octets rest before text → BeginsWithFrame limit rest size → message_der m ≡ take size (drop 4 rest) → string_bytes after.text ≡ string_bytes text.text ++ message_line m → after.messages ≡ text.messages + 1 → IsAt limit octets (drop (4 + size) rest) before after
 IsAt-more limit octets rest size before text after m at f d e n = record {
   place =
-    ap (drop (4 + size)) at.place
-    ∙ drop-drop (4 + size) (length octets - length rest) octets
-    ∙ (let k : length octets - length rest + (4 + size) ≡ length octets - length (drop (4 + size) rest) = omega (arith, at.within, f.within, length-drop (4 + size) rest) in rw k refl);
+      ap (drop (4 + size)) at.place
+      ∙ drop-drop (4 + size) (length octets - length rest) octets
+      ∙ (let k : length octets - length rest + (4 + size) ≡ length octets - length (drop (4 + size) rest) = omega (arith, at.within, f.within, length-drop (4 + size) rest) in rw k refl);
   within = omega (arith, at.within, length-drop (4 + size) rest);
   added = subst (HasListed limit octets (drop (4 + size) rest) (string_bytes before.text) (string_bytes after.text) before.messages) (sym n) (HasListed-more limit octets rest (string_bytes before.text) (string_bytes text.text) (string_bytes after.text) before.messages text.messages size m at.added f d e);
 }
@@ -88,15 +88,15 @@ pub HasListed-then : (limit : ℕ) (octets rest last before text none more : Lis
 HasListed-then limit octets rest last before text none more count_before count count_after h k e = record {
   found = h.found ++ k.found;
   goes_on = λ others.
-    h.goes_on others
-    ∙ ap (with_front (map message_der h.found)) (k.goes_on others)
-    ∙ with_front-with_front (map message_der h.found) (map message_der k.found) (frames messages limit (last ++ others))
-    ∙ ap (λ l. with_front l (frames messages limit (last ++ others))) (sym (map-append message_der h.found k.found));
+      h.goes_on others
+      ∙ ap (with_front (map message_der h.found)) (k.goes_on others)
+      ∙ with_front-with_front (map message_der h.found) (map message_der k.found) (frames messages limit (last ++ others))
+      ∙ ap (λ l. with_front l (frames messages limit (last ++ others))) (sym (map-append message_der h.found k.found));
   lines =
-    ap (λ l. l ++ more) h.lines
-    ∙ append_assoc before (flat_map message_line h.found) more
-    ∙ ap (λ l. before ++ (flat_map message_line h.found ++ l)) (k.lines ∙ ap (λ l. l ++ flat_map message_line k.found) e)
-    ∙ ap (λ l. before ++ l) (sym (flat_map-append message_line h.found k.found));
+      ap (λ l. l ++ more) h.lines
+      ∙ append_assoc before (flat_map message_line h.found) more
+      ∙ ap (λ l. before ++ (flat_map message_line h.found ++ l)) (k.lines ∙ ap (λ l. l ++ flat_map message_line k.found) e)
+      ∙ ap (λ l. before ++ l) (sym (flat_map-append message_line h.found k.found));
   counted = omega (arith, h.counted, k.counted, length-append h.found k.found);
   fewer = omega (arith, h.fewer, k.fewer, length-append h.found k.found);
 }

@@ -130,11 +130,11 @@ Lists-made limit had left held holds holds' asks old new refusal ended r f a all
     found = r.listed.found;
     in_frames = sym (ap (λ f. f.contents) frames_read ∙ append-nil (map message_der r.listed.found));
     lines =
-      ap (λ l. r.written ++ l) f.lines
-      ∙ sym (append_assoc r.written (string_bytes old.listing.text) (end_line old.listing.messages (rest_end old.window.items refusal)))
-      ∙ ap (λ l. l ++ end_line old.listing.messages (rest_end old.window.items refusal)) r.listed.lines
-      ∙ ap (λ n. flat_map message_line r.listed.found ++ end_line n (rest_end old.window.items refusal)) counted
-      ∙ ap (λ e. flat_map message_line r.listed.found ++ end_line (length r.listed.found) e) (sym end_is);
+        ap (λ l. r.written ++ l) f.lines
+        ∙ sym (append_assoc r.written (string_bytes old.listing.text) (end_line old.listing.messages (rest_end old.window.items refusal)))
+        ∙ ap (λ l. l ++ end_line old.listing.messages (rest_end old.window.items refusal)) r.listed.lines
+        ∙ ap (λ n. flat_map message_line r.listed.found ++ end_line n (rest_end old.window.items refusal)) counted
+        ∙ ap (λ e. flat_map message_line r.listed.found ++ end_line (length r.listed.found) e) (sym end_is);
   };
   ended_so = f.ended_so ∙ ap run_end (sym end_is);
   all_read = subst (λ e. AllIsRead e left) (sym end_is) all;

@@ -10,12 +10,11 @@ IsWritten held holds all rest = (front : List ℕ) × Appends held holds front �
 
 -- and then some octets more
 pub IsWritten-more : (held holds after : Option (List ℕ)) (all rest : List ℕ) (n : ℕ) → IsWritten held holds all rest → Appends holds after (take n rest) → IsWritten held after all (take (length rest - n) (drop n rest))
-IsWritten-more held holds after all rest n w a =
-    (
-      w.0 ++ take n rest,
-      Appends-trans held holds after w.0 (take n rest) w.1 a,
-      w.2
+IsWritten-more held holds after all rest n w a = (
+  w.0 ++ take n rest,
+  Appends-trans held holds after w.0 (take n rest) w.1 a,
+  w.2
       ∙ ap (λ l. w.0 ++ l) (sym (take-append-drop n rest))
       ∙ sym (append_assoc w.0 (take n rest) (drop n rest))
       ∙ ap (λ l. (w.0 ++ take n rest) ++ l) (sym (take-drop-rest n rest)),
-    )
+)

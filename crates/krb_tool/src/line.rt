@@ -133,7 +133,11 @@ pub(crate) fn put_end(text: &mut String, messages: u64) -> Result<(), AllocError
 }
 
 /// Appends the line of a refusal, behind so many messages.
-pub(crate) fn put_refusal(text: &mut String, messages: u64, refusal: Refusal) -> Result<(), AllocError>
+pub(crate) fn put_refusal(
+    text: &mut String,
+    messages: u64,
+    refusal: Refusal,
+) -> Result<(), AllocError>
     ensures { OnOk result (string_bytes text.new ≡ string_bytes text.old ++ refused_line messages refusal.place refusal.why) }
 {
     let place = refusal.place;

@@ -17,11 +17,8 @@ mod transfer;
 
 pub use limit::Limit;
 pub use run::{RunEnd, RunFault, run_stream, status};
-
-use std::env;
-use std::io;
 use std::process::ExitCode;
-
+use std::{env, io};
 
 /// The status of a wrong command line.
 const WRONG_COMMAND_LINE: u8 = 2;
@@ -37,7 +34,12 @@ enum Command {
 fn main(rt: HostRuntime) -> ExitCode {
     match read_words(&rt) {
         Ok(Command::Stream) => {
-            let outcome = run_stream(rt.alloc(), &mut rt.stdin(), &mut rt.stdout(), Limit::DEFAULT);
+            let outcome = run_stream(
+                rt.alloc(),
+                &mut rt.stdin(),
+                &mut rt.stdout(),
+                Limit::DEFAULT,
+            );
             if let Err(fault) = &outcome {
                 let _ = eprintln!(rt; "krbls: {fault}");
             }
@@ -71,3 +73,6 @@ fn read_words<R: env::Env + AllocGlobal>(rt: &R) -> Result<Command, RunFault> {
         Ok(Command::Wrong)
     }
 }
+
+#[cfg(test)]
+mod tests;
