@@ -3,3 +3,5 @@
 
 mod judge;
 mod parse;
+#[cfg(test)]
+mod tests;
