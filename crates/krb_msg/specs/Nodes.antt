@@ -32,7 +32,7 @@ abbrev mutual
   parts_of_fields (Required term fields) = parts term ++ parts_of_fields fields
   parts_of_fields (Optional term fields) = parts term ++ parts_of_fields fields
 
--- the first term of a node
+-- the first term of a node, and any term where none has the number, which is not asked for
 abbrev pub find : ℕ → List Term → Term
 find node [] = int32
 find node (term ∷ terms) = if node_of term == node then term else find node terms

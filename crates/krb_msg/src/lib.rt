@@ -4,7 +4,8 @@
 //! `specs/` reads from the bottom: `Term` (terms, their values and the DER of a value), `Grammar`
 //! (appendix A as terms), `Judgement` (what the octets present of a message decide), `Stream` (the
 //! frames of a stream), `Views` (the types of this crate as values of terms), and `Laws`, which
-//! the functions of [`law`] prove.
+//! the functions of [`law`] prove. `Nodes` and `Table` say what the table of the grammar, of
+//! [`grammar`], has to do with the terms.
 #![tactic(auto)]
 
 mod ap_rep;

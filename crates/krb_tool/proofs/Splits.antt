@@ -44,11 +44,6 @@ not_got (found.Got h s) header size n e = n h s refl
 got_parts : (a b c d : ℕ) → Got a b ≡ Got c d → (a ≡ c) × (b ≡ d)
 got_parts a b c d e = (cc, cc)
 
-pub got_within : (octets : List ℕ) (header size : ℕ) → length octets < 2 ^ 31 → HasItem octets → Got header size ≡ head (length octets) octets → header + size ≤ length octets
-got_within octets header size h f e =
-    let p : (header ≡ 1 + length (length_octets (length f.contents))) × (size ≡ length f.contents) = got_parts _ _ _ _ (e ∙ head_of_item octets f.tag f.contents f.rest h f.parts) in
-    omega (arith, p.0, p.1, ap length f.parts, length-append (item f.tag f.contents) f.rest, length-item f.tag f.contents)
-
 split_parts : (octets : List ℕ) (header size tag : ℕ) (inner behind : List ℕ) → length octets < 2 ^ 31 → Got header size ≡ head (length octets) octets → octets ≡ item tag inner ++ behind → (take size (drop header octets) ≡ inner) × (drop size (drop header octets) ≡ behind)
 split_parts octets header size tag inner behind h e f =
     let p : (header ≡ 1 + length (length_octets (length inner))) × (size ≡ length inner) = got_parts _ _ _ _ (e ∙ head_of_item octets tag inner behind h f) in
@@ -114,13 +109,6 @@ is_kvno_some octets rest number kvno t f s r v = record { parts = parts; rest_wi
     parts (Some said) inner behind e =
         let q = s.parts 0xA1 said (item 0xA2 inner ++ behind) e in
         (wide_kvno kvno number r v (rw same (f.low, f.high)) ∙ ap Some q.0, q.1)
-
-pub is_kvno_none : (octets : List ℕ) → (get_or octets 0 0 ≡ 0xA1 → ⊥) → IsKvno octets None octets
-is_kvno_none octets n = record { parts = parts; rest_within = omega arith }
-  where
-    parts : (said : Option ℤ) (inner behind : List ℕ) → octets ≡ octets_of_option (der (Tagged 13 1 wide32)) said ++ (item 0xA2 inner ++ behind) → (None ≡ said) × (octets ≡ item 0xA2 inner ++ behind)
-    parts None inner behind e = (refl, e)
-    parts (Some said) inner behind e = absurd (n (first_octet e))
 
 -- ---- EncryptedData
 abbrev behind_etype : EncryptedData → List ℕ

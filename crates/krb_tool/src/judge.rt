@@ -10,7 +10,7 @@ pub(crate) mod number;
 mod outcome;
 
 ghost use Rattle.std.specs.Prelude.{◌≡◌, ◌+◌, ◌-◌, ◌^◌, ◌<◌, ◌≤◌, length, drop, true, false};
-ghost use Rattle.krb_msg.specs.Term.{End, Required, tag_of as term_tag};
+ghost use Rattle.krb_msg.specs.Term.{End, Required};
 ghost use Rattle.krb_msg.specs.Judgement.{judgement, verdict_of, then_after, only_contents, has_size as term_has_size, item_outcome, contents_outcome, fields_outcome, items_contents};
 ghost use Rattle.krb_msg.specs.Nodes.{term_at};
 ghost use Rattle.krb_msg.specs.Table.{fields_from};

@@ -1,11 +1,10 @@
 //! The message that octets are, which were judged whole. Each function reads what its type in RFC
 //! 4120, section 5, says, and nothing is tested again.
 
-ghost use Rattle.std.specs.Prelude.{◌≡◌, ◌^◌, ◌<◌, ◌++◌, ℕ, ℤ, List, Option, IfOk, IfSome, length};
-ghost use Rattle.krb_der.specs.Octets.{item, integer_octets};
+ghost use Rattle.std.specs.Prelude.{◌≡◌, ◌^◌, ◌<◌, IfOk, length};
 ghost use Rattle.krb_der.specs.declared.verdict.Verdict.TheVariants.{Whole};
-ghost use Rattle.krb_msg.specs.Term.{Tagged, der, octets_of_option};
-ghost use Rattle.krb_msg.specs.Grammar.{encrypted_data as encrypted_data_term, ap_rep as ap_rep_term, wide32};
+ghost use Rattle.krb_msg.specs.Term.{der};
+ghost use Rattle.krb_msg.specs.Grammar.{encrypted_data as encrypted_data_term, ap_rep as ap_rep_term};
 ghost use Rattle.krb_msg.specs.Judgement.{judgement};
 ghost use Rattle.krb_msg.specs.Views.{encrypted_data_value, ap_rep_value, message_der};
 ghost use Rattle.krb_tool.specs.Reads.{HasItem, HasInteger, HasKvno, IsSplit, IsNumber, IsKvno, IsEncryptedData, IsApRep};

@@ -1,7 +1,7 @@
 //! The contents of the items that hold no others, behind their tag and length octets.
 
 ghost use Rattle.std.specs.Prelude.{◌≡◌, ◌+◌, ◌^◌, ◌<◌, ◌≤◌, length, ℤ, ◌&&◌};
-ghost use Rattle.krb_der.specs.Octets.{integer_value as value_of_octets, last_or_zero as last_of};
+ghost use Rattle.krb_der.specs.Octets.{last_or_zero as last_of};
 ghost use Rattle.krb_msg.specs.Judgement.{behind, any_contents, integer_contents, time_contents, bits_contents, int_le, is_padded as padded};
 ghost use Rattle.krb_tool.specs.Outcomes.{outcome_of, time_octet};
 

@@ -29,7 +29,7 @@ pub(crate) fn number_of_complement(octets: &[u8]) -> u64
     number
 }
 
-/// The number of an INTEGER's contents, in two's complement.
+/// The number of an INTEGER's contents, in two's complement (X.690, 8.3.3).
 pub(crate) fn integer_value(octets: &[u8]) -> i64
     requires { length octets.now ≤ 5 }
     ensures { result ≡ value_of_octets octets.now }
