@@ -1,21 +1,16 @@
 -- What the front of a stream's octets is judged to be.
-use Rattle.std.proofs.Common.{◌≡◌, ℕ, suc, ◌+◌, ◌*◌, ◌^◌, ◌<◌, ◌≤◌, min, List, [], ◌∷◌, ◌++◌, length, take, drop, get_or, inl, inr, refl, sym, ◌∙◌, ap, subst, map, arith, append_assoc, append-nil, length-append, length-take, length-drop}
+use Rattle.std.proofs.Common.{◌≡◌, ℕ, suc, ◌+◌, ◌^◌, ◌<◌, ◌≤◌, min, List, [], ◌∷◌, length, take, drop, get_or, inl, inr, refl, sym, ◌∙◌, ap, arith, length-take, length-drop}
 use Rattle.std.specs.Int.{w32, from_be_bytes}
 use Rattle.std.proofs.lemmas.Bool.{cases_lt}
 use Rattle.std.proofs.lemmas.List.{take_all}
 use Rattle.krb_der.specs.Octets.{number, AreOctets}
 use Rattle.krb_der.specs.declared.why.Why.{Why}
 use Rattle.krb_der.specs.declared.why.Why.TheVariants as why
-use Rattle.krb_der.specs.declared.verdict.Verdict.{Verdict}
 use Rattle.krb_der.specs.declared.verdict.Verdict.TheVariants as verdict
 use Rattle.krb_der.proofs.Numbers.{AreOctets-take, AreOctets-drop}
 use Rattle.krb_msg.specs.Grammar.{messages}
 use Rattle.krb_msg.specs.Judgement.{Open, Done, message_outcome, judgement}
-use Rattle.krb_msg.specs.Stream.{Frames, Within, Refused, ends, with_first, frames}
-use Rattle.krb_msg.specs.Laws.{AreMessage}
-use Rattle.krb_msg.specs.declared.message.Message.{Message}
-use Rattle.krb_msg.specs.Views.{message_der}
-use Rattle.krb_tool.specs.Lines.{message_line}
+use Rattle.krb_msg.specs.Stream.{Within, Refused, ends, frames}
 use Rattle.krb_msg.proofs.Fronts.{MayFollow, frames-high, frames-long, frames-empty, open-short, frames-open, frames-bad, frames-done_more, frames-short, frames-nil}
 use Rattle.krb_msg.proofs.Judged.{whole_outcome, refused_outcome, open_outcome, whole_is_message, refusal_is_final}
 use Rattle.krb_tool.specs.Fronts.{part_end, IsPart, BeginsWithFrame}

@@ -1,5 +1,5 @@
 -- A run, piece by piece.
-use Rattle.std.proofs.Common.{◌≡◌, ℕ, ◌+◌, ◌*◌, ◌^◌, ◌<◌, ◌≤◌, Bool, true, false, List, [], ◌∷◌, ◌++◌, length, map, take, Option, Some, None, string_bytes, refl, sym, ◌∙◌, ap, subst, arith, append-nil, append_assoc, length-append}
+use Rattle.std.proofs.Common.{◌≡◌, ℕ, ◌+◌, ◌*◌, ◌^◌, ◌<◌, ◌≤◌, true, false, List, [], ◌∷◌, ◌++◌, length, map, take, Option, Some, None, string_bytes, sym, ◌∙◌, ap, subst, arith, append-nil, append_assoc, length-append}
 use Rattle.std.specs.Prelude.{is_some}
 use Rattle.std.proofs.lemmas.List.{take_at}
 use Rattle.std.specs.List.{flat_map}
@@ -7,11 +7,11 @@ use Rattle.std.specs.Io.KnownBytes.{Consumes, Appends, IsAtEnd}
 use Rattle.std.proofs.KnownBytes.{Consumes-nil, Consumes-trans, Appends-nil, Appends-trans}
 use Rattle.krb_der.specs.declared.verdict.Refusal.{Refusal}
 use Rattle.krb_msg.specs.Grammar.{messages}
-use Rattle.krb_msg.specs.Stream.{Frames, End, Boundary, Within, Refused, ends, frames}
+use Rattle.krb_msg.specs.Stream.{ends, frames}
 use Rattle.krb_msg.specs.Views.{message_der}
 use Rattle.krb_msg.proofs.Fronts.{frames-nil}
 use Rattle.krb_tool.specs.Lines.{message_line, end_line}
-use Rattle.krb_tool.specs.Listing.{end_of, IsListing, run_end, AllIsRead, Lists}
+use Rattle.krb_tool.specs.Listing.{end_of, run_end, AllIsRead, Lists}
 use Rattle.krb_tool.specs.Fronts.{part_end, IsPart, IsRest, with_front, HasListed}
 use Rattle.krb_tool.specs.Transfers.{Gives}
 use Rattle.krb_tool.specs.Listers.{IsNewLister, Feeds, IsWrittenOut, rest_end, Finishes}

@@ -1,4 +1,4 @@
-use Rattle.std.proofs.Common.{◌≡◌, sym, subst, ◌∙◌, arith, ◌<◌}
+use Rattle.std.proofs.Common.{sym, subst, arith}
 use Rattle.krb_msg.specs.Grammar.{messages}
 use Rattle.krb_msg.proofs.Fronts.{MayFollow}
 use Rattle.krb_tool.specs.Fronts.{IsFront}

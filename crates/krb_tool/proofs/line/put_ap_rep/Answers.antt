@@ -1,4 +1,4 @@
-use Rattle.std.proofs.Common.{◌≡◌, ℕ, List, ◌++◌, ◌∙◌, ap, codes, string_bytes}
+use Rattle.std.proofs.Common.{ℕ, List, ◌++◌, ◌∙◌, ap, codes, string_bytes}
 use Rattle.krb_tool.specs.Lines.{sealed_text, notes_text, line_feed}
 use Rattle.krb_tool.proofs.Texts.{appended_five}
 use Rattle.krb_tool.proofs.line.put_ap_rep.Goals as goal

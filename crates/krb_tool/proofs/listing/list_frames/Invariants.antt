@@ -1,4 +1,4 @@
-use Rattle.std.proofs.Common.{length, string_bytes}
+use Rattle.std.proofs.Common.{length}
 use Rattle.krb_tool.proofs.Listings.{IsAt}
 use Rattle.krb_tool.proofs.listing.list_frames.Given as goal
 

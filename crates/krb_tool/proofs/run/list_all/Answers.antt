@@ -1,8 +1,6 @@
-use Rattle.std.proofs.Common.{◌≡◌, ℕ, ◌^◌, ◌<◌, ◌≤◌, List, [], length, take, None, sym, ◌∙◌, ap, subst, arith, length-take}
+use Rattle.std.proofs.Common.{◌≡◌, ℕ, ◌^◌, ◌<◌, ◌≤◌, List, [], length, take, sym, ◌∙◌, ap, subst, arith, length-take}
 use Rattle.std.specs.Io.KnownBytes.{Appends}
-use Rattle.krb_tool.specs.Fronts.{IsPart, IsRest}
-use Rattle.krb_tool.specs.Transfers.{Gives}
-use Rattle.krb_tool.proofs.Runs.{Runs, Waits, Waits-start, Waits-room, Runs-fed, Runs-ended, Waits-written, AllIsRead-part, AllIsRead-refused, Lists-made, written-slice, Runs-on}
+use Rattle.krb_tool.proofs.Runs.{Waits-start, Waits-room, Runs-fed, Runs-ended, Waits-written, AllIsRead-part, AllIsRead-refused, Lists-made, written-slice, Runs-on}
 use Rattle.krb_tool.proofs.run.list_all.Goals as goal
 
 pub pieces-init : goal.pieces-init
