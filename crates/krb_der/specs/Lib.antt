@@ -1,3 +1,4 @@
 pub mod Octets
 pub mod Reasons
 pub mod Scalars
+pub mod Sizes

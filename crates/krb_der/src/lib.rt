@@ -4,15 +4,31 @@
 //! Nothing here knows a Kerberos message; `krb_msg` does.
 #![tactic(auto)]
 
+mod der;
+mod flags;
 mod int32;
+mod item;
+mod kerberos_time;
+mod kstring;
+mod many;
 mod memory;
+mod micros;
+mod number;
 mod octets;
 mod verdict;
 mod why;
 mod wide32;
 
+pub use der::Der;
+pub use flags::Flags;
 pub use int32::Int32;
+pub use item::{TOO_LONG, item_size, put_header, put_octets, sum_sizes};
+pub use kerberos_time::KerberosTime;
+pub use kstring::KString;
+pub use many::Many;
 pub use memory::Memory;
+pub use micros::Micros;
+pub use number::{integer_size, put_integer};
 pub use octets::Octets;
 pub use verdict::{Refusal, Verdict};
 pub use why::{Why, why_number, why_text};

@@ -1,0 +1,39 @@
+-- How many octets items have.
+use Rattle.std.proofs.Common.{◌≡◌, ℕ, suc, ◌+◌, ◌-◌, ◌*◌, ◌/◌, ◌%◌, ◌^◌, ◌<◌, ◌≤◌, ◌⊎◌, inl, inr, ℤ, pos, negsuc, min, List, [], ◌∷◌, ◌++◌, length, map, refl, sym, ap, ◌∙◌, arith, length-append}
+use Rattle.std.proofs.lemmas.Bool.{cases_lt}
+use Rattle.std.proofs.lemmas.List.{length-map, map_push}
+use Rattle.krb_der.specs.Octets.{spelled, complement, integer_octets, length_octets, item}
+use Rattle.krb_der.specs.Sizes.{item_length, saturated, magnitude}
+use Rattle.krb_der.proofs.Numbers.{spelled-step}
+use Rattle.krb_der.proofs.Items.{length_octets-short, length_octets-long, length-item as length_of_item}
+
+pub item_length-short : (n : ℕ) → n < 128 → item_length n ≡ n + 2
+unfolding item_length
+item_length-short n h = rw (length_octets-short n h) (omega arith)
+
+pub item_length-long : (n : ℕ) → 128 ≤ n → item_length n ≡ n + 2 + length (spelled 256 n)
+unfolding item_length
+item_length-long n h = rw (length_octets-long n h) (omega arith)
+
+pub item_length-ge : (n : ℕ) → n ≤ item_length n
+unfolding item_length
+item_length-ge n = omega arith
+
+pub length-item : (tag : ℕ) (contents : List ℕ) → length (item tag contents) ≡ item_length (length contents)
+unfolding item_length
+length-item tag contents = length_of_item tag contents
+
+pub complement-step : (n : ℕ) → 128 ≤ n → complement (spelled 128 n) ≡ complement (spelled 128 (n / 256)) ++ (255 - n % 256) ∷ []
+complement-step n h = rw (spelled-step 128 n (omega arith) h) (map_push (λ octet. 255 - octet) (spelled 128 (n / 256)) (n % 256))
+
+pub length-integer_octets : (z : ℤ) → length (integer_octets z) ≡ length (spelled 128 (magnitude z))
+length-integer_octets (pos n) = refl
+length-integer_octets (negsuc n) = length-map (spelled 128 n) (λ octet. 255 - octet)
+
+-- saturated contents make a saturated item
+pub saturated-item_length : (n : ℕ) → saturated (item_length (saturated n)) ≡ saturated (item_length n)
+saturated-item_length n =
+    elim (cases_lt n 2147483648) [
+      | inl h ↦ let e : saturated n ≡ n = omega arith in rw e
+      | inr h ↦ let e : saturated n ≡ 2147483648 = omega arith in rw e (omega (arith, item_length-ge 2147483648, item_length-ge n))
+    ]

@@ -1,0 +1,4 @@
+use Rattle.krb_der.proofs.number.+put_complement.Given as goal
+
+abbrev pub decreases-put_complement : goal.decreases-put_complement
+decreases-put_complement l = l.number

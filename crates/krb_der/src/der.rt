@@ -1,0 +1,30 @@
+//! Values as DER octets.
+
+ghost use Rattle.std.specs.Prelude.{◌≡◌, ◌+◌, ◌<◌, ◌≤◌, ◌++◌, ℕ, List, length};
+ghost use Rattle.std.specs.Vec.{vec_len, vec_capacity};
+ghost use Rattle.krb_der.specs.Sizes.{saturated};
+
+/// A type whose values have one DER form each (X.690, 10).
+pub trait Der {
+    /// The DER octets of a value.
+    ghost der: { Self → List ℕ };
+
+    /// The number of DER octets; 2147483648 where there are more.
+    fn size(&self) -> u64
+        ensures { result ≡ saturated (length (der self.now)) };
+
+    /// Appends the DER octets, at most 2147483647 of them, into room that is there. It takes no
+    /// memory.
+    fn put(&self, out: &mut Vec<u8>)
+        requires short { length (der self.now) ≤ 2147483647 }
+        requires room { vec_len out.old + length (der self.now) ≤ vec_capacity out.old }
+        ensures items { out.new.items ≡ out.old.items ++ der self.now }
+        ensures len { vec_len out.new ≡ vec_len out.old + length (der self.now) }
+        ensures capacity { vec_capacity out.new ≡ vec_capacity out.old };
+
+    /// Each value has octets.
+    ghost begins: { (value : Self) → 0 < length (der value) };
+
+    /// Different values have different octets, and no value's octets begin another's.
+    ghost tells: { (value other : Self) (rest more : List ℕ) → der value ++ rest ≡ der other ++ more → (value ≡ other) × (rest ≡ more) };
+}

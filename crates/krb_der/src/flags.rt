@@ -1,0 +1,89 @@
+//! Flags, a bit each.
+
+use std::marker::Model;
+
+/// A bit string (KerberosFlags of RFC 4120, 5.2.8; X.690, 8.6 and 11.2): octets, and how many low
+/// bits of the last one are unused, 0 to 7. These bits are clear, and where there are no octets
+/// none are unused. Contracts see the pair of the count and the list of the octets.
+#[derive(Drop)]
+pub struct Flags {
+    unused: u8,
+    octets: Vec<u8>,
+}
+
+impl Model for Flags {
+    ghost use Rattle.std.specs.Prelude.{List, ℕ};
+    ghost use Rattle.krb_der.specs.Octets.{AreBits};
+
+    ghost Value = { ℕ × List ℕ };
+
+    ghost view = { λ flags. (flags.unused, flags.octets.items) };
+
+    ghost invariant = { λ flags. AreBits flags.unused flags.octets.items };
+}
+
+ghost use Rattle.std.specs.Prelude.{◌≡◌, ◌<◌, ◌≤◌, ◌-◌, ◌*◌, ◌↔◌, min, length, false, IsSome, IfSome};
+ghost use Rattle.krb_der.specs.Octets.{AreBits, last_or_zero as last_of};
+ghost use Rattle.krb_der.specs.Scalars.{has_bit};
+
+impl Flags {
+    /// The flags of octets whose last has `unused` low bits that are clear: at most 7, and 0 where
+    /// there are no octets. `None` of any other. The vector is moved and not copied.
+    pub fn new(unused: u8, octets: Vec<u8>) -> Option<Flags>
+        ensures shape { IsSome result ↔ AreBits unused octets.items }
+        ensures value { IfSome result (λ flags. flags ≡ (unused, octets.items)) }
+    {
+        let last = last_or_zero(octets.as_slice());
+        if unused < 8 && (unused == 0 || !octets.is_empty()) && last % (1 << unused) == 0 {
+            Some(Flags { unused, octets })
+        } else {
+            None
+        }
+    }
+
+    /// The number of unused low bits of the last octet, 0 to 7.
+    pub fn unused(&self) -> u8
+        ensures value { result ≡ self.now.0 }
+        ensures shape { AreBits result self.now.1 }
+    {
+        self.unused
+    }
+
+    /// The octets, lent.
+    pub fn octets(&self) -> &[u8]
+        ensures { result.now ≡ self.now.1 }
+    {
+        self.octets.as_slice()
+    }
+
+    /// The number of bits that are there: 8 for each octet, less the unused. No memory holds so
+    /// many octets that it passes `u64::MAX`, where it would stay.
+    pub fn bits(&self) -> u64
+        ensures { result ≡ min (8 * length self.now.1 - self.now.0) u64.MAX }
+    {
+        let bits = 8 * self.octets.len() as u128 - u128::from(self.unused);
+        u64::try_from(bits).unwrap_or(u64::MAX)
+    }
+
+    /// Whether a bit is set, counted from 0, the high bit of the first octet (X.690, 8.6.2). A bit
+    /// that is missing is not.
+    pub fn bit(&self, index: u64) -> bool
+        ensures value { result ≡ has_bit self.now.1 index }
+        ensures missing { 8 * length self.now.1 - self.now.0 ≤ index → result ≡ false }
+    {
+        match self.octets.get((index / 8) as usize) {
+            Some(octet) => *octet >> (7 - index % 8) & 1 == 1,
+            None => false,
+        }
+    }
+}
+
+/// The last octet, or 0 where there is none.
+fn last_or_zero(octets: &[u8]) -> u8
+    ensures { result ≡ last_of octets.now }
+{
+    match octets {
+        [.., last] => *last,
+        [] => 0,
+    }
+}

@@ -1,0 +1,62 @@
+//! Items: a tag, a length and contents (X.690, 8.1).
+
+ghost use Rattle.std.specs.Prelude.{◌≡◌, ◌+◌, ◌<◌, ◌≤◌, ◌^◌, ◌++◌, ◌∷◌, length};
+ghost use Rattle.std.specs.Vec.{vec_len, vec_capacity};
+ghost use Rattle.krb_der.specs.Octets.{length_octets};
+ghost use Rattle.krb_der.specs.Sizes.{item_length, saturated};
+
+use crate::number::{number_size, put_number};
+
+/// The least number of octets that no message has.
+pub const TOO_LONG: u64 = 2147483648;
+
+/// The number of octets of an item with so many octets of contents; 2147483648 where there are
+/// more.
+pub fn item_size(contents: u64) -> u64
+    ensures { result ≡ saturated (item_length contents) }
+{
+    if contents < 0x80 {
+        contents + 2
+    } else if contents < TOO_LONG {
+        (contents + 2 + number_size(256, contents)).min(TOO_LONG)
+    } else {
+        TOO_LONG
+    }
+}
+
+/// Two numbers of octets together; 2147483648 where there are more.
+pub fn sum_sizes(size: u64, more: u64) -> u64
+    ensures { result ≡ saturated (size + more) }
+{
+    size.saturating_add(more).min(TOO_LONG)
+}
+
+/// Appends the tag and the length of an item, into room that is there. Its contents, of so many
+/// octets, are to follow.
+pub fn put_header(out: &mut Vec<u8>, tag: u8, contents: u32)
+    requires { vec_len out.old + (1 + length (length_octets contents)) ≤ vec_capacity out.old }
+    ensures items { out.new.items ≡ out.old.items ++ tag ∷ length_octets contents }
+    ensures len { vec_len out.new ≡ vec_len out.old + (1 + length (length_octets contents)) }
+    ensures capacity { vec_capacity out.new ≡ vec_capacity out.old }
+{
+    out.push_reserved(tag);
+    if contents < 0x80 {
+        out.push_reserved(contents as u8);
+    } else {
+        let number = u64::from(contents);
+        out.push_reserved(0x80 + number_size(256, number) as u8);
+        put_number(out, 256, number);
+    }
+}
+
+/// Appends octets into room that is there.
+pub fn put_octets(out: &mut Vec<u8>, octets: &[u8])
+    requires { vec_len out.old + length octets.now ≤ vec_capacity out.old }
+    ensures items { out.new.items ≡ out.old.items ++ octets.now }
+    ensures len { vec_len out.new ≡ vec_len out.old + length octets.now }
+    ensures capacity { vec_capacity out.new ≡ vec_capacity out.old }
+{
+    for octet in octets {
+        out.push_reserved(*octet);
+    }
+}

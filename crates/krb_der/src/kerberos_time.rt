@@ -1,0 +1,65 @@
+//! Points in time.
+
+use std::marker::Model;
+
+/// A KerberosTime (RFC 4120, 5.2.3): the year in four digits, month, day, hour, minute and second
+/// in two each, then a `Z`. Whether such a date exists is not asked. Contracts see the list of its
+/// fifteen octets.
+#[derive(Clone, Copy, PartialEq, Eq, Debug)]
+pub struct KerberosTime {
+    octets: [u8; 15],
+}
+
+impl Model for KerberosTime {
+    ghost use Rattle.std.specs.Prelude.{List, ℕ};
+    ghost use Rattle.krb_der.specs.Scalars.{IsTimeFrom};
+
+    ghost Value = { List ℕ };
+
+    ghost view = { λ time. time.octets };
+
+    ghost invariant = { λ time. IsTimeFrom 14 time.octets };
+
+    ghost inverse = { λ octets. record { octets = octets } };
+}
+
+ghost use Rattle.std.specs.Prelude.{◌≡◌, ◌↔◌, IsSome, IfSome};
+ghost use Rattle.std.specs.Str.{IsAscii};
+ghost use Rattle.std.specs.Char.{is_ascii_digit};
+ghost use Rattle.std.specs.List.{list_all};
+ghost use Rattle.krb_der.specs.Scalars.{IsTimeFrom};
+
+impl KerberosTime {
+    /// The time of fourteen digits and a `Z`, and `None` of any other octets.
+    pub fn new(octets: [u8; 15]) -> Option<KerberosTime>
+        ensures shape { IsSome result ↔ IsTimeFrom 14 octets }
+        ensures value { IfSome result (λ time. time ≡ octets) }
+    {
+        if are_digits(&octets[..14]) && octets[14] == b'Z' {
+            Some(KerberosTime { octets })
+        } else {
+            None
+        }
+    }
+
+    /// The octets, lent.
+    pub fn octets(&self) -> &[u8; 15]
+        ensures value { result.now ≡ self.now }
+        ensures shape { IsTimeFrom 14 result.now }
+        ensures ascii { IsAscii result.now }
+    {
+        &self.octets
+    }
+}
+
+/// Whether all octets are ASCII digits.
+fn are_digits(octets: &[u8]) -> bool
+    ensures { result ≡ list_all is_ascii_digit octets.now }
+{
+    for octet in octets {
+        if !octet.is_ascii_digit() {
+            return false;
+        }
+    }
+    true
+}

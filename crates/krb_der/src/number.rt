@@ -1,0 +1,88 @@
+//! Numbers as octets, the highest first (X.690, 8.1.3.5 and 8.3).
+
+ghost use Rattle.std.specs.Prelude.{◌≡◌, ◌+◌, ◌<◌, ◌≤◌, ◌++◌, length};
+ghost use Rattle.std.specs.Vec.{vec_len, vec_capacity};
+ghost use Rattle.krb_der.specs.Octets.{spelled, complement, item, integer_octets};
+ghost use Rattle.krb_der.specs.Sizes.{magnitude as magnitude_of};
+
+use crate::item::put_header;
+
+/// How many octets spell a number at least, if they begin below a bound: 1 to 8 or 9.
+pub(crate) fn number_size(bound: u64, number: u64) -> u64
+    requires { 0 < bound }
+    ensures value { result ≡ length (spelled bound number) }
+    ensures small { result ≤ 9 }
+{
+    if number < bound {
+        1
+    } else {
+        number_size(bound, number / 256) + 1
+    }
+}
+
+/// Appends the fewest octets that spell a number and begin below a bound.
+pub(crate) fn put_number(out: &mut Vec<u8>, bound: u64, number: u64)
+    requires bound { 0 < bound }
+    requires octets { bound ≤ 256 }
+    requires room { vec_len out.old + length (spelled bound number) ≤ vec_capacity out.old }
+    ensures items { out.new.items ≡ out.old.items ++ spelled bound number }
+    ensures len { vec_len out.new ≡ vec_len out.old + length (spelled bound number) }
+    ensures capacity { vec_capacity out.new ≡ vec_capacity out.old }
+{
+    if number < bound {
+        out.push_reserved(number as u8);
+    } else {
+        put_number(out, bound, number / 256);
+        out.push_reserved((number % 256) as u8);
+    }
+}
+
+/// Appends the complements of the fewest octets that spell a number and begin below 128.
+fn put_complement(out: &mut Vec<u8>, number: u64)
+    requires { vec_len out.old + length (spelled 128 number) ≤ vec_capacity out.old }
+    ensures items { out.new.items ≡ out.old.items ++ complement (spelled 128 number) }
+    ensures len { vec_len out.new ≡ vec_len out.old + length (spelled 128 number) }
+    ensures capacity { vec_capacity out.new ≡ vec_capacity out.old }
+{
+    if number < 128 {
+        out.push_reserved(255 - number as u8);
+    } else {
+        put_complement(out, number / 256);
+        out.push_reserved(255 - (number % 256) as u8);
+    }
+}
+
+/// The number, or one below the magnitude of a negative one.
+fn magnitude(number: i64) -> u64
+    ensures { result ≡ magnitude_of number }
+{
+    if number < 0 {
+        (-1 - number) as u64
+    } else {
+        number as u64
+    }
+}
+
+/// The number of DER octets of an INTEGER, 3 to 10 (X.690, 8.3).
+pub fn integer_size(number: i64) -> u64
+    ensures value { result ≡ length (item 0x02 (integer_octets number)) }
+    ensures small { result ≤ 11 }
+{
+    number_size(128, magnitude(number)) + 2
+}
+
+/// Appends the DER octets of an INTEGER into room that is there (X.690, 8.3).
+pub fn put_integer(out: &mut Vec<u8>, number: i64)
+    requires { vec_len out.old + length (item 0x02 (integer_octets number)) ≤ vec_capacity out.old }
+    ensures items { out.new.items ≡ out.old.items ++ item 0x02 (integer_octets number) }
+    ensures len { vec_len out.new ≡ vec_len out.old + length (item 0x02 (integer_octets number)) }
+    ensures capacity { vec_capacity out.new ≡ vec_capacity out.old }
+{
+    let magnitude = magnitude(number);
+    put_header(out, 0x02, number_size(128, magnitude) as u32);
+    if number < 0 {
+        put_complement(out, magnitude);
+    } else {
+        put_number(out, 128, magnitude);
+    }
+}
