@@ -1,6 +1,7 @@
 -- The laws of the judgement and of DER, at the messages of the crate.
-use Rattle.std.proofs.Common.{◌≡◌, ℕ, suc, ◌^◌, ◌<◌, ◌≤◌, inl, inr, ℤ, pos, true, List, [], ◌++◌, length, take, refl, sym, ◌∙◌, ap, subst, arith, append-nil}
-use Rattle.std.specs.Prelude.{◌≤ℤ◌}
+use Rattle.std.proofs.Common.{◌≡◌, ℕ, suc, ◌^◌, ◌<◌, ◌≤◌, inl, inr, ℤ, pos, true, List, [], ◌∷◌, ◌++◌, length, map, take, Option, Some, None, refl, sym, ◌∙◌, ap, ap₂, subst, arith, append-nil}
+use Rattle.std.specs.Prelude.{◌≤ℤ◌, ◌==◌, if◌then◌else◌}
+use Rattle.std.specs.Option.{option_map}
 use Rattle.std.proofs.lemmas.Int.{ints}
 use Rattle.std.proofs.lemmas.List.{take_all}
 use Rattle.krb_der.specs.Octets.{AreOctets}
@@ -9,12 +10,14 @@ use Rattle.krb_der.specs.declared.verdict.Refusal.{Refusal}
 use Rattle.krb_der.specs.declared.verdict.Verdict.TheVariants as verdict
 use Rattle.krb_msg.specs.declared.message.Message.{Message}
 use Rattle.krb_msg.specs.declared.message.Message.TheVariants as message
+use Rattle.krb_msg.specs.declared.pa_data.PaData.{PaData}
+use Rattle.krb_msg.specs.declared.kdc_rep.KdcRep.{KdcRep}
 use Rattle.krb_msg.specs.declared.message.Kind.{Kind}
 use Rattle.krb_msg.specs.declared.message.Kind.TheVariants as kind
 use Rattle.krb_msg.specs.Term.{Term, tag_of, Value, der, Fits}
-use Rattle.krb_msg.specs.Grammar.{messages}
+use Rattle.krb_msg.specs.Grammar.{messages, ticket, pa_data}
 use Rattle.krb_msg.specs.Judgement.{Outcome, Open, Bad, Done, message_outcome, judgement, verdict_of}
-use Rattle.krb_msg.specs.Views.{kind_of, kind_term, message_value, message_of, message_der, ap_rep_of, IsInProfile}
+use Rattle.krb_msg.specs.Views.{kind_of, kind_term, message_value, message_of, message_der, pa_data_value, pa_data_of, ticket_value, ticket_of, KdcRepValue, kdc_rep_value, kdc_rep_of, ap_req_of, ap_rep_of, IsInProfile}
 use Rattle.krb_msg.specs.Laws.{AreMessage, IsFinal}
 use Rattle.krb_der.proofs.Items.{same_from_cons}
 use Rattle.krb_msg.proofs.Values.{der-append}
@@ -43,20 +46,51 @@ open_outcome (Done count) e = absurd cc
 
 -- ---- messages of each kind
 chosen_kind : (k : Kind) → IsChosen (kind_term k) messages
-chosen_kind kind.ApRep = inl refl
+chosen_kind kind.AsRep = inl refl
+chosen_kind kind.TgsRep = inr (refl, inl refl)
+chosen_kind kind.ApReq = inr (refl, inr (refl, inl refl))
+chosen_kind kind.ApRep = inr (refl, inr (refl, inr (refl, inl refl)))
 
 kind_of_chosen : (term : Term) → IsChosen term messages → (k : Kind) × (term ≡ kind_term k)
-kind_of_chosen term (inl e) = (kind.ApRep, e)
-kind_of_chosen term (inr c) = absurd c.1
+kind_of_chosen term (inl e) = (kind.AsRep, e)
+kind_of_chosen term (inr (x, inl e)) = (kind.TgsRep, e)
+kind_of_chosen term (inr (x, inr (y, inl e))) = (kind.ApReq, e)
+kind_of_chosen term (inr (x, inr (y, inr (z, inl e)))) = (kind.ApRep, e)
+kind_of_chosen term (inr (x, inr (y, inr (z, inr c)))) = absurd c.1
 
 -- the kind whose messages begin with a tag
 abbrev kind_of_tag : ℕ → Kind
-kind_of_tag tag = kind.ApRep
+kind_of_tag tag = if tag == 0x6B then kind.AsRep else if tag == 0x6D then kind.TgsRep else if tag == 0x6E then kind.ApReq else kind.ApRep
 
 kind_of_tag-tag : (k : Kind) → kind_of_tag (tag_of (kind_term k)) ≡ k
+kind_of_tag-tag kind.AsRep = refl
+kind_of_tag-tag kind.TgsRep = refl
+kind_of_tag-tag kind.ApReq = refl
 kind_of_tag-tag kind.ApRep = refl
 
+-- ---- values and back
+map-back : {A B : Type 0} (to : A → B) (from : B → A) → ((a : A) → from (to a) ≡ a) → (xs : List A) → map from (map to xs) ≡ xs
+map-back to from back [] = refl
+map-back to from back (x ∷ xs) = ap₂ (λ y ys. y ∷ ys) (back x) (map-back to from back xs)
+
+option-back : {A B : Type 0} (to : A → B) (from : B → A) → ((a : A) → from (to a) ≡ a) → (o : Option A) → option_map from (option_map to o) ≡ o
+option-back to from back None = refl
+option-back to from back (Some x) = ap Some (back x)
+
+-- lists of PA-DATA and of their values
+padata-back : (padata : Option (List PaData)) → option_map (map pa_data_of) (option_map (map pa_data_value) padata) ≡ padata
+padata-back = option-back (map pa_data_value) (map pa_data_of) (map-back pa_data_value pa_data_of (λ p. refl))
+
+padata_value-back : (padata : Option (List (Value pa_data))) → option_map (map pa_data_value) (option_map (map pa_data_of) padata) ≡ padata
+padata_value-back = option-back (map pa_data_of) (map pa_data_value) (map-back pa_data_of pa_data_value (λ p. refl))
+
+kdc_rep-back : (n : ℕ) (m : KdcRep) → kdc_rep_of (kdc_rep_value n m) ≡ m
+kdc_rep-back n m = λ i. record m { padata = padata-back m.padata i }
+
 pub message_comes_back : (m : Message) → message_of (kind_of m) (message_value m) ≡ m
+message_comes_back (message.AsRep m) = ap message.AsRep (kdc_rep-back 11 m)
+message_comes_back (message.TgsRep m) = ap message.TgsRep (kdc_rep-back 13 m)
+message_comes_back (message.ApReq m) = refl
 message_comes_back (message.ApRep m) = refl
 
 exactly_one : (k : ℕ) (z : ℤ) → pos k ≤ℤ z → z ≤ℤ pos k → pos k ≡ z
@@ -76,7 +110,31 @@ StandsFor-same m value e f = record {
   form = ap (der (kind_term (kind_of m))) e;
 }
 
+-- the version that a ticket fixes
+ticket_value-of : (v : Value ticket) → Fits ticket v → ticket_value (ticket_of v) ≡ v
+ticket_value-of (five, (realm, (sname, (enc, none)))) f =
+    let p : pos 5 ≡ five = exactly_one 5 five f.0.0 f.0.1 in
+    λ i. (p i, (realm, (sname, (enc, none))))
+
+-- the numbers that a KDC-REP of either kind fixes
+kdc_rep_value-of : (n : ℕ) (v : KdcRepValue) → pos 5 ≡ v.0 → pos n ≡ v.1.0 → ticket_value (ticket_of v.1.1.1.1.1.0) ≡ v.1.1.1.1.1.0 → kdc_rep_value n (kdc_rep_of v) ≡ v
+kdc_rep_value-of n (five, (number, (padata, (crealm, (cname, (issued, (enc, none))))))) p q t =
+    λ i. (p i, (q i, (padata_value-back padata i, (crealm, (cname, (t i, (enc, none)))))))
+
 kind_stands : (k : Kind) (value : Value (kind_term k)) → Fits (kind_term k) value → StandsFor (kind_term k) value
+kind_stands kind.AsRep value f =
+    let p : pos 5 ≡ value.0 = exactly_one 5 value.0 f.0.0 f.0.1 in
+    let q : pos 11 ≡ value.1.0 = exactly_one 11 value.1.0 f.1.0.0 f.1.0.1 in
+    StandsFor-same (message.AsRep (kdc_rep_of value)) value (kdc_rep_value-of 11 value p q (ticket_value-of value.1.1.1.1.1.0 f.1.1.1.1.1.0)) f
+kind_stands kind.TgsRep value f =
+    let p : pos 5 ≡ value.0 = exactly_one 5 value.0 f.0.0 f.0.1 in
+    let q : pos 13 ≡ value.1.0 = exactly_one 13 value.1.0 f.1.0.0 f.1.0.1 in
+    StandsFor-same (message.TgsRep (kdc_rep_of value)) value (kdc_rep_value-of 13 value p q (ticket_value-of value.1.1.1.1.1.0 f.1.1.1.1.1.0)) f
+kind_stands kind.ApReq (five, (fourteen, (options, (issued, (enc, none))))) f =
+    let p : pos 5 ≡ five = exactly_one 5 five f.0.0 f.0.1 in
+    let q : pos 14 ≡ fourteen = exactly_one 14 fourteen f.1.0.0 f.1.0.1 in
+    let t : ticket_value (ticket_of issued) ≡ issued = ticket_value-of issued f.1.1.1.0 in
+    StandsFor-same (message.ApReq (ap_req_of (five, (fourteen, (options, (issued, (enc, none))))))) (five, (fourteen, (options, (issued, (enc, none))))) (λ i. (p i, (q i, (options, (t i, (enc, none)))))) f
 kind_stands kind.ApRep (five, (fifteen, (enc, none))) f =
     let p : pos 5 ≡ five = exactly_one 5 five f.0.0 f.0.1 in
     let q : pos 15 ≡ fifteen = exactly_one 15 fifteen f.1.0.0 f.1.0.1 in

@@ -1,13 +1,19 @@
 -- The types of this crate as values of their terms, and back. The numbers that a message fixes are in the value and not in the type.
-use Rattle.std.specs.Prelude.{ℕ, pos, ◌^◌, ◌<◌, List, length}
+use Rattle.std.specs.Prelude.{ℕ, pos, ◌^◌, ◌<◌, List, length, map}
+use Rattle.std.specs.Option.{option_map}
 use Rattle.krb_msg.specs.declared.encrypted_data.EncryptedData.{EncryptedData}
+use Rattle.krb_msg.specs.declared.principal_name.PrincipalName.{PrincipalName}
+use Rattle.krb_msg.specs.declared.pa_data.PaData.{PaData}
+use Rattle.krb_msg.specs.declared.ticket.Ticket.{Ticket}
+use Rattle.krb_msg.specs.declared.kdc_rep.KdcRep.{KdcRep}
+use Rattle.krb_msg.specs.declared.ap_req.ApReq.{ApReq}
 use Rattle.krb_msg.specs.declared.ap_rep.ApRep.{ApRep}
 use Rattle.krb_msg.specs.declared.message.Message.{Message}
 use Rattle.krb_msg.specs.declared.message.Message.TheVariants as message
 use Rattle.krb_msg.specs.declared.message.Kind.{Kind}
 use Rattle.krb_msg.specs.declared.message.Kind.TheVariants as kind
 use Rattle.krb_msg.specs.Term.{Term, Value, der, Fits}
-use Rattle.krb_msg.specs.Grammar.{encrypted_data, ap_rep}
+use Rattle.krb_msg.specs.Grammar.{encrypted_data, principal_name, pa_data, ticket, as_rep, tgs_rep, ap_req, ap_rep}
 
 abbrev pub encrypted_data_value : EncryptedData → Value encrypted_data
 encrypted_data_value e = (e.etype, (e.kvno, (e.cipher, tt)))
@@ -15,23 +21,76 @@ encrypted_data_value e = (e.etype, (e.kvno, (e.cipher, tt)))
 abbrev pub encrypted_data_of : Value encrypted_data → EncryptedData
 encrypted_data_of v = record { etype = v.0; kvno = v.1.0; cipher = v.1.1.0 }
 
+abbrev pub principal_name_value : PrincipalName → Value principal_name
+principal_name_value p = (p.name_type, (p.name, tt))
+
+abbrev pub principal_name_of : Value principal_name → PrincipalName
+principal_name_of v = record { name_type = v.0; name = v.1.0 }
+
+abbrev pub pa_data_value : PaData → Value pa_data
+pa_data_value p = (p.padata_type, (p.padata_value, tt))
+
+abbrev pub pa_data_of : Value pa_data → PaData
+pa_data_of v = record { padata_type = v.0; padata_value = v.1.0 }
+
+abbrev pub ticket_value : Ticket → Value ticket
+ticket_value t = (pos 5, (t.realm, (principal_name_value t.sname, (encrypted_data_value t.enc_part, tt))))
+
+abbrev pub ticket_of : Value ticket → Ticket
+ticket_of v = record { realm = v.1.0; sname = principal_name_of v.1.1.0; enc_part = encrypted_data_of v.1.1.1.0 }
+
+abbrev pub ap_req_value : ApReq → Value ap_req
+ap_req_value m = (pos 5, (pos 14, (m.ap_options, (ticket_value m.ticket, (encrypted_data_value m.authenticator, tt)))))
+
+abbrev pub ap_req_of : Value ap_req → ApReq
+ap_req_of v = record { ap_options = v.1.1.0; ticket = ticket_of v.1.1.1.0; authenticator = encrypted_data_of v.1.1.1.1.0 }
+
 abbrev pub ap_rep_value : ApRep → Value ap_rep
 ap_rep_value m = (pos 5, (pos 15, (encrypted_data_value m.enc_part, tt)))
 
 abbrev pub ap_rep_of : Value ap_rep → ApRep
 ap_rep_of v = record { enc_part = encrypted_data_of v.1.1.0 }
 
+-- the values of AS-REP and of TGS-REP, which differ in their message type alone
+abbrev pub KdcRepValue : Type 0
+KdcRepValue = Value as_rep
+
+abbrev pub kdc_rep_value : ℕ → KdcRep → KdcRepValue
+kdc_rep_value message_type m =
+    (pos 5, (pos message_type, (option_map (map pa_data_value) m.padata, (m.crealm, (principal_name_value m.cname, (ticket_value m.ticket, (encrypted_data_value m.enc_part, tt)))))))
+
+abbrev pub kdc_rep_of : KdcRepValue → KdcRep
+kdc_rep_of v = record {
+  padata = option_map (map pa_data_of) v.1.1.0;
+  crealm = v.1.1.1.0;
+  cname = principal_name_of v.1.1.1.1.0;
+  ticket = ticket_of v.1.1.1.1.1.0;
+  enc_part = encrypted_data_of v.1.1.1.1.1.1.0;
+}
+
 -- ---- messages of any kind
 abbrev pub kind_of : Message → Kind
+kind_of (message.AsRep m) = kind.AsRep
+kind_of (message.TgsRep m) = kind.TgsRep
+kind_of (message.ApReq m) = kind.ApReq
 kind_of (message.ApRep m) = kind.ApRep
 
 abbrev pub kind_term : Kind → Term
+kind_term kind.AsRep = as_rep
+kind_term kind.TgsRep = tgs_rep
+kind_term kind.ApReq = ap_req
 kind_term kind.ApRep = ap_rep
 
 abbrev pub message_value : (m : Message) → Value (kind_term (kind_of m))
+message_value (message.AsRep m) = kdc_rep_value 11 m
+message_value (message.TgsRep m) = kdc_rep_value 13 m
+message_value (message.ApReq m) = ap_req_value m
 message_value (message.ApRep m) = ap_rep_value m
 
 abbrev pub message_of : (k : Kind) → Value (kind_term k) → Message
+message_of kind.AsRep value = message.AsRep (kdc_rep_of value)
+message_of kind.TgsRep value = message.TgsRep (kdc_rep_of value)
+message_of kind.ApReq value = message.ApReq (ap_req_of value)
 message_of kind.ApRep value = message.ApRep (ap_rep_of value)
 
 -- the one DER form of a message

@@ -9,11 +9,21 @@
 #![tactic(auto)]
 
 mod ap_rep;
+mod ap_req;
 mod encrypted_data;
 pub mod grammar;
+mod kdc_rep;
 pub mod law;
 mod message;
+mod pa_data;
+mod principal_name;
+mod ticket;
 
 pub use ap_rep::ApRep;
+pub use ap_req::ApReq;
 pub use encrypted_data::EncryptedData;
+pub use kdc_rep::KdcRep;
 pub use message::{Kind, Message};
+pub use pa_data::PaData;
+pub use principal_name::PrincipalName;
+pub use ticket::Ticket;

@@ -4,10 +4,18 @@ ghost use Rattle.std.specs.Prelude.{◌≡◌};
 ghost use Rattle.krb_msg.specs.Views.{kind_of};
 
 use crate::ap_rep::ApRep;
+use crate::ap_req::ApReq;
+use crate::kdc_rep::KdcRep;
 
 /// A message of any kind (RFC 4120, section 5).
 #[derive(Drop)]
 pub enum Message {
+    /// What a KDC answers an AS-REQ (5.4.2).
+    AsRep(KdcRep),
+    /// What a KDC answers a TGS-REQ (5.4.2).
+    TgsRep(KdcRep),
+    /// What a client sends an application server (5.5.1).
+    ApReq(ApReq),
     /// The reply of an application server (5.5.2).
     ApRep(ApRep),
 }
@@ -15,6 +23,12 @@ pub enum Message {
 /// What kind a message is of.
 #[derive(Clone, Copy, PartialEq, Eq, Debug)]
 pub enum Kind {
+    /// AS-REP, `[APPLICATION 11]`.
+    AsRep,
+    /// TGS-REP, `[APPLICATION 13]`.
+    TgsRep,
+    /// AP-REQ, `[APPLICATION 14]`.
+    ApReq,
     /// AP-REP, `[APPLICATION 15]`.
     ApRep,
 }
@@ -25,6 +39,9 @@ impl Message {
         ensures { result ≡ kind_of self.now }
     {
         match self {
+            Message::AsRep(_) => Kind::AsRep,
+            Message::TgsRep(_) => Kind::TgsRep,
+            Message::ApReq(_) => Kind::ApReq,
             Message::ApRep(_) => Kind::ApRep,
         }
     }
