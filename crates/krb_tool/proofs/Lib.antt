@@ -3,6 +3,3 @@ pub mod Texts
 pub mod Listings
 pub mod Transfers
 pub mod Runs
-pub mod Leaves
-pub mod Within
-pub mod Splits

@@ -3,5 +3,3 @@ pub mod Listing
 pub mod Fronts
 pub mod Transfers
 pub mod Listers
-pub mod Outcomes
-pub mod Reads

@@ -1,0 +1,141 @@
+//! The contents of the items that hold no others, behind their tag and length octets.
+
+ghost use Rattle.std.specs.Prelude.{◌≡◌, ◌+◌, ◌^◌, ◌<◌, ◌≤◌, length, ℤ, ◌&&◌};
+ghost use Rattle.krb_der.specs.Octets.{last_or_zero as last_of};
+ghost use Rattle.krb_msg.specs.Judgement.{behind, any_contents, integer_contents, time_contents, bits_contents, int_le, is_padded as padded};
+ghost use Rattle.krb_judge.specs.Outcomes.{outcome_of, time_octet};
+
+use crate::judging::number::integer_value;
+use crate::judging::outcome::Outcome;
+use krb_der::Why;
+
+/// A KerberosString or an OCTET STRING: any octets (X.690, 8.7 and 8.23).
+pub(crate) fn string(before: u32, size: u32, octets: &[u8]) -> Outcome
+    requires { before + size < 2 ^ 31 }
+    ensures { outcome_of result ≡ behind before (any_contents size octets.now) }
+{
+    if octets.len() < size as usize {
+        Outcome::Open
+    } else {
+        Outcome::Done {
+            count: before + size,
+        }
+    }
+}
+
+/// An INTEGER (X.690, 8.3).
+pub(crate) fn integer(low: i64, high: i64, before: u32, size: u32, octets: &[u8]) -> Outcome
+    requires some { 0 < size }
+    requires narrow { size ≤ 5 }
+    requires short { before + size < 2 ^ 31 }
+    requires present { length octets.now ≤ size }
+    ensures { outcome_of result ≡ behind before (integer_contents low high size octets.now) }
+{
+    if is_padded(octets) {
+        Outcome::Bad {
+            offset: before + 1,
+            why: Why::IntegerNotMinimal,
+        }
+    } else if octets.len() < size as usize {
+        Outcome::Open
+    } else if is_between(low, high, integer_value(octets)) {
+        Outcome::Done {
+            count: before + size,
+        }
+    } else {
+        Outcome::Bad {
+            offset: before + (size - 1),
+            why: Why::Range,
+        }
+    }
+}
+
+/// Whether the first nine bits are equal (X.690, 8.3.2).
+fn is_padded(octets: &[u8]) -> bool
+    ensures { result ≡ padded octets.now }
+{
+    match octets {
+        [first, second, ..] => *first == 0 && *second < 128 || *first == 255 && *second >= 128,
+        _ => false,
+    }
+}
+
+/// Whether a number is in a range.
+fn is_between(low: i64, high: i64, value: i64) -> bool
+    ensures { result ≡ (int_le low value && int_le value high) }
+{
+    low <= value && value <= high
+}
+
+/// A KerberosTime: fourteen digits and a Z (RFC 4120, 5.2.3).
+pub(crate) fn time(before: u32, octets: &[u8]) -> Outcome
+    requires short { before < 2 ^ 31 }
+    requires present { length octets.now ≤ 15 }
+    ensures { outcome_of result ≡ behind before (time_contents 0 octets.now) }
+{
+    let mut place = 0;
+    for octet in octets {
+        if !is_time_octet(place, *octet) {
+            return Outcome::Bad {
+                offset: before + place,
+                why: Why::Time,
+            };
+        }
+        place += 1;
+    }
+    if place < 15 {
+        Outcome::Open
+    } else {
+        Outcome::Done { count: before + 15 }
+    }
+}
+
+/// Whether an octet may stand at a place of a time.
+fn is_time_octet(place: u32, octet: u8) -> bool
+    ensures { result ≡ time_octet place octet }
+{
+    if place < 14 {
+        octet.is_ascii_digit()
+    } else {
+        octet == b'Z'
+    }
+}
+
+/// A BIT STRING: the count of the unused bits, which are clear, and the octets (X.690, 8.6 and
+/// 11.2).
+pub(crate) fn bits(before: u32, size: u32, octets: &[u8]) -> Outcome
+    requires some { 0 < size }
+    requires short { before + size < 2 ^ 31 }
+    ensures { outcome_of result ≡ behind before (bits_contents size octets.now) }
+{
+    let [unused, rest @ ..] = octets else {
+        return Outcome::Open;
+    };
+    if *unused > 7 || size == 1 && *unused > 0 {
+        Outcome::Bad {
+            offset: before,
+            why: Why::Bits,
+        }
+    } else if octets.len() < size as usize {
+        Outcome::Open
+    } else if last_or_zero(rest) % (1 << *unused) == 0 {
+        Outcome::Done {
+            count: before + size,
+        }
+    } else {
+        Outcome::Bad {
+            offset: before + (size - 1),
+            why: Why::Bits,
+        }
+    }
+}
+
+/// The last octet, or 0 where there is none.
+fn last_or_zero(octets: &[u8]) -> u8
+    ensures { result ≡ last_of octets.now }
+{
+    match octets {
+        [] => 0,
+        [.., last] => *last,
+    }
+}

@@ -1,0 +1,9 @@
+//! Kerberos V5 messages from whole slices: what octets decide ([`judge`]), and the message that
+//! octets are ([`parse`]).
+#![tactic(auto)]
+
+mod judging;
+mod parsing;
+
+pub use judging::judge;
+pub use parsing::parse;
