@@ -1,5 +1,5 @@
 -- How many octets items have.
-use Rattle.std.proofs.Common.{◌≡◌, ℕ, ◌+◌, ◌-◌, ◌/◌, ◌%◌, ◌<◌, ◌≤◌, inl, inr, ℤ, pos, negsuc, List, [], ◌∷◌, ◌++◌, length, refl, sym, ap, ◌∙◌, arith}
+use Rattle.std.proofs.Common.{◌≡◌, ℕ, ◌+◌, ◌-◌, ◌/◌, ◌%◌, ◌<◌, ◌≤◌, inl, inr, ℤ, pos, negsuc, List, [], ◌∷◌, ◌++◌, length, refl, sym, ap, ◌∙◌, arith, length-append}
 use Rattle.std.proofs.lemmas.Bool.{cases_lt}
 use Rattle.std.proofs.lemmas.List.{length-map, map_push}
 use Rattle.krb_der.specs.Octets.{spelled, complement, integer_octets, item}
@@ -45,3 +45,7 @@ saturated-item tag size of_item contents e f =
 -- the same of contents that are not saturated
 pub exact-item : (tag size of_item : ℕ) (contents : List ℕ) → size ≡ length contents → of_item ≡ saturated (item_length size) → of_item ≡ saturated (length (item tag contents))
 exact-item tag size of_item contents e f = f ∙ ap (λ n. saturated (item_length n)) e ∙ ap saturated (sym (length-item tag contents))
+
+-- two parts, each saturated
+pub saturated-append : (total size more : ℕ) (octets others : List ℕ) → total ≡ saturated (size + more) → size ≡ saturated (length octets) → more ≡ saturated (length others) → total ≡ saturated (length (octets ++ others))
+saturated-append total size more octets others e f g = rw length-append (omega arith)

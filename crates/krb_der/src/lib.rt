@@ -5,6 +5,7 @@
 #![tactic(auto)]
 
 mod der;
+mod fields;
 mod flags;
 mod int32;
 mod item;
@@ -15,15 +16,18 @@ mod memory;
 mod micros;
 mod number;
 mod octets;
-mod tagged;
 mod verdict;
 mod why;
 mod wide32;
 
 pub use der::Der;
+pub use fields::{
+    End, Fields, Fixed, Optional, Required, application_size, put_application, put_sequence,
+    sequence_size,
+};
 pub use flags::Flags;
 pub use int32::Int32;
-pub use item::{TOO_LONG, item_size, put_header, put_item, sum_sizes};
+pub use item::{TOO_LONG, item_size, put_header, put_item};
 pub use kerberos_time::KerberosTime;
 pub use kstring::KString;
 pub use many::Many;
@@ -31,7 +35,6 @@ pub use memory::Memory;
 pub use micros::Micros;
 pub use number::{integer_size, put_integer};
 pub use octets::Octets;
-pub use tagged::{optional_size, put_optional, put_tagged, tagged_size};
 pub use verdict::{Refusal, Verdict};
 pub use why::{Why, why_number, why_text};
 pub use wide32::Wide32;

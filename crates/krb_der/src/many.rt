@@ -1,7 +1,7 @@
 //! Values one after another.
 
 use crate::der::Der;
-use crate::item::{item_size, put_header, sum_sizes};
+use crate::item::{item_size, put_header, add_sizes};
 use std::marker::Model;
 
 /// Any number of values, in order: a SEQUENCE OF (X.690, 8.10). Contracts see them as their list.
@@ -74,7 +74,7 @@ fn size_of_values<T: Der>(values: &[T]) -> u64
 {
     let mut size = 0;
     for value in values {
-        size = sum_sizes(size, value.size());
+        size = add_sizes(size, value.size());
     }
     size
 }
