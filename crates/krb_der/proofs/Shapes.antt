@@ -32,7 +32,6 @@ last_octet (octet ∷ next ∷ octets) h =
     let e : length (octet ∷ next ∷ octets) - 1 ≡ suc (length (next ∷ octets) - 1) = omega arith in
     rw e (last_octet (next ∷ octets) (omega arith))
 
-
 -- the bits below a power of two that divides a number are clear
 clear_bit : (n above k : ℕ) → n % 2 ^ ((above + 1) + k) ≡ 0 → n / 2 ^ k % 2 ≡ 0
 clear_bit n above k h =

@@ -5,7 +5,7 @@
 #![tactic(auto)]
 
 mod der;
-mod fields;
+mod encoding;
 mod flags;
 mod int32;
 mod item;
@@ -21,10 +21,7 @@ mod why;
 mod wide32;
 
 pub use der::Der;
-pub use fields::{
-    End, Fields, Fixed, Optional, Required, application_size, put_application, put_sequence,
-    sequence_size,
-};
+pub use encoding::{Encoding, End, Fixed, Optional, Required, Sequence, Tagged};
 pub use flags::Flags;
 pub use int32::Int32;
 pub use item::{TOO_LONG, item_size, put_header, put_item};
@@ -38,4 +35,3 @@ pub use octets::Octets;
 pub use verdict::{Refusal, Verdict};
 pub use why::{Why, why_number, why_text};
 pub use wide32::Wide32;
-

@@ -1,7 +1,7 @@
 //! Values one after another.
 
 use crate::der::Der;
-use crate::item::{item_size, put_header, add_sizes};
+use crate::item::{add_sizes, item_size, put_header};
 use std::marker::Model;
 
 /// Any number of values, in order: a SEQUENCE OF (X.690, 8.10). Contracts see them as their list.

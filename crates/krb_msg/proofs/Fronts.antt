@@ -1,5 +1,5 @@
 -- What stands at the front of a stream's octets decides its frames, case by case.
-use Rattle.std.proofs.Common.{◌≡◌, ℕ, zero, suc, ◌+◌, ◌-◌, ◌*◌, ◌^◌, ◌<◌, ◌≤◌, true, false, ltb, leb, eqb, List, [], ◌∷◌, ◌++◌, length, take, drop, inl, inr, refl, sym, ◌∙◌, ap, ap₂, arith, length-append, length-take, length-drop, le-ltb, lt-ltb, ne_eqb}
+use Rattle.std.proofs.Common.{◌≡◌, ℕ, ◌+◌, ◌^◌, ◌<◌, ◌≤◌, List, [], ◌∷◌, ◌++◌, length, take, drop, inl, inr, refl, ◌∙◌, ap, ap₂, arith, length-append, length-take, length-drop, le-ltb, lt-ltb, ne_eqb}
 use Rattle.std.proofs.lemmas.Bool.{cases_lt, lt-leb, le-leb}
 use Rattle.std.proofs.lemmas.List.{take-append-le, drop-append-le, drop-drop}
 use Rattle.krb_der.specs.Octets.{number}
@@ -7,7 +7,7 @@ use Rattle.krb_der.specs.declared.why.Why.{Why}
 use Rattle.krb_der.specs.declared.why.Why.TheVariants as why
 use Rattle.krb_msg.specs.Term.{Term}
 use Rattle.krb_msg.specs.Judgement.{Outcome, Open, Bad, Done, message_outcome}
-use Rattle.krb_msg.specs.Stream.{Frames, End, Boundary, Within, Refused, ends, with_first, length_and, frame_and, frames_within, frames}
+use Rattle.krb_msg.specs.Stream.{Boundary, Within, Refused, ends, with_first, length_and, frame_and, frames_within, frames}
 use Rattle.krb_msg.proofs.Messages.{message_outcome-decided}
 use Rattle.krb_msg.proofs.Streams.{frames_within-step, frames_within-short, frames_within-same, length_and-same, length-drop_two}
 

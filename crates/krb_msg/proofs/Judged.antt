@@ -1,11 +1,10 @@
 -- The laws of the judgement and of DER, at the messages of the crate.
-use Rattle.std.proofs.Common.{◌≡◌, ℕ, suc, ◌+◌, ◌^◌, ◌<◌, ◌≤◌, ◌⊎◌, inl, inr, ℤ, pos, true, List, [], ◌∷◌, ◌++◌, length, take, refl, sym, ◌∙◌, ap, subst, arith, append-nil}
+use Rattle.std.proofs.Common.{◌≡◌, ℕ, suc, ◌^◌, ◌<◌, ◌≤◌, inl, inr, ℤ, pos, true, List, [], ◌++◌, length, take, refl, sym, ◌∙◌, ap, subst, arith, append-nil}
 use Rattle.std.specs.Prelude.{◌≤ℤ◌}
 use Rattle.std.proofs.lemmas.Int.{ints}
-use Rattle.std.proofs.lemmas.List.{take_all, length-take-le}
+use Rattle.std.proofs.lemmas.List.{take_all}
 use Rattle.krb_der.specs.Octets.{AreOctets}
 use Rattle.krb_der.specs.declared.why.Why.{Why}
-use Rattle.krb_der.specs.declared.verdict.Verdict.{Verdict}
 use Rattle.krb_der.specs.declared.verdict.Refusal.{Refusal}
 use Rattle.krb_der.specs.declared.verdict.Verdict.TheVariants as verdict
 use Rattle.krb_msg.specs.declared.message.Message.{Message}
@@ -18,7 +17,7 @@ use Rattle.krb_msg.specs.Judgement.{Outcome, Open, Bad, Done, message_outcome, j
 use Rattle.krb_msg.specs.Views.{kind_of, kind_term, message_value, message_of, message_der, ap_rep_of, IsInProfile}
 use Rattle.krb_msg.specs.Laws.{AreMessage, IsFinal}
 use Rattle.krb_der.specs.Items.{same_from_cons}
-use Rattle.krb_msg.proofs.Values.{der-append}
+use Rattle.krb_msg.specs.Values.{der-append}
 use Rattle.krb_msg.proofs.Laws.{IsWhole, Settles, same_value}
 use Rattle.krb_msg.proofs.Messages.{IsChosen, IsWhole-message, Settles-message_outcome, message_outcome-decided, message-accepts, unambiguous_message}
 

@@ -7,3 +7,5 @@ pub mod Views
 pub mod Laws
 pub mod Nodes
 pub mod Table
+pub mod Values
+pub mod Told

@@ -15,11 +15,19 @@ encrypted_data_value e = (e.etype, (e.kvno, (e.cipher, tt)))
 abbrev pub encrypted_data_of : Value encrypted_data → EncryptedData
 encrypted_data_of v = record { etype = v.0; kvno = v.1.0; cipher = v.1.1.0 }
 
+-- the one DER form of what is sealed
+abbrev pub encrypted_data_der : EncryptedData → List ℕ
+encrypted_data_der e = der encrypted_data (encrypted_data_value e)
+
 abbrev pub ap_rep_value : ApRep → Value ap_rep
 ap_rep_value m = (pos 5, (pos 15, (encrypted_data_value m.enc_part, tt)))
 
 abbrev pub ap_rep_of : Value ap_rep → ApRep
 ap_rep_of v = record { enc_part = encrypted_data_of v.1.1.0 }
+
+-- the one DER form of an AP-REP
+abbrev pub ap_rep_der : ApRep → List ℕ
+ap_rep_der m = der ap_rep (ap_rep_value m)
 
 -- ---- messages of any kind
 abbrev pub kind_of : Message → Kind

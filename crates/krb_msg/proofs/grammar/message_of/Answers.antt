@@ -13,11 +13,12 @@ loop-node-preserved c = λ room octets.
     ∙ message_next MESSAGES c.loop-node.node-index 0 c.args.tag c.loop-node-test.true (λ e. c.if-tag_of-tag.false (c.tag_of.ensures ∙ e)) room octets
 
 pub returns-then-tag_of-tag : goal.returns-then-tag_of-tag
-returns-then-tag_of-tag c =
-    (message_known c.loop-node.node-index 0 c.loop-node-test.true,
-    λ room octets.
-        c.loop-node.invariant room octets
-        ∙ message_here MESSAGES c.loop-node.node-index 0 c.args.tag c.loop-node-test.true (sym c.tag_of.ensures ∙ c.if-tag_of-tag.true) room octets)
+returns-then-tag_of-tag c = (
+  message_known c.loop-node.node-index 0 c.loop-node-test.true,
+  λ room octets.
+      c.loop-node.invariant room octets
+      ∙ message_here MESSAGES c.loop-node.node-index 0 c.args.tag c.loop-node-test.true (sym c.tag_of.ensures ∙ c.if-tag_of-tag.true) room octets,
+)
 
 pub returns : goal.returns
 returns c = λ room octets. c.loop-node.invariant room octets ∙ message_none MESSAGES c.loop-node.node-index c.args.tag c.loop-node-test.false room octets

@@ -1,4 +1,6 @@
-//! The fields of a SEQUENCE, in order (X.690, 8.9), each under a tag of its own (8.14).
+//! How the octets of a value are made of those of its parts: a SEQUENCE of fields in order (X.690,
+//! 8.9), each under a tag of its own (8.14). A value's type says it in its `Der` by a value like
+//! `Sequence(Required(0xA0, &self.etype, Optional(0xA1, &self.kvno, End)))`.
 
 ghost use Rattle.std.specs.Prelude.{◌≡◌, ◌+◌, ◌≤◌, ◌++◌, ◌∷◌, [], ℕ, pos, List, length};
 ghost use Rattle.std.specs.Vec.{vec_len, vec_capacity};
@@ -9,16 +11,17 @@ use crate::der::Der;
 use crate::item::{add_sizes, item_size, put_header};
 use crate::number::{integer_size, put_integer};
 
-/// Fields one behind another, as octets.
-pub trait Fields {
-    /// The DER octets of the fields.
+/// What octets are made of. Nothing is copied until they are put.
+pub trait Encoding {
+    /// The octets.
     ghost octets: { Self → List ℕ };
 
-    /// The number of DER octets; 2147483648 where there are more.
+    /// The number of octets; 2147483648 where there are more.
     fn size(&self) -> u64
         ensures { result ≡ saturated (length (octets self.now)) };
 
-    /// Appends the DER octets, at most 2147483647 of them, into room that is there.
+    /// Appends the octets, at most 2147483647 of them, into room that is there. It takes no
+    /// memory.
     fn put(&self, out: &mut Vec<u8>)
         requires short { length (octets self.now) ≤ 2147483647 }
         requires room { vec_len out.old + length (octets self.now) ≤ vec_capacity out.old }
@@ -43,7 +46,15 @@ pub struct Optional<'a, T, F>(pub u8, pub &'a Option<T>, pub F);
 #[derive(Drop)]
 pub struct Fixed<F>(pub u8, pub u8, pub F);
 
-impl Fields for End {
+/// A SEQUENCE of fields.
+#[derive(Drop)]
+pub struct Sequence<F>(pub F);
+
+/// A tag octet round one item, as a message has it (RFC 4120, 5.10).
+#[derive(Drop)]
+pub struct Tagged<E>(pub u8, pub E);
+
+impl Encoding for End {
     ghost octets = { λ end. [] };
 
     fn size(&self) -> u64 {
@@ -53,7 +64,7 @@ impl Fields for End {
     fn put(&self, _out: &mut Vec<u8>) {}
 }
 
-impl<'a, T: Der, F: Fields> Fields for Required<'a, T, F> {
+impl<'a, T: Der, F: Encoding> Encoding for Required<'a, T, F> {
     ghost octets = { λ field. item field.0 (T.der field.1.now) ++ F.octets field.2 };
 
     fn size(&self) -> u64 {
@@ -67,7 +78,7 @@ impl<'a, T: Der, F: Fields> Fields for Required<'a, T, F> {
     }
 }
 
-impl<'a, T: Der, F: Fields> Fields for Optional<'a, T, F> {
+impl<'a, T: Der, F: Encoding> Encoding for Optional<'a, T, F> {
     ghost octets = { λ field. octets_of_option (λ value. item field.0 (T.der value)) field.1.now ++ F.octets field.2 };
 
     fn size(&self) -> u64 {
@@ -86,7 +97,7 @@ impl<'a, T: Der, F: Fields> Fields for Optional<'a, T, F> {
     }
 }
 
-impl<F: Fields> Fields for Fixed<F> {
+impl<F: Encoding> Encoding for Fixed<F> {
     ghost octets = { λ field. item field.0 (item 0x02 (integer_octets (pos field.1))) ++ F.octets field.2 };
 
     fn size(&self) -> u64 {
@@ -101,42 +112,28 @@ impl<F: Fields> Fields for Fixed<F> {
     }
 }
 
-/// The number of DER octets of a SEQUENCE of fields; 2147483648 where there are more.
-pub fn sequence_size<F: Fields>(fields: &F) -> u64
-    ensures { result ≡ saturated (length (item 0x30 (F.octets fields.now))) }
-{
-    item_size(fields.size())
+impl<F: Encoding> Encoding for Sequence<F> {
+    ghost octets = { λ sequence. item 0x30 (F.octets sequence.0) };
+
+    fn size(&self) -> u64 {
+        item_size(self.0.size())
+    }
+
+    fn put(&self, out: &mut Vec<u8>) {
+        put_header(out, 0x30, self.0.size() as u32);
+        self.0.put(out);
+    }
 }
 
-/// Appends the DER octets of a SEQUENCE of fields, at most 2147483647, into room that is there.
-pub fn put_sequence<F: Fields>(out: &mut Vec<u8>, fields: &F)
-    requires short { length (item 0x30 (F.octets fields.now)) ≤ 2147483647 }
-    requires room { vec_len out.old + length (item 0x30 (F.octets fields.now)) ≤ vec_capacity out.old }
-    ensures items { out.new.items ≡ out.old.items ++ item 0x30 (F.octets fields.now) }
-    ensures len { vec_len out.new ≡ vec_len out.old + length (item 0x30 (F.octets fields.now)) }
-    ensures capacity { vec_capacity out.new ≡ vec_capacity out.old }
-{
-    put_header(out, 0x30, fields.size() as u32);
-    fields.put(out);
-}
+impl<E: Encoding> Encoding for Tagged<E> {
+    ghost octets = { λ tagged. item tagged.0 (E.octets tagged.1) };
 
-/// The number of DER octets of a SEQUENCE of fields under one more tag, whichever, as of a message
-/// (RFC 4120, 5.10); 2147483648 where there are more.
-pub fn application_size<F: Fields>(fields: &F) -> u64
-    ensures { (tag : ℕ) → result ≡ saturated (length (item tag (item 0x30 (F.octets fields.now)))) }
-{
-    item_size(sequence_size(fields))
-}
+    fn size(&self) -> u64 {
+        item_size(self.1.size())
+    }
 
-/// Appends the DER octets of a SEQUENCE of fields under one more tag, at most 2147483647, into room
-/// that is there.
-pub fn put_application<F: Fields>(out: &mut Vec<u8>, tag: u8, fields: &F)
-    requires short { length (item tag (item 0x30 (F.octets fields.now))) ≤ 2147483647 }
-    requires room { vec_len out.old + length (item tag (item 0x30 (F.octets fields.now))) ≤ vec_capacity out.old }
-    ensures items { out.new.items ≡ out.old.items ++ item tag (item 0x30 (F.octets fields.now)) }
-    ensures len { vec_len out.new ≡ vec_len out.old + length (item tag (item 0x30 (F.octets fields.now))) }
-    ensures capacity { vec_capacity out.new ≡ vec_capacity out.old }
-{
-    put_header(out, tag, sequence_size(fields) as u32);
-    put_sequence(out, fields);
+    fn put(&self, out: &mut Vec<u8>) {
+        put_header(out, self.0, self.1.size() as u32);
+        self.1.put(out);
+    }
 }
