@@ -133,7 +133,8 @@ impl<E: Encoding> Encoding for Tagged<E> {
     }
 
     fn put(&self, out: &mut Vec<u8>) {
-        put_header(out, self.0, self.1.size() as u32);
-        self.1.put(out);
+        let Tagged(tag, inside) = self;
+        put_header(out, *tag, inside.size() as u32);
+        inside.put(out);
     }
 }
