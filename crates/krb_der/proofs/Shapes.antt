@@ -17,6 +17,13 @@ ascii-from_time (suc n) [] t i = absurd t
 ascii-from_time (suc n) (digit ∷ octets) t zero = omega (arith, t.1)
 ascii-from_time (suc n) (digit ∷ octets) t (suc i) = ascii-from_time n octets t.2 i
 
+pub length-time : (n : ℕ) (octets : List ℕ) → IsTimeFrom n octets → n + 1 ≡ length octets
+length-time zero [] t = absurd t
+length-time zero (last ∷ []) t = refl
+length-time zero (last ∷ more ∷ octets) t = absurd t
+length-time (suc n) [] t = absurd t
+length-time (suc n) (digit ∷ octets) t = omega (arith, length-time n octets t.2)
+
 -- ---- bit strings
 pub last_octet : (octets : List ℕ) → 0 < length octets → get_or octets (length octets - 1) 0 ≡ last_or_zero octets
 last_octet [] h = absurd (omega arith)
@@ -24,7 +31,6 @@ last_octet (octet ∷ []) h = refl
 last_octet (octet ∷ next ∷ octets) h =
     let e : length (octet ∷ next ∷ octets) - 1 ≡ suc (length (next ∷ octets) - 1) = omega arith in
     rw e (last_octet (next ∷ octets) (omega arith))
-
 
 -- the bits below a power of two that divides a number are clear
 clear_bit : (n above k : ℕ) → n % 2 ^ ((above + 1) + k) ≡ 0 → n / 2 ^ k % 2 ≡ 0

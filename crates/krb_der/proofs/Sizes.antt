@@ -1,11 +1,11 @@
 -- How many octets items have.
-use Rattle.std.proofs.Common.{◌≡◌, ℕ, suc, ◌+◌, ◌-◌, ◌*◌, ◌/◌, ◌%◌, ◌^◌, ◌<◌, ◌≤◌, ◌⊎◌, inl, inr, ℤ, pos, negsuc, min, List, [], ◌∷◌, ◌++◌, length, map, refl, sym, ap, ◌∙◌, arith, length-append}
+use Rattle.std.proofs.Common.{◌≡◌, ℕ, ◌+◌, ◌-◌, ◌/◌, ◌%◌, ◌<◌, ◌≤◌, inl, inr, ℤ, pos, negsuc, List, [], ◌∷◌, ◌++◌, length, refl, sym, ap, ◌∙◌, arith, length-append}
 use Rattle.std.proofs.lemmas.Bool.{cases_lt}
 use Rattle.std.proofs.lemmas.List.{length-map, map_push}
-use Rattle.krb_der.specs.Octets.{spelled, complement, integer_octets, length_octets, item}
+use Rattle.krb_der.specs.Octets.{spelled, complement, integer_octets, item}
 use Rattle.krb_der.specs.Sizes.{item_length, saturated, magnitude}
-use Rattle.krb_der.proofs.Numbers.{spelled-step}
-use Rattle.krb_der.proofs.Items.{length_octets-short, length_octets-long, length-item as length_of_item}
+use Rattle.krb_der.specs.Numbers.{spelled-step}
+use Rattle.krb_der.specs.Items.{length_octets-short, length_octets-long, length-item as length_of_item}
 
 pub item_length-short : (n : ℕ) → n < 128 → item_length n ≡ n + 2
 unfolding item_length
@@ -37,3 +37,15 @@ saturated-item_length n =
       | inl h ↦ let e : saturated n ≡ n = omega arith in rw e
       | inr h ↦ let e : saturated n ≡ 2147483648 = omega arith in rw e (omega (arith, item_length-ge 2147483648, item_length-ge n))
     ]
+
+pub saturated-item : (tag size of_item : ℕ) (contents : List ℕ) → size ≡ saturated (length contents) → of_item ≡ saturated (item_length size) → of_item ≡ saturated (length (item tag contents))
+saturated-item tag size of_item contents e f =
+    f ∙ ap (λ n. saturated (item_length n)) e ∙ saturated-item_length (length contents) ∙ ap saturated (sym (length-item tag contents))
+
+-- the same of contents that are not saturated
+pub exact-item : (tag size of_item : ℕ) (contents : List ℕ) → size ≡ length contents → of_item ≡ saturated (item_length size) → of_item ≡ saturated (length (item tag contents))
+exact-item tag size of_item contents e f = f ∙ ap (λ n. saturated (item_length n)) e ∙ ap saturated (sym (length-item tag contents))
+
+-- two parts, each saturated
+pub saturated-append : (total size more : ℕ) (octets others : List ℕ) → total ≡ saturated (size + more) → size ≡ saturated (length octets) → more ≡ saturated (length others) → total ≡ saturated (length (octets ++ others))
+saturated-append total size more octets others e f g = rw length-append (omega arith)

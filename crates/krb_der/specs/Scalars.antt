@@ -1,5 +1,5 @@
 -- What the scalars stand for.
-use Rattle.std.specs.Prelude.{ℕ, zero, suc, ℤ, pos, negsuc, ◌+◌, ◌-◌, ◌*◌, ◌/◌, ◌%◌, ◌^◌, ◌≡◌, ◌<◌, ◌≤◌, ◌≤ℤ◌, Bool, eqb, List, [], ◌∷◌, slice_index}
+use Rattle.std.specs.Prelude.{ℕ, zero, suc, ℤ, pos, negsuc, ◌-◌, ◌/◌, ◌%◌, ◌^◌, ◌≡◌, ◌≤◌, ◌≤ℤ◌, Bool, eqb, List, [], ◌∷◌, slice_index}
 
 -- from -2147483648 to 4294967295
 abbrev pub IsWide32 : ℤ → Type 0

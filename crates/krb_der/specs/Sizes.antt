@@ -1,5 +1,5 @@
 -- How many octets items have.
-use Rattle.std.specs.Prelude.{ℕ, ◌+◌, ℤ, pos, negsuc, min, List, length}
+use Rattle.std.specs.Prelude.{ℕ, ◌+◌, ℤ, pos, negsuc, min, length}
 use Rattle.krb_der.specs.Octets.{length_octets}
 
 -- the octets of an item whose contents are so many: the tag, the length and these (X.690 8.1.1)

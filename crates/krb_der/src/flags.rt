@@ -1,5 +1,7 @@
 //! Flags, a bit each.
 
+use crate::der::Der;
+use crate::item::{item_size, put_header, put_octets};
 use std::marker::Model;
 
 /// A bit string (KerberosFlags of RFC 4120, 5.2.8; X.690, 8.6 and 11.2): octets, and how many low
@@ -23,7 +25,9 @@ impl Model for Flags {
 }
 
 ghost use Rattle.std.specs.Prelude.{◌≡◌, ◌<◌, ◌≤◌, ◌-◌, ◌*◌, ◌↔◌, min, length, false, IsSome, IfSome};
-ghost use Rattle.krb_der.specs.Octets.{AreBits, last_or_zero as last_of};
+ghost use Rattle.std.specs.Prelude.{◌∷◌};
+ghost use Rattle.krb_der.specs.Octets.{AreBits, item, last_or_zero as last_of};
+ghost use Rattle.krb_der.specs.Tells.{item_begins, same_bits};
 ghost use Rattle.krb_der.specs.Scalars.{has_bit};
 
 impl Flags {
@@ -76,6 +80,25 @@ impl Flags {
             None => false,
         }
     }
+}
+
+/// A BIT STRING (X.690, 8.6).
+impl Der for Flags {
+    ghost der = { λ bits. item 0x03 (bits.0 ∷ bits.1) };
+
+    fn size(&self) -> u64 {
+        item_size(self.octets().len() as u64 + 1)
+    }
+
+    fn put(&self, out: &mut Vec<u8>) {
+        put_header(out, 0x03, self.octets.len() as u32 + 1);
+        out.push_reserved(self.unused);
+        put_octets(out, self.octets.as_slice());
+    }
+
+    ghost begins = { λ bits. item_begins 0x03 (bits.0 ∷ bits.1) };
+
+    ghost tells = { same_bits };
 }
 
 /// The last octet, or 0 where there is none.

@@ -1,5 +1,7 @@
 //! Signed 32-bit numbers.
 
+use crate::der::Der;
+use crate::number::{integer_size, put_integer};
 use std::marker::Model;
 
 /// An Int32 (RFC 4120, 5.2.4): -2147483648 to 2147483647.
@@ -19,6 +21,8 @@ impl Model for Int32 {
 }
 
 ghost use Rattle.std.specs.Prelude.{◌≡◌};
+ghost use Rattle.krb_der.specs.Octets.{item, integer_octets};
+ghost use Rattle.krb_der.specs.Tells.{item_begins, same_integer};
 
 impl Int32 {
     /// The Int32 of a number.
@@ -34,4 +38,21 @@ impl Int32 {
     {
         self.number
     }
+}
+
+/// An INTEGER (X.690, 8.3).
+impl Der for Int32 {
+    ghost der = { λ number. item 0x02 (integer_octets number) };
+
+    fn size(&self) -> u64 {
+        integer_size(i64::from(self.number))
+    }
+
+    fn put(&self, out: &mut Vec<u8>) {
+        put_integer(out, i64::from(self.number));
+    }
+
+    ghost begins = { λ number. item_begins 0x02 (integer_octets number) };
+
+    ghost tells = { same_integer };
 }

@@ -2,7 +2,7 @@
 
 ghost use Rattle.std.specs.Prelude.{◌≡◌, ◌+◌, ◌<◌, ◌≤◌, ◌^◌, ◌++◌, ◌∷◌, length};
 ghost use Rattle.std.specs.Vec.{vec_len, vec_capacity};
-ghost use Rattle.krb_der.specs.Octets.{length_octets};
+ghost use Rattle.krb_der.specs.Octets.{item, length_octets};
 ghost use Rattle.krb_der.specs.Sizes.{item_length, saturated};
 
 use crate::number::{number_size, put_number};
@@ -25,7 +25,7 @@ pub fn item_size(contents: u64) -> u64
 }
 
 /// Two numbers of octets together; 2147483648 where there are more.
-pub fn sum_sizes(size: u64, more: u64) -> u64
+pub(crate) fn add_sizes(size: u64, more: u64) -> u64
     ensures { result ≡ saturated (size + more) }
 {
     size.saturating_add(more).min(TOO_LONG)
@@ -50,7 +50,7 @@ pub fn put_header(out: &mut Vec<u8>, tag: u8, contents: u32)
 }
 
 /// Appends octets into room that is there.
-pub fn put_octets(out: &mut Vec<u8>, octets: &[u8])
+pub(crate) fn put_octets(out: &mut Vec<u8>, octets: &[u8])
     requires { vec_len out.old + length octets.now ≤ vec_capacity out.old }
     ensures items { out.new.items ≡ out.old.items ++ octets.now }
     ensures len { vec_len out.new ≡ vec_len out.old + length octets.now }
@@ -59,4 +59,16 @@ pub fn put_octets(out: &mut Vec<u8>, octets: &[u8])
     for octet in octets {
         out.push_reserved(*octet);
     }
+}
+
+/// Appends an item of a tag and contents, at most 2147483647 octets, into room that is there.
+pub fn put_item(out: &mut Vec<u8>, tag: u8, contents: &[u8])
+    requires short { length (item tag contents.now) ≤ 2147483647 }
+    requires room { vec_len out.old + length (item tag contents.now) ≤ vec_capacity out.old }
+    ensures items { out.new.items ≡ out.old.items ++ item tag contents.now }
+    ensures len { vec_len out.new ≡ vec_len out.old + length (item tag contents.now) }
+    ensures capacity { vec_capacity out.new ≡ vec_capacity out.old }
+{
+    put_header(out, tag, contents.len() as u32);
+    put_octets(out, contents);
 }

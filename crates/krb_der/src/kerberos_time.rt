@@ -1,5 +1,7 @@
 //! Points in time.
 
+use crate::der::Der;
+use crate::item::{item_size, put_item};
 use std::marker::Model;
 
 /// A KerberosTime (RFC 4120, 5.2.3): the year in four digits, month, day, hour, minute and second
@@ -28,6 +30,8 @@ ghost use Rattle.std.specs.Str.{IsAscii};
 ghost use Rattle.std.specs.Char.{is_ascii_digit};
 ghost use Rattle.std.specs.List.{list_all};
 ghost use Rattle.krb_der.specs.Scalars.{IsTimeFrom};
+ghost use Rattle.krb_der.specs.Octets.{item};
+ghost use Rattle.krb_der.specs.Tells.{item_begins, same_octets};
 
 impl KerberosTime {
     /// The time of fourteen digits and a `Z`, and `None` of any other octets.
@@ -50,6 +54,23 @@ impl KerberosTime {
     {
         &self.octets
     }
+}
+
+/// A GeneralizedTime (X.690, 8.25 and 11.7).
+impl Der for KerberosTime {
+    ghost der = { λ octets. item 0x18 octets };
+
+    fn size(&self) -> u64 {
+        item_size(self.octets().len() as u64)
+    }
+
+    fn put(&self, out: &mut Vec<u8>) {
+        put_item(out, 0x18, &self.octets);
+    }
+
+    ghost begins = { λ octets. item_begins 0x18 octets };
+
+    ghost tells = { same_octets 0x18 };
 }
 
 /// Whether all octets are ASCII digits.

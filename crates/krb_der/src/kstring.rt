@@ -1,5 +1,7 @@
 //! Strings of Kerberos.
 
+use crate::der::Der;
+use crate::item::{item_size, put_item};
 use std::marker::Model;
 
 /// A KerberosString (RFC 4120, 5.2.1): octets of any kind, as implementations send them. Contracts
@@ -18,6 +20,8 @@ impl Model for KString {
 }
 
 ghost use Rattle.std.specs.Prelude.{◌≡◌};
+ghost use Rattle.krb_der.specs.Octets.{item};
+ghost use Rattle.krb_der.specs.Tells.{item_begins, same_octets};
 
 impl KString {
     /// The string of a vector of octets, which is moved and not copied.
@@ -41,4 +45,21 @@ impl KString {
         let KString { octets } = self;
         octets
     }
+}
+
+/// A GeneralString (X.690, 8.23).
+impl Der for KString {
+    ghost der = { λ octets. item 0x1B octets };
+
+    fn size(&self) -> u64 {
+        item_size(self.octets().len() as u64)
+    }
+
+    fn put(&self, out: &mut Vec<u8>) {
+        put_item(out, 0x1B, self.octets.as_slice());
+    }
+
+    ghost begins = { λ octets. item_begins 0x1B octets };
+
+    ghost tells = { same_octets 0x1B };
 }

@@ -5,6 +5,7 @@
 #![tactic(auto)]
 
 mod der;
+mod encoding;
 mod flags;
 mod int32;
 mod item;
@@ -20,9 +21,10 @@ mod why;
 mod wide32;
 
 pub use der::Der;
+pub use encoding::{Encoding, End, Fixed, Optional, Required, Sequence, Tagged};
 pub use flags::Flags;
 pub use int32::Int32;
-pub use item::{TOO_LONG, item_size, put_header, put_octets, sum_sizes};
+pub use item::{TOO_LONG, item_size, put_header, put_item};
 pub use kerberos_time::KerberosTime;
 pub use kstring::KString;
 pub use many::Many;

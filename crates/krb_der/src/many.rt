@@ -1,5 +1,7 @@
 //! Values one after another.
 
+use crate::der::Der;
+use crate::item::{add_sizes, item_size, put_header};
 use std::marker::Model;
 
 /// Any number of values, in order: a SEQUENCE OF (X.690, 8.10). Contracts see them as their list.
@@ -16,7 +18,12 @@ impl<T> Model for Many<T> {
     ghost view = { λ many. many.values.items };
 }
 
-ghost use Rattle.std.specs.Prelude.{◌≡◌};
+ghost use Rattle.std.specs.Prelude.{◌≡◌, ◌+◌, ◌≤◌, ◌++◌, length};
+ghost use Rattle.std.specs.List.{flat_map};
+ghost use Rattle.std.specs.Vec.{vec_len, vec_capacity};
+ghost use Rattle.krb_der.specs.Octets.{item};
+ghost use Rattle.krb_der.specs.Sizes.{saturated};
+ghost use Rattle.krb_der.specs.Tells.{item_begins, same_many};
 
 impl<T> Many<T> {
     /// The values of a vector, which is moved and not copied.
@@ -39,5 +46,48 @@ impl<T> Many<T> {
     {
         let Many { values } = self;
         values
+    }
+}
+
+/// A SEQUENCE OF (X.690, 8.10).
+impl<T: Der> Der for Many<T> {
+    ghost der = { λ values. item 0x30 (flat_map T.der values) };
+
+    fn size(&self) -> u64 {
+        item_size(size_of_values(self.as_slice()))
+    }
+
+    fn put(&self, out: &mut Vec<u8>) {
+        let values = self.values.as_slice();
+        put_header(out, 0x30, size_of_values(values) as u32);
+        put_values(out, values);
+    }
+
+    ghost begins = { λ values. item_begins 0x30 (flat_map T.der values) };
+
+    ghost tells = { same_many T.der T.begins T.tells };
+}
+
+/// The number of DER octets of all the values; 2147483648 where there are more.
+fn size_of_values<T: Der>(values: &[T]) -> u64
+    ensures { result ≡ saturated (length (flat_map T.der values.now)) }
+{
+    let mut size = 0;
+    for value in values {
+        size = add_sizes(size, value.size());
+    }
+    size
+}
+
+/// Appends the DER octets of the values in order, into room that is there.
+fn put_values<T: Der>(out: &mut Vec<u8>, values: &[T])
+    requires short { length (flat_map T.der values.now) ≤ 2147483647 }
+    requires room { vec_len out.old + length (flat_map T.der values.now) ≤ vec_capacity out.old }
+    ensures items { out.new.items ≡ out.old.items ++ flat_map T.der values.now }
+    ensures len { vec_len out.new ≡ vec_len out.old + length (flat_map T.der values.now) }
+    ensures capacity { vec_capacity out.new ≡ vec_capacity out.old }
+{
+    for value in values {
+        value.put(out);
     }
 }

@@ -1,5 +1,7 @@
 //! Microseconds within a second.
 
+use crate::der::Der;
+use crate::number::{integer_size, put_integer};
 use std::marker::Model;
 
 /// Microseconds (RFC 4120, 5.2.4): 0 to 999999.
@@ -23,6 +25,9 @@ impl Model for Micros {
 
 ghost use Rattle.std.specs.Prelude.{◌≡◌, ◌↔◌, IsSome, IfSome};
 ghost use Rattle.krb_der.specs.Scalars.{IsMicros};
+ghost use Rattle.std.specs.Prelude.{pos};
+ghost use Rattle.krb_der.specs.Octets.{item, integer_octets};
+ghost use Rattle.krb_der.specs.Tells.{item_begins, same_natural};
 
 impl Micros {
     /// The greatest of them, 999999.
@@ -47,4 +52,21 @@ impl Micros {
     {
         self.number
     }
+}
+
+/// An INTEGER (X.690, 8.3).
+impl Der for Micros {
+    ghost der = { λ number. item 0x02 (integer_octets (pos number)) };
+
+    fn size(&self) -> u64 {
+        integer_size(i64::from(self.number))
+    }
+
+    fn put(&self, out: &mut Vec<u8>) {
+        put_integer(out, i64::from(self.number));
+    }
+
+    ghost begins = { λ number. item_begins 0x02 (integer_octets (pos number)) };
+
+    ghost tells = { same_natural };
 }

@@ -1,5 +1,7 @@
 //! Octets that a value holds.
 
+use crate::der::Der;
+use crate::item::{item_size, put_item};
 use std::marker::Model;
 
 /// Octets, any number of any kind. Contracts see them as their list.
@@ -17,6 +19,8 @@ impl Model for Octets {
 }
 
 ghost use Rattle.std.specs.Prelude.{◌≡◌};
+ghost use Rattle.krb_der.specs.Octets.{item};
+ghost use Rattle.krb_der.specs.Tells.{item_begins, same_octets};
 
 impl Octets {
     /// The octets of a vector, which is moved and not copied.
@@ -40,4 +44,21 @@ impl Octets {
         let Octets { octets } = self;
         octets
     }
+}
+
+/// An OCTET STRING (X.690, 8.7).
+impl Der for Octets {
+    ghost der = { λ octets. item 0x04 octets };
+
+    fn size(&self) -> u64 {
+        item_size(self.as_slice().len() as u64)
+    }
+
+    fn put(&self, out: &mut Vec<u8>) {
+        put_item(out, 0x04, self.octets.as_slice());
+    }
+
+    ghost begins = { λ octets. item_begins 0x04 octets };
+
+    ghost tells = { same_octets 0x04 };
 }

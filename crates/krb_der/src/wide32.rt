@@ -1,5 +1,7 @@
 //! Numbers of 32 bits, with a sign or without one.
 
+use crate::der::Der;
+use crate::number::{integer_size, put_integer};
 use std::marker::Model;
 
 /// A number that implementations read as a signed or as an unsigned number of 32 bits (UInt32 of
@@ -24,6 +26,8 @@ impl Model for Wide32 {
 
 ghost use Rattle.std.specs.Prelude.{◌≡◌, ◌↔◌, IsSome, IfSome};
 ghost use Rattle.krb_der.specs.Scalars.{IsWide32};
+ghost use Rattle.krb_der.specs.Octets.{item, integer_octets};
+ghost use Rattle.krb_der.specs.Tells.{item_begins, same_integer};
 
 impl Wide32 {
     /// The least of them, -2147483648.
@@ -51,4 +55,21 @@ impl Wide32 {
     {
         self.number
     }
+}
+
+/// An INTEGER (X.690, 8.3).
+impl Der for Wide32 {
+    ghost der = { λ number. item 0x02 (integer_octets number) };
+
+    fn size(&self) -> u64 {
+        integer_size(self.number)
+    }
+
+    fn put(&self, out: &mut Vec<u8>) {
+        put_integer(out, self.number);
+    }
+
+    ghost begins = { λ number. item_begins 0x02 (integer_octets number) };
+
+    ghost tells = { same_integer };
 }

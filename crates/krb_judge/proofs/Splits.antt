@@ -2,7 +2,7 @@
 use Rattle.std.proofs.Common.{◌≡◌, ℕ, suc, ◌+◌, ◌-◌, ◌^◌, ◌<◌, ◌≤◌, ℤ, pos, Option, Some, None, IsSome, IfSome, ◌↔◌, List, [], ◌∷◌, ◌++◌, length, take, drop, get_or, refl, sym, ap, ◌∙◌, arith, append-nil, length-append, length-take, length-drop, drop_at, one-add}
 use Rattle.std.proofs.lemmas.List.{take_at}
 use Rattle.krb_der.specs.Octets.{item, length_octets, AreOctets}
-use Rattle.krb_der.proofs.Items.{length-item, item-append}
+use Rattle.krb_der.specs.Items.{length-item, item-append}
 use Rattle.krb_msg.specs.Judgement.{Got, head}
 use Rattle.krb_msg.proofs.Heads.{head-length_octets}
 use Rattle.krb_judge.specs.Outcomes.{head_of}
@@ -12,7 +12,7 @@ use Rattle.krb_judge.proofs.Within.{rest_taken}
 use Rattle.krb_judge.specs.Reads.{HasItem, HasInteger, HasKvno, IsSplit, IsNumber, IsKvno, IsEncryptedData, IsApRep}
 use Rattle.krb_der.specs.Scalars.{IsWide32}
 use Rattle.krb_der.specs.Octets.{integer_octets, integer_value}
-use Rattle.krb_der.proofs.Numbers.{length-integer_octets-le, integer_value-integer_octets}
+use Rattle.krb_der.specs.Numbers.{length-integer_octets-le, integer_value-integer_octets}
 use Rattle.krb_msg.specs.declared.encrypted_data.EncryptedData.{EncryptedData}
 use Rattle.krb_msg.specs.declared.ap_rep.ApRep.{ApRep}
 use Rattle.krb_msg.specs.Term.{Tagged, Fits, IfPresent, der, octets_of_option}

@@ -19,8 +19,8 @@ use Rattle.krb_msg.specs.Grammar.{messages, ticket, pa_data}
 use Rattle.krb_msg.specs.Judgement.{Outcome, Open, Bad, Done, message_outcome, judgement, verdict_of}
 use Rattle.krb_msg.specs.Views.{kind_of, kind_term, message_value, message_of, message_der, pa_data_value, pa_data_of, ticket_value, ticket_of, KdcRepValue, kdc_rep_value, kdc_rep_of, ap_req_of, ap_rep_of, IsInProfile}
 use Rattle.krb_msg.specs.Laws.{AreMessage, IsFinal}
-use Rattle.krb_der.proofs.Items.{same_from_cons}
-use Rattle.krb_msg.proofs.Values.{der-append}
+use Rattle.krb_der.specs.Items.{same_from_cons}
+use Rattle.krb_msg.specs.Values.{der-append}
 use Rattle.krb_msg.proofs.Laws.{IsWhole, Settles, same_value}
 use Rattle.krb_msg.proofs.Messages.{IsChosen, IsWhole-message, Settles-message_outcome, message_outcome-decided, message-accepts, unambiguous_message}
 

@@ -5,7 +5,6 @@ pub mod Items
 pub mod TermsStable
 pub mod LeavesDone
 pub mod TermsDecided
-pub mod Values
 pub mod Integers
 pub mod Accepts
 pub mod Whole

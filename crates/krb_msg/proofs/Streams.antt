@@ -5,7 +5,7 @@ use Rattle.std.proofs.lemmas.List.{take_at}
 use Rattle.std.specs.List.{flat_map, AllByRecursion}
 use Rattle.krb_der.specs.Octets.{AreOctets, number}
 use Rattle.krb_der.specs.declared.why.Why.TheVariants as why
-use Rattle.krb_der.proofs.Numbers.{AreOctets-take, AreOctets-drop}
+use Rattle.krb_der.specs.Numbers.{AreOctets-take, AreOctets-drop}
 use Rattle.krb_msg.specs.Term.{Term}
 use Rattle.krb_msg.specs.Judgement.{Outcome, Open, Bad, Done, message_outcome}
 use Rattle.krb_msg.proofs.Laws.{IsWhole}

@@ -8,3 +8,5 @@ pub mod Laws
 pub mod Nodes
 pub mod Table
 pub mod Examples
+pub mod Values
+pub mod Told

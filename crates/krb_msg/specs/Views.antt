@@ -68,6 +68,25 @@ kdc_rep_of v = record {
   enc_part = encrypted_data_of v.1.1.1.1.1.1.0;
 }
 
+-- ---- the one DER form of the types that have one by themselves
+abbrev pub encrypted_data_der : EncryptedData → List ℕ
+encrypted_data_der e = der encrypted_data (encrypted_data_value e)
+
+abbrev pub principal_name_der : PrincipalName → List ℕ
+principal_name_der p = der principal_name (principal_name_value p)
+
+abbrev pub pa_data_der : PaData → List ℕ
+pa_data_der p = der pa_data (pa_data_value p)
+
+abbrev pub ticket_der : Ticket → List ℕ
+ticket_der t = der ticket (ticket_value t)
+
+abbrev pub ap_req_der : ApReq → List ℕ
+ap_req_der m = der ap_req (ap_req_value m)
+
+abbrev pub ap_rep_der : ApRep → List ℕ
+ap_rep_der m = der ap_rep (ap_rep_value m)
+
 -- ---- messages of any kind
 abbrev pub kind_of : Message → Kind
 kind_of (message.AsRep m) = kind.AsRep

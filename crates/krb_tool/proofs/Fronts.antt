@@ -7,7 +7,7 @@ use Rattle.krb_der.specs.Octets.{number, AreOctets}
 use Rattle.krb_der.specs.declared.why.Why.{Why}
 use Rattle.krb_der.specs.declared.why.Why.TheVariants as why
 use Rattle.krb_der.specs.declared.verdict.Verdict.TheVariants as verdict
-use Rattle.krb_der.proofs.Numbers.{AreOctets-take, AreOctets-drop}
+use Rattle.krb_der.specs.Numbers.{AreOctets-take, AreOctets-drop}
 use Rattle.krb_msg.specs.Grammar.{messages}
 use Rattle.krb_msg.specs.Judgement.{Open, Done, message_outcome, judgement}
 use Rattle.krb_msg.specs.Stream.{Within, Refused, ends, frames}

@@ -45,8 +45,11 @@ line_feed = 10 ∷ []
 abbrev pub ap_rep_line : ApRep → List ℕ
 ap_rep_line m = codes "AP-REP enc=" ++ sealed_text m.enc_part ++ codes " notes=" ++ notes_text m.enc_part.kvno ++ line_feed
 
--- the line of a message
+-- The line of a message. Of the kinds that have no fields in it yet, it is the name.
 abbrev pub message_line : Message → List ℕ
+message_line (message.AsRep m) = codes "AS-REP" ++ line_feed
+message_line (message.TgsRep m) = codes "TGS-REP" ++ line_feed
+message_line (message.ApReq m) = codes "AP-REQ" ++ line_feed
 message_line (message.ApRep m) = ap_rep_line m
 
 -- the line of a refusal behind so many messages

@@ -4,9 +4,9 @@
 ghost use Rattle.std.specs.Prelude.{◌≡◌};
 ghost use Rattle.krb_tool.specs.Fronts.{IsFront};
 
-use crate::judge::judge;
 use crate::limit::Limit;
 use krb_der::{Refusal, Verdict, Why};
+use krb_judge::judge;
 
 /// The number of octets of a frame's length.
 pub(crate) const LENGTH_OCTETS: usize = 4;

@@ -121,6 +121,9 @@ pub(crate) fn put_message(text: &mut String, message: &Message) -> Result<(), Al
     ensures { OnOk result (string_bytes text.new ≡ string_bytes text.old ++ message_line message.now) }
 {
     match message {
+        Message::AsRep(_) => text.push_str("AS-REP\n"),
+        Message::TgsRep(_) => text.push_str("TGS-REP\n"),
+        Message::ApReq(_) => text.push_str("AP-REQ\n"),
         Message::ApRep(ap_rep) => put_ap_rep(text, ap_rep),
     }
 }

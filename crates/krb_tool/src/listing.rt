@@ -7,9 +7,9 @@ ghost use Rattle.krb_tool.specs.Listers.{IsNewLister, Feeds, IsWrittenOut, Finis
 use crate::frame::{Front, LENGTH_OCTETS, front_of};
 use crate::limit::Limit;
 use crate::line::{put_end, put_message, put_refusal};
-use crate::parse::parse;
 use crate::run::RunEnd;
 use krb_der::{Refusal, Why};
+use krb_judge::{ParseFault, parse};
 use std::alloc::{AllocError, Global};
 
 /// The lines that are not written yet, and the number of messages so far.

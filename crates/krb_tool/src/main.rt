@@ -7,11 +7,9 @@
 #![tactic(auto)]
 
 mod frame;
-mod judge;
 mod limit;
 mod line;
 mod listing;
-mod parse;
 mod run;
 mod transfer;
 

@@ -1,0 +1,19 @@
+use Rattle.std.proofs.Common.{length, ap, arith}
+use Rattle.std.proofs.lemmas.List.Folds.{length-flat_map-take}
+use Rattle.krb_der.proofs.many.put_values.Goals as goal
+
+pub put-requires-clause-short : goal.put-requires-clause-short
+put-requires-clause-short g c =
+    omega (
+      arith,
+      length-flat_map-take g.T.Der.der c.args.values.now c.loop-value.value-index c.value-item.result (omega arith),
+      ap (λ value. length (g.T.Der.der value)) c.value-item.is,
+    )
+
+pub put-requires-clause-room : goal.put-requires-clause-room
+put-requires-clause-room g c =
+    omega (
+      arith,
+      length-flat_map-take g.T.Der.der c.args.values.now c.loop-value.value-index c.value-item.result (omega arith),
+      ap (λ value. length (g.T.Der.der value)) c.value-item.is,
+    )
