@@ -12,7 +12,9 @@ use Rattle.krb_msg.specs.declared.message.Message.{Message}
 use Rattle.krb_msg.specs.declared.message.Message.TheVariants as message
 use Rattle.krb_msg.specs.declared.message.Kind.{Kind}
 use Rattle.krb_msg.specs.declared.message.Kind.TheVariants as kind
+use Rattle.krb_der.specs.Octets.{item}
 use Rattle.krb_msg.specs.Term.{Term, Value, der, Fits}
+use Rattle.krb_msg.specs.Values.{contents}
 use Rattle.krb_msg.specs.Grammar.{encrypted_data, principal_name, pa_data, ticket, as_rep, tgs_rep, ap_req, ap_rep}
 
 abbrev pub encrypted_data_value : EncryptedData → Value encrypted_data
@@ -86,6 +88,10 @@ ap_req_der m = der ap_req (ap_req_value m)
 
 abbrev pub ap_rep_der : ApRep → List ℕ
 ap_rep_der m = der ap_rep (ap_rep_value m)
+
+-- a KDC-REP under the tag of a message, with the message's type
+abbrev pub kdc_rep_octets : ℕ → ℕ → KdcRep → List ℕ
+kdc_rep_octets tag message_type m = item tag (contents as_rep (kdc_rep_value message_type m))
 
 -- ---- messages of any kind
 abbrev pub kind_of : Message → Kind

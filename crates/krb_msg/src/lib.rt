@@ -10,6 +10,7 @@
 
 mod ap_rep;
 mod ap_req;
+mod encoding;
 mod encrypted_data;
 pub mod grammar;
 mod kdc_rep;
@@ -21,6 +22,7 @@ mod ticket;
 
 pub use ap_rep::ApRep;
 pub use ap_req::ApReq;
+pub use encoding::{EncodeFault, encode, size};
 pub use encrypted_data::EncryptedData;
 pub use kdc_rep::KdcRep;
 pub use message::{Kind, Message};

@@ -1,0 +1,39 @@
+use Rattle.std.proofs.Common.{◌≡◌, ℕ, ◌+◌, ◌≤◌, List, ◌++◌, length, vec_len, vec_capacity, sym, ◌∙◌, ap, subst}
+use Rattle.krb_msg.specs.Views.{message_der}
+use Rattle.krb_msg.proofs.encoding.put.Goals as goal
+
+pub put-requires-clause-short : goal.put-requires-clause-short
+put-requires-clause-short c = subst (λ (l : List ℕ). length l ≤ 2147483647) (ap message_der c.in-AsRep.is ∙ sym c.encoding.ensures) c.requires.short
+
+pub put-requires-clause-room : goal.put-requires-clause-room
+put-requires-clause-room c = subst (λ (l : List ℕ). vec_len c.args.out.now + length l ≤ vec_capacity c.args.out.now) (ap message_der c.in-AsRep.is ∙ sym c.encoding.ensures) c.requires.room
+
+pub returns-in-AsRep : goal.returns-in-AsRep
+returns-in-AsRep c = c.put.ensures.items ∙ ap (λ (l : List ℕ). c.args.out.now.items ++ l) (sym (ap message_der c.in-AsRep.is ∙ sym c.encoding.ensures))
+
+pub put-requires-in-TgsRep-clause-short : goal.put-requires-in-TgsRep-clause-short
+put-requires-in-TgsRep-clause-short c = subst (λ (l : List ℕ). length l ≤ 2147483647) (ap message_der c.in-TgsRep.is ∙ sym c.encoding-in-TgsRep.ensures) c.requires.short
+
+pub put-requires-in-TgsRep-clause-room : goal.put-requires-in-TgsRep-clause-room
+put-requires-in-TgsRep-clause-room c = subst (λ (l : List ℕ). vec_len c.args.out.now + length l ≤ vec_capacity c.args.out.now) (ap message_der c.in-TgsRep.is ∙ sym c.encoding-in-TgsRep.ensures) c.requires.room
+
+pub returns-in-TgsRep : goal.returns-in-TgsRep
+returns-in-TgsRep c = c.put-in-TgsRep.ensures.items ∙ ap (λ (l : List ℕ). c.args.out.now.items ++ l) (sym (ap message_der c.in-TgsRep.is ∙ sym c.encoding-in-TgsRep.ensures))
+
+pub put-requires-in-ApReq-clause-short : goal.put-requires-in-ApReq-clause-short
+put-requires-in-ApReq-clause-short c = subst (λ (l : List ℕ). length l ≤ 2147483647) (ap message_der c.in-ApReq.is) c.requires.short
+
+pub put-requires-in-ApReq-clause-room : goal.put-requires-in-ApReq-clause-room
+put-requires-in-ApReq-clause-room c = subst (λ (l : List ℕ). vec_len c.args.out.now + length l ≤ vec_capacity c.args.out.now) (ap message_der c.in-ApReq.is) c.requires.room
+
+pub returns-in-ApReq : goal.returns-in-ApReq
+returns-in-ApReq c = c.put-in-ApReq.ensures.items ∙ ap (λ (l : List ℕ). c.args.out.now.items ++ l) (sym (ap message_der c.in-ApReq.is))
+
+pub put-requires-in-ApRep-clause-short : goal.put-requires-in-ApRep-clause-short
+put-requires-in-ApRep-clause-short c = subst (λ (l : List ℕ). length l ≤ 2147483647) (ap message_der c.in-ApRep.is) c.requires.short
+
+pub put-requires-in-ApRep-clause-room : goal.put-requires-in-ApRep-clause-room
+put-requires-in-ApRep-clause-room c = subst (λ (l : List ℕ). vec_len c.args.out.now + length l ≤ vec_capacity c.args.out.now) (ap message_der c.in-ApRep.is) c.requires.room
+
+pub returns-in-ApRep : goal.returns-in-ApRep
+returns-in-ApRep c = c.put-in-ApRep.ensures.items ∙ ap (λ (l : List ℕ). c.args.out.now.items ++ l) (sym (ap message_der c.in-ApRep.is))
