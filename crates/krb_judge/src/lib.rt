@@ -6,4 +6,4 @@ mod judging;
 mod parsing;
 
 pub use judging::judge;
-pub use parsing::parse;
+pub use parsing::{ParseFault, parse};
