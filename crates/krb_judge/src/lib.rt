@@ -7,3 +7,6 @@ mod parsing;
 
 pub use judging::judge;
 pub use parsing::{ParseFault, parse};
+
+#[cfg(test)]
+mod tests;

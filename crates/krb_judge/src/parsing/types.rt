@@ -164,10 +164,7 @@ fn method_data(alloc: Global, octets: &[u8]) -> Result<Many<PaData>, AllocError>
 }
 
 /// The padata of a KDC-REP, where the tag `[2]` says that it is there, and what stands behind it.
-fn split_padata(
-    alloc: Global,
-    octets: &[u8],
-) -> Result<(Option<Many<PaData>>, &[u8]), AllocError>
+fn split_padata(alloc: Global, octets: &[u8]) -> Result<(Option<Many<PaData>>, &[u8]), AllocError>
     requires short { length octets.now < 2 ^ 31 }
     requires form { HasPadata octets.now }
     ensures { IfOk result (λ r. IsPadata octets.now r.0 r.1.now) }
