@@ -6,4 +6,7 @@ mod judging;
 mod parsing;
 
 pub use judging::judge;
-pub use parsing::parse;
+pub use parsing::{ParseFault, parse};
+
+#[cfg(test)]
+mod tests;

@@ -1,12 +1,27 @@
-use Rattle.std.proofs.Common.{arith, length}
-use Rattle.krb_msg.proofs.Judged.{whole_is_message}
-use Rattle.krb_judge.proofs.Splits.{are_octets, is_ap_rep}
+use Rattle.std.proofs.Common.{◌≡◌, ◌∙◌, sym, ap, inl, None, Ok, arith}
+use Rattle.krb_judge.specs.Parses.{refusal_of}
+use Rattle.krb_judge.proofs.Slices.{are_octets, whole_slice, message_in, are_of, same_message, none_refused, no_message}
 use Rattle.krb_judge.proofs.parsing.parse.Goals as goal
 
-pub ap_rep-requires-clause-form : goal.ap_rep-requires-clause-form
-ap_rep-requires-clause-form c =
-    is_ap_rep (length c.args.octets.now) c.args.octets.now
-    (whole_is_message (length c.args.octets.now) c.args.octets.now c.requires.short (are_octets c.args.octets.now (λ k. omega (arith, c.type_inv.octets k))) (omega arith) c.requires.whole)
+pub whole_message-requires-clause-whole : goal.whole_message-requires-clause-whole
+whole_message-requires-clause-whole c = (whole_slice c.args.octets.now (sym c.refusal_of.ensures ∙ c.in-None.is)).whole
 
-pub returns : goal.returns
-returns c = c.in_ok-ap_rep.ensures
+pub returns-in_err-whole_message-in-None-clause-none : goal.returns-in_err-whole_message-in-None-clause-none
+returns-in_err-whole_message-in-None-clause-none c = no_message c.args.octets.now (are_octets c.args.octets.now (λ k. omega (arith, c.type_inv.octets k)))
+
+pub returns-in-Some-clause-found : goal.returns-in-Some-clause-found
+returns-in-Some-clause-found c = λ m a. let e = sym c.in-Some.is ∙ c.refusal_of.ensures ∙ none_refused m a in absurd cc
+
+pub returns-in-Some-clause-none : goal.returns-in-Some-clause-none
+returns-in-Some-clause-none c = no_message c.args.octets.now (are_octets c.args.octets.now (λ k. omega (arith, c.type_inv.octets k)))
+
+pub returns-in_ok-whole_message-in-None-clause-message : goal.returns-in_ok-whole_message-in-None-clause-message
+returns-in_ok-whole_message-in-None-clause-message c =
+    let octets = c.args.octets.now in
+    are_of c.in_ok-whole_message-in-None.field-0 (message_in octets (are_octets octets (λ k. omega (arith, c.type_inv.octets k))) (sym c.refusal_of.ensures ∙ c.in-None.is)) c.in_ok-whole_message-in-None.ensures.form
+
+pub returns-in_ok-whole_message-in-None-clause-found : goal.returns-in_ok-whole_message-in-None-clause-found
+returns-in_ok-whole_message-in-None-clause-found c = λ m a. inl (ap Ok (same_message c.in_ok-whole_message-in-None.field-0 m c.in_ok-whole_message-in-None.ensures.form a.form))
+
+pub returns-in_ok-whole_message-in-None-clause-none : goal.returns-in_ok-whole_message-in-None-clause-none
+returns-in_ok-whole_message-in-None-clause-none c = no_message c.args.octets.now (are_octets c.args.octets.now (λ k. omega (arith, c.type_inv.octets k)))

@@ -1,6 +1,6 @@
 use Rattle.std.proofs.Common.{◌∙◌}
 use Rattle.krb_judge.proofs.Splits.{head_of_item, not_got, is_split}
-use Rattle.krb_judge.proofs.parsing.split_item.Goals as goal
+use Rattle.krb_judge.proofs.parsing.split.split_item.Goals as goal
 
 pub unreachable-requires : goal.unreachable-requires
 unreachable-requires c =
