@@ -6,7 +6,7 @@ mod judging;
 mod parsing;
 
 pub use judging::judge;
-pub use parsing::{ParseFault, parse};
+pub use parsing::{ParseFault, parse, parse_whole};
 
 #[cfg(test)]
 mod tests;

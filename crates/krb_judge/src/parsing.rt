@@ -6,14 +6,14 @@ mod types;
 ghost use Rattle.std.specs.Prelude.{◌≡◌, ◌≢◌, ◌^◌, ◌<◌, ◌↔◌, ◌⊎◌, IfOk, IsErrOf, Ok, Err, Some, None, length};
 ghost use Rattle.krb_der.specs.declared.verdict.Verdict.TheVariants.{Whole};
 ghost use Rattle.krb_msg.specs.Judgement.{judgement};
-ghost use Rattle.krb_msg.specs.Views.{kind_of, kind_term, message_value};
+ghost use Rattle.krb_msg.specs.Views.{kind_of, kind_term, message_der, message_value};
 ghost use Rattle.krb_judge.specs.Reads.{Spells, kind_of_tag};
 ghost use Rattle.krb_judge.specs.Parses.{refusal_of as refusal_in, AreOf, HasNoMessage};
-ghost use Rattle.krb_judge.specs.declared.parsing.ParseFault.TheVariants.{Refused, Memory};
+ghost use Rattle.krb_judge.specs.declared.parsing.ParseFault.TheVariants as fault;
 
 use crate::judging::judge;
 use crate::parsing::types::{ap_rep, ap_req, kdc_rep};
-use krb_der::{Refusal, Verdict, Why};
+use krb_der::{Memory, Refusal, Verdict, Why};
 use krb_msg::{Kind, Message};
 use std::alloc::{AllocError, AllocFailed, Global};
 
@@ -27,7 +27,7 @@ pub enum ParseFault {
 }
 
 impl From<AllocError> for ParseFault {
-    ghost from_gives = { λ _ e. e ≡ Memory };
+    ghost from_gives = { λ _ e. e ≡ fault.Memory };
 
     fn from(_error: AllocError) -> ParseFault {
         ParseFault::Memory
@@ -35,7 +35,7 @@ impl From<AllocError> for ParseFault {
 }
 
 impl<T: Drop> From<AllocFailed<T>> for ParseFault {
-    ghost from_gives = { λ _ e. e ≡ Memory };
+    ghost from_gives = { λ _ e. e ≡ fault.Memory };
 
     fn from(_error: AllocFailed<T>) -> ParseFault {
         ParseFault::Memory
@@ -47,8 +47,8 @@ impl<T: Drop> From<AllocFailed<T>> for ParseFault {
 /// before any growth.
 pub fn parse(alloc: Global, octets: &[u8]) -> Result<Message, ParseFault>
     ensures message { IfOk result (AreOf octets.now) }
-    ensures found { (m : Message) → AreOf octets.now m → (result ≡ Ok m) ⊎ (result ≡ Err Memory) }
-    ensures refused { (r : Refusal) → IsErrOf result (Refused r) ↔ (refusal_in octets.now ≡ Some r) }
+    ensures found { (m : Message) → AreOf octets.now m → (result ≡ Ok m) ⊎ (result ≡ Err fault.Memory) }
+    ensures refused { (r : Refusal) → IsErrOf result (fault.Refused r) ↔ (refusal_in octets.now ≡ Some r) }
     ensures none { HasNoMessage octets.now ↔ (refusal_in octets.now ≢ None) }
 {
     match refusal_of(octets) {
@@ -79,8 +79,16 @@ fn refusal_of(octets: &[u8]) -> Option<Refusal>
     }
 }
 
-/// The message whose octets these are, which were judged whole.
-pub(crate) fn whole_message(alloc: Global, octets: &[u8]) -> Result<Message, AllocError>
+/// The message whose octets these are, which [`judge`] found whole. They are not judged again.
+pub fn parse_whole(alloc: Global, octets: &[u8]) -> Result<Message, Memory>
+    requires short { length octets.now < 2 ^ 31 }
+    requires whole { judgement (length octets.now) octets.now ≡ Whole }
+    ensures { IfOk result (λ m. message_der m ≡ octets.now) }
+{
+    Ok(whole_message(alloc, octets)?)
+}
+
+fn whole_message(alloc: Global, octets: &[u8]) -> Result<Message, AllocError>
     requires short { length octets.now < 2 ^ 31 }
     requires whole { judgement (length octets.now) octets.now ≡ Whole }
     ensures { IfOk result (λ m. Spells (kind_term (kind_of m)) (message_value m) octets.now) }
