@@ -1,5 +1,5 @@
 -- Frames listed one after another.
-use Rattle.std.proofs.Common.{◌≡◌, ℕ, ◌+◌, ◌-◌, ◌≤◌, List, [], ◌∷◌, ◌++◌, length, take, drop, map, string_bytes, refl, sym, ◌∙◌, ap, subst, arith, append_assoc, append-nil, length-append, length-drop}
+use Rattle.std.proofs.Common.{◌≡◌, ℕ, ◌+◌, ◌-◌, ◌≤◌, List, [], ◌∷◌, ◌++◌, length, take, drop, map, string_bytes, refl, sym, ◌∙◌, ap, subst, arith, append_assoc, append-nil, length-append, length-take, length-drop}
 use Rattle.std.proofs.lemmas.List.{map-append, drop-drop, take_all}
 use Rattle.std.proofs.lemmas.Grind.{flat_map-append}
 use Rattle.std.specs.List.{flat_map}
@@ -7,6 +7,8 @@ use Rattle.krb_msg.specs.declared.message.Message.{Message}
 use Rattle.krb_msg.specs.Grammar.{messages}
 use Rattle.krb_msg.specs.Stream.{Frames, with_first, frames}
 use Rattle.krb_msg.specs.Views.{message_der}
+use Rattle.krb_der.specs.declared.verdict.Verdict.TheVariants.{Whole}
+use Rattle.krb_msg.specs.Judgement.{judgement}
 use Rattle.krb_tool.specs.Lines.{message_line}
 use Rattle.krb_tool.specs.declared.listing.Listing.{Listing}
 use Rattle.krb_tool.specs.Fronts.{BeginsWithFrame, with_front, HasListed}
@@ -100,3 +102,10 @@ HasListed-then limit octets rest last before text none more count_before count c
   counted = omega (arith, h.counted, k.counted, length-append h.found k.found);
   fewer = omega (arith, h.fewer, k.fewer, length-append h.found k.found);
 }
+
+-- the contents of a frame, as the code cuts them out, are whole
+pub contents-whole : (limit : ℕ) (rest : List ℕ) (size : ℕ) → BeginsWithFrame limit rest size → judgement (length (take (4 + size - 4) (drop 4 rest))) (take (4 + size - 4) (drop 4 rest)) ≡ Whole
+contents-whole limit rest size f =
+    let n : 4 + size - 4 ≡ size = omega arith in
+    let l : length (take size (drop 4 rest)) ≡ size = omega (arith, f.within, length-take size (drop 4 rest), length-drop 4 rest) in
+    rw (n, l) f.whole

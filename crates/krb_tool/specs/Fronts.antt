@@ -36,6 +36,12 @@ IsFront limit octets front.Part = IsPart limit octets
 IsFront limit octets (front.Frame size) = BeginsWithFrame limit octets size
 IsFront limit octets (front.Refused refusal) = frames messages limit octets ≡ ends (Refused refusal.place refusal.why)
 
+-- the line of the message that octets are was added to a text
+pub record AddsLine (octets before after : List ℕ) : Type 0 where
+  pub message : Message
+  pub form : message_der message ≡ octets
+  pub line : after ≡ before ++ message_line message
+
 -- frames behind others
 abbrev pub with_front : List (List ℕ) → Frames → Frames
 with_front front found = record { contents = front ++ found.contents; end = found.end }

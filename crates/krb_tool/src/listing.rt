@@ -1,15 +1,17 @@
 //! The listing of a stream, as it grows.
 
 ghost use Rattle.std.specs.Prelude.{◌≡◌, ◌+◌, ◌<◌, ◌≤◌, ◌^◌, ◌++◌, length, drop, IfOk, OnOk, string_bytes, vec_len};
-ghost use Rattle.krb_tool.specs.Fronts.{IsRest, ListsFrames};
+ghost use Rattle.krb_der.specs.declared.verdict.Verdict.TheVariants.{Whole};
+ghost use Rattle.krb_msg.specs.Judgement.{judgement};
+ghost use Rattle.krb_tool.specs.Fronts.{AddsLine, IsRest, ListsFrames};
 ghost use Rattle.krb_tool.specs.Listers.{IsNewLister, Feeds, IsWrittenOut, Finishes};
 
 use crate::frame::{Front, LENGTH_OCTETS, front_of};
 use crate::limit::Limit;
 use crate::line::{put_end, put_message, put_refusal};
-use crate::run::RunEnd;
+use crate::run::{RunEnd, RunFault};
 use krb_der::{Refusal, Why};
-use krb_judge::{ParseFault, parse};
+use krb_judge::parse_whole;
 use std::alloc::{AllocError, Global};
 
 /// The lines that are not written yet, and the number of messages so far.
@@ -54,7 +56,7 @@ impl Lister {
 
     /// Takes the next piece of the stream, adds the line of each frame that is whole now, and
     /// answers what is refused behind them.
-    pub(crate) fn feed(&mut self, piece: &[u8]) -> Result<Option<Refusal>, AllocError>
+    pub(crate) fn feed(&mut self, piece: &[u8]) -> Result<Option<Refusal>, RunFault>
         requires { self.old.listing.messages + length (self.old.window.items ++ piece.now) < 2 ^ 64 }
         ensures { IfOk result (Feeds self.old piece.now self.new) }
     {
@@ -121,7 +123,7 @@ fn list_frames(
     limit: Limit,
     octets: &[u8],
     listing: &mut Listing,
-) -> Result<Listed, AllocError>
+) -> Result<Listed, RunFault>
     requires { listing.old.messages + length octets.now < 2 ^ 64 }
     ensures { IfOk result (ListsFrames limit octets.now listing.old listing.new) }
 {
@@ -142,11 +144,21 @@ fn list_frames(
             }
             Front::Frame(size) => {
                 let end = LENGTH_OCTETS + size as usize;
-                let message = parse(alloc, &rest[LENGTH_OCTETS..end])?;
-                put_message(&mut listing.text, &message)?;
+                put_frame(alloc, &rest[LENGTH_OCTETS..end], &mut listing.text)?;
                 listing.messages += 1;
                 rest = &rest[end..];
             }
         }
     }
+}
+
+/// Appends the line of the message that the contents of a frame are.
+fn put_frame(alloc: Global, contents: &[u8], text: &mut String) -> Result<(), RunFault>
+    requires short { length contents.now < 2 ^ 31 }
+    requires whole { judgement (length contents.now) contents.now ≡ Whole }
+    ensures { OnOk result (AddsLine contents.now (string_bytes text.old) (string_bytes text.new)) }
+{
+    let message = parse_whole(alloc, contents)?;
+    put_message(text, &message)?;
+    Ok(())
 }

@@ -7,6 +7,7 @@ ghost use Rattle.krb_tool.specs.declared.run.RunFault.TheVariants as fault;
 use crate::limit::Limit;
 use crate::listing::Lister;
 use crate::transfer::{Asks, ask, write_all};
+use krb_der::Memory;
 use std::alloc::{AllocError, AllocFailed, Global};
 use std::io::{Read, Write};
 use thiserror::Error;
@@ -46,6 +47,14 @@ pub fn status(outcome: &Result<RunEnd, RunFault>) -> u8
         Ok(RunEnd::Clean) => 0,
         Ok(RunEnd::Refused) => 1,
         Err(_) => 3,
+    }
+}
+
+impl From<Memory> for RunFault {
+    ghost from_gives = { λ _ e. e ≡ fault.Memory };
+
+    fn from(_memory: Memory) -> RunFault {
+        RunFault::Memory
     }
 }
 
