@@ -1,5 +1,8 @@
 //! DER (ITU-T X.690), for any protocol: why octets are refused and where, the numbers and octets
-//! that values hold, and, in `specs/`, how numbers, lengths and items are spelled in octets.
+//! that values hold, how a value is put as octets ([`Der`], [`Encoding`]), and, in `specs/`, how
+//! numbers, lengths and items are spelled in octets.
+//!
+//! `Numbers`, `Items` and `Tells` of `specs/` define nothing: they prove the laws of [`Der`].
 //!
 //! Nothing here knows a Kerberos message; `krb_msg` does.
 #![tactic(auto)]
