@@ -1,8 +1,7 @@
 -- What is read of items and scalars that are known to stand first.
-use Rattle.std.proofs.Common.{◌≡◌, ℕ, suc, ◌+◌, ◌-◌, ◌^◌, ◌<◌, ◌≤◌, ℤ, pos, Option, Some, None, IsSome, IfSome, ◌↔◌, List, [], ◌∷◌, ◌++◌, length, take, drop, refl, sym, ap, ◌∙◌, arith, append-nil, length-append, length-take, length-drop, drop_at, one-add}
+use Rattle.std.proofs.Common.{◌≡◌, ℕ, ◌+◌, ◌-◌, ◌^◌, ◌<◌, ◌≤◌, ℤ, Option, Some, None, IsSome, IfSome, ◌↔◌, List, [], ◌∷◌, ◌++◌, length, take, drop, refl, sym, ap, ◌∙◌, arith, append-nil, length-append, length-take, length-drop, drop_at, one-add}
 use Rattle.std.proofs.lemmas.List.{take_at}
-use Rattle.std.proofs.lemmas.Int.{ints}
-use Rattle.krb_der.specs.Octets.{item, length_octets, integer_octets, integer_value, AreOctets, AreBits}
+use Rattle.krb_der.specs.Octets.{item, length_octets, integer_octets, integer_value, AreBits}
 use Rattle.std.proofs.lemmas.Bool.{false≢true}
 use Rattle.krb_der.specs.Scalars.{IsWide32}
 use Rattle.krb_der.specs.Items.{length-item, item-append, same_from_cons}
@@ -13,7 +12,7 @@ use Rattle.krb_judge.specs.Outcomes.{head_of}
 use Rattle.krb_judge.specs.declared.judging.head.Head.{Head as Found}
 use Rattle.krb_judge.specs.declared.judging.head.Head.TheVariants as found
 use Rattle.krb_judge.proofs.Within.{rest_taken}
-use Rattle.krb_judge.specs.Reads.{HasItem, HasInner, HasInteger, HasInt32, HasFlags, IsSplit, IsInner, IsNumber}
+use Rattle.krb_judge.specs.Reads.{HasItem, HasInner, HasInteger, HasFlags, IsSplit, IsInner, IsNumber}
 
 -- ---- an item
 pub head_of_item : (octets : List ℕ) (tag : ℕ) (contents rest : List ℕ) → length octets < 2 ^ 31 → octets ≡ item tag contents ++ rest → head (length octets) octets ≡ Got (1 + length (length_octets (length contents))) (length contents)

@@ -1,5 +1,5 @@
 -- What is answered for a whole slice.
-use Rattle.std.specs.Prelude.{ℕ, ◌≡◌, ◌≤◌, ◌^◌, nat_le, nat_lt, ◌==◌, if◌then◌else◌, List, length, Option, Some, None}
+use Rattle.std.specs.Prelude.{ℕ, ◌≡◌, nat_lt, ◌==◌, if◌then◌else◌, List, length, Option, Some, None}
 use Rattle.krb_der.specs.declared.verdict.Refusal.{Refusal}
 use Rattle.krb_der.specs.declared.verdict.Verdict.{Verdict}
 use Rattle.krb_der.specs.declared.verdict.Verdict.TheVariants as verdict

@@ -1,5 +1,4 @@
-use Rattle.std.proofs.Common.{◌≡◌, ◌∙◌, sym, ap, inl, None, Ok, arith}
-use Rattle.krb_judge.specs.Parses.{refusal_of}
+use Rattle.std.proofs.Common.{◌∙◌, sym, ap, inl, Ok, arith}
 use Rattle.krb_judge.proofs.Slices.{are_octets, whole_slice, message_in, are_of, same_message, none_refused, no_message}
 use Rattle.krb_judge.proofs.parsing.parse.Goals as goal
 

@@ -1,6 +1,6 @@
-use Rattle.std.proofs.Common.{◌≡◌, ◌∙◌, ◌∷◌, sym, ap, length, arith}
+use Rattle.std.proofs.Common.{◌∙◌, ◌∷◌, sym, ap, length, arith}
 use Rattle.std.proofs.lemmas.Bool.{false≢true}
-use Rattle.krb_judge.proofs.Splits.{flags_inner, flags_are, flags_shape}
+use Rattle.krb_judge.proofs.Splits.{flags_are, flags_shape}
 use Rattle.krb_judge.proofs.parsing.split.split_flags.Goals as goal
 
 pub unreachable-requires : goal.unreachable-requires

@@ -1,4 +1,4 @@
-use Rattle.std.proofs.Common.{◌≡◌, ◌<◌, ◌∙◌, ap, length, map, [], ◌∷◌, arith, rules}
+use Rattle.std.proofs.Common.{◌<◌, ◌∙◌, ap, length, map, [], ◌∷◌, arith, rules}
 use Rattle.std.proofs.lemmas.List.{map-append}
 use Rattle.std.specs.List.{flat_map}
 use Rattle.krb_msg.specs.Term.{der}

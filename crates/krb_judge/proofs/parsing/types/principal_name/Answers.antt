@@ -1,4 +1,3 @@
-use Rattle.std.proofs.Common.{refl}
 use Rattle.krb_judge.proofs.Fields.{sequence_item, sequence_fields, sequence_done, field_int32, field_inner, behind_number, behind_inner, inner_items, number_done, inner_done, end_done}
 use Rattle.krb_judge.proofs.parsing.types.principal_name.Goals as goal
 

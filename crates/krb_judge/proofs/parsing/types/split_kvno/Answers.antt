@@ -1,7 +1,7 @@
-use Rattle.std.proofs.Common.{◌≡◌, ◌∙◌, ℤ, Option, Some, None, sym, rules, get_or, IfSome, IsSome, ◌↔◌, FitsSigned, w64, to_z, of_z, subst, ap, arith}
+use Rattle.std.proofs.Common.{◌≡◌, ◌∙◌, ℤ, sym, rules, IfSome, IsSome, ◌↔◌, FitsSigned, w64, to_z, of_z, subst, arith}
 use Rattle.std.proofs.lemmas.Int.{to_z-of_z}
 use Rattle.krb_der.specs.Scalars.{IsWide32}
-use Rattle.krb_judge.proofs.Splits.{number_is, wide_number}
+use Rattle.krb_judge.proofs.Splits.{wide_number}
 use Rattle.krb_judge.proofs.Fields.{is_there, field_wide32, number_there}
 use Rattle.krb_judge.proofs.parsing.types.split_kvno.Goals as goal
 

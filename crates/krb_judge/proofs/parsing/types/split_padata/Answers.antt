@@ -1,6 +1,6 @@
 use Rattle.std.proofs.Common.{◌∙◌, sym, map, arith}
 use Rattle.krb_msg.specs.Views.{pa_data_value}
-use Rattle.krb_judge.proofs.Fields.{is_there, is_left_out, field_inner, inner_items, inner_there}
+use Rattle.krb_judge.proofs.Fields.{is_there, field_inner, inner_items, inner_there}
 use Rattle.krb_judge.proofs.parsing.types.split_padata.Goals as goal
 
 pub split_inner-requires-clause-form : goal.split_inner-requires-clause-form
