@@ -1,14 +1,13 @@
 //! The types of RFC 4120, section 5, each read of octets that are known to be its DER. Nothing is
 //! tested again, and each string of octets is copied once.
 
-ghost use Rattle.std.specs.Prelude.{◌≡◌, ◌^◌, ◌<◌, IfOk, length};
+ghost use Rattle.std.specs.Prelude.{◌≡◌, ◌^◌, ◌<◌, IfOk, length, map};
 ghost use Rattle.std.specs.List.{flat_map};
 ghost use Rattle.krb_der.specs.Octets.{item};
-ghost use Rattle.krb_msg.specs.Term.{Tagged, der, Fits};
+ghost use Rattle.krb_msg.specs.Term.{Tagged, der};
 ghost use Rattle.krb_msg.specs.Grammar.{wide32, kerberos_string, principal_name as principal_name_term, pa_data as pa_data_term, ticket as ticket_term, encrypted_data as encrypted_data_term, ap_req as ap_req_term, ap_rep as ap_rep_term};
 ghost use Rattle.krb_msg.specs.Views.{principal_name_value, pa_data_value, encrypted_data_value, ticket_value, ap_req_value, ap_rep_value};
 ghost use Rattle.krb_judge.specs.Reads.{IsDer, AreFields, AreItems, Spells, IsOptional, cipher_fields, kvno_fields, HasPadata, IsPadata, IsKdcRep, SpellsKdcRep};
-ghost use Rattle.std.specs.Prelude.{map};
 
 use crate::parsing::split::{
     split_flags, split_inner, split_int32, split_integer, split_item, split_octets, split_string,
