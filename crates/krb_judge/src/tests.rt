@@ -2,7 +2,7 @@
 
 use crate::{ParseFault, parse};
 use krb_der::{Refusal, Why};
-use krb_msg::{EncryptedData, KdcRep, Message, PaData, PrincipalName, Ticket};
+use krb_msg::{EncryptedData, KdcRep, Message, PaData, PrincipalName, Ticket, encode, size};
 use std::alloc::Global;
 use std::test::Fail;
 
@@ -170,6 +170,21 @@ fn refuses_what_is_no_message(rt: HostRuntime) -> Result<(), Fail> {
         ("30", 0, Why::Tag),
     ] {
         assert_eq!(rt; refusal(alloc, digits)?, Refusal { place, why }, "{digits}");
+    }
+    Ok(())
+}
+
+#[test]
+fn comes_again(rt: HostRuntime) -> Result<(), Fail> {
+    let alloc = rt.alloc();
+    for (digits, count) in [(AP_REP, 31), (AP_REQ, 85), (AS_REP, 97)] {
+        let message = message(alloc, digits)?;
+        assert_eq!(rt; size(&message), Some(count));
+        let octets = encode(alloc, &message).map_err(|_| "encodes")?;
+        assert_eq!(rt;
+            hex::encode_upper(alloc, octets.as_slice())?.as_str(),
+            digits
+        );
     }
     Ok(())
 }
