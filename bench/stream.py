@@ -1,5 +1,8 @@
-"""Times bin/krbls on streams of framed AP-REPs, beside cat, in 8 MiB of address space."""
+"""Times bin/krbls on streams of framed AP-REPs, beside cat, in 8 MiB of address space. Then what
+krb_again does with a stream of framed AS-REPs: to parse them, and to encode them again, beside a
+memcpy of the same octets."""
 
+import ctypes
 import os
 import subprocess
 import sys
@@ -7,36 +10,69 @@ import tempfile
 import time
 
 KRBLS = ["bash", "-c", "ulimit -v 8192; exec bin/krbls stream"]
+AGAIN = "crates/krb_again/out/krb_again"
 
 
-def best_of(runs, command, path):
-    """The least of the seconds that runs of a command took on a file."""
+def best_of(runs, action):
+    """The least of the seconds that an action took."""
     least = None
     for _ in range(runs):
-        with open(path, "rb") as stream, open(os.devnull, "wb") as null:
-            start = time.perf_counter()
-            subprocess.run(command, stdin=stream, stdout=null, check=True)
-            seconds = time.perf_counter() - start
+        start = time.perf_counter()
+        action()
+        seconds = time.perf_counter() - start
         least = seconds if least is None else min(least, seconds)
     return least
 
 
-def main():
-    messages = int(sys.argv[1])
-    with open("examples/ap-rep.stream", "rb") as example:
+def best_run(command, path):
+    """The least of the seconds that runs of a command took on a file."""
+
+    def run():
+        with open(path, "rb") as stream, open(os.devnull, "wb") as null:
+            subprocess.run(command, stdin=stream, stdout=null, check=True)
+
+    return best_of(5, run)
+
+
+def repeated(path, count):
+    """A file of so many thousand times the octets of an example, and its size."""
+    with open(path, "rb") as example:
         frame = example.read()
-    for count in (messages, 2 * messages):
-        with tempfile.NamedTemporaryFile() as stream:
-            for _ in range(count // 1000):
-                stream.write(frame * 1000)
-            stream.flush()
-            size = count // 1000 * 1000 * len(frame)
-            listing = best_of(5, KRBLS, stream.name)
-            copying = best_of(5, ["cat"], stream.name)
-            print(
-                f"{count} AP-REPs, {size} octets: krbls {listing:.3f} s, {size / listing / 1e6:.1f} MB/s; "
-                f"cat {copying:.3f} s, {size / copying / 1e6:.1f} MB/s"
-            )
+    stream = tempfile.NamedTemporaryFile()
+    for _ in range(count):
+        stream.write(frame * 1000)
+    stream.flush()
+    return stream, count * 1000 * len(frame)
+
+
+def rate(size, seconds):
+    return f"{seconds:.3f} s, {size / seconds / 1e6:.1f} MB/s"
+
+
+def copy_seconds(size):
+    """The seconds of a memcpy of so many octets, into memory that was used before."""
+    source, copy = ctypes.create_string_buffer(size), ctypes.create_string_buffer(size)
+    return best_of(5, lambda: ctypes.memmove(copy, source, size))
+
+
+def main():
+    thousands = int(sys.argv[1]) // 1000
+    for count in (thousands, 2 * thousands):
+        stream, size = repeated("examples/ap-rep.stream", count)
+        with stream:
+            listing = best_run(KRBLS, stream.name)
+            copying = best_run(["cat"], stream.name)
+            print(f"{count}000 AP-REPs, {size} octets: list {rate(size, listing)}; cat {rate(size, copying)}")
+    count = max(thousands // 5, 1)
+    stream, size = repeated("examples/as-rep.stream", count)
+    with stream:
+        frames = best_run([AGAIN, "frames"], stream.name)
+        parse = best_run([AGAIN, "parse"], stream.name) - frames
+        encode = best_run([AGAIN], stream.name) - frames - parse
+        print(
+            f"{count}000 AS-REPs, {size} octets: parse {rate(size, parse)}; "
+            f"encode and compare {rate(size, encode)}; memcpy {rate(size, copy_seconds(size))}"
+        )
 
 
 main()

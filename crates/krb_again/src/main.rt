@@ -1,6 +1,6 @@
 //! Reads framed messages from the standard input, parses each, encodes it again, and compares the
 //! octets. It is a test of `krb_judge` and `krb_msg` on real messages, and what the benchmark
-//! measures; with the word `parse` it only parses.
+//! measures: with the word `parse` it only parses, and with `frames` it only cuts the frames.
 #![tactic(auto)]
 
 use krb_judge::parse;
@@ -9,6 +9,28 @@ use std::alloc::Global;
 use std::io::Read;
 use std::process::ExitCode;
 use std::{env, io};
+
+/// How much is done with each frame.
+#[derive(Clone, Copy, PartialEq, Eq)]
+enum Work {
+    /// It is cut from the stream.
+    Frames,
+    /// Its message is parsed, too.
+    Parse,
+    /// The message is encoded again, and the octets are compared.
+    Encode,
+}
+
+impl Work {
+    /// What the first word of the command line asks for, if there is one.
+    fn of(word: Option<&str>) -> Work {
+        match word {
+            Some("frames") => Work::Frames,
+            Some("parse") => Work::Parse,
+            _ => Work::Encode,
+        }
+    }
+}
 
 /// What was found on one frame.
 #[derive(Clone, Copy, PartialEq, Eq)]
@@ -22,11 +44,14 @@ enum Found {
 }
 
 /// Parses octets, and compares them with those of what they are.
-fn again(alloc: Global, octets: &[u8], encodes: bool) -> Found {
+fn again(alloc: Global, octets: &[u8], work: Work) -> Found {
+    if work == Work::Frames {
+        return Found::Same;
+    }
     let Ok(message) = parse(alloc, octets) else {
         return Found::Nothing;
     };
-    if !encodes {
+    if work == Work::Parse {
         return Found::Same;
     }
     match encode(alloc, &message) {
@@ -50,7 +75,8 @@ fn main(rt: HostRuntime) -> io::Result<ExitCode> {
     let alloc = rt.alloc();
     let mut words = env::args(&rt)?;
     let _program = words.next();
-    let encodes = words.next().is_none();
+    let word = words.next();
+    let work = Work::of(word.as_deref());
     let mut stream = Vec::new(alloc);
     rt.stdin().read_to_end(&mut stream)?;
     let mut rest = stream.as_slice();
@@ -59,7 +85,7 @@ fn main(rt: HostRuntime) -> io::Result<ExitCode> {
         let Some((contents, others)) = first_frame(rest) else {
             break;
         };
-        if again(alloc, contents, encodes) != Found::Same {
+        if again(alloc, contents, work) != Found::Same {
             println!(rt; "message {messages} does not come again")?;
             return Ok(ExitCode::FAILURE);
         }
