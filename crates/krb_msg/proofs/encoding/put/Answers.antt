@@ -1,4 +1,4 @@
-use Rattle.std.proofs.Common.{◌≡◌, ℕ, ◌+◌, ◌≤◌, List, ◌++◌, length, vec_len, vec_capacity, sym, ◌∙◌, ap, subst}
+use Rattle.std.proofs.Common.{ℕ, ◌+◌, ◌≤◌, List, ◌++◌, length, vec_len, vec_capacity, sym, ◌∙◌, ap, subst}
 use Rattle.krb_msg.specs.Views.{message_der}
 use Rattle.krb_msg.proofs.encoding.put.Goals as goal
 
