@@ -1,6 +1,4 @@
-use Rattle.std.proofs.Common.{◌≡◌, ℕ, ◌+◌, ◌-◌, take, drop, length, refl, sym, ◌∙◌, ap, subst, arith, length-take, length-drop}
-use Rattle.krb_der.specs.declared.verdict.Verdict.TheVariants.{Whole}
-use Rattle.krb_msg.specs.Judgement.{judgement}
+use Rattle.std.proofs.Common.{◌≡◌, ℕ, ◌+◌, ◌-◌, take, drop, refl, ◌∙◌, ap, arith}
 use Rattle.krb_tool.specs.declared.listing.Listing.{Listing}
 use Rattle.krb_tool.proofs.Listings.{IsAt, IsAt-more, contents-whole, take-drop-rest}
 use Rattle.krb_tool.proofs.listing.list_frames.Goals as goal
