@@ -15,7 +15,9 @@ build:
 test:
 	tests/all
 
+# Octets per second: of the listing of a stream, and of messages parsed and encoded.
 bench: build
+	cd crates/krb_again && rt run < stdin > /dev/null
 	bench/stream
 
 clean:
