@@ -1,0 +1,1 @@
+-- What holds of all decoders and streams. Each is the contract of a function of the module `law`.
