@@ -112,6 +112,10 @@ frames_at (phase.Contents size) contents = ends (Within (4 + length contents))
 frames_at phase.Ready contents = with_first contents (ends Boundary)
 frames_at (phase.Refused refusal) contents = ends (Refused refusal.place refusal.why)
 
+pub end-some : (present : ℕ) → 0 < present → end_behind present ≡ Within present
+end-some zero h = absurd (omega arith)
+end-some (suc present) h = refl
+
 found-short : (limit : ℕ) (octets : List ℕ) → length octets < 4 → frames messages limit octets ≡ ends (end_behind (length octets))
 found-short limit [] h = frames-nil messages limit
 found-short limit (octet ∷ octets) h = frames-short messages limit octet octets h

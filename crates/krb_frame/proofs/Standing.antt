@@ -122,6 +122,23 @@ Feeds-contents limit announced before piece after size p fed h t e =
     (all_of size fed.used after piece fed.status t.decided)
     (λ m. (four, memory_of size fed.used after piece fed.status t.decided m)))
 
+-- no octet of a length is missing
+pub FeedsLength-none : (limit : ℕ) (announced contents piece : List ℕ) (p : Phase) → IsAt limit announced contents p → ((count : ℕ) → p ≡ phase.Length count → ⊥) → FeedsLength (record { limit = limit; octets = octets_of p announced contents }) piece (record { limit = limit; octets = octets_of p announced contents }) 0
+FeedsLength-none limit announced contents piece p h n = record {
+  within = omega arith;
+  same_limit = refl;
+  octets = sym (append-nil (octets_of p announced contents));
+  again = λ m. refl;
+  on = inr (four p h n);
+  one = (comes limit announced contents p h).one;
+}
+  where
+    four : (p : Phase) → IsAt limit announced contents p → ((count : ℕ) → p ≡ phase.Length count → ⊥) → 4 ≤ length (octets_of p announced contents)
+    four (phase.Length count) h n = absurd (n count refl)
+    four (phase.Contents size) h n = omega (arith, h.accepted.four, length-append (take 4 announced) contents, length-take 4 announced)
+    four phase.Ready h n = omega (arith, h.accepted.four, length-append (take 4 announced) contents, length-take 4 announced)
+    four (phase.Refused refusal) h n = omega (arith, h.four, length-append (take 4 announced) contents, length-take 4 announced)
+
 -- octets of a length
 pub FeedsLength-made : (limit : ℕ) (announced contents piece after : List ℕ) (present used : ℕ) (p : Phase) → HasPartOfLength announced contents present → IsPut announced present piece after used → length after ≡ 4 → length_present p ≡ present + used → IsAt limit after contents p → FeedsLength (record { limit = limit; octets = take present announced ++ contents }) piece (record { limit = limit; octets = octets_of p after contents }) used
 FeedsLength-made limit announced contents piece after present used p h put four n at = record {

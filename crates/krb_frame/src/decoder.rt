@@ -229,10 +229,11 @@ fn put_octets(length: &mut [u8; LENGTH_OCTETS], present: usize, piece: &[u8]) ->
 }
 
 /// What the four octets of a length come to.
-fn judge_length(limit: Limit, length: [u8; LENGTH_OCTETS]) -> Phase
-    ensures { IsLengthJudged limit length result }
+fn judge_length(limit: Limit, announced: [u8; LENGTH_OCTETS]) -> Phase
+    requires { length announced ≡ 4 }
+    ensures { IsLengthJudged limit announced result }
 {
-    let size = u32::from_be_bytes(length);
+    let size = u32::from_be_bytes(announced);
     if size >= 1 << 31 {
         refused_length(Why::HighBit)
     } else if size > limit.get() {

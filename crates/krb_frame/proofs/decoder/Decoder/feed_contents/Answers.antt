@@ -1,4 +1,4 @@
-use Rattle.std.proofs.Common.{◌≡◌, ◌≤◌, ◌<◌, ℕ, suc, ◌+◌, ◌-◌, ◌^◌, ◌++◌, List, [], ◌∷◌, length, take, drop, refl, sym, ◌∙◌, ap, subst, arith, length-append, length-take}
+use Rattle.std.proofs.Common.{◌≡◌, ◌≤◌, ◌<◌, ◌⊎◌, ℕ, suc, ◌+◌, ◌-◌, ◌^◌, ◌++◌, List, [], ◌∷◌, length, take, drop, refl, sym, ◌∙◌, ap, subst, arith, length-append, length-take}
 use Rattle.krb_frame.specs.Decoding.{Decoding}
 use Rattle.krb_frame.specs.Feeds.{Feeds}
 use Rattle.krb_frame.specs.Phases.{IsAt, octets_of}
@@ -12,7 +12,8 @@ pub returns-in-Length : goal.returns-in-Length
 returns-in-Length c =
     let d = c.self.inside in
     let h = subst (IsAt d.limit d.length d.contents.items) c.in-Length.is c.self.invariant in
-    ?
+    let four = subst (λ (q : Decoding). (c.args.piece.now ≡ []) ⊎ (4 ≤ length q.octets)) (sym c.self.view_is ∙ ap (λ p. record { limit = d.limit; octets = octets_of p d.length d.contents.items }) c.in-Length.is) c.requires in
+    rw (c.answer.ensures, ← c.self.view_is) (Feeds-idle d.limit d.length d.contents.items c.args.piece.now d.phase status.More c.self.invariant (rw c.in-Length.is refl) (λ e. none-fed d.length d.contents.items c.args.piece.now c.in-Length.field-0 h four) (λ e. cc))
 
 pub returns-in-Ready : goal.returns-in-Ready
 returns-in-Ready c =
