@@ -1,5 +1,9 @@
 //! A frame that is lent.
 
+use krb_der::Memory;
+use krb_judge::{parse_whole, whole_kind};
+use krb_msg::{Kind, Message};
+use std::alloc::Global;
 use std::marker::Model;
 
 /// The frame that a decoder has ready. Contracts see the octets of its message.
@@ -37,5 +41,19 @@ impl<'a> Framed<'a> {
         ensures { result.now ≡ self.now }
     {
         self.octets
+    }
+
+    /// The kind of the message. It takes no memory.
+    pub fn kind(&self) -> Kind
+        ensures { AreOfKind self.now result }
+    {
+        whole_kind(self.octets)
+    }
+
+    /// The message, whose octets are not judged again.
+    pub fn message(&self, alloc: Global) -> Result<Message, Memory>
+        ensures { IfOk result (λ m. message_der m ≡ self.now) }
+    {
+        parse_whole(alloc, self.octets)
     }
 }

@@ -15,4 +15,5 @@ mod limit;
 
 pub use decoder::{Decoder, Fed, Status};
 pub use framed::Framed;
+pub use framing::frame;
 pub use limit::Limit;

@@ -4,8 +4,9 @@ use Rattle.krb_der.specs.declared.verdict.Refusal.{Refusal}
 use Rattle.krb_der.specs.declared.verdict.Verdict.{Verdict}
 use Rattle.krb_der.specs.declared.verdict.Verdict.TheVariants as verdict
 use Rattle.krb_der.specs.declared.why.Why.TheVariants as why
+use Rattle.krb_msg.specs.declared.message.Kind.{Kind}
 use Rattle.krb_msg.specs.declared.message.Message.{Message}
-use Rattle.krb_msg.specs.Views.{message_der, IsInProfile}
+use Rattle.krb_msg.specs.Views.{kind_of, message_der, IsInProfile}
 use Rattle.krb_msg.specs.Judgement.{judgement}
 
 -- the refusal of a verdict, where it is one
@@ -25,6 +26,12 @@ refusal_of octets =
 pub record AreOf (octets : List ℕ) (m : Message) : Type 0 where
   pub in_profile : IsInProfile m
   pub form : message_der m ≡ octets
+
+-- they are those of some message of this kind
+pub record AreOfKind (octets : List ℕ) (kind : Kind) : Type 0 where
+  pub message : Message
+  pub are : AreOf octets message
+  pub same_kind : kind_of message ≡ kind
 
 -- no message of the profile has these octets
 abbrev pub HasNoMessage : List ℕ → Type 0

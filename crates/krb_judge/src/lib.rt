@@ -6,6 +6,7 @@ mod judging;
 mod parsing;
 
 pub use judging::judge;
+pub use parsing::whole_kind;
 pub use parsing::{ParseFault, parse, parse_whole};
 
 #[cfg(test)]

@@ -8,7 +8,7 @@ ghost use Rattle.krb_der.specs.declared.verdict.Verdict.TheVariants.{Whole};
 ghost use Rattle.krb_msg.specs.Judgement.{judgement};
 ghost use Rattle.krb_msg.specs.Views.{kind_of, kind_term, message_der, message_value};
 ghost use Rattle.krb_judge.specs.Reads.{Spells, kind_of_tag};
-ghost use Rattle.krb_judge.specs.Parses.{refusal_of as refusal_in, AreOf, HasNoMessage};
+ghost use Rattle.krb_judge.specs.Parses.{refusal_of as refusal_in, AreOf, AreOfKind, HasNoMessage};
 ghost use Rattle.krb_judge.specs.declared.parsing.ParseFault.TheVariants as fault;
 
 use crate::judging::judge;
@@ -86,6 +86,15 @@ pub fn parse_whole(alloc: Global, octets: &[u8]) -> Result<Message, Memory>
     ensures { IfOk result (λ m. message_der m ≡ octets.now) }
 {
     Ok(whole_message(alloc, octets)?)
+}
+
+/// The kind of the message whose octets these are, which [`judge`] found whole. It takes no memory.
+pub fn whole_kind(octets: &[u8]) -> Kind
+    requires short { length octets.now < 2 ^ 31 }
+    requires whole { judgement (length octets.now) octets.now ≡ Whole }
+    ensures { AreOfKind octets.now result }
+{
+    kind(octets[0])
 }
 
 fn whole_message(alloc: Global, octets: &[u8]) -> Result<Message, AllocError>
