@@ -1,3 +1,4 @@
 pub mod Takes
 pub mod Founds
 pub mod Standing
+pub mod Ends
