@@ -176,6 +176,9 @@ comes limit announced contents p h = record {
 pub one-nothing : (limit : ℕ) → IsOfOneFrame (record { limit = limit; octets = [] })
 one-nothing limit = subst (λ f. AreOfOne [] f.contents f.end) (sym (frames-nil messages limit)) refl
 
+pub more-nothing : (limit : ℕ) → status_of (record { limit = limit; octets = [] }) ≡ status.More
+more-nothing limit = ap (λ f. status_at f.contents f.end) (frames-nil messages limit)
+
 -- ---- what is lent, kept and answered at the end
 none_ready : (p : Phase) (contents : List ℕ) → (p ≡ phase.Ready → ⊥) → first_of (frames_at p contents).contents ≡ None
 none_ready (phase.Length count) contents n = refl
