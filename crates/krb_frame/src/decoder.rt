@@ -223,6 +223,13 @@ fn put_octets(length: &mut [u8; LENGTH_OCTETS], present: usize, piece: &[u8]) ->
     requires { present < 4 }
     ensures { IsPut length.old present piece.now length.new result }
 {
+    if present == 0 {
+        // All four come together, mostly.
+        if let Some((whole, _)) = piece.split_first_chunk::<LENGTH_OCTETS>() {
+            *length = *whole;
+            return LENGTH_OCTETS;
+        }
+    }
     let count = piece.len().min(LENGTH_OCTETS - present);
     length[present..present + count].copy_from_slice(&piece[..count]);
     count

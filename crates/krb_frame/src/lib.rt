@@ -17,3 +17,6 @@ pub use decoder::{Decoder, Fed, Status};
 pub use framed::Framed;
 pub use framing::frame;
 pub use limit::Limit;
+
+#[cfg(test)]
+mod tests;
