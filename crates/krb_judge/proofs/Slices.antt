@@ -36,6 +36,11 @@ message_of_kind octets k short a whole e =
     let w = whole_is_message (length octets) octets short a (omega arith) whole in
     of_kind (kind_of w.message) k (record { value = message_value w.message; fits = w.in_profile.fits; form = sym w.form }) e
 
+pub kind_of_octets : {octets : List ℕ} (m : Message) → message_der m ≡ octets → kind_of m ≡ kind_of_tag (get_or octets 0 0)
+kind_of_octets m e =
+    sym (kind_of_tag-tag (kind_of m))
+    ∙ ap (λ (l : List ℕ). kind_of_tag (get_or l 0 0)) (sym (der_is (kind_term (kind_of m)) (message_value m)) ∙ e)
+
 -- ---- the message
 pub same_message : {octets : List ℕ} (m other : Message) → message_der m ≡ octets → message_der other ≡ octets → m ≡ other
 same_message m other e f = (der_tells m other [] [] (ap (λ l. l ++ []) (e ∙ sym f))).0

@@ -11,7 +11,7 @@ ghost use Rattle.krb_msg.specs.Judgement.{judgement, term_judgement};
 ghost use Rattle.krb_msg.specs.Nodes.{term_at};
 ghost use Rattle.krb_msg.specs.Views.{kind_of_tag, message_der};
 ghost use Rattle.krb_judge.specs.Reads.{IsDer};
-ghost use Rattle.krb_judge.specs.Parses.{refusal_by, refusal_of as refusal_in, ticket_refusal, method_data_refusal, judged_as, IsKnown, AreOf, AreOfTicket, AreOfMethodData, HasNoMessage};
+ghost use Rattle.krb_judge.specs.Parses.{refusal_by, refusal_of as refusal_in, ticket_refusal, method_data_refusal, judged_as, IsKnown, AreOf, AreOfKind, AreOfTicket, AreOfMethodData, HasNoMessage};
 ghost use Rattle.krb_judge.specs.declared.parsing.ParseFault.TheVariants as fault;
 
 use crate::judging::{judge, judge_node};
@@ -161,6 +161,15 @@ pub fn parse_whole(alloc: Global, octets: &[u8]) -> Result<Message, Memory>
     ensures { IfOk result (λ m. message_der m ≡ octets.now) }
 {
     Ok(whole_message(alloc, octets)?)
+}
+
+/// The kind of the message whose octets these are, which [`judge`] found whole. It takes no memory.
+pub fn whole_kind(octets: &[u8]) -> Kind
+    requires short { length octets.now < 2 ^ 31 }
+    requires whole { judgement (length octets.now) octets.now ≡ Whole }
+    ensures { AreOfKind octets.now result }
+{
+    kind(octets[0])
 }
 
 fn whole_message(alloc: Global, octets: &[u8]) -> Result<Message, AllocError>

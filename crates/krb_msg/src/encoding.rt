@@ -14,7 +14,7 @@ use thiserror::Error;
 /// Why a message could not be encoded.
 #[derive(Clone, Copy, PartialEq, Eq, Debug, Error)]
 pub enum EncodeFault {
-    /// It has more than 2147483647 octets.
+    /// It has more octets than a message may have, 2147483647, or than the limit of its frame.
     #[error("too long")]
     TooLong,
     /// The growth was refused.
@@ -71,7 +71,9 @@ fn octets_of(message: &Message) -> u64
     }
 }
 
-fn put(message: &Message, out: &mut Vec<u8>)
+/// Appends the DER octets of a message, at most 2147483647 of them, into room that is there. It
+/// takes no memory.
+pub fn put(message: &Message, out: &mut Vec<u8>)
     requires short { length (message_der message.now) ≤ 2147483647 }
     requires room { vec_len out.old + length (message_der message.now) ≤ vec_capacity out.old }
     ensures { out.new.items ≡ out.old.items ++ message_der message.now }

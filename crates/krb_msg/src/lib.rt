@@ -26,7 +26,7 @@ mod ticket;
 
 pub use ap_rep::ApRep;
 pub use ap_req::ApReq;
-pub use encoding::{EncodeFault, encode, size};
+pub use encoding::{EncodeFault, encode, put, size};
 pub use encrypted_data::EncryptedData;
 pub use host_address::HostAddress;
 pub use kdc_rep::KdcRep;

@@ -1,4 +1,3 @@
-pub mod Fronts
 pub mod Texts
 pub mod Listings
 pub mod Transfers

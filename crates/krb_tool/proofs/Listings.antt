@@ -1,111 +1,164 @@
 -- Frames listed one after another.
-use Rattle.std.proofs.Common.{◌≡◌, ℕ, ◌+◌, ◌-◌, ◌≤◌, List, [], ◌∷◌, ◌++◌, length, take, drop, map, string_bytes, refl, sym, ◌∙◌, ap, subst, arith, append_assoc, append-nil, length-append, length-take, length-drop}
-use Rattle.std.proofs.lemmas.List.{map-append, drop-drop, take_all}
+use Rattle.std.proofs.Common.{◌≡◌, ℕ, zero, suc, ◌+◌, ◌-◌, ◌<◌, ◌≤◌, ◌⊎◌, inl, inr, true, false, List, [], ◌∷◌, ◌++◌, length, take, drop, map, Option, Some, string_bytes, refl, sym, ◌∙◌, ap, subst, arith, append_assoc, append-nil, length-append, length-drop}
+use Rattle.std.specs.Prelude.{IsSome, if◌then◌else◌, is_some}
+use Rattle.std.proofs.lemmas.List.{map-append, drop-drop}
 use Rattle.std.proofs.lemmas.Grind.{flat_map-append}
+use Rattle.std.proofs.Math.Seq.{take-add}
 use Rattle.std.specs.List.{flat_map}
-use Rattle.krb_msg.specs.declared.message.Message.{Message}
-use Rattle.krb_msg.specs.Grammar.{messages}
-use Rattle.krb_msg.specs.Stream.{Frames, with_first, frames}
+use Rattle.krb_der.specs.declared.verdict.Refusal.{Refusal}
+use Rattle.krb_msg.specs.Stream.{End, Boundary, Within, Refused}
 use Rattle.krb_msg.specs.Views.{message_der}
-use Rattle.krb_der.specs.declared.verdict.Verdict.TheVariants.{Whole}
-use Rattle.krb_msg.specs.Judgement.{judgement}
+use Rattle.krb_frame.specs.Decoding.{Decoding, found, status_at, status_of, first_of, lent}
+use Rattle.krb_frame.specs.Stands.{Stands}
+use Rattle.krb_frame.specs.Feeds.{Clears}
+use Rattle.krb_frame.specs.Feeds.{Feeds as Uses}
+use Rattle.krb_frame.specs.declared.decoder.Fed.{Fed}
+use Rattle.krb_frame.specs.declared.decoder.Status.{Status}
+use Rattle.krb_frame.specs.declared.decoder.Status.TheVariants as status
+use Rattle.krb_frame.proofs.Founds.{more-nothing}
 use Rattle.krb_tool.specs.Lines.{message_line}
-use Rattle.krb_tool.specs.declared.listing.Listing.{Listing}
-use Rattle.krb_tool.specs.Fronts.{BeginsWithFrame, with_front, HasListed}
+use Rattle.krb_tool.specs.Listers.{HasListed, ListsReady, Goes, Feeds}
+use Rattle.krb_tool.specs.declared.listing.Lister.{Lister}
 
-with_front-with_first : (front : List (List ℕ)) (contents : List ℕ) (found : Frames) → with_front front (with_first contents found) ≡ with_front (front ++ contents ∷ []) found
-with_front-with_first front contents found = ap (λ l. record { contents = l; end = found.end }) (sym (append_assoc front (contents ∷ []) found.contents))
+-- ---- what a decoder's answer tells
+ready_lent : (contents : List (List ℕ)) (end : End) → status_at contents end ≡ status.Ready → IsSome (first_of contents)
+ready_lent (first ∷ others) end e = refl
+ready_lent [] Boundary e = absurd cc
+ready_lent [] (Within present) e = absurd cc
+ready_lent [] (Refused place reason) e = absurd cc
 
-with_front-with_front : (front others : List (List ℕ)) (found : Frames) → with_front front (with_front others found) ≡ with_front (front ++ others) found
-with_front-with_front front others found = ap (λ l. record { contents = l; end = found.end }) (sym (append_assoc front others found.contents))
+pub is_status : (old new : Decoding) (piece : List ℕ) (fed : Fed) (answer : Status) → Uses old piece new fed → fed.status ≡ answer → (status.Memory ≡ answer → ⊥) → status_of new ≡ answer
+is_status old new piece fed answer f e never = by f.answer
+  where
+    by : (fed.status ≡ status_of new) ⊎ ((fed.status ≡ status.Memory) × (status_of new ≡ status.More)) → status_of new ≡ answer
+    by (inl s) = sym s ∙ e
+    by (inr (m, n)) = absurd (never (sym m ∙ e))
 
--- nothing listed yet
-pub HasListed-none : (limit : ℕ) (octets text : List ℕ) (count : ℕ) → HasListed limit octets octets text text count count
-HasListed-none limit octets text count = record {
-  found = [];
-  goes_on = λ more. refl;
-  lines = sym (append-nil text);
-  counted = omega arith;
-  fewer = omega arith;
-}
+memory_ready : status.Memory ≡ status.Ready → ⊥
+memory_ready e = cc
 
--- one frame more
-pub HasListed-more : (limit : ℕ) (octets rest before text after : List ℕ) (count_before count size : ℕ) (m : Message) → HasListed limit octets rest before text count_before count → BeginsWithFrame limit rest size → message_der m ≡ take size (drop 4 rest) → after ≡ text ++ message_line m → HasListed limit octets (drop (4 + size) rest) before after count_before (count + 1)
-HasListed-more limit octets rest before text after count_before count size m h f d e = record {
-  found = h.found ++ m ∷ [];
-  goes_on = λ more.
-      h.goes_on more
-      ∙ ap (with_front (map message_der h.found)) (f.goes_on more)
-      ∙ with_front-with_first (map message_der h.found) (take size (drop 4 rest)) (frames messages limit (drop (4 + size) rest ++ more))
-      ∙ ap (λ l. with_front l (frames messages limit (drop (4 + size) rest ++ more))) (ap (λ o. map message_der h.found ++ o ∷ []) (sym d) ∙ sym (map-append message_der h.found (m ∷ [])));
+memory_more : status.Memory ≡ status.More → ⊥
+memory_more e = cc
+
+memory_refused : (refusal : Refusal) → status.Memory ≡ status.Refused refusal → ⊥
+memory_refused refusal e = cc
+
+pub is_ready : (old new : Decoding) (piece : List ℕ) (fed : Fed) → Uses old piece new fed → fed.status ≡ status.Ready → status_of new ≡ status.Ready
+is_ready old new piece fed f e = is_status old new piece fed status.Ready f e memory_ready
+
+pub is_lent : (old new : Decoding) (piece : List ℕ) (fed : Fed) → Uses old piece new fed → fed.status ≡ status.Ready → IsSome (lent new)
+is_lent old new piece fed f e = ready_lent (found new).contents (found new).end (is_ready old new piece fed f e)
+
+-- a frame ends with an octet
+pub some_used : (old new : Decoding) (piece : List ℕ) (fed : Fed) → Uses old piece new fed → status_of old ≡ status.More → fed.status ≡ status.Ready → 0 < fed.used
+some_used old new piece fed f w e = by fed.used refl
+  where
+    same : fed.used ≡ 0 → new ≡ old
+    same z = λ i. record { limit = f.same_limit i; octets = (f.octets ∙ ap (λ n. old.octets ++ take n piece) z ∙ append-nil old.octets) i }
+
+    no : status.More ≡ status.Ready → ⊥
+    no e = cc
+
+    by : (n : ℕ) → fed.used ≡ n → 0 < fed.used
+    by zero z = absurd (no (sym w ∙ ap status_of (sym (same z)) ∙ is_ready old new piece fed f e))
+    by (suc n) z = omega arith
+
+-- what a piece gives that is used to its end, or refused
+pub goes_on : (lister : Lister) (old : Decoding) (piece rest : List ℕ) (fed : Fed) → length rest ≤ length piece → Uses old rest lister.decoder fed → fed.status ≡ status.More → Goes lister piece (length piece - length rest + fed.used) true
+goes_on lister old piece rest fed w f e = (omega (arith, w, f.all e), is_status old lister.decoder rest fed status.More f e memory_more)
+
+pub goes_no_more : (lister : Lister) (old : Decoding) (piece rest : List ℕ) (fed : Fed) (refusal : Refusal) → Uses old rest lister.decoder fed → fed.status ≡ status.Refused refusal → Goes lister piece (length piece - length rest + fed.used) false
+goes_no_more lister old piece rest fed refusal f e = (refusal, is_status old lister.decoder rest fed (status.Refused refusal) f e (memory_refused refusal))
+
+-- ---- a frame that is listed
+cleared_is : (old new : Decoding) (contents : List ℕ) → Clears old new true → lent old ≡ Some contents → new ≡ record { limit = old.limit; octets = [] }
+cleared_is old new contents c e = c.left ∙ ap (λ o. if is_some o then record { limit = old.limit; octets = [] } else old) e
+
+pub ready_waits : (old new : Lister) → ListsReady old new → status_of new.decoder ≡ status.More
+ready_waits old new l = ap status_of (cleared_is old.decoder new.decoder l.contents l.cleared l.is_ready) ∙ more-nothing old.decoder.limit
+
+pub ready_limit : (old new : Lister) → ListsReady old new → new.decoder.limit ≡ old.decoder.limit
+ready_limit old new l = ap (λ d. d.limit) (cleared_is old.decoder new.decoder l.contents l.cleared l.is_ready)
+
+HasListed-ready : (old new : Lister) → ListsReady old new → (stream written : List ℕ) → HasListed old stream written → HasListed new stream written
+HasListed-ready old new l stream written h = record {
+  messages = h.messages ++ l.message ∷ [];
+  stands =
+      subst (Stands new.decoder stream)
+      (ap (λ o. map message_der h.messages ++ o ∷ []) (sym l.form) ∙ sym (map-append message_der h.messages (l.message ∷ [])))
+      (l.cleared.stands stream l.contents (map message_der h.messages) h.stands l.is_ready);
   lines =
-      e ∙ ap (λ l. l ++ message_line m) h.lines ∙ append_assoc before (flat_map message_line h.found) (message_line m)
-      ∙ ap (λ l. before ++ l) (sym (flat_map-append message_line h.found (m ∷ []) ∙ ap (λ l. flat_map message_line h.found ++ l) (append-nil (message_line m))));
-  counted = omega (arith, h.counted, length-append h.found (m ∷ []));
-  fewer = omega (arith, h.fewer, f.within, length-append h.found (m ∷ []), length-drop (4 + size) rest);
+      ap (λ t. written ++ t) l.line
+      ∙ sym (append_assoc written (string_bytes old.text) (message_line l.message))
+      ∙ ap (λ t. t ++ message_line l.message) h.lines
+      ∙ sym (flat_map-append message_line h.messages (l.message ∷ []) ∙ ap (λ t. flat_map message_line h.messages ++ t) (append-nil (message_line l.message)));
+  counted = omega (arith, l.counted, h.counted, length-append h.messages (l.message ∷ []));
 }
 
--- the listing of a front goes on where octets come behind it
-pub HasListed-fed : (limit : ℕ) (octets rest before text piece : List ℕ) (count_before count : ℕ) → HasListed limit octets rest before text count_before count → HasListed limit (octets ++ piece) (rest ++ piece) before text count_before count
-HasListed-fed limit octets rest before text piece count_before count h = record {
-  found = h.found;
-  goes_on = λ more.
-      ap (frames messages limit) (append_assoc octets piece more)
-      ∙ h.goes_on (piece ++ more)
-      ∙ ap (λ l. with_front (map message_der h.found) (frames messages limit l)) (sym (append_assoc rest piece more));
-  lines = h.lines;
-  counted = h.counted;
-  fewer = omega (arith, h.fewer, length-append octets piece, length-append rest piece);
+-- ---- a piece, as far as it was used
+pub record IsFed (initial : Lister) (piece rest : List ℕ) (now : Lister) : Type 0 where
+  pub place : rest ≡ drop (length piece - length rest) piece
+  pub within : length rest ≤ length piece
+  pub same_limit : now.decoder.limit ≡ initial.decoder.limit
+  pub waits : status_of now.decoder ≡ status.More
+  pub few : now.messages + length rest ≤ initial.messages + length piece
+  pub listed : (stream written : List ℕ) → HasListed initial stream written → HasListed now (stream ++ take (length piece - length rest) piece) written
+
+pub IsFed-start : (lister : Lister) (piece : List ℕ) → status_of lister.decoder ≡ status.More → IsFed lister piece piece lister
+IsFed-start lister piece w =
+    let none : length piece - length piece ≡ 0 = omega arith in
+    record {
+      place = rw none refl;
+      within = omega arith;
+      same_limit = refl;
+      waits = w;
+      few = omega arith;
+      listed = λ stream written h. subst (λ s. HasListed lister s written) (sym (ap (λ n. stream ++ take n piece) none ∙ append-nil stream)) h;
+    }
+
+-- the octets used so far, and some more
+together : (piece rest stream : List ℕ) (used : ℕ) → rest ≡ drop (length piece - length rest) piece → (stream ++ take (length piece - length rest) piece) ++ take used rest ≡ stream ++ take (length piece - length rest + used) piece
+together piece rest stream used e =
+    append_assoc stream (take (length piece - length rest) piece) (take used rest)
+    ∙ ap (λ l. stream ++ (take (length piece - length rest) piece ++ take used l)) e
+    ∙ ap (λ l. stream ++ l) (sym (take-add (length piece - length rest) used piece))
+
+-- the decoder used octets of the rest
+HasListed-used : (initial old new : Lister) (piece rest : List ℕ) (fed : Fed) → IsFed initial piece rest old → Uses old.decoder rest new.decoder fed → new.text ≡ old.text → new.messages ≡ old.messages → (stream written : List ℕ) → HasListed initial stream written → HasListed new (stream ++ take (length piece - length rest + fed.used) piece) written
+HasListed-used initial old new piece rest fed i f t n stream written h =
+    let l = i.listed stream written h in
+    subst (λ s. HasListed new s written) (together piece rest stream fed.used i.place)
+    (record {
+      messages = l.messages;
+      stands = f.stands (stream ++ take (length piece - length rest) piece) (map message_der l.messages) l.stands;
+      lines = ap (λ x. written ++ string_bytes x) t ∙ l.lines;
+      counted = n ∙ l.counted;
+    })
+
+pub Feeds-made : (initial old new : Lister) (piece rest : List ℕ) (fed : Fed) → IsFed initial piece rest old → Uses old.decoder rest new.decoder fed → new.text ≡ old.text → new.messages ≡ old.messages → (goes_on : _) → Goes new piece (length piece - length rest + fed.used) goes_on → Feeds initial piece new goes_on
+Feeds-made initial old new piece rest fed i f t n goes_on g = record {
+  used = length piece - length rest + fed.used;
+  within = omega (arith, i.within, f.within);
+  same_limit = f.same_limit ∙ i.same_limit;
+  listed = HasListed-used initial old new piece rest fed i f t n;
+  few = omega (arith, n, i.few);
+  goes = g;
 }
 
--- the frames before the rest of octets are listed
-pub record IsAt (limit : ℕ) (octets rest : List ℕ) (before after : Listing) : Type 0 where
-  pub place : rest ≡ drop (length octets - length rest) octets
-  pub within : length rest ≤ length octets
-  pub added : HasListed limit octets rest (string_bytes before.text) (string_bytes after.text) before.messages after.messages
-
-pub IsAt-start : (limit : ℕ) (octets : List ℕ) (listing : Listing) → IsAt limit octets octets listing listing
-IsAt-start limit octets listing = record {
-  place = let none : length octets - length octets ≡ 0 = omega arith in rw none refl;
-  within = omega arith;
-  added = HasListed-none limit octets (string_bytes listing.text) listing.messages;
-}
-
-pub IsAt-more : (limit : ℕ) (octets rest : List ℕ) (size : ℕ) (before text after : Listing) (m : Message) → IsAt limit octets rest before text → BeginsWithFrame limit rest size → message_der m ≡ take size (drop 4 rest) → string_bytes after.text ≡ string_bytes text.text ++ message_line m → after.messages ≡ text.messages + 1 → IsAt limit octets (drop (4 + size) rest) before after
-IsAt-more limit octets rest size before text after m at f d e n = record {
-  place =
-      ap (drop (4 + size)) at.place
-      ∙ drop-drop (4 + size) (length octets - length rest) octets
-      ∙ (let k : length octets - length rest + (4 + size) ≡ length octets - length (drop (4 + size) rest) = omega (arith, at.within, f.within, length-drop (4 + size) rest) in rw k refl);
-  within = omega (arith, at.within, length-drop (4 + size) rest);
-  added = subst (HasListed limit octets (drop (4 + size) rest) (string_bytes before.text) (string_bytes after.text) before.messages) (sym n) (HasListed-more limit octets rest (string_bytes before.text) (string_bytes text.text) (string_bytes after.text) before.messages text.messages size m at.added f d e);
-}
-
--- what a slice from a place on holds
-pub take-drop-rest : (n : ℕ) (octets : List ℕ) → take (length octets - n) (drop n octets) ≡ drop n octets
-take-drop-rest n octets = take_all (length octets - n) (drop n octets) (omega (arith, length-drop n octets))
-
--- and those of the rest of what was listed before
-pub HasListed-then : (limit : ℕ) (octets rest last before text none more : List ℕ) (count_before count count_after : ℕ) → HasListed limit octets rest before text count_before count → HasListed limit rest last none more count count_after → none ≡ [] → HasListed limit octets last before (text ++ more) count_before count_after
-HasListed-then limit octets rest last before text none more count_before count count_after h k e = record {
-  found = h.found ++ k.found;
-  goes_on = λ others.
-      h.goes_on others
-      ∙ ap (with_front (map message_der h.found)) (k.goes_on others)
-      ∙ with_front-with_front (map message_der h.found) (map message_der k.found) (frames messages limit (last ++ others))
-      ∙ ap (λ l. with_front l (frames messages limit (last ++ others))) (sym (map-append message_der h.found k.found));
-  lines =
-      ap (λ l. l ++ more) h.lines
-      ∙ append_assoc before (flat_map message_line h.found) more
-      ∙ ap (λ l. before ++ (flat_map message_line h.found ++ l)) (k.lines ∙ ap (λ l. l ++ flat_map message_line k.found) e)
-      ∙ ap (λ l. before ++ l) (sym (flat_map-append message_line h.found k.found));
-  counted = omega (arith, h.counted, k.counted, length-append h.found k.found);
-  fewer = omega (arith, h.fewer, k.fewer, length-append h.found k.found);
-}
-
--- the contents of a frame, as the code cuts them out, are whole
-pub contents-whole : (limit : ℕ) (rest : List ℕ) (size : ℕ) → BeginsWithFrame limit rest size → judgement (length (take (4 + size - 4) (drop 4 rest))) (take (4 + size - 4) (drop 4 rest)) ≡ Whole
-contents-whole limit rest size f =
-    let n : 4 + size - 4 ≡ size = omega arith in
-    let l : length (take size (drop 4 rest)) ≡ size = omega (arith, f.within, length-take size (drop 4 rest), length-drop 4 rest) in
-    rw (n, l) f.whole
+pub IsFed-ready : (initial old between new : Lister) (piece rest : List ℕ) (fed : Fed) → IsFed initial piece rest old → Uses old.decoder rest between.decoder fed → between.text ≡ old.text → between.messages ≡ old.messages → fed.status ≡ status.Ready → ListsReady between new → IsFed initial piece (drop fed.used rest) new
+IsFed-ready initial old between new piece rest fed i f t n e l =
+    let left : length piece - length (drop fed.used rest) ≡ length piece - length rest + fed.used = omega (arith, i.within, f.within, length-drop fed.used rest) in
+    let some = some_used old.decoder between.decoder rest fed f i.waits e in
+    record {
+      place =
+          ap (drop fed.used) i.place
+          ∙ drop-drop fed.used (length piece - length rest) piece
+          ∙ (let k : length piece - length rest + fed.used ≡ length piece - length (drop fed.used rest) = sym left in ap (λ m. drop m piece) k);
+      within = omega (arith, i.within, length-drop fed.used rest);
+      same_limit = ready_limit between new l ∙ f.same_limit ∙ i.same_limit;
+      waits = ready_waits between new l;
+      few = omega (arith, some, n, i.few, l.counted, f.within, length-drop fed.used rest);
+      listed = λ stream written h.
+          HasListed-ready between new l (stream ++ take (length piece - length (drop fed.used rest)) piece) written
+          (subst (λ m. HasListed between (stream ++ take m piece) written) (sym left) (HasListed-used initial old between piece rest fed i f t n stream written h));
+    }

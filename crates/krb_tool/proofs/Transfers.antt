@@ -2,7 +2,7 @@
 use Rattle.std.proofs.Common.{◌≡◌, ℕ, ◌-◌, List, ◌++◌, length, take, drop, Option, sym, ◌∙◌, ap, append_assoc, take-append-drop}
 use Rattle.std.specs.Io.KnownBytes.{Appends}
 use Rattle.std.proofs.KnownBytes.{Appends-trans}
-use Rattle.krb_tool.proofs.Listings.{take-drop-rest}
+use Rattle.std.proofs.lemmas.List.{take_rest}
 
 -- a front of all the octets is written, and the rest is left
 abbrev pub IsWritten : Option (List ℕ) → Option (List ℕ) → List ℕ → List ℕ → Type 0
@@ -16,5 +16,5 @@ IsWritten-more held holds after all rest n w a = (
   w.2
       ∙ ap (λ l. w.0 ++ l) (sym (take-append-drop n rest))
       ∙ sym (append_assoc w.0 (take n rest) (drop n rest))
-      ∙ ap (λ l. (w.0 ++ take n rest) ++ l) (sym (take-drop-rest n rest)),
+      ∙ ap (λ l. (w.0 ++ take n rest) ++ l) (sym (take_rest rest n)),
 )

@@ -1,5 +1,4 @@
 pub mod Lines
 pub mod Listing
-pub mod Fronts
 pub mod Transfers
 pub mod Listers

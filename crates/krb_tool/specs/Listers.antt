@@ -1,39 +1,64 @@
 -- What a lister does with the pieces of a stream.
-use Rattle.std.specs.Prelude.{ℕ, ◌≡◌, List, [], ◌++◌, string_bytes, Option, Some, None}
+use Rattle.std.specs.Prelude.{ℕ, ◌≡◌, ◌+◌, ◌≤◌, Bool, true, false, List, [], ◌++◌, length, map, take, Some, string_bytes}
+use Rattle.std.specs.List.{flat_map}
 use Rattle.krb_der.specs.declared.verdict.Refusal.{Refusal}
-use Rattle.krb_msg.specs.Stream.{End, Refused}
-use Rattle.krb_tool.specs.Lines.{end_line}
+use Rattle.krb_msg.specs.declared.message.Message.{Message}
+use Rattle.krb_msg.specs.Views.{message_der}
+use Rattle.krb_frame.specs.Decoding.{Decoding, found, status_of, lent}
+use Rattle.krb_frame.specs.Stands.{Stands}
+use Rattle.krb_frame.specs.Feeds.{Clears}
+use Rattle.krb_frame.specs.declared.decoder.Status.TheVariants as status
+use Rattle.krb_tool.specs.Lines.{message_line, end_line}
 use Rattle.krb_tool.specs.Listing.{run_end}
-use Rattle.krb_tool.specs.Fronts.{part_end, IsRest, HasListed}
 use Rattle.krb_tool.specs.declared.listing.Lister.{Lister}
 use Rattle.krb_tool.specs.declared.run.RunEnd.{RunEnd}
 
+-- The frames that the decoder cleared of a stream are messages. Their lines are in what was written and then in the text, and they are counted.
+pub record HasListed (lister : Lister) (stream written : List ℕ) : Type 0 where
+  pub messages : List Message
+  pub stands : Stands lister.decoder stream (map message_der messages)
+  pub lines : written ++ string_bytes lister.text ≡ flat_map message_line messages
+  pub counted : lister.messages ≡ length messages
+
 -- nothing came yet
 pub record IsNewLister (limit : ℕ) (lister : Lister) : Type 0 where
-  pub same_limit : lister.limit ≡ limit
-  pub nothing_kept : lister.window.items ≡ []
-  pub no_text : string_bytes lister.listing.text ≡ []
-  pub no_messages : lister.listing.messages ≡ 0
+  pub same_limit : lister.decoder.limit ≡ limit
+  pub waits : status_of lister.decoder ≡ status.More
+  pub none : lister.messages ≡ 0
+  pub no_text : string_bytes lister.text ≡ []
+  pub listed : HasListed lister [] []
 
--- a piece came behind what was kept: the frames that are whole now are listed, and the rest is kept
-pub record Feeds (old : Lister) (piece : List ℕ) (new : Lister) (refusal : Option Refusal) : Type 0 where
-  pub same_limit : new.limit ≡ old.limit
-  pub added : HasListed old.limit (old.window.items ++ piece) new.window.items (string_bytes old.listing.text) (string_bytes new.listing.text) old.listing.messages new.listing.messages
-  pub rest : IsRest old.limit new.window.items refusal
+-- the line of the message that is ready was added, and its frame is cleared
+pub record ListsReady (old new : Lister) : Type 0 where
+  pub contents : List ℕ
+  pub is_ready : lent old.decoder ≡ Some contents
+  pub message : Message
+  pub form : message_der message ≡ contents
+  pub line : string_bytes new.text ≡ string_bytes old.text ++ message_line message
+  pub counted : new.messages ≡ old.messages + 1
+  pub cleared : Clears old.decoder new.decoder true
+
+-- where the stream goes on all of a piece was used, and else an octet is refused
+abbrev pub Goes : Lister → List ℕ → ℕ → Bool → Type 0
+Goes lister piece used true = (used ≡ length piece) × (status_of lister.decoder ≡ status.More)
+Goes lister piece used false = (refusal : Refusal) × (status_of lister.decoder ≡ status.Refused refusal)
+
+-- a piece came, and the frames that are whole now are listed
+pub record Feeds (old : Lister) (piece : List ℕ) (new : Lister) (goes_on : Bool) : Type 0 where
+  pub used : ℕ
+  pub within : used ≤ length piece
+  pub same_limit : new.decoder.limit ≡ old.decoder.limit
+  pub listed : (stream written : List ℕ) → HasListed old stream written → HasListed new (stream ++ take used piece) written
+  pub few : new.messages ≤ old.messages + length piece
+  pub goes : Goes new piece used goes_on
 
 -- the text is empty, and all else as it was
 pub record IsWrittenOut (old new : Lister) : Type 0 where
-  pub same_limit : new.limit ≡ old.limit
-  pub kept : new.window.items ≡ old.window.items
-  pub no_text : string_bytes new.listing.text ≡ []
-  pub messages : new.listing.messages ≡ old.listing.messages
-
--- the end of a stream of which these octets are not listed
-abbrev pub rest_end : List ℕ → Option Refusal → End
-rest_end octets None = part_end octets
-rest_end octets (Some refusal) = Refused refusal.place refusal.why
+  pub same_decoder : new.decoder ≡ old.decoder
+  pub no_text : string_bytes new.text ≡ []
+  pub messages : new.messages ≡ old.messages
 
 -- the line of the end was added
-pub record Finishes (old new : Lister) (refusal : Option Refusal) (ended : RunEnd) : Type 0 where
-  pub lines : string_bytes new.listing.text ≡ string_bytes old.listing.text ++ end_line old.listing.messages (rest_end old.window.items refusal)
-  pub ended_so : ended ≡ run_end (rest_end old.window.items refusal)
+pub record Finishes (old new : Lister) (ended : RunEnd) : Type 0 where
+  pub lines : string_bytes new.text ≡ string_bytes old.text ++ end_line old.messages (found old.decoder).end
+  pub ended_so : ended ≡ run_end (found old.decoder).end

@@ -1,41 +1,23 @@
 //! The listing of a stream, as it grows.
 
-ghost use Rattle.std.specs.Prelude.{◌≡◌, ◌+◌, ◌<◌, ◌≤◌, ◌^◌, ◌++◌, length, drop, IfOk, OnOk, string_bytes, vec_len};
-ghost use Rattle.krb_der.specs.declared.verdict.Verdict.TheVariants.{Whole};
-ghost use Rattle.krb_msg.specs.Judgement.{judgement};
-ghost use Rattle.krb_tool.specs.Fronts.{AddsLine, IsRest, ListsFrames};
-ghost use Rattle.krb_tool.specs.Listers.{IsNewLister, Feeds, IsWrittenOut, Finishes};
+ghost use Rattle.std.specs.Prelude.{◌≡◌, ◌≢◌, ◌+◌, ◌<◌, ◌^◌, length, IfOk, OnOk, IsSome, string_bytes};
+ghost use Rattle.krb_frame.specs.Decoding.{status_of, lent};
+ghost use Rattle.krb_frame.specs.declared.decoder.Status.TheVariants as status;
+ghost use Rattle.krb_tool.specs.Listers.{IsNewLister, ListsReady, Feeds, IsWrittenOut, Finishes};
 
-use crate::frame::{Front, LENGTH_OCTETS, front_of};
-use crate::limit::Limit;
 use crate::line::{put_end, put_message, put_refusal};
 use crate::run::{RunEnd, RunFault};
-use krb_der::{Refusal, Why};
-use krb_judge::parse_whole;
+use krb_frame::{Decoder, Limit, Status};
 use std::alloc::{AllocError, Global};
 
-/// The lines that are not written yet, and the number of messages so far.
-#[derive(Drop)]
-struct Listing {
-    text: String,
-    messages: u64,
-}
-
-/// How many octets the listed frames have, and what was refused behind them.
-#[derive(Clone, Copy)]
-struct Listed {
-    used: usize,
-    refusal: Option<Refusal>,
-}
-
-/// Lists a stream that comes in pieces.
+/// Lists a stream that comes in pieces: its decoder, the lines that are not written yet, and the
+/// number of messages so far.
 #[derive(Drop)]
 pub(crate) struct Lister {
     alloc: Global,
-    limit: Limit,
-    /// The octets of a frame that is not whole yet, its length first.
-    window: Vec<u8>,
-    listing: Listing,
+    decoder: Decoder,
+    text: String,
+    messages: u64,
 }
 
 impl Lister {
@@ -45,120 +27,75 @@ impl Lister {
     {
         Lister {
             alloc,
-            limit,
-            window: Vec::new(alloc),
-            listing: Listing {
-                text: String::new(alloc),
-                messages: 0,
-            },
+            decoder: Decoder::new(alloc, limit),
+            text: String::new(alloc),
+            messages: 0,
         }
     }
 
     /// Takes the next piece of the stream, adds the line of each frame that is whole now, and
-    /// answers what is refused behind them.
-    pub(crate) fn feed(&mut self, piece: &[u8]) -> Result<Option<Refusal>, RunFault>
-        requires { self.old.listing.messages + length (self.old.window.items ++ piece.now) < 2 ^ 64 }
+    /// answers whether the stream goes on, which it does not where it is refused.
+    pub(crate) fn feed(&mut self, piece: &[u8]) -> Result<bool, RunFault>
+        requires waits { status_of self.old.decoder ≡ status.More }
+        requires few { self.old.messages + length piece.now < 2 ^ 64 }
         ensures { IfOk result (Feeds self.old piece.now self.new) }
     {
-        self.window.extend_from_slice(piece)?;
-        let window = self.window.as_slice();
-        let listed = list_frames(self.alloc, self.limit, window, &mut self.listing)?;
-        drop_front(&mut self.window, listed.used)?;
-        Ok(listed.refusal)
+        let mut rest = piece;
+        'frames: loop {
+            let fed = self.decoder.feed(rest);
+            rest = &rest[fed.used..];
+            match fed.status {
+                Status::More => return Ok(true),
+                Status::Refused(_) => return Ok(false),
+                Status::Memory => return Err(RunFault::Memory),
+                Status::Ready => self.list_ready()?,
+            }
+        }
+    }
+
+    /// Adds the line of the frame that is ready, and clears it.
+    fn list_ready(&mut self) -> Result<(), RunFault>
+        requires few { self.old.messages + 1 < 2 ^ 64 }
+        requires ready { IsSome (lent self.old.decoder) }
+        ensures { OnOk result (ListsReady self.old self.new) }
+    {
+        let Some(framed) = self.decoder.ready() else {
+            return Ok(());
+        };
+        let message = framed.message(self.alloc)?;
+        put_message(&mut self.text, &message)?;
+        self.messages += 1;
+        self.decoder.next();
+        Ok(())
     }
 
     /// The lines that are not written yet.
     pub(crate) fn text(&self) -> &str
-        ensures { result.now ≡ string_bytes self.now.listing.text }
+        ensures { result.now ≡ string_bytes self.now.text }
     {
-        self.listing.text.as_str()
+        self.text.as_str()
     }
 
     /// Forgets the lines, which are written.
     pub(crate) fn clear_text(&mut self)
         ensures { IsWrittenOut self.old self.new }
     {
-        self.listing.text.clear();
+        self.text.clear();
     }
 
     /// Adds the last line, of what was refused or of a stream that has ended here.
-    pub(crate) fn finish(&mut self, refusal: Option<Refusal>) -> Result<RunEnd, AllocError>
-        requires { IsRest self.old.limit self.old.window.items refusal }
-        ensures { IfOk result (Finishes self.old self.new refusal) }
+    pub(crate) fn finish(&mut self) -> Result<RunEnd, AllocError>
+        ensures { IfOk result (Finishes self.old self.new) }
     {
-        let text = &mut self.listing.text;
-        let messages = self.listing.messages;
-        match refusal {
-            Some(refusal) => put_refusal(text, messages, refusal)?,
-            None if self.window.is_empty() => {
-                put_end(text, messages)?;
-                return Ok(RunEnd::Clean);
+        match self.decoder.finish() {
+            Ok(()) => {
+                put_end(&mut self.text, self.messages)?;
+                Ok(RunEnd::Clean)
             }
-            None => {
-                let place = self.window.len() as u32;
-                let why = Why::Truncated;
-                put_refusal(text, messages, Refusal { place, why })?;
-            }
-        }
-        Ok(RunEnd::Refused)
-    }
-}
-
-/// Takes so many octets away from the front.
-fn drop_front(octets: &mut Vec<u8>, count: usize) -> Result<(), AllocError>
-    requires { count ≤ vec_len octets.old }
-    ensures { OnOk result (octets.new.items ≡ drop count octets.old.items) }
-{
-    if count == octets.len() {
-        octets.clear();
-    } else if count > 0 {
-        *octets = Vec::from_slice(*octets.allocator(), &octets[count..])?;
-    }
-    Ok(())
-}
-
-/// Lists the whole frames at the front of octets of a stream, up to a part of one or a refusal.
-fn list_frames(
-    alloc: Global,
-    limit: Limit,
-    octets: &[u8],
-    listing: &mut Listing,
-) -> Result<Listed, RunFault>
-    requires { listing.old.messages + length octets.now < 2 ^ 64 }
-    ensures { IfOk result (ListsFrames limit octets.now listing.old listing.new) }
-{
-    let mut rest = octets;
-    'frames: loop {
-        match front_of(limit, rest) {
-            Front::Part => {
-                return Ok(Listed {
-                    used: octets.len() - rest.len(),
-                    refusal: None,
-                });
-            }
-            Front::Refused(refusal) => {
-                return Ok(Listed {
-                    used: octets.len() - rest.len(),
-                    refusal: Some(refusal),
-                });
-            }
-            Front::Frame(size) => {
-                let end = LENGTH_OCTETS + size as usize;
-                put_frame(alloc, &rest[LENGTH_OCTETS..end], &mut listing.text)?;
-                listing.messages += 1;
-                rest = &rest[end..];
+            Err(refusal) => {
+                put_refusal(&mut self.text, self.messages, refusal)?;
+                Ok(RunEnd::Refused)
             }
         }
     }
-}
-
-/// Appends the line of the message that the contents of a frame are.
-fn put_frame(alloc: Global, contents: &[u8], text: &mut String) -> Result<(), RunFault>
-    requires short { length contents.now < 2 ^ 31 }
-    requires whole { judgement (length contents.now) contents.now ≡ Whole }
-    ensures { OnOk result (AddsLine contents.now (string_bytes text.old) (string_bytes text.new)) }
-{
-    let message = parse_whole(alloc, contents)?;
-    put_message(text, &message)?;
-    Ok(())
 }

@@ -6,14 +6,12 @@
 //! memory failed.
 #![tactic(auto)]
 
-mod frame;
-mod limit;
 mod line;
 mod listing;
 mod run;
 mod transfer;
 
-pub use limit::Limit;
+pub use krb_frame::Limit;
 pub use run::{RunEnd, RunFault, run_stream, status};
 use std::process::ExitCode;
 use std::{env, io};

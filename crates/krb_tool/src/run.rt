@@ -4,10 +4,10 @@ ghost use Rattle.std.specs.Prelude.{◌≡◌, ◌^◌, ◌≤◌, IfOk};
 ghost use Rattle.krb_tool.specs.Listing.{Lists, status_of};
 ghost use Rattle.krb_tool.specs.declared.run.RunFault.TheVariants as fault;
 
-use crate::limit::Limit;
 use crate::listing::Lister;
 use crate::transfer::{Asks, ask, write_all};
 use krb_der::Memory;
+use krb_frame::Limit;
 use std::alloc::{AllocError, AllocFailed, Global};
 use std::io::{Read, Write};
 use thiserror::Error;
@@ -106,13 +106,12 @@ fn list_all<R: Read, W: Write>(
     'pieces: loop {
         let count = ask(reader, asks, buffer.as_mut_slice())?;
         if count == 0 {
-            let ended = lister.finish(None)?;
+            let ended = lister.finish()?;
             write_all(writer, lister.text().as_bytes())?;
             return Ok(ended);
         }
-        let refusal = lister.feed(&buffer[..count])?;
-        if refusal.is_some() {
-            let ended = lister.finish(refusal)?;
+        if !lister.feed(&buffer[..count])? {
+            let ended = lister.finish()?;
             write_all(writer, lister.text().as_bytes())?;
             return Ok(ended);
         }

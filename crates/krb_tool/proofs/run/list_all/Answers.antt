@@ -1,6 +1,6 @@
-use Rattle.std.proofs.Common.{◌≡◌, ℕ, ◌^◌, ◌<◌, ◌≤◌, List, [], length, take, sym, ◌∙◌, ap, subst, arith, length-take}
+use Rattle.std.proofs.Common.{◌≡◌, ℕ, ◌^◌, ◌<◌, ◌≤◌, List, [], length, take, true, false, sym, ◌∙◌, ap, subst, arith, length-take}
 use Rattle.std.specs.Io.KnownBytes.{Appends}
-use Rattle.krb_tool.proofs.Runs.{Waits-start, Waits-room, Runs-fed, Runs-ended, Waits-written, AllIsRead-part, AllIsRead-refused, Lists-made, written-slice, Runs-on}
+use Rattle.krb_tool.proofs.Runs.{Waits-start, Waits-room, Runs-fed, Ends-refused, Ends-read, Waits-written, AllIsRead-more, AllIsRead-refused, Lists-made, written-slice}
 use Rattle.krb_tool.proofs.run.list_all.Goals as goal
 
 pub pieces-init : goal.pieces-init
@@ -8,40 +8,34 @@ pieces-init g c =
     let start = Waits-start c.args.limit (g.R.Read.remaining c.args.reader.now) (g.W.Write.contents c.args.writer.now) c.new-lister.result c.new-lister.ensures in
     (c.in_ok-buffer.ensures.len, rw c.requires start)
 
-pub finish-requires : goal.finish-requires
-finish-requires g c =
-    let w = c.pieces.invariant.1 in
-    rw w.runs.same_limit w.runs.rest
+pub feed-requires-clause-waits : goal.feed-requires-clause-waits
+feed-requires-clause-waits g c = c.pieces.invariant.1.runs.waits
 
-pub returns-then-count-eq0-clause-listed : goal.returns-then-count-eq0-clause-listed
-returns-then-count-eq0-clause-listed g c =
-    let none : take c.in_ok-count.count c.ask.new.buffer ≡ [] = ap (λ n. take n c.ask.new.buffer) c.if-count-eq0.true in
-    let given = c.in_ok-count.ensures.given in
-    let runs = Runs-ended _ _ _ _ _ _ _ _ _ _ c.pieces.invariant.1 given none in
-    let room : 0 < length c.as_mut_slice.result.now = omega arith in
-    let written = subst (Appends _ _) (c.as_bytes.ensures.value ∙ c.text.ensures) c.in_ok-write_all.ensures.all in
-    Lists-made _ _ _ _ _ _ _ _ _ _ _ runs c.in_ok-ended.ensures written (AllIsRead-part _ _ (given.ended none room))
-
-pub feed-requires : goal.feed-requires
-feed-requires g c =
+pub feed-requires-clause-few : goal.feed-requires-clause-few
+feed-requires-clause-few g c =
     let full : length c.ask.new.buffer ≡ c.pieces.buffer.len = omega arith in
     let same : c.ask.new.buffer ≡ c.deref.result.now = written-slice _ _ _ _ c.deref.ensures.value full in
     let short : length (take c.in_ok-count.count c.deref.result.now) ≤ 65536 = omega (arith, ap (λ (l : List ℕ). length l) same, length-take c.in_ok-count.count c.deref.result.now) in
     let few : c.pieces.asks.made < 2 ^ 41 = omega (arith, c.pieces.asks.few) in
     Waits-room _ _ _ _ _ _ _ _ c.pieces.invariant.1 few short
 
-pub finish-requires-then-is_some : goal.finish-requires-then-is_some
-finish-requires-then-is_some g c = rw c.in_ok-refusal.ensures.same_limit c.in_ok-refusal.ensures.rest
+pub returns-then-count-eq0-clause-listed : goal.returns-then-count-eq0-clause-listed
+returns-then-count-eq0-clause-listed g c =
+    let none : take c.in_ok-count.count c.ask.new.buffer ≡ [] = ap (λ n. take n c.ask.new.buffer) c.if-count-eq0.true in
+    let given = c.in_ok-count.ensures.given in
+    let ends = Ends-read _ _ _ _ _ _ _ _ _ _ c.pieces.invariant.1 given none in
+    let room : 0 < length c.as_mut_slice.result.now = omega arith in
+    let written = subst (Appends _ _) (c.as_bytes.ensures.value ∙ c.text.ensures) c.in_ok-write_all.ensures.all in
+    Lists-made _ _ _ _ _ _ _ _ _ ends c.in_ok-ended.ensures written (AllIsRead-more c.pieces.lister _ c.pieces.invariant.1.runs.waits (given.ended none room))
 
-pub returns-then-is_some-clause-listed : goal.returns-then-is_some-clause-listed
-returns-then-is_some-clause-listed g c =
+pub returns-then-not-branch-clause-listed : goal.returns-then-not-branch-clause-listed
+returns-then-not-branch-clause-listed g c =
     let full : length c.ask.new.buffer ≡ c.pieces.buffer.len = omega arith in
     let same : c.ask.new.buffer ≡ c.deref.result.now = written-slice _ _ _ _ c.deref.ensures.value full in
-    let short : length (take c.in_ok-count.count c.deref.result.now) ≤ 65536 = omega (arith, ap (λ (l : List ℕ). length l) same, length-take c.in_ok-count.count c.deref.result.now) in
     let given = rw same at c.in_ok-count.ensures.given in
-    let runs = Runs-fed _ _ _ _ _ _ _ _ _ _ _ _ c.pieces.invariant.1 given short c.in_ok-refusal.ensures in
-    let written = subst (Appends _ _) (c.as_bytes-then-is_some.ensures.value ∙ c.text-then-is_some.ensures) c.in_ok-write_all-2.ensures.all in
-    Lists-made _ _ _ _ _ _ _ _ _ _ _ runs c.in_ok-ended-2.ensures written (AllIsRead-refused _ _ _ (sym c.is_some.ensures ∙ c.if-is_some.true))
+    let refused = Ends-refused _ _ _ _ _ _ _ _ _ _ _ _ c.pieces.invariant.1 given c.in_ok-feed.ensures c.if-not-branch.true in
+    let written = subst (Appends _ _) (c.as_bytes-then-not-branch.ensures.value ∙ c.text-then-not-branch.ensures) c.in_ok-write_all-2.ensures.all in
+    Lists-made _ _ _ _ _ _ _ _ _ refused.0 c.in_ok-ended-2.ensures written (AllIsRead-refused _ refused.1.0 _ refused.1.1)
 
 pub pieces-preserved : goal.pieces-preserved
 pieces-preserved g c =
@@ -49,7 +43,6 @@ pieces-preserved g c =
     let same : c.ask.new.buffer ≡ c.deref.result.now = written-slice _ _ _ _ c.deref.ensures.value full in
     let short : length (take c.in_ok-count.count c.deref.result.now) ≤ 65536 = omega (arith, ap (λ (l : List ℕ). length l) same, length-take c.in_ok-count.count c.deref.result.now) in
     let given = rw same at c.in_ok-count.ensures.given in
-    let runs = Runs-fed _ _ _ _ _ _ _ _ _ _ _ _ c.pieces.invariant.1 given short c.in_ok-refusal.ensures in
+    let runs = Runs-fed _ _ _ _ _ _ _ c.ask.new.asks.made _ _ _ _ _ c.pieces.invariant.1 given short c.in_ok-feed.ensures c.if-not-branch.false c.in_ok-count.ensures.counted in
     let written = subst (Appends _ _) (c.as_bytes-in-pieces.ensures.value ∙ c.text-in-pieces.ensures) c.in_ok-write_all-3.ensures.all in
-    let on = Runs-on _ _ _ _ _ _ c.ask.new.asks.made _ _ runs (sym c.is_some.ensures ∙ c.if-is_some.false) c.in_ok-count.ensures.counted in
-    (c.pieces.invariant.0, Waits-written _ _ _ _ _ _ _ _ _ on written c.clear_text.ensures)
+    (c.pieces.invariant.0, Waits-written _ _ _ _ _ _ _ _ _ runs written c.clear_text.ensures)

@@ -1,0 +1,4 @@
+pub mod Takes
+pub mod Founds
+pub mod Standing
+pub mod Ends

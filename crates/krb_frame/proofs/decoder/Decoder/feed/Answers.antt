@@ -1,0 +1,10 @@
+use Rattle.std.proofs.Common.{◌≡◌, ◌≤◌, ◌<◌, ℕ, suc, ◌+◌, ◌-◌, ◌^◌, ◌++◌, List, [], ◌∷◌, length, take, drop, refl, sym, ◌∙◌, ap, subst, arith, length-append, length-take}
+use Rattle.krb_frame.proofs.Standing.{Feeds-both}
+use Rattle.krb_frame.specs.Feeds.{Feeds}
+use Rattle.std.proofs.lemmas.List.{take_rest}
+use Rattle.krb_frame.proofs.decoder.Decoder.feed.Goals as goal
+
+pub returns : goal.returns
+returns c =
+    let f = rw (take_rest c.args.piece.now c.feed_length-used.result) at c.feed_contents-fed.ensures in
+    Feeds-both c.args.self.now c.feed_length-used.new.self c.feed_contents-fed.new.self c.args.piece.now c.feed_length-used.result c.feed_contents-fed.result c.feed_length-used.ensures f

@@ -1,0 +1,10 @@
+use Rattle.std.proofs.Common.{◌≡◌, ◌≤◌, ◌<◌, ℕ, suc, ◌+◌, ◌-◌, ◌^◌, ◌++◌, List, [], ◌∷◌, length, take, drop, refl, sym, ◌∙◌, ap, subst, arith, length-append, length-take}
+use Rattle.krb_frame.specs.Decoding.{kept_contents}
+use Rattle.krb_frame.proofs.Founds.{kept-at}
+use Rattle.krb_frame.proofs.decoder.Decoder.kept.Goals as goal
+
+pub returns-clause-value : goal.returns-clause-value
+returns-clause-value c =
+    let d = c.self.inside in
+    let n : c.len.result ≡ length d.contents.items = omega arith in
+    rw (← c.self.view_is) (n ∙ kept-at d.limit d.length d.contents.items d.phase c.self.invariant)

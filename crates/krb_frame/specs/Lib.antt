@@ -1,0 +1,6 @@
+pub mod Decoding
+pub mod Stands
+pub mod Feeds
+pub mod Frame
+pub mod Phases
+pub mod Laws

@@ -1,0 +1,124 @@
+-- What the parts of a decoder promise each other.
+use Rattle.std.specs.Prelude.{ℕ, zero, suc, ◌≡◌, ◌≢◌, ◌+◌, ◌-◌, ◌<◌, ◌≤◌, ◌^◌, ◌⊎◌, List, [], ◌++◌, length, take, min}
+use Rattle.krb_der.specs.Octets.{number}
+use Rattle.krb_der.specs.declared.verdict.Refusal.{Refusal}
+use Rattle.krb_der.specs.declared.verdict.Verdict.TheVariants as verdict
+use Rattle.krb_msg.specs.Grammar.{messages}
+use Rattle.krb_msg.specs.Judgement.{judgement}
+use Rattle.krb_msg.specs.Stream.{End, Boundary, Within, Refused, ends, frames}
+use Rattle.krb_frame.specs.Decoding.{Decoding, status_of, IsOfOneFrame}
+use Rattle.krb_frame.specs.declared.decoder.Fed.{Fed}
+use Rattle.krb_frame.specs.declared.decoder.Status.{Status}
+use Rattle.krb_frame.specs.declared.decoder.Status.TheVariants as status
+use Rattle.krb_frame.specs.declared.decoder.Phase.{Phase}
+use Rattle.krb_frame.specs.declared.decoder.Phase.TheVariants as phase
+
+-- the last of the contents of a frame is refused
+pub record IsRefusedIn (size : ℕ) (contents : List ℕ) (refusal : Refusal) : Type 0 where
+  pub offset : ℕ
+  pub place : refusal.place ≡ 4 + offset
+  pub judged : judgement size contents ≡ verdict.Refused (record { place = offset; why = refusal.why })
+  pub last : length contents ≡ offset + 1
+
+-- what contents decide, of which so many octets of a piece were taken
+abbrev pub IsDecided : ℕ → List ℕ → List ℕ → ℕ → Status → Type 0
+IsDecided size contents piece count status.More = (judgement size contents ≡ verdict.Open) × (count ≡ length piece)
+IsDecided size contents piece count status.Ready = (judgement size contents ≡ verdict.Whole) × (length contents ≡ size)
+IsDecided size contents piece count (status.Refused refusal) = IsRefusedIn size contents refusal
+IsDecided size contents piece count status.Memory = (judgement size contents ≡ verdict.Open) × (count < length piece)
+
+-- octets of a piece were taken behind the contents of a frame
+pub record IsTaken (size : ℕ) (before piece after : List ℕ) (fed : Fed) : Type 0 where
+  pub within : fed.used ≤ length piece
+  pub contents : after ≡ before ++ take fed.used piece
+  pub present : length after ≤ size
+  pub decided : IsDecided size after piece fed.used fed.status
+
+-- the phase behind them
+abbrev pub phase_of : ℕ → Status → Phase
+phase_of size status.More = phase.Contents size
+phase_of size status.Memory = phase.Contents size
+phase_of size status.Ready = phase.Ready
+phase_of size (status.Refused refusal) = phase.Refused refusal
+
+-- the end of a stream that has so many octets of a frame
+abbrev pub end_behind : ℕ → End
+end_behind zero = Boundary
+end_behind (suc present) = Within (suc present)
+
+-- ---- the fields of a decoder
+-- so many octets of a length
+abbrev pub length_present : Phase → ℕ
+length_present (phase.Length count) = count
+length_present (phase.Contents size) = 4
+length_present phase.Ready = 4
+length_present (phase.Refused refusal) = 4
+
+abbrev pub octets_of : Phase → List ℕ → List ℕ → List ℕ
+octets_of phase announced contents = take (length_present phase) announced ++ contents
+
+-- a length that may be followed by contents
+pub record IsAccepted (limit : ℕ) (announced : List ℕ) (size : ℕ) : Type 0 where
+  pub four : length announced ≡ 4
+  pub is : number announced ≡ size
+  pub some : 0 < size
+  pub short : size < 2 ^ 31
+  pub within : size ≤ limit
+
+-- the length is not all there
+pub record HasPartOfLength (announced contents : List ℕ) (count : ℕ) : Type 0 where
+  pub four : length announced ≡ 4
+  pub part : count < 4
+  pub none : contents ≡ []
+
+-- the contents are not all there
+pub record HasPart (limit : ℕ) (announced contents : List ℕ) (size : ℕ) : Type 0 where
+  pub accepted : IsAccepted limit announced size
+  pub present : length contents ≤ size
+  pub undecided : judgement size contents ≡ verdict.Open
+
+-- the frame is all there
+pub record HasFrame (limit : ℕ) (announced contents : List ℕ) : Type 0 where
+  pub accepted : IsAccepted limit announced (length contents)
+  pub whole : judgement (length contents) contents ≡ verdict.Whole
+
+-- the last octet is refused
+pub record HasRefused (limit : ℕ) (announced contents : List ℕ) (refusal : Refusal) : Type 0 where
+  pub four : length announced ≡ 4
+  pub found : frames messages limit (announced ++ contents) ≡ ends (Refused refusal.place refusal.why)
+  pub last : 4 + length contents ≡ refusal.place + 1
+  pub few : length contents ≤ limit
+  pub short : length contents < 2 ^ 31
+
+abbrev pub IsAt : ℕ → List ℕ → List ℕ → Phase → Type 0
+IsAt limit announced contents (phase.Length count) = HasPartOfLength announced contents count
+IsAt limit announced contents (phase.Contents size) = HasPart limit announced contents size
+IsAt limit announced contents phase.Ready = HasFrame limit announced contents
+IsAt limit announced contents (phase.Refused refusal) = HasRefused limit announced contents refusal
+
+-- what is judged with the last octet of a length
+pub record IsLengthJudged (limit : ℕ) (announced : List ℕ) (phase : Phase) : Type 0 where
+  pub at : IsAt limit announced [] phase
+  pub all : length_present phase ≡ 4
+
+-- ---- what the parts of a feed do
+-- octets of a length were put behind those that are there
+pub record IsPut (before : List ℕ) (present : ℕ) (piece after : List ℕ) (count : ℕ) : Type 0 where
+  pub many : count ≡ min (4 - present) (length piece)
+  pub front : take (present + count) after ≡ take present before ++ take count piece
+
+-- octets of a length, if any is missing, were used
+pub record FeedsLength (old : Decoding) (piece : List ℕ) (new : Decoding) (used : ℕ) : Type 0 where
+  pub within : used ≤ length piece
+  pub same_limit : new.limit ≡ old.limit
+  pub octets : new.octets ≡ old.octets ++ take used piece
+  pub again : status_of old ≢ status.More → used ≡ 0
+  pub on : (used ≡ length piece) ⊎ (4 ≤ length new.octets)
+  pub one : IsOfOneFrame new
+
+-- the status of a phase
+abbrev pub phase_status : Phase → Status
+phase_status (phase.Length count) = status.More
+phase_status (phase.Contents size) = status.More
+phase_status phase.Ready = status.Ready
+phase_status (phase.Refused refusal) = status.Refused refusal

@@ -1,0 +1,260 @@
+//! Frames out of a stream that comes in pieces.
+
+use crate::contents::take_contents;
+use crate::framed::Framed;
+use crate::limit::Limit;
+use krb_der::{Refusal, Why};
+use std::alloc::Global;
+use std::marker::Model;
+
+/// The number of octets of a frame's length.
+pub(crate) const LENGTH_OCTETS: usize = 4;
+
+/// What the octets of the current frame came to.
+#[derive(Clone, Copy)]
+enum Phase {
+    /// So many octets of its length, and not all four.
+    Length(usize),
+    /// Its length, which announces so many octets, and a part of these.
+    Contents(u32),
+    /// The whole frame.
+    Ready,
+    /// The last one was refused.
+    Refused(Refusal),
+}
+
+/// What a decoder answers for a piece.
+#[derive(Clone, Copy, PartialEq, Eq, Debug)]
+pub struct Fed {
+    /// How many octets of the piece were used.
+    pub used: usize,
+    /// What the stream came to with them.
+    pub status: Status,
+}
+
+/// What a stream came to.
+#[derive(Clone, Copy, PartialEq, Eq, Debug)]
+pub enum Status {
+    /// The whole piece was used, and more octets are needed.
+    More,
+    /// The last octet of a frame was used, and its contents are a message.
+    Ready,
+    /// The last octet used is refused.
+    Refused(Refusal),
+    /// A growth was refused. The octets behind those that were used may be fed again.
+    Memory,
+}
+
+/// Decodes a stream of framed messages (RFC 4120, 7.2.2) that comes in pieces: four octets of
+/// length, the highest first, and so many of a message. A length is judged with its fourth octet,
+/// and a message with each piece, as far as it is there.
+#[derive(Drop)]
+pub struct Decoder {
+    limit: Limit,
+    length: [u8; LENGTH_OCTETS],
+    phase: Phase,
+    contents: Vec<u8>,
+}
+
+impl Model for Decoder {
+    ghost use Rattle.krb_frame.specs.Decoding.{Decoding};
+
+    ghost Value = { Decoding };
+
+    ghost use Rattle.krb_frame.specs.Phases.{octets_of, IsAt};
+
+    ghost view = { λ d. record { limit = d.limit; octets = octets_of d.phase d.length d.contents.items } };
+
+    ghost invariant = { λ d. IsAt d.limit d.length d.contents.items d.phase };
+}
+
+ghost use Rattle.std.specs.Prelude.{◌≡◌, ◌≤◌, ◌<◌, ◌⊎◌, ◌^◌, [], length};
+ghost use Rattle.krb_frame.specs.Decoding.{lent, finish_at, finish_of, kept_contents};
+ghost use Rattle.krb_frame.specs.Stands.{Stands};
+ghost use Rattle.krb_frame.specs.Feeds.{Feeds, Clears};
+ghost use Rattle.krb_frame.specs.Phases.{end_behind, phase_of, IsLengthJudged, IsPut, FeedsLength};
+ghost use Rattle.krb_frame.specs.declared.decoder.Phase.TheVariants as phase;
+
+impl Decoder {
+    /// A decoder of a stream of which nothing came yet. It takes no memory.
+    pub fn new(alloc: Global, limit: Limit) -> Decoder
+        ensures nothing { result ≡ record { limit = limit; octets = [] } }
+        ensures stands { Stands result [] [] }
+    {
+        Decoder {
+            limit,
+            length: [0; LENGTH_OCTETS],
+            phase: Phase::Length(0),
+            contents: Vec::new(alloc),
+        }
+    }
+
+    /// Uses octets from the front of a piece: all of them, or those up to the end of the frame, or
+    /// up to one that is refused. Refused, on the fourth octet of a length and there at place 3,
+    /// are one with its high bit set (`HighBit`), one greater than the limit (`TooLong`) and 0
+    /// (`Empty`), in this order; then the contents are refused as messages are, at places counted
+    /// from the frame's first octet. A decoder that is ready, or refused, uses nothing and answers
+    /// so again. Where a growth is refused, the octets behind those that were used may be fed
+    /// again; the octets of a length take no memory.
+    pub fn feed(&mut self, piece: &[u8]) -> Fed
+        ensures { Feeds self.old piece.now self.new result }
+    {
+        let used = self.feed_length(piece);
+        let fed = self.feed_contents(&piece[used..]);
+        Fed {
+            used: used + fed.used,
+            status: fed.status,
+        }
+    }
+
+    /// Uses octets of the length, as many as are missing and come, and judges it with its last one.
+    fn feed_length(&mut self, piece: &[u8]) -> usize
+        ensures { FeedsLength self.old piece.now self.new result }
+    {
+        let Phase::Length(present) = self.phase else {
+            return 0;
+        };
+        let used = put_octets(&mut self.length, present, piece);
+        self.phase = if present + used < LENGTH_OCTETS {
+            Phase::Length(present + used)
+        } else {
+            judge_length(self.limit, self.length)
+        };
+        used
+    }
+
+    /// Uses octets of the contents, behind a length.
+    fn feed_contents(&mut self, piece: &[u8]) -> Fed
+        requires { (piece.now ≡ []) ⊎ (4 ≤ length self.old.octets) }
+        ensures { Feeds self.old piece.now self.new result }
+    {
+        let size = match self.phase {
+            Phase::Length(_) => return answer(Status::More),
+            Phase::Ready => return answer(Status::Ready),
+            Phase::Refused(refusal) => return answer(Status::Refused(refusal)),
+            Phase::Contents(size) => size,
+        };
+        let fed = take_contents(&mut self.contents, size, piece);
+        self.phase = phase_after(size, fed.status);
+        fed
+    }
+
+    /// The frame that is ready, lent.
+    pub fn ready(&self) -> Option<Framed<'_>>
+        ensures { result ≡ lent self.now }
+    {
+        match self.phase {
+            Phase::Ready => Some(Framed::new(self.contents.as_slice())),
+            _ => None,
+        }
+    }
+
+    /// Clears the frame that is ready, so that the next one may be fed, and answers whether there
+    /// was one. Where there was none nothing changes.
+    pub fn next(&mut self) -> bool
+        ensures { Clears self.old self.new result }
+    {
+        let Phase::Ready = self.phase else {
+            return false;
+        };
+        self.contents.clear();
+        self.phase = Phase::Length(0);
+        true
+    }
+
+    /// What is refused of a stream that ends here: nothing between two frames, or where one is
+    /// ready; what was refused; and else `Truncated`, at the number of octets of the frame that
+    /// are there, those of its length with them.
+    pub fn finish(&self) -> Result<(), Refusal>
+        ensures { result ≡ finish_of self.now }
+    {
+        match self.phase {
+            Phase::Length(present) => ended(present),
+            Phase::Contents(_) => ended(LENGTH_OCTETS + self.contents.len()),
+            Phase::Ready => Ok(()),
+            Phase::Refused(refusal) => Err(refusal),
+        }
+    }
+
+    /// The number of octets of the current frame's message that are kept, at most the limit.
+    pub fn kept(&self) -> u32
+        ensures value { result ≡ length (kept_contents self.now) }
+        ensures few { result ≤ self.now.limit }
+    {
+        self.contents.len() as u32
+    }
+}
+
+/// The answer of a feed that uses nothing.
+fn answer(status: Status) -> Fed
+    ensures { result ≡ record { used = 0; status = status } }
+{
+    Fed { used: 0, status }
+}
+
+/// What is refused of a stream that ends behind so many octets of a frame.
+fn ended(present: usize) -> Result<(), Refusal>
+    requires { present < 2 ^ 32 }
+    ensures { result ≡ finish_at (end_behind present) }
+{
+    if present == 0 {
+        return Ok(());
+    }
+    Err(Refusal {
+        place: present as u32,
+        why: Why::Truncated,
+    })
+}
+
+/// The phase after contents of a frame of so many octets were taken.
+fn phase_after(size: u32, status: Status) -> Phase
+    ensures { result ≡ phase_of size status }
+{
+    match status {
+        Status::More | Status::Memory => Phase::Contents(size),
+        Status::Ready => Phase::Ready,
+        Status::Refused(refusal) => Phase::Refused(refusal),
+    }
+}
+
+/// Puts octets of a piece behind those of a length that are present, as many as are missing and
+/// come, and answers how many.
+fn put_octets(length: &mut [u8; LENGTH_OCTETS], present: usize, piece: &[u8]) -> usize
+    requires { present < 4 }
+    ensures { IsPut length.old present piece.now length.new result }
+{
+    if present == 0 {
+        // All four come together, mostly.
+        if let Some((whole, _)) = piece.split_first_chunk::<LENGTH_OCTETS>() {
+            *length = *whole;
+            return LENGTH_OCTETS;
+        }
+    }
+    let count = piece.len().min(LENGTH_OCTETS - present);
+    length[present..present + count].copy_from_slice(&piece[..count]);
+    count
+}
+
+/// What the four octets of a length come to.
+fn judge_length(limit: Limit, announced: [u8; LENGTH_OCTETS]) -> Phase
+    requires { length announced ≡ 4 }
+    ensures { IsLengthJudged limit announced result }
+{
+    let size = u32::from_be_bytes(announced);
+    if size >= 1 << 31 {
+        refused_length(Why::HighBit)
+    } else if size > limit.get() {
+        refused_length(Why::TooLong)
+    } else if size == 0 {
+        refused_length(Why::Empty)
+    } else {
+        Phase::Contents(size)
+    }
+}
+
+/// A length that is refused, on its fourth octet.
+fn refused_length(why: Why) -> Phase
+    ensures { result ≡ phase.Refused (record { place = 3; why = why }) }
+{
+    Phase::Refused(Refusal { place: 3, why })
+}

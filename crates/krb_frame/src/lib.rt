@@ -1,0 +1,22 @@
+//! Streams of framed Kerberos V5 messages (RFC 4120, 7.2.2), in any pieces: a [`Decoder`] is fed
+//! octets as they come, and lends each frame whose contents are one message. [`frame`] is the way
+//! back.
+//!
+//! In contracts a decoder is what it stands for: its limit, and the octets of the current frame
+//! that it used (`specs/Decoding`). What that has to do with the stream is `specs/Stands`.
+#![tactic(auto)]
+
+mod contents;
+mod decoder;
+mod framed;
+mod framing;
+pub mod law;
+mod limit;
+
+pub use decoder::{Decoder, Fed, Status};
+pub use framed::Framed;
+pub use framing::frame;
+pub use limit::Limit;
+
+#[cfg(test)]
+mod tests;

@@ -1,0 +1,370 @@
+//! Streams fed in pieces of every kind. What is expected was worked out by hand from the rules of
+//! `docs/FORMATS.md`; the frames of messages were made so from RFC 4120, appendix A.
+
+use crate::{Decoder, Fed, Limit, Status, frame};
+use krb_der::{Refusal, Why};
+use krb_msg::{EncodeFault, Kind, Message};
+use std::alloc::Global;
+use std::test::Fail;
+
+const AP_REP: &str = "0000001F6F1D301BA003020105A10302010FA20F300DA003020112A2060404DEADBEEF";
+
+const AP_REQ: &str =
+    "000000556E533051A003020105A10302010EA20703050000000000A32D612B3029A003020105A1031B0141A20E300CA003020102A10530031B0168A30D300BA003020112A2040402BEEFA40D300BA003020112A2040402BEEF";
+
+const AS_REP: &str =
+    "000000616B5F305DA003020105A10302010BA3031B0141A40E300CA003020101A10530031B0175A52D612B3029A003020105A1031B0141A20E300CA003020102A10530031B0168A30D300BA003020112A2040402BEEFA60D300BA003020112A2040402BEEF";
+
+const WRONG_VERSION: &str =
+    "0000001F6F1D301BA003020104A10302010FA20F300DA003020112A2060404DEADBEEF";
+
+/// What a decoder answers in the end.
+#[derive(Clone, Copy)]
+enum Answer {
+    More,
+    Ready,
+    Refused(u32, Why),
+}
+
+impl Answer {
+    fn status(self) -> Status {
+        match self {
+            Answer::More => Status::More,
+            Answer::Ready => Status::Ready,
+            Answer::Refused(place, why) => Status::Refused(Refusal { place, why }),
+        }
+    }
+}
+
+/// Octets in hexadecimal, the limit that they are fed with, how many of them are used, the answer,
+/// and how many octets are kept.
+struct Row(&'static str, u32, usize, Answer, u32);
+
+const USUAL: u32 = 16777216;
+
+const GREATEST: u32 = 2147483647;
+
+const ROWS: [Row; 26] = [
+    Row("", USUAL, 0, Answer::More, 0),
+    Row("000000", USUAL, 3, Answer::More, 0),
+    Row(AP_REP, USUAL, 35, Answer::Ready, 31),
+    Row(AP_REP, 31, 35, Answer::Ready, 31),
+    Row(AP_REP, 30, 4, Answer::Refused(3, Why::TooLong), 0),
+    Row(AP_REQ, USUAL, 89, Answer::Ready, 85),
+    Row(AS_REP, USUAL, 101, Answer::Ready, 97),
+    Row("80000005", USUAL, 4, Answer::Refused(3, Why::HighBit), 0),
+    Row("80000005", GREATEST, 4, Answer::Refused(3, Why::HighBit), 0),
+    Row("00000000", USUAL, 4, Answer::Refused(3, Why::Empty), 0),
+    Row("7FFFFFFF6F", GREATEST, 5, Answer::More, 1),
+    Row(WRONG_VERSION, USUAL, 13, Answer::Refused(12, Why::Range), 9),
+    Row(
+        "0000001F6F80",
+        USUAL,
+        6,
+        Answer::Refused(5, Why::Indefinite),
+        2,
+    ),
+    Row(
+        "0000001F6F85",
+        USUAL,
+        6,
+        Answer::Refused(5, Why::LengthWide),
+        2,
+    ),
+    Row("000000016F", USUAL, 5, Answer::Refused(4, Why::Overrun), 1),
+    Row(
+        "000000026F81",
+        USUAL,
+        6,
+        Answer::Refused(5, Why::Overrun),
+        2,
+    ),
+    Row(
+        "0000001F6F1E",
+        USUAL,
+        6,
+        Answer::Refused(5, Why::Overrun),
+        2,
+    ),
+    Row("0000001F6F1C", USUAL, 6, Answer::Refused(5, Why::Loose), 2),
+    Row(
+        "000000206F811D",
+        USUAL,
+        7,
+        Answer::Refused(6, Why::LengthNotMinimal),
+        3,
+    ),
+    Row("0000001F30", USUAL, 5, Answer::Refused(4, Why::Tag), 1),
+    Row("0000001F76", USUAL, 5, Answer::Refused(4, Why::Tag), 1),
+    Row(
+        "0000000E6F0C300AA003020105A10302010F",
+        USUAL,
+        18,
+        Answer::Refused(17, Why::Missing),
+        14,
+    ),
+    Row(
+        "0000000E6F0C300AA003020105A10302010E",
+        USUAL,
+        18,
+        Answer::Refused(17, Why::Range),
+        14,
+    ),
+    Row(
+        "000000026F00",
+        USUAL,
+        6,
+        Answer::Refused(5, Why::Missing),
+        2,
+    ),
+    Row(
+        "000000206F1E301CA003020105A10302010FA210300EA00402020012",
+        USUAL,
+        28,
+        Answer::Refused(27, Why::IntegerNotMinimal),
+        24,
+    ),
+    Row(
+        "0000001F6F1D301BA0040202",
+        USUAL,
+        12,
+        Answer::Refused(11, Why::Size),
+        8,
+    ),
+];
+
+/// A decoder of a limit.
+fn decoder(alloc: Global, limit: u32) -> Result<Decoder, Fail> {
+    let limit = Limit::new(limit).ok_or("a limit from 1 to 2147483647")?;
+    Ok(Decoder::new(alloc, limit))
+}
+
+/// Feeds octets in pieces of at most so many, up to an answer that is not `More`, and answers how
+/// many were used in all.
+fn feed_pieces(decoder: &mut Decoder, octets: &[u8], at_most: usize) -> Fed {
+    let mut rest = octets;
+    let mut used = 0usize;
+    for _ in 0..=octets.len() {
+        let (piece, _) = rest.split_at(at_most.min(rest.len()));
+        let fed = decoder.feed(piece);
+        used = used.saturating_add(fed.used);
+        rest = &rest[fed.used..];
+        if fed.status != Status::More || rest.is_empty() {
+            return Fed {
+                used,
+                status: fed.status,
+            };
+        }
+    }
+    Fed {
+        used,
+        status: Status::More,
+    }
+}
+
+/// Checks what a decoder came to: the answer again at every further piece, none of which is used
+/// where something is ready or refused.
+fn has_come_to(decoder: &mut Decoder, fed: Fed, row: &Row) -> bool {
+    let Row(_, _, used, answer, kept) = row;
+    let status = answer.status();
+    let again = match answer {
+        Answer::More => decoder.feed(&[]),
+        _ => decoder.feed(b"\0\0\0"),
+    };
+    let is_ready = decoder.ready().is_some();
+    fed.used == *used
+        && fed.status == status
+        && again == Fed { used: 0, status }
+        && decoder.kept() == *kept
+        && is_ready == (status == Status::Ready)
+}
+
+#[test]
+fn decodes_in_pieces_of_every_kind(rt: HostRuntime) -> Result<(), Fail> {
+    let alloc = rt.alloc();
+    for row in &ROWS {
+        let Row(digits, limit, _, _, _) = row;
+        let octets = hex::decode(alloc, *digits)?;
+        for at_most in [octets.len().max(1), 1, 2, 3, 7] {
+            let mut pieces = decoder(alloc, *limit)?;
+            let fed = feed_pieces(&mut pieces, octets.as_slice(), at_most);
+            assert!(rt; has_come_to(&mut pieces, fed, row), "{digits} by {at_most}");
+        }
+        for place in 0..=octets.len() {
+            let (front, back) = octets.as_slice().split_at(place);
+            let mut cut = decoder(alloc, *limit)?;
+            let mut fed = cut.feed(front);
+            if fed.status == Status::More {
+                let second = cut.feed(back);
+                fed = Fed {
+                    used: fed.used.saturating_add(second.used),
+                    status: second.status,
+                };
+            }
+            assert!(rt; has_come_to(&mut cut, fed, row), "{digits} cut at {place}");
+        }
+    }
+    Ok(())
+}
+
+#[test]
+fn refuses_on_the_octet_itself(rt: HostRuntime) -> Result<(), Fail> {
+    let alloc = rt.alloc();
+    let octets = hex::decode(alloc, WRONG_VERSION)?;
+    let (front, _) = octets.as_slice().split_at(13.min(octets.len()));
+    let status = Status::Refused(Refusal {
+        place: 12,
+        why: Why::Range,
+    });
+    let mut alone = decoder(alloc, USUAL)?;
+    assert_eq!(rt; alone.feed(front), Fed { used: 13, status });
+    assert_eq!(rt; alone.feed(front), Fed { used: 0, status });
+    assert!(rt; !alone.next(), "nothing is ready");
+    assert_eq!(rt; alone.feed(&[]), Fed { used: 0, status });
+    Ok(())
+}
+
+/// The octets of two AP-REPs.
+fn two(alloc: Global) -> Result<Vec<u8>, Fail> {
+    let mut octets = hex::decode(alloc, AP_REP)?;
+    octets.extend_from_slice(hex::decode(alloc, AP_REP)?.as_slice())?;
+    Ok(octets)
+}
+
+#[test]
+fn leaves_what_is_behind_a_frame(rt: HostRuntime) -> Result<(), Fail> {
+    let alloc = rt.alloc();
+    let octets = two(alloc)?;
+    let mut frames = decoder(alloc, USUAL)?;
+    let first = frames.feed(octets.as_slice());
+    let status = Status::Ready;
+    assert_eq!(rt; first, Fed { used: 35, status });
+    let rest = &octets.as_slice()[first.used..];
+    assert_eq!(rt; frames.feed(rest), Fed { used: 0, status });
+    assert_eq!(rt; frames.kept(), 31);
+    assert!(rt; frames.next(), "one is ready");
+    assert!(rt; !frames.next(), "none is ready");
+    assert_eq!(rt; frames.kept(), 0);
+    assert_eq!(rt; frames.feed(rest), Fed { used: 35, status });
+    Ok(())
+}
+
+#[test]
+fn says_how_a_stream_ends(rt: HostRuntime) -> Result<(), Fail> {
+    let alloc = rt.alloc();
+    let truncated = |place| {
+        Err(Refusal {
+            place,
+            why: Why::Truncated,
+        })
+    };
+    for (digits, end) in [
+        ("", Ok(())),
+        ("00", truncated(1)),
+        ("000000", truncated(3)),
+        ("0000001F", truncated(4)),
+        ("0000001F6F", truncated(5)),
+        (AP_REP, Ok(())),
+        (
+            "00000000",
+            Err(Refusal {
+                place: 3,
+                why: Why::Empty,
+            }),
+        ),
+    ] {
+        let octets = hex::decode(alloc, digits)?;
+        let mut stream = decoder(alloc, USUAL)?;
+        let _ = stream.feed(octets.as_slice());
+        assert_eq!(rt; stream.finish(), end, "{digits}");
+        assert_eq!(rt; stream.next(), digits == AP_REP);
+    }
+    Ok(())
+}
+
+/// The message of one frame in hexadecimal, whose octets and kind were compared.
+fn message(alloc: Global, digits: &str, kind: Kind) -> Result<Message, Fail> {
+    let octets = hex::decode(alloc, digits)?;
+    let mut stream = decoder(alloc, USUAL)?;
+    let _ = stream.feed(octets.as_slice());
+    let framed = stream.ready().ok_or("a frame")?;
+    if framed.kind() != kind || Some(framed.octets()) != octets.as_slice().get(4..) {
+        return Err(Fail::from("the kind and the octets of the frame"));
+    }
+    let message = framed.message(alloc).ok().ok_or("memory")?;
+    Ok(message)
+}
+
+#[test]
+fn frames_come_again(rt: HostRuntime) -> Result<(), Fail> {
+    let alloc = rt.alloc();
+    for (digits, kind, size) in [
+        (AP_REP, Kind::ApRep, 31),
+        (AP_REQ, Kind::ApReq, 85),
+        (AS_REP, Kind::AsRep, 97),
+    ] {
+        let message = message(alloc, digits, kind)?;
+        let limit = Limit::new(size).ok_or("a limit")?;
+        let octets = frame(alloc, &message, limit).ok().ok_or("a frame")?;
+        assert_eq!(rt;
+            hex::encode_upper(alloc, octets.as_slice())?.as_str(),
+            digits
+        );
+        let less = Limit::new(size - 1).ok_or("a limit")?;
+        let too_long = frame(alloc, &message, less).err();
+        assert_eq!(rt; too_long, Some(EncodeFault::TooLong), "{digits}");
+    }
+    Ok(())
+}
+
+/// Two AP-REPs and the length of a frame that is refused.
+const FRAMES: &[u8] =
+    b"\0\0\0\x1F\x6F\x1D\x30\x1B\xA0\x03\x02\x01\x05\xA1\x03\x02\x01\x0F\xA2\x0F\x30\x0D\xA0\x03\x02\x01\x12\xA2\x06\x04\x04\xDE\xAD\xBE\xEF\0\0\0\x1F\x6F\x1D\x30\x1B\xA0\x03\x02\x01\x05\xA1\x03\x02\x01\x0F\xA2\x0F\x30\x0D\xA0\x03\x02\x01\x12\xA2\x06\x04\x04\xDE\xAD\xBE\xEF\0\0\0\0";
+
+/// How many messages octets hold, fed in pieces of at most so many, and what refuses the rest. A
+/// feed whose growth is refused is made again, with the octets behind those that were used.
+fn messages_in(
+    alloc: Global,
+    octets: &[u8],
+    at_most: usize,
+) -> Result<(u32, Option<Refusal>), Fail> {
+    let mut stream = decoder(alloc, USUAL)?;
+    let mut rest = octets;
+    let mut messages = 0u32;
+    for _ in 0..1000 {
+        let (piece, _) = rest.split_at(at_most.min(rest.len()));
+        let fed = stream.feed(piece);
+        rest = &rest[fed.used..];
+        match fed.status {
+            Status::More if rest.is_empty() => return Ok((messages, None)),
+            Status::More | Status::Memory => {}
+            Status::Refused(refusal) => return Ok((messages, Some(refusal))),
+            Status::Ready => {
+                let framed = stream.ready().ok_or("a frame")?;
+                if framed.message(alloc).is_err() {
+                    let _ = framed.message(alloc).ok().ok_or("memory twice")?;
+                }
+                messages = messages.saturating_add(1);
+                stream.next();
+            }
+        }
+    }
+    Err(Fail::from("the stream ends"))
+}
+
+// Its octets are no allocation, and so each allocation that is made to fail is one of the decoder's
+// or of a message.
+#[test]
+fn goes_on_where_memory_was_refused(rt: HostRuntime) -> Result<(), Fail> {
+    let alloc = rt.alloc();
+    let refusal = Refusal {
+        place: 3,
+        why: Why::Empty,
+    };
+    for at_most in [1, 2, 7, 40, 100] {
+        let (messages, end) = messages_in(alloc, FRAMES, at_most)?;
+        assert_eq!(rt; messages, 2, "by {at_most}");
+        assert_eq!(rt; end, Some(refusal), "by {at_most}");
+    }
+    Ok(())
+}
