@@ -1,0 +1,73 @@
+-- Texts, computed.
+use Rattle.std.specs.Prelude.{ℕ, ◌≡◌, List, [], ◌∷◌, refl, codes}
+use Rattle.krb_list.specs.Text.{principal_text}
+use Rattle.krb_list.specs.Time.{civil_date, date_from, date_in_year, the_date, time_text, two_digits, date_text, clock_text}
+use Rattle.jiff.specs.Words.{days_in_year, days_in_month}
+
+no_components : principal_text [] (codes "A") ≡ codes "\\-@A"
+no_components = refl
+
+one_empty_component : principal_text ([] ∷ []) (codes "A") ≡ codes "@A"
+one_empty_component = refl
+
+escapes : principal_text (codes "a/b" ∷ codes " " ∷ []) (codes "R@") ≡ codes "a\\x2fb/\\x20@R\\x40"
+escapes = refl
+
+first_day : civil_date 0 ≡ the_date 1970 1 1
+unfolding civil_date date_from date_in_year
+first_day = refl
+
+last_of_january : civil_date 30 ≡ the_date 1970 1 31
+unfolding civil_date date_from date_in_year
+last_of_january = refl
+
+last_of_1970 : civil_date 364 ≡ the_date 1970 12 31
+unfolding civil_date date_from date_in_year
+last_of_1970 = refl
+
+first_of_1971 : civil_date 365 ≡ the_date 1971 1 1
+unfolding civil_date date_from date_in_year
+first_of_1971 = refl
+
+leap_1972 : civil_date 789 ≡ the_date 1972 2 29
+unfolding civil_date date_from date_in_year
+leap_1972 = refl
+
+march_1972 : civil_date 790 ≡ the_date 1972 3 1
+unfolding civil_date date_from date_in_year
+march_1972 = refl
+
+first_of_2000 : civil_date 10957 ≡ the_date 2000 1 1
+unfolding civil_date date_from date_in_year
+first_of_2000 = refl
+
+leap_2000 : civil_date 11016 ≡ the_date 2000 2 29
+unfolding civil_date date_from date_in_year
+leap_2000 = refl
+
+last_of_2000 : civil_date 11322 ≡ the_date 2000 12 31
+unfolding civil_date date_from date_in_year
+last_of_2000 = refl
+
+february_2100 : civil_date 47540 ≡ the_date 2100 2 28
+unfolding civil_date date_from date_in_year
+february_2100 = refl
+
+march_2100 : civil_date 47541 ≡ the_date 2100 3 1
+unfolding civil_date date_from date_in_year
+march_2100 = refl
+
+last_day : civil_date 49710 ≡ the_date 2106 2 7
+unfolding civil_date date_from date_in_year
+last_day = refl
+
+no_time : time_text 0 ≡ codes "-"
+no_time = refl
+
+first_of_2000_text : time_text 946684800 ≡ codes "2000-01-01T00:00:00Z"
+unfolding civil_date date_from date_in_year two_digits date_text clock_text
+first_of_2000_text = refl
+
+last_time : time_text 4294967295 ≡ codes "2106-02-07T06:28:15Z"
+unfolding civil_date date_from date_in_year two_digits date_text clock_text
+last_time = refl

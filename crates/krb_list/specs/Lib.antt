@@ -1,0 +1,4 @@
+pub mod Text
+pub mod Time
+pub mod Laws
+pub mod Examples
