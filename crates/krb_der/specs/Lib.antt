@@ -5,3 +5,5 @@ pub mod Sizes
 pub mod Numbers
 pub mod Items
 pub mod Tells
+pub mod Faults
+pub mod Fields
