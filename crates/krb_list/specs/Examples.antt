@@ -5,12 +5,15 @@ use Rattle.krb_list.specs.Time.{civil_date, date_from, date_in_year, the_date, t
 use Rattle.jiff.specs.Words.{days_in_year, days_in_month}
 
 no_components : principal_text [] (codes "A") ≡ codes "\\-@A"
+unfolding principal_text
 no_components = refl
 
 one_empty_component : principal_text ([] ∷ []) (codes "A") ≡ codes "@A"
+unfolding principal_text
 one_empty_component = refl
 
 escapes : principal_text (codes "a/b" ∷ codes " " ∷ []) (codes "R@") ≡ codes "a\\x2fb/\\x20@R\\x40"
+unfolding principal_text
 escapes = refl
 
 first_day : civil_date 0 ≡ the_date 1970 1 1

@@ -1,7 +1,7 @@
 -- The pieces of the printed lines, as lists of ASCII codes.
-use Rattle.std.specs.Prelude.{ℕ, ℤ, ◌+◌, ◌-◌, ◌*◌, ◌/◌, ◌%◌, ◌≡◌, Bool, false, not, ◌&&◌, ◌||◌, ◌==◌, nat_le, List, [], ◌∷◌, ◌++◌, length, Option, Some, None, codes, if◌then◌else◌}
+use Rattle.std.specs.Prelude.{ℕ, ◌/◌, ◌%◌, Bool, true, false, not, ◌&&◌, ◌||◌, ◌==◌, nat_le, List, [], ◌∷◌, ◌++◌, Option, Some, None, codes, if◌then◌else◌}
 use Rattle.std.specs.List.{flat_map}
-use Rattle.std.specs.Fmt.{decimal, signed_decimal, digit_glyph}
+use Rattle.std.specs.Fmt.{digit_glyph}
 
 -- 21 to 7E but `/`, `@` and `\`
 abbrev pub is_plain : ℕ → Bool
@@ -27,7 +27,7 @@ joined none separator text (first ∷ others) = text first ++ flat_map (λ other
 abbrev pub components_text : List (List ℕ) → List ℕ
 components_text components = joined (codes "\\-") (codes "/") escape components
 
-abbrev pub principal_text : List (List ℕ) → List ℕ → List ℕ
+unfoldable pub principal_text : List (List ℕ) → List ℕ → List ℕ
 principal_text components realm = components_text components ++ codes "@" ++ escape realm
 
 -- what is absent is `-`
@@ -38,3 +38,10 @@ or_dash text (Some value) = text value
 -- elements in brackets
 abbrev pub list_text : {A : Type 0} → (A → List ℕ) → List A → List ℕ
 list_text text values = codes "[" ++ joined [] (codes ",") text values ++ codes "]"
+
+abbrev pub yes_or_no : Bool → List ℕ
+yes_or_no true = codes "yes"
+yes_or_no false = codes "no"
+
+abbrev pub line_feed : List ℕ
+line_feed = 10 ∷ []

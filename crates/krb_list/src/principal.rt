@@ -8,6 +8,7 @@ use krb_der::{KString, Memory};
 use std::alloc::{AllocError, Global};
 
 /// Appends the text of a principal, which is [`principal_text`]'s.
+#[tactic(auto, unfolding(crate::specs::Text::principal_text))]
 pub fn put_principal(
     line: &mut String,
     components: &[KString],
