@@ -2,4 +2,5 @@ pub mod Lines
 pub mod Listing
 pub mod Fronts
 pub mod Transfers
+pub mod Files
 pub mod Listers

@@ -6,6 +6,7 @@
 //! memory failed.
 #![tactic(auto)]
 
+mod file_run;
 mod frame;
 mod limit;
 mod line;
