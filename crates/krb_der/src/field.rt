@@ -24,7 +24,7 @@ impl<'a> Model for Source<'a> {
 
 ghost use Rattle.std.specs.Prelude.{◌≡◌, ◌+◌, ◌^◌, ◌<◌, None, Some};
 ghost use Rattle.std.specs.Int.{w8, w16, w32};
-ghost use Rattle.krb_der.specs.Fields.{Gives, source_of, is_empty, ended, piece_at, number_at, signed_at, counted_at, rest_at};
+ghost use Rattle.krb_der.specs.Fields.{Gives, source_of, is_empty, ended, piece_at, number_at, signed_at, counted_at, rest_at, is_one_of, expect, version_at};
 
 impl<'a> Source<'a> {
     /// A whole file.
@@ -47,6 +47,27 @@ impl<'a> Source<'a> {
         ensures { result ≡ is_empty self.now.octets }
     {
         self.octets.is_empty()
+    }
+
+    /// The octet, if it is one of those that are wanted, and else a refusal at its place.
+    fn expect(self, wanted: &[u8], why: FileWhy) -> Result<(u8, Source<'a>), FileFault>
+        ensures { Gives (λ taken. taken) result (expect wanted.now why (ended None) self.entry) }
+    {
+        let place = self.place();
+        let (octet, rest) = self.number8(None)?;
+        if is_one_of(octet, wanted) {
+            Ok((octet, rest))
+        } else {
+            Err(FileFault::Refused { place, why })
+        }
+    }
+
+    /// The first two octets of a file: 05, and one of the versions, which is given.
+    pub fn version(self, versions: &[u8]) -> Result<(u8, Source<'a>), FileFault>
+        ensures { Gives (λ taken. taken) result (version_at versions.now (ended None) self.entry) }
+    {
+        let (_, rest) = self.expect(&[5], FileWhy::Magic)?;
+        rest.expect(versions, FileWhy::Version)
     }
 
     /// The next octets, so many. Overrun where they pass the end of what they stand in, and else
@@ -136,4 +157,11 @@ impl<'a> Source<'a> {
         let (size, rest) = self.number16(end)?;
         rest.octets(end, u32::from(size))
     }
+}
+
+/// Whether an octet is one of some.
+fn is_one_of(octet: u8, wanted: &[u8]) -> bool
+    ensures { result ≡ is_one_of octet wanted.now }
+{
+    wanted.iter().any(|other| octet == *other)
 }

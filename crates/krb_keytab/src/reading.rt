@@ -1,8 +1,8 @@
 //! Keytabs, read from octets.
 
-ghost use Rattle.std.specs.Prelude.{◌≡◌, ◌^◌, ◌<◌, Some};
+ghost use Rattle.std.specs.Prelude.{◌≡◌, None, Some};
 ghost use Rattle.std.specs.Int.{w16, w32};
-ghost use Rattle.krb_der.specs.Fields.{Gives, ended, times, counted_at, within};
+ghost use Rattle.krb_der.specs.Fields.{Gives, ended, limited, times, counted_at, within};
 ghost use Rattle.krb_keytab.specs.Spelling.{are_zero};
 ghost use Rattle.krb_keytab.specs.Reading.{entry_at, record_of, record_at};
 
@@ -75,4 +75,37 @@ fn entry<'a>(
         rest: Octets::new(Vec::from_slice(alloc, behind_key)?),
     };
     Ok((entry, left))
+}
+
+/// What a record's length leads to.
+fn record_behind<'a>(
+    alloc: Global,
+    length: i32,
+    source: Source<'a>,
+) -> Result<(Next, Source<'a>), FileFault>
+    ensures { Gives (λ taken. taken) result (record_of length (limited None) source.entry) }
+{
+    let size = length.unsigned_abs();
+    if length == 0 {
+        Ok((Next::Done(Stop::Zero), source))
+    } else if length > 0 {
+        let end = source.place() + u64::from(size);
+        let (entry, rest) = entry(alloc, end, source)?;
+        Ok((Next::Item(Record::Entry(entry)), rest))
+    } else {
+        let (octets, rest) = source.octets(None, size)?;
+        let hole = Hole::of(size, are_clean(octets));
+        Ok((Next::Item(Record::Hole(hole)), rest))
+    }
+}
+
+/// The next record, or how the records end.
+fn record<'a>(alloc: Global, source: Source<'a>) -> Result<(Next, Source<'a>), FileFault>
+    ensures { Gives (λ taken. taken) result (record_at (limited None) source.entry) }
+{
+    if source.is_empty() {
+        return Ok((Next::Done(Stop::File), source));
+    }
+    let (length, rest) = source.signed32(None)?;
+    record_behind(alloc, length, rest)
 }
