@@ -12,6 +12,7 @@
 
 mod der;
 mod encoding;
+mod field;
 mod file;
 mod flags;
 mod int32;
@@ -29,6 +30,7 @@ mod wide32;
 
 pub use der::Der;
 pub use encoding::{Encoding, End, Fixed, Optional, Required, Sequence, Tagged};
+pub use field::Source;
 pub use file::{FileFault, FileWhy, file_why_number, file_why_text};
 pub use flags::Flags;
 pub use int32::Int32;

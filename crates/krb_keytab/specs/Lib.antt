@@ -1,2 +1,3 @@
 pub mod Rooms
 pub mod Spelling
+pub mod Reading

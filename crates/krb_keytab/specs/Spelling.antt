@@ -1,6 +1,6 @@
 -- Keytab files of format 0x0502 (MIT krb5): which octets spell a keytab.
 use Rattle.std.specs.Prelude.{ℕ, zero, suc, ℤ, pos, negsuc, ◌^◌, ◌<◌, ◌≤◌, ◌≡◌, ◌⊎◌, Bool, true, ◌&&◌, ◌==◌, nat_lt, nat_le, List, [], ◌∷◌, ◌++◌, length, map, take}
-use Rattle.std.specs.List.{flat_map}
+use Rattle.std.specs.List.{flat_map, list_all}
 use Rattle.std.specs.Int.{w8, w16, w32, to_be_bytes, from_be_bytes}
 use Rattle.std.specs.Int.RustNames.{FitsSigned}
 use Rattle.krb_der.specs.Octets.{when, AreOctets}
@@ -49,8 +49,7 @@ kvno e =
 -- ---- records
 
 abbrev pub are_zero : List ℕ → Bool
-are_zero [] = true
-are_zero (octet ∷ octets) = (octet == 0) && are_zero octets
+are_zero octets = list_all (λ octet. octet == 0) octets
 
 abbrev pub negated : ℕ → ℤ
 negated zero = pos 0

@@ -1,6 +1,7 @@
 //! Keytab files of format 0x0502 (MIT krb5): keys of principals, read and written.
 #![tactic(auto)]
 
+mod reading;
 mod value;
 
 pub use value::{Entry, Hole, Keytab, Record, Stop};

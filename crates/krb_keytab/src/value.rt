@@ -99,10 +99,18 @@ impl Hole {
         ensures value { IfSome result (λ hole. hole ≡ record { size = size; clean = clean }) }
     {
         if (1..=1 << 31).contains(&size) {
-            Some(Hole { size, clean })
+            Some(Hole::of(size, clean))
         } else {
             None
         }
+    }
+
+    /// The hole of so many octets, which are few enough.
+    pub(crate) fn of(size: u32, clean: bool) -> Hole
+        requires { IsRoom size }
+        ensures { result ≡ record { size = size; clean = clean } }
+    {
+        Hole { size, clean }
     }
 
     /// The number of octets, 1 to 2147483648.

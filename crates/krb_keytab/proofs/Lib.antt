@@ -1,0 +1,5 @@
+pub mod Entries
+pub mod Records
+pub mod Keytabs
+pub mod Faults
+pub mod Stepwise
