@@ -3,3 +3,4 @@ pub mod Records
 pub mod Keytabs
 pub mod Faults
 pub mod Stepwise
+pub mod Loops

@@ -4,9 +4,9 @@ ghost use Rattle.std.specs.Prelude.{◌≡◌, None, Some};
 ghost use Rattle.std.specs.Int.{w16, w32};
 ghost use Rattle.krb_der.specs.Fields.{Gives, ended, limited, times, counted_at, within};
 ghost use Rattle.krb_keytab.specs.Spelling.{are_zero};
-ghost use Rattle.krb_keytab.specs.Reading.{entry_at, record_of, record_at};
+ghost use Rattle.krb_keytab.specs.Reading.{entry_at, record_of, record_at, items_behind, keytab_of_items, read};
 
-use crate::value::{Entry, Hole, Record, Stop};
+use crate::value::{Entry, Hole, Keytab, Record, Stop};
 use krb_der::{FileFault, KString, Many, Octets, Source};
 use std::alloc::Global;
 
@@ -108,4 +108,34 @@ fn record<'a>(alloc: Global, source: Source<'a>) -> Result<(Next, Source<'a>), F
     }
     let (length, rest) = source.signed32(None)?;
     record_behind(alloc, length, rest)
+}
+
+/// The records up to the stop, and the place behind it.
+fn keytab(alloc: Global, source: Source<'_>) -> Result<(Keytab, usize), FileFault>
+    ensures { Gives (λ taken. taken) result (keytab_of_items (items_behind None source.entry)) }
+{
+    let mut records = Vec::new(alloc);
+    let mut rest = source;
+    loop {
+        let (next, behind) = record(alloc, rest)?;
+        match next {
+            Next::Item(record) => records.push(record)?,
+            Next::Done(stop) => {
+                let records = Many::new(records);
+                return Ok((Keytab { records, stop }, behind.place() as usize));
+            }
+        }
+        rest = behind;
+    }
+}
+
+/// The keytab that a file holds, and how many of its octets were read: all of them, unless a record
+/// of length 0 ends the keytab before. A file that is no keytab is refused at the first field at
+/// fault: Magic at 0, Version at 1, Overrun for a field that passes the end of its entry, else
+/// Truncated for one that passes the end of the file.
+pub fn read(alloc: Global, octets: &[u8]) -> Result<(Keytab, usize), FileFault>
+    ensures { Gives (λ taken. taken) result (read octets.now) }
+{
+    let (_, source) = Source::new(octets).version(&[2])?;
+    keytab(alloc, source)
 }
