@@ -4,4 +4,5 @@
 mod reading;
 mod value;
 
+pub use reading::read;
 pub use value::{Entry, Hole, Keytab, Record, Stop};

@@ -1,9 +1,16 @@
--- What a run on a file does to its reader and its writer.
-use Rattle.std.specs.Prelude.{ℕ, ◌≡◌, ◌⊎◌, List, ◌++◌, Option}
+-- The listing of a file, and what a run on one does to its reader and its writer.
+use Rattle.std.specs.Prelude.{ℕ, ◌≡◌, ◌⊎◌, List, ◌++◌, Option, Result, Ok, Err, string_bytes}
 use Rattle.std.specs.Io.KnownBytes.{Consumes, Appends, Keeps, IsAtEnd}
+use Rattle.krb_der.specs.Fields.{Fault}
+use Rattle.krb_keytab.specs.declared.value.Keytab.{Keytab}
+use Rattle.krb_keytab.specs.Reading.{read}
+use Rattle.krb_list.specs.Keytabs.{keytab_lines}
+use Rattle.krb_list.specs.Refusals.{file_refused_line}
 use Rattle.krb_tool.specs.declared.run.RunEnd.{RunEnd}
+use Rattle.krb_tool.specs.declared.run.RunEnd.TheVariants as run
 use Rattle.krb_tool.specs.declared.run.RunFault.{RunFault}
 use Rattle.krb_tool.specs.declared.run.RunFault.TheVariants as fault
+use Rattle.krb_tool.specs.declared.file_run.FileText.{FileText}
 
 -- all that a reader had was taken
 pub record TakesAll (had left : Option (List ℕ)) (file : List ℕ) : Type 0 where
@@ -14,6 +21,19 @@ pub record TakesAll (had left : Option (List ℕ)) (file : List ℕ) : Type 0 wh
 pub record FileListing : Type 0 where
   pub text : List ℕ
   pub end : RunEnd
+
+-- the lines of a keytab and of its end, or the one line of a refusal
+abbrev pub keytab_outcome : Result (Keytab × ℕ) Fault → FileListing
+keytab_outcome (Ok found) = record { text = keytab_lines found.0; end = run.Clean }
+keytab_outcome (Err refusal) = record { text = file_refused_line refusal.place refusal.why; end = run.Refused }
+
+unfoldable pub keytab_listing : List ℕ → FileListing
+keytab_listing file = keytab_outcome (read file)
+
+-- the code's text is the listing
+pub record IsListed (listing : FileListing) (made : FileText) : Type 0 where
+  pub text : string_bytes made.text ≡ listing.text
+  pub end : made.end ≡ listing.end
 
 -- A run took all that its reader had, and added the listing of that to what its writer held.
 pub record ListsFile (listing : List ℕ → FileListing) (had left held holds : Option (List ℕ)) (ended : RunEnd) : Type 0 where
