@@ -19,11 +19,7 @@ struct FileText {
 }
 
 /// All that a reader holds, in a vector that grows as the octets come.
-fn read_all<R: Read>(
-    alloc: Global,
-    reader: &mut R,
-    asks: &mut Asks,
-) -> Result<Vec<u8>, RunFault>
+fn read_all<R: Read>(alloc: Global, reader: &mut R, asks: &mut Asks) -> Result<Vec<u8>, RunFault>
     ensures all { IfOk result (λ file. TakesAll (R.remaining reader.old) (R.remaining reader.new) file.items) }
     ensures fault { IfErr result IsOfReading }
     ensures asks { asks.new.made ≤ 2 ^ 40 }
