@@ -1,3 +1,5 @@
 pub mod Rooms
 pub mod Spelling
 pub mod Reading
+pub mod Writing
+pub mod Examples

@@ -3,5 +3,8 @@
 
 mod reading;
 mod value;
+mod writing;
 
+pub use reading::read;
 pub use value::{Entry, Hole, Keytab, Record, Stop};
+pub use writing::KeytabFault;
