@@ -12,10 +12,7 @@ use Rattle.krb_keytab.specs.Spelling.{are_zero, RecordSpells, RecordsSpell, Keyt
 use Rattle.krb_keytab.specs.Reading.{read}
 use Rattle.krb_keytab.specs.Writing.{written_record, written, CanWrite}
 use Rattle.krb_keytab.proofs.Keytabs.{read-again}
-
-length-zeros : (n : ℕ) → length (zeros n) ≡ n
-length-zeros zero = refl
-length-zeros (suc n) = ap suc (length-zeros n)
+use Rattle.krb_keytab.proofs.Sizes.{length-zeros}
 
 AreOctets-zeros : (n : ℕ) → AreOctets (zeros n)
 AreOctets-zeros zero = tt

@@ -1,6 +1,6 @@
 //! Keytabs, written as octets.
 
-ghost use Rattle.std.specs.Prelude.{◌≡◌, ◌+◌, ◌*◌, ◌<◌, ◌≤◌, ◌^◌, ◌↔◌, length, true, None, Some, IsNone, IfSome, IfOk, MatchResult, MatchOption};
+ghost use Rattle.std.specs.Prelude.{◌≡◌, ◌+◌, ◌*◌, ◌<◌, ◌≤◌, ◌^◌, ◌↔◌, length, min, true, None, Some, IsNone, IfSome, IfOk, MatchResult, MatchOption};
 ghost use Rattle.std.specs.Int.{w16, w32};
 ghost use Rattle.std.specs.Int.RustNames.{FitsSigned};
 ghost use Rattle.std.specs.List.{flat_map, AllByRecursion};
@@ -8,9 +8,9 @@ ghost use Rattle.krb_der.specs.Octets.{AreOctets};
 ghost use Rattle.krb_der.specs.Fields.{counted, IsCounted};
 ghost use Rattle.krb_keytab.specs.declared.writing.KeytabFault.TheVariants.{Memory};
 ghost use Rattle.krb_keytab.specs.Spelling.{entry as content_of, EntryFits};
-ghost use Rattle.krb_keytab.specs.Writing.{is_long, any_long, is_long_entry, record_fault, written_record, CanWrite};
+ghost use Rattle.krb_keytab.specs.Writing.{is_long, any_long, is_long_entry, record_fault, records_fault, write_fault, greatest, written_record, written, CanWrite};
 
-use crate::value::{Entry, Record};
+use crate::value::{Entry, Keytab, Record, Stop};
 use krb_der::KString;
 use std::alloc::AllocError;
 use thiserror::Error;
@@ -101,5 +101,57 @@ fn content_size(entry: &Entry) -> Option<u32>
         Some(size as u32)
     } else {
         None
+    }
+}
+
+/// The number of octets of a record; what keeps it from being written where there is something.
+fn record_size(record: &Record) -> Result<u64, KeytabFault>
+    ensures fault { MatchResult result (λ _. record_fault record.now ≡ None) (λ fault. record_fault record.now ≡ Some fault) }
+    ensures size { IfOk result (λ size. size ≡ length (written_record record.now)) }
+    ensures small { IfOk result (λ size. size < 2 ^ 32) }
+    ensures can { IfOk result (λ _. CanWrite record.now) }
+{
+    let size = match record {
+        Record::Entry(entry) => content_size(entry).ok_or(KeytabFault::TooLong)?,
+        Record::Hole(hole) if hole.clean() => hole.size(),
+        Record::Hole(_) => return Err(KeytabFault::Dirty),
+    };
+    Ok(4 + u64::from(size))
+}
+
+/// The greatest number of octets of a file, 2^40.
+const GREATEST: u64 = 1 << 40;
+
+/// The number of octets of records, or one more than `GREATEST` where there are more than that; the
+/// fault of the first record that has one.
+fn records_size(records: &[Record]) -> Result<u64, KeytabFault>
+    ensures fault { MatchResult result (λ _. records_fault records.now ≡ None) (λ fault. records_fault records.now ≡ Some fault) }
+    ensures size { IfOk result (λ size. size ≡ min (length (flat_map written_record records.now)) (greatest + 1)) }
+    ensures can { IfOk result (λ _. AllByRecursion CanWrite records.now) }
+{
+    let mut size = 0;
+    for record in records {
+        size = (size + record_size(record)?).min(GREATEST + 1);
+    }
+    Ok(size)
+}
+
+/// The number of octets of a keytab; what keeps it from being written where there is something: a
+/// fault of a record, and then the size of the file.
+fn file_size(keytab: &Keytab) -> Result<u64, KeytabFault>
+    ensures fault { MatchResult result (λ _. write_fault keytab.now ≡ None) (λ fault. write_fault keytab.now ≡ Some fault) }
+    ensures size { IfOk result (λ size. size ≡ length (written keytab.now)) }
+    ensures can { IfOk result (λ _. AllByRecursion CanWrite keytab.now.records) }
+{
+    let records = records_size(keytab.records.as_slice())?;
+    let stop = match keytab.stop {
+        Stop::File => 0,
+        Stop::Zero => 4,
+    };
+    let size = 2 + records + stop;
+    if size <= GREATEST {
+        Ok(size)
+    } else {
+        Err(KeytabFault::TooLong)
     }
 }
