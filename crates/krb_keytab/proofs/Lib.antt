@@ -6,3 +6,4 @@ pub mod Stepwise
 pub mod Loops
 pub mod Written
 pub mod Sizes
+pub mod Answered

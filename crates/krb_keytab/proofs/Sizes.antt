@@ -1,5 +1,6 @@
 -- How many octets a keytab has.
-use Rattle.std.proofs.Common.{◌≡◌, ℕ, zero, suc, ◌+◌, ◌≤◌, ◌<◌, Bool, true, false, ◌||◌, Option, Some, None, nat_lt, List, [], ◌∷◌, ◌++◌, length, get_or, take, drop, min, refl, sym, ap, ◌∙◌, arith, length-append, lt-ltb}
+use Rattle.std.proofs.Common.{◌≡◌, ℕ, zero, suc, ◌+◌, ◌≤◌, ◌<◌, Bool, true, false, ◌||◌, Option, Some, None, nat_lt, List, [], ◌∷◌, ◌++◌, length, get_or, take, drop, min, refl, sym, ap, ◌∙◌, append_assoc, arith, length-append, lt-ltb}
+use native.Mathlib.Numerals.{unary_clauses}
 use Rattle.std.proofs.lemmas.List.{take_more}
 use Rattle.std.proofs.lemmas.List.Concat.{flat_map-append, flat_map-cons}
 use Rattle.std.specs.List.{flat_map}
@@ -31,6 +32,10 @@ pub length-zeros : (n : ℕ) → length (zeros n) ≡ n
 length-zeros zero = refl
 length-zeros (suc n) = ap suc (length-zeros n)
 
+pub zeros-more : (n : ℕ) → zeros (n + 1) ≡ zeros n ++ 0 ∷ []
+zeros-more zero = refl
+zeros-more (suc n) = simp unary_clauses (ap (λ (l : List ℕ). 0 ∷ l) (simp unary_clauses at (zeros-more n)))
+
 pub size-entry : (r : Record) (e : Entry) → r ≡ records.Entry e → length (written_record r) ≡ 4 + length (entry e)
 size-entry r e is = ap (λ (r : Record). length (written_record r)) is ∙ omega arith
 
@@ -47,6 +52,11 @@ records_fault-append [] more e = refl
 records_fault-append (r ∷ rs) more e =
     let p = or_else-none (record_fault r) (λ _. records_fault rs) e in
     ap (λ (fault : Option KeytabFault). or_else fault (λ _. records_fault (rs ++ more))) p.0 ∙ records_fault-append rs more p.1
+
+pub fault-none : (rs : List Record) (i : ℕ) (r : Record) → i < length rs → r ≡ get_or rs i r → records_fault rs ≡ None → record_fault r ≡ None
+fault-none [] i r lt is e = absurd (omega arith)
+fault-none (first ∷ rs) zero r lt is e = ap record_fault is ∙ (or_else-none (record_fault first) (λ _. records_fault rs) e).0
+fault-none (first ∷ rs) (suc i) r lt is e = fault-none rs i r (omega arith) is (or_else-none (record_fault first) (λ _. records_fault rs) e).1
 
 pub fault-more : (rs : List Record) (i : ℕ) (r : Record) → i < length rs → r ≡ get_or rs i r → records_fault (take i rs) ≡ None → record_fault r ≡ None → records_fault (take (i + 1) rs) ≡ None
 fault-more rs i r lt is none e =
@@ -75,3 +85,7 @@ size-more rs i r lt is =
 -- ---- a keytab
 pub length-written : (v : Keytab) → length (written v) ≡ 2 + length (flat_map written_record v.records) + length (stop_octets v.stop)
 length-written v = omega (arith, length-append (flat_map written_record v.records) (stop_octets v.stop))
+
+-- ---- parts appended one by one
+pub appended : (o a b c d e f g h i o1 o2 o3 o4 o5 o6 o7 o8 o9 : List ℕ) → o1 ≡ o ++ a → o2 ≡ o1 ++ b → o3 ≡ o2 ++ c → o4 ≡ o3 ++ d → o5 ≡ o4 ++ e → o6 ≡ o5 ++ f → o7 ≡ o6 ++ g → o8 ≡ o7 ++ h → o9 ≡ o8 ++ i → o9 ≡ o ++ (a ++ b ++ c ++ d ++ e ++ f ++ g ++ h ++ i)
+appended o a b c d e f g h i o1 o2 o3 o4 o5 o6 o7 o8 o9 e1 e2 e3 e4 e5 e6 e7 e8 e9 = rw (e9, e8, e7, e6, e5, e4, e3, e2, e1) (simp append_assoc)

@@ -3,3 +3,4 @@ pub mod Spelling
 pub mod Reading
 pub mod Writing
 pub mod Examples
+pub mod Laws

@@ -1,18 +1,20 @@
 //! Keytabs, written as octets.
 
-ghost use Rattle.std.specs.Prelude.{◌≡◌, ◌+◌, ◌*◌, ◌<◌, ◌≤◌, ◌^◌, ◌↔◌, length, min, true, None, Some, IsNone, IfSome, IfOk, MatchResult, MatchOption};
+ghost use Rattle.std.specs.Prelude.{◌≡◌, ◌+◌, ◌*◌, ◌<◌, ◌≤◌, ◌^◌, ◌++◌, ◌↔◌, length, min, pos, true, false, None, Some, IsNone, IfSome, Ok, IfOk, IsErrOf, MatchResult};
 ghost use Rattle.std.specs.Int.{w16, w32};
 ghost use Rattle.std.specs.Int.RustNames.{FitsSigned};
 ghost use Rattle.std.specs.List.{flat_map, AllByRecursion};
+ghost use Rattle.std.specs.Vec.{vec_len, vec_capacity};
 ghost use Rattle.krb_der.specs.Octets.{AreOctets};
-ghost use Rattle.krb_der.specs.Fields.{counted, IsCounted};
-ghost use Rattle.krb_keytab.specs.declared.writing.KeytabFault.TheVariants.{Memory};
-ghost use Rattle.krb_keytab.specs.Spelling.{entry as content_of, EntryFits};
+ghost use Rattle.krb_der.specs.Fields.{counted, signed, zeros, IsCounted};
+ghost use Rattle.krb_keytab.specs.declared.writing.KeytabFault.TheVariants.{Dirty, TooLong, Memory};
+ghost use Rattle.krb_keytab.specs.Spelling.{entry as content_of, EntryFits, negated, stop_octets, KeytabSpells};
+ghost use Rattle.krb_keytab.specs.Reading.{read};
 ghost use Rattle.krb_keytab.specs.Writing.{is_long, any_long, is_long_entry, record_fault, records_fault, write_fault, greatest, written_record, written, CanWrite};
 
-use crate::value::{Entry, Keytab, Record, Stop};
-use krb_der::KString;
-use std::alloc::AllocError;
+use crate::value::{Entry, Hole, Keytab, Record, Stop};
+use krb_der::{KString, put_octets};
+use std::alloc::{AllocError, Global};
 use thiserror::Error;
 
 /// Why a keytab could not be written.
@@ -136,22 +138,162 @@ fn records_size(records: &[Record]) -> Result<u64, KeytabFault>
     Ok(size)
 }
 
+/// The octets that end the records.
+fn stop_octets(stop: Stop) -> &'static [u8]
+    ensures { result.now ≡ stop_octets stop }
+{
+    match stop {
+        Stop::File => &[],
+        Stop::Zero => &[0, 0, 0, 0],
+    }
+}
+
 /// The number of octets of a keytab; what keeps it from being written where there is something: a
 /// fault of a record, and then the size of the file.
 fn file_size(keytab: &Keytab) -> Result<u64, KeytabFault>
     ensures fault { MatchResult result (λ _. write_fault keytab.now ≡ None) (λ fault. write_fault keytab.now ≡ Some fault) }
     ensures size { IfOk result (λ size. size ≡ length (written keytab.now)) }
+    ensures small { IfOk result (λ size. size ≤ 2 ^ 40) }
     ensures can { IfOk result (λ _. AllByRecursion CanWrite keytab.now.records) }
 {
     let records = records_size(keytab.records.as_slice())?;
-    let stop = match keytab.stop {
-        Stop::File => 0,
-        Stop::Zero => 4,
-    };
-    let size = 2 + records + stop;
+    let size = 2 + records + stop_octets(keytab.stop).len() as u64;
     if size <= GREATEST {
         Ok(size)
     } else {
         Err(KeytabFault::TooLong)
     }
+}
+
+/// Appends octets behind their number of 16 bits, into room that is there.
+fn put_counted(out: &mut Vec<u8>, octets: &[u8])
+    requires short { length octets.now < 2 ^ 16 }
+    requires room { vec_len out.old + length (counted w16 octets.now) ≤ vec_capacity out.old }
+    ensures items { out.new.items ≡ out.old.items ++ counted w16 octets.now }
+    ensures len { vec_len out.new ≡ vec_len out.old + length (counted w16 octets.now) }
+    ensures capacity { vec_capacity out.new ≡ vec_capacity out.old }
+{
+    put_octets(out, &(octets.len() as u16).to_be_bytes());
+    put_octets(out, octets);
+}
+
+/// Appends components, each behind its number of octets, into room that is there.
+fn put_components(out: &mut Vec<u8>, components: &[KString])
+    requires short { any_long components.now ≡ false }
+    requires room { vec_len out.old + length (flat_map (counted w16) components.now) ≤ vec_capacity out.old }
+    ensures items { out.new.items ≡ out.old.items ++ flat_map (counted w16) components.now }
+    ensures len { vec_len out.new ≡ vec_len out.old + length (flat_map (counted w16) components.now) }
+    ensures capacity { vec_capacity out.new ≡ vec_capacity out.old }
+{
+    for component in components {
+        put_counted(out, component.octets());
+    }
+}
+
+/// Appends so many octets 00, into room that is there.
+fn put_zeros(out: &mut Vec<u8>, count: u32)
+    requires { vec_len out.old + count ≤ vec_capacity out.old }
+    ensures items { out.new.items ≡ out.old.items ++ zeros count }
+    ensures len { vec_len out.new ≡ vec_len out.old + count }
+    ensures capacity { vec_capacity out.new ≡ vec_capacity out.old }
+{
+    for _ in 0..count {
+        out.push_reserved(0);
+    }
+}
+
+/// Appends an entry's content, into room that is there.
+fn put_content(out: &mut Vec<u8>, entry: &Entry)
+    requires short { is_long_entry entry.now ≡ false }
+    requires room { vec_len out.old + length (content_of entry.now) ≤ vec_capacity out.old }
+    ensures items { out.new.items ≡ out.old.items ++ content_of entry.now }
+    ensures len { vec_len out.new ≡ vec_len out.old + length (content_of entry.now) }
+    ensures capacity { vec_capacity out.new ≡ vec_capacity out.old }
+{
+    let components = entry.components.as_slice();
+    put_octets(out, &(components.len() as u16).to_be_bytes());
+    put_counted(out, entry.realm.octets());
+    put_components(out, components);
+    put_octets(out, &entry.name_type.to_be_bytes());
+    put_octets(out, &entry.time.to_be_bytes());
+    put_octets(out, &entry.vno8.to_be_bytes());
+    put_octets(out, &entry.enctype.to_be_bytes());
+    put_counted(out, entry.key.as_slice());
+    put_octets(out, entry.rest.as_slice());
+}
+
+/// Appends a record that has no fault, into room that is there.
+fn put_record(out: &mut Vec<u8>, record: &Record)
+    requires fault { record_fault record.now ≡ None }
+    requires room { vec_len out.old + length (written_record record.now) ≤ vec_capacity out.old }
+    ensures items { out.new.items ≡ out.old.items ++ written_record record.now }
+    ensures len { vec_len out.new ≡ vec_len out.old + length (written_record record.now) }
+    ensures capacity { vec_capacity out.new ≡ vec_capacity out.old }
+{
+    match record {
+        Record::Entry(entry) => put_entry(out, entry),
+        Record::Hole(hole) => put_hole(out, *hole),
+    }
+}
+
+/// Appends an entry: its content behind the number of its octets.
+fn put_entry(out: &mut Vec<u8>, entry: &Entry)
+    requires short { is_long_entry entry.now ≡ false }
+    requires room { vec_len out.old + (4 + length (content_of entry.now)) ≤ vec_capacity out.old }
+    ensures items { out.new.items ≡ out.old.items ++ (signed w32 (pos (length (content_of entry.now))) ++ content_of entry.now) }
+    ensures len { vec_len out.new ≡ vec_len out.old + (4 + length (content_of entry.now)) }
+    ensures capacity { vec_capacity out.new ≡ vec_capacity out.old }
+{
+    // An entry whose parts are short enough has a size.
+    let Some(size) = content_size(entry) else {
+        return;
+    };
+    put_octets(out, &size.to_be_bytes());
+    put_content(out, entry);
+}
+
+/// Appends a clean hole: so many octets 00 behind their negated number.
+fn put_hole(out: &mut Vec<u8>, hole: Hole)
+    requires { vec_len out.old + (4 + hole.size) ≤ vec_capacity out.old }
+    ensures items { out.new.items ≡ out.old.items ++ (signed w32 (negated hole.size) ++ zeros hole.size) }
+    ensures len { vec_len out.new ≡ vec_len out.old + (4 + hole.size) }
+    ensures capacity { vec_capacity out.new ≡ vec_capacity out.old }
+{
+    let size = hole.size();
+    put_octets(out, &size.wrapping_neg().to_be_bytes());
+    put_zeros(out, size);
+}
+
+/// Appends records of which none has a fault, into room that is there.
+fn put_records(out: &mut Vec<u8>, records: &[Record])
+    requires fault { records_fault records.now ≡ None }
+    requires room { vec_len out.old + length (flat_map written_record records.now) ≤ vec_capacity out.old }
+    ensures items { out.new.items ≡ out.old.items ++ flat_map written_record records.now }
+    ensures len { vec_len out.new ≡ vec_len out.old + length (flat_map written_record records.now) }
+    ensures capacity { vec_capacity out.new ≡ vec_capacity out.old }
+{
+    for record in records {
+        put_record(out, record);
+    }
+}
+
+/// The octets of a keytab. What keeps it from being written is decided first: the records are gone
+/// through in order, and the first that has a fault decides: Dirty for a hole that is not clean,
+/// TooLong for more than 65535 components, for a realm, a component or a key of more than 65535
+/// octets, and for an entry of more than 2147483647. Then TooLong for a file of more than 2^40
+/// octets. Memory is taken last and once, for just so many octets.
+pub fn write(alloc: Global, keytab: &Keytab) -> Result<Vec<u8>, KeytabFault>
+    ensures octets { IfOk result (λ octets. octets.items ≡ written keytab.now) }
+    // What is written spells the keytab, and is read back.
+    ensures spells { IfOk result (λ octets. KeytabSpells keytab.now octets.items) }
+    ensures again { IfOk result (λ octets. read octets.items ≡ Ok (keytab.now, length octets.items)) }
+    ensures dirty { IsErrOf result KeytabFault.Dirty ↔ (write_fault keytab.now ≡ Some Dirty) }
+    ensures too_long { IsErrOf result KeytabFault.TooLong ↔ (write_fault keytab.now ≡ Some TooLong) }
+{
+    let size = file_size(keytab)?;
+    let mut octets = Vec::with_capacity(alloc, size as usize)?;
+    put_octets(&mut octets, &[5, 2]);
+    put_records(&mut octets, keytab.records.as_slice());
+    put_octets(&mut octets, stop_octets(keytab.stop));
+    Ok(octets)
 }
