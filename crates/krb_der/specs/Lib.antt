@@ -7,3 +7,4 @@ pub mod Items
 pub mod Tells
 pub mod Faults
 pub mod Fields
+pub mod Hex

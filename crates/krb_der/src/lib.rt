@@ -34,7 +34,7 @@ pub use field::Source;
 pub use file::{FileFault, FileWhy, file_why_number, file_why_text};
 pub use flags::Flags;
 pub use int32::Int32;
-pub use item::{TOO_LONG, item_size, put_header, put_item};
+pub use item::{TOO_LONG, item_size, put_header, put_item, put_octets};
 pub use kerberos_time::KerberosTime;
 pub use kstring::KString;
 pub use many::Many;

@@ -4,3 +4,6 @@ pub mod Keytabs
 pub mod Faults
 pub mod Stepwise
 pub mod Loops
+pub mod Written
+pub mod Sizes
+pub mod Answered

@@ -1,10 +1,11 @@
 //! Keytabs, read from octets.
 
-ghost use Rattle.std.specs.Prelude.{◌≡◌, None, Some};
+ghost use Rattle.std.specs.Prelude.{◌≡◌, ℕ, None, Some, Ok, IfOk, IfErr};
 ghost use Rattle.std.specs.Int.{w16, w32};
 ghost use Rattle.krb_der.specs.Fields.{Gives, ended, limited, times, counted_at, within};
-ghost use Rattle.krb_keytab.specs.Spelling.{are_zero};
-ghost use Rattle.krb_keytab.specs.Reading.{entry_at, record_of, record_at, items_behind, keytab_of_items, read};
+ghost use Rattle.krb_keytab.specs.Spelling.{are_zero, ReadAs};
+ghost use Rattle.krb_keytab.specs.declared.value.Keytab.{Keytab as KeytabValue};
+ghost use Rattle.krb_keytab.specs.Reading.{entry_at, record_of, record_at, items_behind, keytab_of_items, read, IsFaultIn};
 
 use crate::value::{Entry, Hole, Keytab, Record, Stop};
 use krb_der::{FileFault, KString, Many, Octets, Source};
@@ -129,13 +130,26 @@ fn keytab(alloc: Global, source: Source<'_>) -> Result<(Keytab, usize), FileFaul
     }
 }
 
-/// The keytab that a file holds, and how many of its octets were read: all of them, unless a record
-/// of length 0 ends the keytab before. A file that is no keytab is refused at the first field at
-/// fault: Magic at 0, Version at 1, Overrun for a field that passes the end of its entry, else
-/// Truncated for one that passes the end of the file.
-pub fn read(alloc: Global, octets: &[u8]) -> Result<(Keytab, usize), FileFault>
+/// The keytab that a file holds, and how many of its octets were read.
+fn whole(alloc: Global, octets: &[u8]) -> Result<(Keytab, usize), FileFault>
     ensures { Gives (λ taken. taken) result (read octets.now) }
 {
     let (_, source) = Source::new(octets).version(&[2])?;
     keytab(alloc, source)
+}
+
+/// The keytab that a file holds, and how many of its octets were read: all of them, unless a record
+/// of length 0 ends the keytab before. A file that holds none is refused at the first field at
+/// fault: Magic at 0, Version at 1, Overrun for a field that passes the end of its entry, else
+/// Truncated for one that passes the end of the file.
+pub fn read(alloc: Global, octets: &[u8]) -> Result<(Keytab, usize), FileFault>
+    // What is read is spelled so.
+    ensures found { IfOk result (λ taken. ReadAs octets.now taken.0 taken.1) }
+    // What is spelled so is read, unless a growth was refused.
+    ensures only { (keytab : KeytabValue) (size : ℕ) → ReadAs octets.now keytab size → Gives (λ taken. taken) result (Ok (keytab, size)) }
+    // Which fault it is.
+    ensures exact { Gives (λ taken. taken) result (read octets.now) }
+    ensures refused { IfErr result (IsFaultIn octets.now) }
+{
+    whole(alloc, octets)
 }
