@@ -1,7 +1,8 @@
 -- The pieces of the printed lines, as lists of ASCII codes.
-use Rattle.std.specs.Prelude.{ℕ, ◌/◌, ◌%◌, Bool, true, false, not, ◌&&◌, ◌||◌, ◌==◌, nat_le, List, [], ◌∷◌, ◌++◌, Option, Some, None, codes, if◌then◌else◌}
+use Rattle.std.specs.Prelude.{ℕ, ◌/◌, ◌%◌, Bool, true, false, not, ◌&&◌, ◌||◌, ◌==◌, nat_le, List, [], ◌∷◌, ◌++◌, length, Option, Some, None, codes, if◌then◌else◌}
 use Rattle.std.specs.List.{flat_map}
-use Rattle.std.specs.Fmt.{digit_glyph}
+use Rattle.std.specs.Fmt.{decimal, signed_decimal, digit_glyph}
+use Rattle.krb_msg.specs.declared.encrypted_data.EncryptedData.{EncryptedData}
 
 -- 21 to 7E but `/`, `@` and `\`
 abbrev pub is_plain : ℕ → Bool
@@ -34,6 +35,10 @@ principal_text components realm = components_text components ++ codes "@" ++ esc
 abbrev pub or_dash : {A : Type 0} → (A → List ℕ) → Option A → List ℕ
 or_dash text None = codes "-"
 or_dash text (Some value) = text value
+
+-- what is sealed: the encryption type, the key version and the number of cipher octets
+abbrev pub sealed_text : EncryptedData → List ℕ
+sealed_text sealed = signed_decimal sealed.etype ++ codes ":" ++ or_dash signed_decimal sealed.kvno ++ codes ":" ++ decimal (length sealed.cipher)
 
 -- elements in brackets
 abbrev pub list_text : {A : Type 0} → (A → List ℕ) → List A → List ℕ

@@ -3,10 +3,11 @@
 ghost use Rattle.std.specs.Prelude.{◌≡◌, ◌++◌, List, ℕ, OnOk, string_bytes};
 ghost use Rattle.std.specs.List.{flat_map};
 ghost use Rattle.std.specs.Fmt.{decimal, signed_decimal};
-ghost use Rattle.krb_list.specs.Text.{escape, or_dash, list_text, joined};
+ghost use Rattle.krb_list.specs.Text.{escape, or_dash, list_text, joined, sealed_text};
 
 use crate::escape::put_escaped;
-use krb_der::KString;
+use krb_der::{Int32, KString, Wide32};
+use krb_msg::EncryptedData;
 use std::alloc::AllocError;
 
 /// What a line shows of a value.
@@ -23,6 +24,22 @@ impl Piece for u8 {
 
     fn put(&self, line: &mut String) -> Result<(), AllocError> {
         write!(line, "{}", *self)
+    }
+}
+
+impl Piece for Int32 {
+    ghost text = { signed_decimal };
+
+    fn put(&self, line: &mut String) -> Result<(), AllocError> {
+        write!(line, "{}", self.get())
+    }
+}
+
+impl Piece for Wide32 {
+    ghost text = { signed_decimal };
+
+    fn put(&self, line: &mut String) -> Result<(), AllocError> {
+        write!(line, "{}", self.get())
     }
 }
 
@@ -47,6 +64,19 @@ impl<T: Piece> Piece for Option<T> {
     }
 }
 
+/// The encryption type, the key version or `-`, and the number of cipher octets, with `:` between.
+impl Piece for EncryptedData {
+    ghost text = { sealed_text };
+
+    fn put(&self, line: &mut String) -> Result<(), AllocError> {
+        self.etype.put(line)?;
+        line.push(':')?;
+        self.kvno.put(line)?;
+        write!(line, ":{}", self.cipher.as_slice().len())
+    }
+}
+
+/// Appends the separator and the text of a value, for each of the values.
 fn put_others<T: Piece>(line: &mut String, separator: &str, values: &[T]) -> Result<(), AllocError>
     ensures { OnOk result (string_bytes line.new ≡ string_bytes line.old ++ flat_map (λ value. separator.now ++ T.text value) values.now) }
 {
