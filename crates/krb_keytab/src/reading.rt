@@ -47,11 +47,7 @@ fn components<'a>(
 }
 
 /// The entry whose content is the next octets up to `end`.
-fn entry<'a>(
-    alloc: Global,
-    end: u64,
-    source: Source<'a>,
-) -> Result<(Entry, Source<'a>), FileFault>
+fn entry<'a>(alloc: Global, end: u64, source: Source<'a>) -> Result<(Entry, Source<'a>), FileFault>
     ensures { Gives (λ taken. taken) result (entry_at (ended (Some end)) source.entry) }
 {
     let (count, rest) = source.number16(Some(end))?;

@@ -80,8 +80,7 @@ fn numbers_fit(name_type: i32, time: u32, vno8: u8, enctype: u16)
     ensures time { time < 2 ^ 32 }
     ensures vno8 { vno8 < 2 ^ 8 }
     ensures enctype { enctype < 2 ^ 16 }
-{
-}
+{}
 
 /// The number of octets of an entry's content; `None` where it is too long, or a part of it is.
 fn content_size(entry: &Entry) -> Option<u32>

@@ -28,8 +28,8 @@ returns-then-size-clause-fits c = record {
 }
 
 pub returns-else-size-clause-none : goal.returns-else-size-clause-none
-returns-else-size-clause-none c =
-    (λ _. long_content c.args.entry.now (omega (
+returns-else-size-clause-none c = (
+  λ _. long_content c.args.entry.now (omega (
     arith,
     length-entry c.args.entry.now,
     c.in_ok-realm.ensures.some,
@@ -39,4 +39,6 @@ returns-else-size-clause-none c =
     ap length c.as_slice.ensures,
     ap length c.as_slice-2.ensures,
     ap (λ (l : List (List ℕ)). length (flat_map (counted w16) l)) c.as_slice-components.ensures,
-    )), λ _. refl)
+  )),
+  λ _. refl,
+)
