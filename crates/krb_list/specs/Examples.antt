@@ -1,8 +1,7 @@
 -- Texts, computed.
-use Rattle.std.specs.Prelude.{ℕ, ◌≡◌, List, [], ◌∷◌, refl, codes}
+use Rattle.std.specs.Prelude.{◌≡◌, [], ◌∷◌, refl, codes}
 use Rattle.krb_list.specs.Text.{principal_text}
 use Rattle.krb_list.specs.Time.{civil_date, date_from, date_in_year, the_date, time_text, two_digits, date_text, clock_text}
-use Rattle.jiff.specs.Words.{days_in_year, days_in_month}
 
 no_components : principal_text [] (codes "A") ≡ codes "\\-@A"
 unfolding principal_text

@@ -1,10 +1,11 @@
 use crate::{
-    dates_are_the_calendars, escape_is_graphic, keys_are_not_shown, keytab_lines, principal_text,
-    principal_text_tells, put_escaped, put_fault, put_file_refusal, put_joined, put_keytab,
-    put_list, put_principal, put_time, time_text,
+    Piece, dates_are_the_calendars, escape_is_graphic, keys_are_not_shown, keytab_lines,
+    principal_text, principal_text_tells, put_escaped, put_fault, put_file_refusal, put_joined,
+    put_keytab, put_list, put_principal, put_time, time_text,
 };
-use krb_der::{FileWhy, KString, Many, Octets};
+use krb_der::{FileWhy, Int32, KString, Many, Octets, Wide32};
 use krb_keytab::{Entry, Hole, Keytab, Record, Stop};
+use krb_msg::EncryptedData;
 use std::alloc::{AllocError, Global};
 use std::test::Fail;
 
@@ -93,6 +94,31 @@ fn shows_lists(rt: HostRuntime) -> Result<(), Fail> {
     put_joined(&mut line, "none", "/", &[7u8, 8u8])?;
     put_joined::<u8>(&mut line, "none", "/", &[])?;
     assert_eq!(rt; line.as_str(), "[][0,-,255]7/8none");
+    Ok(())
+}
+
+#[test]
+fn shows_what_is_sealed(rt: HostRuntime) -> Result<(), Fail> {
+    let alloc = rt.alloc();
+    let mut line = String::new(alloc);
+    for (etype, kvno) in [(18, None), (-128, Some(-1)), (17, Some(4294967295))] {
+        let kvno = match kvno {
+            None => None,
+            Some(version) => Some(Wide32::new(version).ok_or("-2147483648 to 4294967295")?),
+        };
+        let sealed = EncryptedData {
+            etype: Int32::new(etype),
+            kvno,
+            cipher: Octets::new(Vec::from_slice(alloc, &[0xDE, 0xAD])?),
+        };
+        sealed.put(&mut line)?;
+        line.push(' ')?;
+    }
+    put_list(&mut line, &[Int32::new(-2147483648), Int32::new(0)])?;
+    assert_eq!(rt;
+        line.as_str(),
+        "18:-:2 -128:-1:2 17:4294967295:2 [-2147483648,0]"
+    );
     Ok(())
 }
 

@@ -1,5 +1,4 @@
-use Rattle.std.proofs.Common.{◌≡◌, ℕ, ◌<◌, List, [], length, take, sym, ◌∙◌, ap, subst, arith}
-use Rattle.std.specs.Io.KnownBytes.{Consumes}
+use Rattle.std.proofs.Common.{◌≡◌, ◌<◌, [], length, take, ap, arith}
 use Rattle.std.proofs.KnownBytes.{Consumes-nil, Consumes-trans}
 use Rattle.krb_tool.proofs.Runs.{written-slice}
 use Rattle.krb_tool.proofs.Files.{TakesAll-made}
