@@ -53,6 +53,7 @@ fn list_keytab(alloc: Global, file: &[u8]) -> Result<FileText, RunFault>
             let end = RunEnd::Refused;
             Ok(FileText { text, end })
         }
+        // The octets are all here, and so memory alone can fail.
         Err(FileFault::Read | FileFault::Memory) => Err(RunFault::Memory),
     }
 }
