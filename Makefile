@@ -15,10 +15,11 @@ build:
 test:
 	tests/all
 
-# Octets per second: of the listing of a stream, and of messages parsed and encoded.
+# Octets per second: of the listing of a stream and of a keytab, and of messages parsed and encoded.
 bench: build
 	cd crates/krb_again && rt run < stdin > /dev/null
 	bench/stream
+	bench/keytab
 
 clean:
 	rm -rf bin crates/*/out

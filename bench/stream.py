@@ -3,35 +3,13 @@ krb_again does with a stream of framed AS-REPs: to parse them, and to encode the
 memcpy of the same octets."""
 
 import ctypes
-import os
-import subprocess
 import sys
 import tempfile
-import time
+
+from timing import best_of, best_run, rate
 
 KRBLS = ["bash", "-c", "ulimit -v 8192; exec bin/krbls stream"]
 AGAIN = "crates/krb_again/out/krb_again"
-
-
-def best_of(runs, action):
-    """The least of the seconds that an action took."""
-    least = None
-    for _ in range(runs):
-        start = time.perf_counter()
-        action()
-        seconds = time.perf_counter() - start
-        least = seconds if least is None else min(least, seconds)
-    return least
-
-
-def best_run(command, path):
-    """The least of the seconds that runs of a command took on a file."""
-
-    def run():
-        with open(path, "rb") as stream, open(os.devnull, "wb") as null:
-            subprocess.run(command, stdin=stream, stdout=null, check=True)
-
-    return best_of(5, run)
 
 
 def repeated(path, count):
@@ -43,10 +21,6 @@ def repeated(path, count):
         stream.write(frame * 1000)
     stream.flush()
     return stream, count * 1000 * len(frame)
-
-
-def rate(size, seconds):
-    return f"{seconds:.3f} s, {size / seconds / 1e6:.1f} MB/s"
 
 
 def copy_seconds(size):
