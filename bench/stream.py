@@ -88,7 +88,7 @@ def time_again(name, frames, messages, count):
     with repeated(frames, count) as stream:
         cutting = best_run([AGAIN, "frames"], stream.name)
         parse = best_run([AGAIN, "parse"], stream.name) - cutting
-        encode = best_run([AGAIN], stream.name) - cutting - parse
+        encode = best_run([AGAIN, "encode"], stream.name) - cutting - parse
     print(
         f"{messages} {name}, {size} octets: parse {rate(size, parse)}; "
         f"encode and compare {rate(size, encode)}; memcpy {rate(size, copy_seconds(size))}"
