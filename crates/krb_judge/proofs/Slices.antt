@@ -10,12 +10,12 @@ use Rattle.krb_msg.specs.declared.message.Message.{Message}
 use Rattle.krb_msg.specs.declared.message.Kind.{Kind}
 use Rattle.krb_msg.specs.declared.message.Kind.TheVariants as kind
 use Rattle.krb_msg.specs.Term.{Term, tag_of}
-use Rattle.krb_msg.specs.Views.{kind_of, kind_term, message_value, message_der, IsInProfile}
+use Rattle.krb_msg.specs.Views.{kind_of, kind_term, kind_of_tag, message_value, message_der, IsInProfile}
 use Rattle.krb_msg.specs.Judgement.{judgement}
 use Rattle.krb_msg.specs.Laws.{AreMessage}
-use Rattle.krb_msg.proofs.Judged.{whole_is_message, message_is_whole, all_is_decided, der_tells}
+use Rattle.krb_msg.proofs.Judged.{kind_of_tag-tag, whole_is_message, message_is_whole, all_is_decided, der_tells}
 use Rattle.krb_msg.specs.Values.{der_is}
-use Rattle.krb_judge.specs.Reads.{IsDer, kind_of_tag}
+use Rattle.krb_judge.specs.Reads.{IsDer}
 use Rattle.krb_judge.specs.Parses.{refused, refusal_of, AreOf, HasNoMessage}
 
 pub are_octets : (octets : List ℕ) → ((k : ℕ) → get_or octets k 0 < 256) → AreOctets octets
@@ -25,12 +25,6 @@ are_octets (octet ∷ octets) h = (h 0, are_octets octets (λ k. h (suc k)))
 -- ---- the kind
 first_octet : {term : Term} {octets : List ℕ} → IsDer term octets → get_or octets 0 0 ≡ tag_of term
 first_octet {term = term} f = ap (λ (l : List ℕ). get_or l 0 0) (f.form ∙ der_is term f.value)
-
-kind_of_tag-tag : (k : Kind) → kind_of_tag (tag_of (kind_term k)) ≡ k
-kind_of_tag-tag kind.AsRep = refl
-kind_of_tag-tag kind.TgsRep = refl
-kind_of_tag-tag kind.ApReq = refl
-kind_of_tag-tag kind.ApRep = refl
 
 of_kind : {octets : List ℕ} (k other : Kind) → IsDer (kind_term k) octets → kind_of_tag (get_or octets 0 0) ≡ other → IsDer (kind_term other) octets
 of_kind {octets = octets} k other f e = subst (λ k. IsDer (kind_term k) octets) (sym (kind_of_tag-tag k) ∙ ap kind_of_tag (sym (first_octet f)) ∙ e) f

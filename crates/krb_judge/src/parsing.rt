@@ -1,20 +1,22 @@
 //! The message that octets are.
 
+mod fields;
+mod scalars;
 mod split;
 mod types;
 
 ghost use Rattle.std.specs.Prelude.{◌≡◌, ◌≢◌, ◌^◌, ◌<◌, ◌↔◌, ◌⊎◌, IfOk, IsErrOf, Ok, Err, Some, None, length};
 ghost use Rattle.krb_der.specs.declared.verdict.Verdict.TheVariants.{Whole};
 ghost use Rattle.krb_msg.specs.Judgement.{judgement};
-ghost use Rattle.krb_msg.specs.Views.{kind_of, kind_term, message_der, message_value};
-ghost use Rattle.krb_judge.specs.Reads.{Spells, kind_of_tag};
+ghost use Rattle.krb_msg.specs.Views.{kind_of_tag, message_der};
 ghost use Rattle.krb_judge.specs.Parses.{refusal_of as refusal_in, AreOf, HasNoMessage};
 ghost use Rattle.krb_judge.specs.declared.parsing.ParseFault.TheVariants as fault;
 
 use crate::judging::judge;
-use crate::parsing::types::{ap_rep, ap_req, kdc_rep};
+use crate::parsing::fields::Decode;
+use crate::parsing::types::{kdc_rep, kdc_req};
 use krb_der::{Memory, Refusal, Verdict, Why};
-use krb_msg::{Kind, Message};
+use krb_msg::{ApRep, ApReq, Kind, KrbError, Message};
 use std::alloc::{AllocError, AllocFailed, Global};
 
 /// Why octets gave no message.
@@ -91,13 +93,16 @@ pub fn parse_whole(alloc: Global, octets: &[u8]) -> Result<Message, Memory>
 fn whole_message(alloc: Global, octets: &[u8]) -> Result<Message, AllocError>
     requires short { length octets.now < 2 ^ 31 }
     requires whole { judgement (length octets.now) octets.now ≡ Whole }
-    ensures { IfOk result (λ m. Spells (kind_term (kind_of m)) (message_value m) octets.now) }
+    ensures { IfOk result (λ m. message_der m ≡ octets.now) }
 {
     match kind(octets[0]) {
-        Kind::AsRep => Ok(Message::AsRep(kdc_rep(alloc, octets)?)),
-        Kind::TgsRep => Ok(Message::TgsRep(kdc_rep(alloc, octets)?)),
-        Kind::ApReq => Ok(Message::ApReq(ap_req(alloc, octets)?)),
-        Kind::ApRep => Ok(Message::ApRep(ap_rep(alloc, octets)?)),
+        Kind::AsReq => Ok(Message::AsReq(kdc_req::<0x6A, 10>(alloc, octets)?)),
+        Kind::AsRep => Ok(Message::AsRep(kdc_rep::<0x6B, 11>(alloc, octets)?)),
+        Kind::TgsReq => Ok(Message::TgsReq(kdc_req::<0x6C, 12>(alloc, octets)?)),
+        Kind::TgsRep => Ok(Message::TgsRep(kdc_rep::<0x6D, 13>(alloc, octets)?)),
+        Kind::ApReq => Ok(Message::ApReq(ApReq::decode(alloc, octets)?.0)),
+        Kind::ApRep => Ok(Message::ApRep(ApRep::decode(alloc, octets)?.0)),
+        Kind::KrbError => Ok(Message::KrbError(KrbError::decode(alloc, octets)?.0)),
     }
 }
 
@@ -106,9 +111,12 @@ fn kind(tag: u8) -> Kind
     ensures { result ≡ kind_of_tag tag }
 {
     match tag {
+        0x6A => Kind::AsReq,
         0x6B => Kind::AsRep,
+        0x6C => Kind::TgsReq,
         0x6D => Kind::TgsRep,
         0x6E => Kind::ApReq,
-        _ => Kind::ApRep,
+        0x6F => Kind::ApRep,
+        _ => Kind::KrbError,
     }
 }

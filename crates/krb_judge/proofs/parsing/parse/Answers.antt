@@ -17,10 +17,10 @@ returns-in-Some-clause-none c = no_message c.args.octets.now (are_octets c.args.
 pub returns-in_ok-whole_message-in-None-clause-message : goal.returns-in_ok-whole_message-in-None-clause-message
 returns-in_ok-whole_message-in-None-clause-message c =
     let octets = c.args.octets.now in
-    are_of c.in_ok-whole_message-in-None.field-0 (message_in octets (are_octets octets (λ k. omega (arith, c.type_inv.octets k))) (sym c.refusal_of.ensures ∙ c.in-None.is)) c.in_ok-whole_message-in-None.ensures.form
+    are_of c.in_ok-whole_message-in-None.field-0 (message_in octets (are_octets octets (λ k. omega (arith, c.type_inv.octets k))) (sym c.refusal_of.ensures ∙ c.in-None.is)) c.in_ok-whole_message-in-None.ensures
 
 pub returns-in_ok-whole_message-in-None-clause-found : goal.returns-in_ok-whole_message-in-None-clause-found
-returns-in_ok-whole_message-in-None-clause-found c = λ m a. inl (ap Ok (same_message c.in_ok-whole_message-in-None.field-0 m c.in_ok-whole_message-in-None.ensures.form a.form))
+returns-in_ok-whole_message-in-None-clause-found c = λ m a. inl (ap Ok (same_message c.in_ok-whole_message-in-None.field-0 m c.in_ok-whole_message-in-None.ensures a.form))
 
 pub returns-in_ok-whole_message-in-None-clause-none : goal.returns-in_ok-whole_message-in-None-clause-none
 returns-in_ok-whole_message-in-None-clause-none c = no_message c.args.octets.now (are_octets c.args.octets.now (λ k. omega (arith, c.type_inv.octets k)))
