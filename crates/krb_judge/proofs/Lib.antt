@@ -6,3 +6,4 @@ pub mod Lists
 pub mod Forms
 pub mod Fields
 pub mod Slices
+pub mod Values

@@ -13,7 +13,7 @@ use Rattle.krb_msg.specs.Values.{contents}
 use Rattle.krb_msg.specs.Views.{principal_name_value, principal_name_der, encrypted_data_value, encrypted_data_der, ticket_value, ticket_der, pa_data_value, pa_data_der, host_address_value, host_address_der, kdc_req_body_value, kdc_req_body_der, kdc_req_value, kdc_rep_value, krb_error_value}
 
 -- values one after another
-flat_map-values : {A B : Type 0} (octets_of : B → List ℕ) (value_of : A → B) (xs : List A) → flat_map (λ x. octets_of (value_of x)) xs ≡ flat_map octets_of (map value_of xs)
+pub flat_map-values : {A B : Type 0} (octets_of : B → List ℕ) (value_of : A → B) (xs : List A) → flat_map (λ x. octets_of (value_of x)) xs ≡ flat_map octets_of (map value_of xs)
 flat_map-values octets_of value_of [] = refl
 flat_map-values octets_of value_of (x ∷ xs) = ap (λ l. octets_of (value_of x) ++ l) (flat_map-values octets_of value_of xs)
 

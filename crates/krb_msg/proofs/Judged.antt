@@ -17,13 +17,14 @@ use Rattle.krb_msg.specs.declared.message.Kind.TheVariants as kind
 use Rattle.krb_msg.specs.Term.{Term, tag_of, Value, der, Fits, IfPresent}
 use Rattle.std.specs.List.{AllByRecursion}
 use Rattle.krb_msg.specs.Grammar.{messages, ticket, principal_name, req_body, micros, krb_error}
-use Rattle.krb_msg.specs.Judgement.{Outcome, Open, Bad, Done, message_outcome, judgement, verdict_of}
+use Rattle.krb_msg.specs.Shape.{is_unambiguous}
+use Rattle.krb_msg.specs.Judgement.{Outcome, Open, Bad, Done, item_outcome, message_outcome, judgement, term_judgement, verdict_of}
 use Rattle.krb_msg.specs.Views.{kind_of, kind_term, kind_of_tag, message_value, message_of, message_der, pa_data_value, pa_data_of, principal_name_value, principal_name_of, host_address_value, host_address_of, encrypted_data_value, encrypted_data_of, ticket_value, ticket_of, kdc_req_body_value, kdc_req_body_of, KdcReqValue, kdc_req_value, kdc_req_of, KdcRepValue, kdc_rep_value, kdc_rep_of, micros_of, krb_error_value, krb_error_of, ap_req_of, ap_rep_of, IsInProfile}
 use Rattle.krb_msg.specs.Told.{option-back, list-back, kdc_req_body-back, krb_error-back}
-use Rattle.krb_msg.specs.Laws.{AreMessage, IsFinal}
+use Rattle.krb_msg.specs.Laws.{AreMessage, AreValue, IsFinal}
 use Rattle.krb_der.specs.Items.{same_from_cons}
 use Rattle.krb_msg.specs.Values.{der-append}
-use Rattle.krb_msg.proofs.Laws.{IsWhole, Settles, same_value}
+use Rattle.krb_msg.proofs.Laws.{IsWhole, IsWhole-done, Settles, item_outcome-der, decided, same_value}
 use Rattle.krb_msg.proofs.Messages.{IsChosen, IsWhole-message, Settles-message_outcome, message_outcome-decided, message-accepts, unambiguous_message}
 
 -- ---- the judgement and the outcome
@@ -109,7 +110,7 @@ StandsFor-same m value e f = record {
 }
 
 -- the version that a ticket fixes
-ticket_value-of : (v : Value ticket) → Fits ticket v → ticket_value (ticket_of v) ≡ v
+pub ticket_value-of : (v : Value ticket) → Fits ticket v → ticket_value (ticket_of v) ≡ v
 ticket_value-of (five, (realm, (sname, (enc, none)))) f =
     let p : pos 5 ≡ five = exactly_one 5 five f.0.0 f.0.1 in
     λ i. (p i, (realm, (sname, (enc, none))))
@@ -204,6 +205,24 @@ whole_is_message n octets small a l e = by (whole_outcome (message_outcome messa
             let all : length octets ≡ n = omega (arith, w.within) in
             let form : message_der s.message ≡ octets = s.form ∙ sym w.form ∙ take_all count octets (omega arith) in
             record { message = s.message; in_profile = record { fits = s.fits; short = omega (arith, ap length form) }; form = form; all = all }
+
+-- of any term
+pub whole_is_value : (term : Term) (octets : List ℕ) → AreOctets octets → term_judgement term (length octets) octets ≡ verdict.Whole → AreValue term octets
+whole_is_value term octets a e = by (whole_outcome (item_outcome term (length octets) true octets) e)
+  where
+    by : (count : ℕ) × (item_outcome term (length octets) true octets ≡ Done count) → AreValue term octets
+    by (count, d) =
+        let w : IsWhole term (length octets) true octets count = IsWhole-done term (length octets) true octets count a d in
+        record { value = w.value; fits = w.fits; form = sym w.form ∙ take_all count octets (omega (arith, w.fills refl)) }
+
+pub value_is_whole : (term : Term) (value : Value term) → is_unambiguous term ≡ true → Fits term value → length (der term value) < 2 ^ 31 → term_judgement term (length (der term value)) (der term value) ≡ verdict.Whole
+value_is_whole term value u f small =
+    let e : item_outcome term (length (der term value)) true (der term value ++ []) ≡ Done (length (der term value)) =
+    item_outcome-der term u value f (omega arith) (length (der term value)) true [] (omega arith) (λ t. refl) in
+    ap verdict_of (ap (item_outcome term (length (der term value)) true) (sym (append-nil (der term value))) ∙ e)
+
+pub value_is_decided : (term : Term) (octets : List ℕ) → 0 < length octets → term_judgement term (length octets) octets ≡ verdict.Open → ⊥
+value_is_decided term octets some e = decided term (length octets) true octets some refl (open_outcome (item_outcome term (length octets) true octets) e)
 
 pub message_is_whole : (m : Message) → IsInProfile m → judgement (length (message_der m)) (message_der m) ≡ verdict.Whole
 message_is_whole m p =

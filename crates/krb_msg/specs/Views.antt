@@ -81,10 +81,37 @@ abbrev pub host_address_of : Value host_address → HostAddress
 host_address_of v = record { addr_type = v.0; address = v.1.0 }
 
 abbrev pub kdc_req_body_value : KdcReqBody → Value req_body
-kdc_req_body_value b =
-    (b.kdc_options, (option_map principal_name_value b.cname, (b.realm, (option_map principal_name_value b.sname,
-    (b.from, (b.till, (b.rtime, (b.nonce, (b.etype, (option_map (map host_address_value) b.addresses,
-    (option_map encrypted_data_value b.enc_authorization_data, (option_map (map ticket_value) b.additional_tickets, tt))))))))))))
+kdc_req_body_value b = (
+  b.kdc_options,
+  (
+    option_map principal_name_value b.cname,
+    (
+      b.realm,
+      (
+        option_map principal_name_value b.sname,
+        (
+          b.from,
+          (
+            b.till,
+            (
+              b.rtime,
+              (
+                b.nonce,
+                (
+                  b.etype,
+                  (
+                    option_map (map host_address_value) b.addresses,
+                    (option_map encrypted_data_value b.enc_authorization_data, (option_map (map ticket_value) b.additional_tickets, tt)),
+                  ),
+                ),
+              ),
+            ),
+          ),
+        ),
+      ),
+    ),
+  ),
+)
 
 abbrev pub kdc_req_body_of : Value req_body → KdcReqBody
 kdc_req_body_of (kdc_options, (cname, (realm, (sname, (from, (till, (rtime, (nonce, (etype, (addresses, (enc_authorization_data, (additional_tickets, none)))))))))))) = record {
@@ -118,9 +145,31 @@ micros_of (pos number) = number
 micros_of (negsuc number) = 0
 
 abbrev pub krb_error_value : KrbError → Value krb_error
-krb_error_value m =
-    (pos 5, (pos 30, (m.ctime, (option_map pos m.cusec, (m.stime, (pos m.susec, (m.error_code, (m.crealm,
-    (option_map principal_name_value m.cname, (m.realm, (principal_name_value m.sname, (m.e_text, (m.e_data, tt)))))))))))))
+krb_error_value m = (
+  pos 5,
+  (
+    pos 30,
+    (
+      m.ctime,
+      (
+        option_map pos m.cusec,
+        (
+          m.stime,
+          (
+            pos m.susec,
+            (
+              m.error_code,
+              (
+                m.crealm,
+                (option_map principal_name_value m.cname, (m.realm, (principal_name_value m.sname, (m.e_text, (m.e_data, tt))))),
+              ),
+            ),
+          ),
+        ),
+      ),
+    ),
+  ),
+)
 
 abbrev pub krb_error_of : Value krb_error → KrbError
 krb_error_of (pvno, (msg_type, (ctime, (cusec, (stime, (susec, (error_code, (crealm, (cname, (realm, (sname, (e_text, (e_data, none))))))))))))) = record {

@@ -22,11 +22,7 @@ impl HostAddress {
     fn encoding(&self) -> Layout<'_>
         ensures { ⟦<Layout<'static> as Encoding>⟧.octets result ≡ host_address_der self.now }
     {
-        Sequence(Required(
-            0xA0,
-            &self.addr_type,
-            Required(0xA1, &self.address, End),
-        ))
+        Sequence(Required(0xA0, &self.addr_type, Required(0xA1, &self.address, End)))
     }
 }
 

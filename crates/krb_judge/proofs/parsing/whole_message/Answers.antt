@@ -1,4 +1,4 @@
-use Rattle.std.proofs.Common.{◌∙◌, sym, ap, refl, arith}
+use Rattle.std.proofs.Common.{◌∙◌, sym, refl, arith}
 use Rattle.krb_msg.specs.declared.message.Kind.TheVariants as kind
 use Rattle.krb_judge.proofs.Slices.{are_octets, message_of_kind}
 use Rattle.krb_judge.proofs.Taken.{stands_alone, taken_alone}

@@ -1,4 +1,4 @@
-use Rattle.std.proofs.Common.{◌<◌, ◌∙◌, ap, length, arith, rules}
+use Rattle.std.proofs.Common.{◌<◌, ◌∙◌, ap, length, rules}
 use Rattle.std.specs.List.{flat_map}
 use Rattle.krb_judge.proofs.Lists.{first_stands, taken_smaller, reads_none, reads_more, reads_all}
 use Rattle.krb_judge.proofs.parsing.scalars.items.Goals as goal

@@ -1,5 +1,5 @@
 use Rattle.std.proofs.Common.{◌∙◌, sym}
-use Rattle.krb_judge.proofs.Fields.{is_there, is_left_out, required_item, required_stands, required_behind, required_read}
+use Rattle.krb_judge.proofs.Fields.{is_there, required_item, required_stands, required_behind, required_read}
 use Rattle.krb_judge.proofs.parsing.fields.OptionalFields.read.Goals as goal
 
 pub split_item-requires-clause-form : goal.split_item-requires-clause-form

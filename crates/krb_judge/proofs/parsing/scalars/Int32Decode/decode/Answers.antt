@@ -1,6 +1,6 @@
 use Rattle.std.proofs.Common.{◌≡◌, arith}
 use Rattle.std.proofs.lemmas.Int.{ints}
-use Rattle.krb_judge.proofs.Taken.{int32_number, number_is, number_taken}
+use Rattle.krb_judge.proofs.Taken.{number_is, number_taken}
 use Rattle.krb_judge.proofs.parsing.scalars.Int32Decode.decode.Goals as goal
 
 pub returns : goal.returns

@@ -1,4 +1,4 @@
-use Rattle.std.proofs.Common.{◌≡◌, ℤ, pos, arith}
+use Rattle.std.proofs.Common.{◌≡◌, pos, arith}
 use Rattle.std.proofs.lemmas.Int.{ints}
 use Rattle.krb_judge.proofs.Taken.{number_is, micros_taken}
 use Rattle.krb_judge.proofs.parsing.scalars.MicrosDecode.decode.Goals as goal

@@ -1,4 +1,4 @@
-use Rattle.std.proofs.Common.{◌∙◌, ap}
+use Rattle.std.proofs.Common.{◌∙◌}
 use Rattle.krb_judge.proofs.Taken.{value_taken}
 use Rattle.krb_judge.proofs.parsing.scalars.OctetsDecode.decode.Goals as goal
 
