@@ -80,7 +80,11 @@ fn parts_again(alloc: Global, message: &Message, counts: &mut Counts) -> Option<
             }
             Some(())
         }
-        Message::AsRep(reply) | Message::TgsRep(reply) => ticket_again(alloc, &reply.ticket, counts),
+        Message::AsRep(reply) | Message::TgsRep(reply) => ticket_again(
+            alloc,
+            &reply.ticket,
+            counts,
+        ),
         Message::ApReq(request) => ticket_again(alloc, &request.ticket, counts),
         Message::ApRep(_) => Some(()),
         Message::KrbError(error) => method_data_again(alloc, error, counts),
@@ -105,7 +109,8 @@ fn method_data_again(alloc: Global, error: &KrbError, counts: &mut Counts) -> Op
     }
     match parse_method_data(alloc, data.as_slice()) {
         Ok(padata) => {
-            is_same(octets_of(alloc, &padata)?.as_slice(), data.as_slice())?;
+            let again = octets_of(alloc, &Many::new(padata))?;
+            is_same(again.as_slice(), data.as_slice())?;
             counts.method_data = counts.method_data.saturating_add(1);
             Some(())
         }
@@ -166,6 +171,8 @@ fn main(rt: HostRuntime) -> io::Result<ExitCode> {
         method_data,
     } = counts;
     let left = rest.len();
-    println!(rt; "{messages} messages, {tickets} tickets and {method_data} METHOD-DATA came again, {left} octets are left")?;
+    println!(rt;
+        "{messages} messages, {tickets} tickets and {method_data} METHOD-DATA came again, {left} octets are left"
+    )?;
     Ok(ExitCode::SUCCESS)
 }
