@@ -39,6 +39,7 @@ impl Work {
 }
 
 /// How many came again.
+#[derive(Clone, Copy)]
 struct Counts {
     messages: u64,
     tickets: u64,
