@@ -9,14 +9,16 @@ use Rattle.krb_der.specs.declared.verdict.Verdict.TheVariants as verdict
 use Rattle.krb_msg.specs.declared.message.Message.{Message}
 use Rattle.krb_msg.specs.declared.message.Kind.{Kind}
 use Rattle.krb_msg.specs.declared.message.Kind.TheVariants as kind
-use Rattle.krb_msg.specs.Term.{Term, tag_of}
-use Rattle.krb_msg.specs.Views.{kind_of, kind_term, message_value, message_der, IsInProfile}
-use Rattle.krb_msg.specs.Judgement.{judgement}
+use Rattle.krb_msg.specs.Term.{Term, Value, Fits, der, tag_of}
+use Rattle.krb_msg.specs.Shape.{is_unambiguous}
+use Rattle.krb_msg.specs.Views.{kind_of, kind_term, kind_of_tag, message_value, message_der, IsInProfile}
+use Rattle.krb_msg.specs.Judgement.{judgement, term_judgement}
 use Rattle.krb_msg.specs.Laws.{AreMessage}
-use Rattle.krb_msg.proofs.Judged.{whole_is_message, message_is_whole, all_is_decided, der_tells}
-use Rattle.krb_msg.specs.Values.{der_is}
-use Rattle.krb_judge.specs.Reads.{IsDer, kind_of_tag}
-use Rattle.krb_judge.specs.Parses.{refused, refusal_of, AreOf, HasNoMessage}
+use Rattle.krb_msg.proofs.Judged.{kind_of_tag-tag, whole_is_message, message_is_whole, whole_is_value, value_is_whole, value_is_decided, all_is_decided, der_tells}
+use Rattle.krb_msg.proofs.Laws.{same_value}
+use Rattle.krb_msg.specs.Values.{der_is, der_begins}
+use Rattle.krb_judge.specs.Reads.{IsDer}
+use Rattle.krb_judge.specs.Parses.{refused, refusal_by, refusal_of, AreOf, AreOfValue, HasNoMessage}
 
 pub are_octets : (octets : List ℕ) → ((k : ℕ) → get_or octets k 0 < 256) → AreOctets octets
 are_octets [] h = tt
@@ -25,12 +27,6 @@ are_octets (octet ∷ octets) h = (h 0, are_octets octets (λ k. h (suc k)))
 -- ---- the kind
 first_octet : {term : Term} {octets : List ℕ} → IsDer term octets → get_or octets 0 0 ≡ tag_of term
 first_octet {term = term} f = ap (λ (l : List ℕ). get_or l 0 0) (f.form ∙ der_is term f.value)
-
-kind_of_tag-tag : (k : Kind) → kind_of_tag (tag_of (kind_term k)) ≡ k
-kind_of_tag-tag kind.AsRep = refl
-kind_of_tag-tag kind.TgsRep = refl
-kind_of_tag-tag kind.ApReq = refl
-kind_of_tag-tag kind.ApRep = refl
 
 of_kind : {octets : List ℕ} (k other : Kind) → IsDer (kind_term k) octets → kind_of_tag (get_or octets 0 0) ≡ other → IsDer (kind_term other) octets
 of_kind {octets = octets} k other f e = subst (λ k. IsDer (kind_term k) octets) (sym (kind_of_tag-tag k) ∙ ap kind_of_tag (sym (first_octet f)) ∙ e) f
@@ -66,31 +62,74 @@ not_refused verdict.Open e o = absurd (o refl)
 not_refused verdict.Whole e o = refl
 not_refused (verdict.Refused refusal) e o = absurd cc
 
--- a slice that is not refused
-pub record IsWholeSlice (octets : List ℕ) : Type 0 where
-  pub short : length octets < 2 ^ 31
-  pub whole : judgement (length octets) octets ≡ verdict.Whole
+-- a judgement that decides something of all the octets
+abbrev Decides : (ℕ → List ℕ → Verdict) → List ℕ → Type 0
+Decides judge octets = 0 < length octets → judge (length octets) octets ≡ verdict.Open → ⊥
 
-pub whole_slice : (octets : List ℕ) → refusal_of octets ≡ None → IsWholeSlice octets
-whole_slice octets e =
-    let p = chosen_none (nat_lt 2147483647 (length octets)) (length octets == 0) _ _ (judgement (length octets) octets) e in
+-- a slice that is not refused
+pub record IsWholeSlice (judge : ℕ → List ℕ → Verdict) (octets : List ℕ) : Type 0 where
+  pub short : length octets < 2 ^ 31
+  pub whole : judge (length octets) octets ≡ verdict.Whole
+
+whole_slice : (judge : ℕ → List ℕ → Verdict) (octets : List ℕ) → Decides judge octets → refusal_by judge octets ≡ None → IsWholeSlice judge octets
+whole_slice judge octets decided e =
+    let p = chosen_none (nat_lt 2147483647 (length octets)) (length octets == 0) _ _ (judge (length octets) octets) e in
     record {
       short = grind (arith, nat_tests, p.0);
-      whole = not_refused (judgement (length octets) octets) p.2 (all_is_decided (length octets) octets (grind (arith, nat_tests, p.1)) refl);
+      whole = not_refused (judge (length octets) octets) p.2 (decided (grind (arith, nat_tests, p.1)));
     }
 
+none_refused : (judge : ℕ → List ℕ → Verdict) (octets : List ℕ) → judge (length octets) octets ≡ verdict.Whole → 0 < length octets → length octets < 2 ^ 31 → refusal_by judge octets ≡ None
+none_refused judge octets whole some short = none_chosen (nat_lt 2147483647 (length octets)) (length octets == 0) _ _ (judge (length octets) octets) (grind (arith, nat_tests, short)) (grind (arith, nat_tests, some)) whole
+
+-- ---- messages
+pub whole_message : (octets : List ℕ) → refusal_of octets ≡ None → IsWholeSlice judgement octets
+whole_message octets = whole_slice judgement octets (λ some. all_is_decided (length octets) octets some refl)
+
 pub message_in : (octets : List ℕ) → AreOctets octets → refusal_of octets ≡ None → AreMessage (length octets) octets
-message_in octets a e = let w = whole_slice octets e in whole_is_message (length octets) octets w.short a (omega arith) w.whole
+message_in octets a e = let w = whole_message octets e in whole_is_message (length octets) octets w.short a (omega arith) w.whole
 
 some_from_whole : (octets : List ℕ) → judgement (length octets) octets ≡ verdict.Whole → 0 < length octets
 some_from_whole [] e = absurd cc
 some_from_whole (octet ∷ octets) e = omega arith
 
-pub none_refused : {octets : List ℕ} (m : Message) → AreOf octets m → refusal_of octets ≡ None
-none_refused {octets = octets} m a =
+pub message_not_refused : {octets : List ℕ} (m : Message) → AreOf octets m → refusal_of octets ≡ None
+message_not_refused {octets = octets} m a =
     let whole : judgement (length octets) octets ≡ verdict.Whole = subst (λ l. judgement (length l) l ≡ verdict.Whole) a.form (message_is_whole m a.in_profile) in
-    let short : length octets < 2 ^ 31 = omega (arith, ap length a.form, a.in_profile.short) in
-    none_chosen (nat_lt 2147483647 (length octets)) (length octets == 0) _ _ (judgement (length octets) octets) (grind (arith, nat_tests, short)) (grind (arith, nat_tests, some_from_whole octets whole)) whole
+    none_refused judgement octets whole (some_from_whole octets whole) (omega (arith, ap length a.form, a.in_profile.short))
 
 pub no_message : (octets : List ℕ) → AreOctets octets → HasNoMessage octets ↔ (refusal_of octets ≢ None)
-no_message octets a = (λ no e. let w = message_in octets a e in no w.message (record { in_profile = w.in_profile; form = w.form }), λ some m f. some (none_refused m f))
+no_message octets a = (λ no e. let w = message_in octets a e in no w.message (record { in_profile = w.in_profile; form = w.form }), λ some m f. some (message_not_refused m f))
+
+-- ---- values of a term
+pub whole_value : (term : Term) (octets : List ℕ) → AreOctets octets → refusal_by (term_judgement term) octets ≡ None → IsDer term octets × (length octets < 2 ^ 31)
+whole_value term octets a e =
+    let w = whole_slice (term_judgement term) octets (value_is_decided term octets) e in
+    let v = whole_is_value term octets a w.whole in
+    (record { value = v.value; fits = v.fits; form = sym v.form }, w.short)
+
+-- of a type whose values are those of a term that fit
+module _ {A : Type 0} (term : Term) (unambiguous : is_unambiguous term ≡ true) (value_of : A → Value term) (of_value : Value term → A) (back : (a : A) → of_value (value_of a) ≡ a) (onto : (value : Value term) → Fits term value → value_of (of_value value) ≡ value) where
+  pub are_of_value : {octets : List ℕ} (a : A) → IsDer term octets → length octets < 2 ^ 31 → der term (value_of a) ≡ octets → AreOfValue term value_of octets a
+  are_of_value {octets = octets} a f short e =
+      let same : f.value ≡ value_of a = (same_value term unambiguous f.value (value_of a) [] [] (ap (λ l. l ++ []) (sym f.form ∙ sym e))).0 in
+      record { fits = subst (Fits term) same f.fits; short = short; form = e }
+
+  pub same_of_value : {octets : List ℕ} (a b : A) → der term (value_of a) ≡ octets → der term (value_of b) ≡ octets → a ≡ b
+  same_of_value a b e f =
+      let same : value_of a ≡ value_of b = (same_value term unambiguous (value_of a) (value_of b) [] [] (ap (λ l. l ++ []) (e ∙ sym f))).0 in
+      sym (back a) ∙ ap of_value same ∙ back b
+
+  pub value_not_refused : {octets : List ℕ} (a : A) → AreOfValue term value_of octets a → refusal_by (term_judgement term) octets ≡ None
+  value_not_refused {octets = octets} a f =
+      let whole : term_judgement term (length octets) octets ≡ verdict.Whole = subst (λ l. term_judgement term (length l) l ≡ verdict.Whole) f.form (value_is_whole term (value_of a) unambiguous f.fits (omega (arith, ap length f.form, f.short))) in
+      none_refused (term_judgement term) octets whole (omega (arith, ap length f.form, der_begins term (value_of a))) f.short
+
+  pub no_value : (octets : List ℕ) → AreOctets octets → ((a : A) → AreOfValue term value_of octets a → ⊥) ↔ (refusal_by (term_judgement term) octets ≢ None)
+  no_value octets a = (
+    λ no e.
+        let w = whole_value term octets a e in
+        let same = onto w.0.value w.0.fits in
+        no (of_value w.0.value) (record { fits = subst (Fits term) (sym same) w.0.fits; short = w.1; form = ap (der term) same ∙ sym w.0.form }),
+    λ some v f. some (value_not_refused v f),
+  )

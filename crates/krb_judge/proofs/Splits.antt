@@ -1,18 +1,16 @@
--- What is read of items and scalars that are known to stand first.
+-- What is split off items that are known to stand first.
 use Rattle.std.proofs.Common.{◌≡◌, ℕ, ◌+◌, ◌-◌, ◌^◌, ◌<◌, ◌≤◌, ℤ, Option, Some, None, IsSome, IfSome, ◌↔◌, List, [], ◌∷◌, ◌++◌, length, take, drop, refl, sym, ap, ◌∙◌, arith, append-nil, length-append, length-take, length-drop, drop_at, one-add}
 use Rattle.std.proofs.lemmas.List.{take_at}
-use Rattle.krb_der.specs.Octets.{item, length_octets, integer_octets, integer_value, AreBits}
-use Rattle.std.proofs.lemmas.Bool.{false≢true}
-use Rattle.krb_der.specs.Scalars.{IsWide32}
-use Rattle.krb_der.specs.Items.{length-item, item-append, same_from_cons}
+use Rattle.krb_der.specs.Octets.{item, length_octets, integer_octets, integer_value}
 use Rattle.krb_der.specs.Numbers.{length-integer_octets-le, integer_value-integer_octets}
+use Rattle.krb_der.specs.Items.{length-item, item-append}
 use Rattle.krb_msg.specs.Judgement.{Got, head}
 use Rattle.krb_msg.proofs.Heads.{head-length_octets}
 use Rattle.krb_judge.specs.Outcomes.{head_of}
 use Rattle.krb_judge.specs.declared.judging.head.Head.{Head as Found}
 use Rattle.krb_judge.specs.declared.judging.head.Head.TheVariants as found
 use Rattle.krb_judge.proofs.Within.{rest_taken}
-use Rattle.krb_judge.specs.Reads.{HasItem, HasInner, HasInteger, HasFlags, IsSplit, IsInner, IsNumber}
+use Rattle.krb_judge.specs.Reads.{HasItem, HasInner, HasNumber, IsSplit, IsInner, IsNumber}
 
 -- ---- an item
 pub head_of_item : (octets : List ℕ) (tag : ℕ) (contents rest : List ℕ) → length octets < 2 ^ 31 → octets ≡ item tag contents ++ rest → head (length octets) octets ≡ Got (1 + length (length_octets (length contents))) (length contents)
@@ -74,52 +72,17 @@ is_inner s t = record {
   rest_within = s.rest_within;
 }
 
--- ---- an INTEGER in a tag
-pub integer_inner : {octets : List ℕ} → HasInteger octets → HasInner octets
-integer_inner f = record { tag = f.tag; inner_tag = 0x02; contents = integer_octets f.number; rest = f.rest; parts = f.parts }
+-- ---- an INTEGER
+pub number_item : {octets : List ℕ} → HasNumber octets → HasItem octets
+number_item f = record { tag = 0x02; contents = integer_octets f.number; rest = f.rest; parts = f.parts }
 
-pub integer_short : {octets contents rest : List ℕ} → HasInteger octets → IsInner octets contents rest → length contents ≤ 5
-integer_short f s = omega (arith, ap length (s.parts f.tag 0x02 (integer_octets f.number) f.rest f.parts).0, length-integer_octets-le f.number f.low f.high)
+pub number_short : {octets contents rest : List ℕ} → HasNumber octets → IsSplit octets contents rest → length contents ≤ 5
+number_short f s = omega (arith, ap length (s.parts 0x02 (integer_octets f.number) f.rest f.parts).0, length-integer_octets-le f.number f.low f.high)
 
-pub is_number : {octets contents rest : List ℕ} (number : ℤ) → IsInner octets contents rest → number ≡ integer_value contents → IsNumber octets number rest
+pub is_number : {octets contents rest : List ℕ} (number : ℤ) → IsSplit octets contents rest → number ≡ integer_value contents → IsNumber octets number rest
 is_number number s e = record {
-  parts = λ tag spelled behind p.
-      let q = s.parts tag 0x02 (integer_octets spelled) behind p in
+  parts = λ spelled behind p.
+      let q = s.parts 0x02 (integer_octets spelled) behind p in
       (e ∙ ap integer_value q.0 ∙ integer_value-integer_octets spelled, q.1);
   rest_within = s.rest_within;
 }
-
-pub number_is : {octets rest : List ℕ} {number : ℤ} (f : HasInteger octets) → IsNumber octets number rest → number ≡ f.number
-number_is f s = (s.parts f.tag f.number f.rest f.parts).0
-
-pub same_number : {octets rest : List ℕ} {number other : ℤ} → IsNumber octets number rest → other ≡ number → IsNumber octets other rest
-same_number s e = record { parts = λ tag spelled behind p. let q = s.parts tag spelled behind p in (e ∙ q.0, q.1); rest_within = s.rest_within }
-
--- ---- octets in a tag
-pub same_inner : {octets contents other rest : List ℕ} → IsInner octets contents rest → other ≡ contents → IsInner octets other rest
-same_inner s e = record {
-  parts = λ tag inner_tag inner behind p. let q = s.parts tag inner_tag inner behind p in (e ∙ q.0, q.1);
-  contents_within = omega (arith, ap length e, s.contents_within);
-  rest_within = s.rest_within;
-}
-
--- ---- a BIT STRING in a tag
-pub flags_inner : {octets : List ℕ} → HasFlags octets → HasInner octets
-flags_inner f = record { tag = f.tag; inner_tag = 0x03; contents = f.unused ∷ f.bits; rest = f.rest; parts = f.parts }
-
-pub flags_are : {octets contents rest : List ℕ} (f : HasFlags octets) → IsInner octets contents rest → contents ≡ f.unused ∷ f.bits
-flags_are f s = (s.parts f.tag 0x03 (f.unused ∷ f.bits) f.rest f.parts).0
-
--- the octets read have the shape
-pub flags_shape : {octets contents rest : List ℕ} (f : HasFlags octets) → IsInner octets contents rest → (unused : ℕ) (bits : List ℕ) → contents ≡ unused ∷ bits → AreBits unused bits
-flags_shape f s unused bits e =
-    let p : (unused ≡ f.unused) × (bits ≡ f.bits) = same_from_cons _ _ _ _ (sym e ∙ flags_are f s) in
-    rw (p.0, p.1) f.shape
-
--- the Wide32 of an INTEGER that is one
-wide_of : (wide : Option ℤ) (number : ℤ) → IsSome wide ↔ IsWide32 number → IfSome wide (λ w. w ≡ number) → IsWide32 number → wide ≡ Some number
-wide_of None number r v w = absurd (false≢true (r.1 w))
-wide_of (Some wide) number r v w = ap Some v
-
-pub wide_number : {octets rest : List ℕ} {number : ℤ} (f : HasInteger octets) → IsNumber octets number rest → (wide : Option ℤ) → IsSome wide ↔ IsWide32 number → IfSome wide (λ w. w ≡ number) → wide ≡ Some number
-wide_number {number = number} f s wide r v = wide_of wide number r v (rw (number_is f s) (f.low, f.high))

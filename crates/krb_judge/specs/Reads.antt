@@ -1,15 +1,8 @@
 -- Octets that are known to be of a form, and what is read of them.
-use Rattle.std.specs.Prelude.{ℕ, ℤ, ◌+◌, ◌≡◌, ◌≤◌, ◌≤ℤ◌, ◌==◌, if◌then◌else◌, negsuc, pos, List, ◌∷◌, ◌++◌, length, map, Option}
+use Rattle.std.specs.Prelude.{ℕ, ℤ, pos, negsuc, ◌≡◌, ◌<◌, ◌≤◌, ◌≤ℤ◌, List, ◌++◌, length, slice_index, Option}
 use Rattle.std.specs.List.{flat_map, AllByRecursion}
-use Rattle.std.specs.Option.{option_map}
-use Rattle.krb_der.specs.Octets.{item, integer_octets, AreBits}
-use Rattle.krb_msg.specs.declared.message.Kind.{Kind}
-use Rattle.krb_msg.specs.declared.message.Kind.TheVariants as kind
-use Rattle.krb_msg.specs.declared.pa_data.PaData.{PaData}
-use Rattle.krb_msg.specs.declared.kdc_rep.KdcRep.{KdcRep}
-use Rattle.krb_msg.specs.Term.{Term, Fields, Value, Values, Fits, AllFit, Application, Sequence, Tagged, End, der, der_of_fields, octets_of_option}
-use Rattle.krb_msg.specs.Grammar.{◌⨟◌, field, optional, exactly, version, wide32, octet_string, kerberos_string, principal_name, reply_padata, ticket, encrypted_data}
-use Rattle.krb_msg.specs.Views.{pa_data_value, kdc_rep_value}
+use Rattle.krb_der.specs.Octets.{item, integer_octets}
+use Rattle.krb_msg.specs.Term.{Term, Fields, Value, Values, Fits, AllFit, IfPresent, der, der_of_fields, octets_of_option}
 
 -- ---- octets and terms
 -- the DER of some value of a term
@@ -24,15 +17,12 @@ pub record AreFields (fields : Fields) (octets : List ℕ) : Type 0 where
   pub fit : AllFit fields values
   pub form : octets ≡ der_of_fields fields values
 
--- the DER of some values of a term, one after another
-pub record AreItems (term : Term) (octets : List ℕ) : Type 0 where
-  pub values : List (Value term)
-  pub fit : AllByRecursion (Fits term) values
-  pub form : octets ≡ flat_map (der term) values
+-- The DER of a value, and an item. They unfold only where they are told to: the goals about a type of many fields stay small.
+unfoldable pub value_octets : (term : Term) → Value term → List ℕ
+value_octets term value = der term value
 
--- the DER of this value
-pub record Spells (term : Term) (value : Value term) (octets : List ℕ) : Type 0 where
-  pub form : der term value ≡ octets
+unfoldable pub item_octets : ℕ → List ℕ → List ℕ
+item_octets tag octets = item tag octets
 
 -- ---- items
 -- an item stands first
@@ -62,86 +52,73 @@ pub record IsInner (octets contents rest : List ℕ) : Type 0 where
   pub contents_within : length contents ≤ length octets
   pub rest_within : length rest ≤ length octets
 
--- ---- scalars in a tag
--- an INTEGER of 32 bits, with or without a sign, stands first in a tag
-pub record HasInteger (octets : List ℕ) : Type 0 where
-  pub tag : ℕ
+-- ---- an INTEGER
+-- one of 32 bits, with or without a sign, stands first
+pub record HasNumber (octets : List ℕ) : Type 0 where
   pub number : ℤ
   pub rest : List ℕ
-  pub parts : octets ≡ item tag (item 0x02 (integer_octets number)) ++ rest
   pub low : negsuc 2147483647 ≤ℤ number
   pub high : number ≤ℤ pos 4294967295
+  pub parts : octets ≡ item 0x02 (integer_octets number) ++ rest
 
--- one of 32 bits with a sign
-pub record HasInt32 (octets : List ℕ) : Type 0 where
-  pub integer : HasInteger octets
-  pub high : integer.number ≤ℤ pos 2147483647
-
--- the number of the INTEGER in a tag that stands first, and what stands behind it
+-- the number of the INTEGER that stands first, and what stands behind it
 pub record IsNumber (octets : List ℕ) (number : ℤ) (rest : List ℕ) : Type 0 where
-  pub parts : (tag : ℕ) (spelled : ℤ) (behind : List ℕ) → octets ≡ item tag (item 0x02 (integer_octets spelled)) ++ behind → (number ≡ spelled) × (rest ≡ behind)
+  pub parts : (spelled : ℤ) (behind : List ℕ) → octets ≡ item 0x02 (integer_octets spelled) ++ behind → (number ≡ spelled) × (rest ≡ behind)
   pub rest_within : length rest ≤ length octets
 
--- a BIT STRING stands first in a tag
-pub record HasFlags (octets : List ℕ) : Type 0 where
-  pub tag : ℕ
-  pub unused : ℕ
-  pub bits : List ℕ
+-- ---- values
+-- octets of a form stand first
+pub record StandsFirst (IsForm : List ℕ → Type 0) (front : List ℕ) : Type 0 where
+  pub octets : List ℕ
   pub rest : List ℕ
-  pub parts : octets ≡ item tag (item 0x03 (unused ∷ bits)) ++ rest
-  pub shape : AreBits unused bits
+  pub form : IsForm octets
+  pub parts : front ≡ octets ++ rest
 
--- ---- fields that may be left out
--- such a field, where it is there, and the fields behind it
-pub record IsOptional (term : Term) (fields : Fields) (octets : List ℕ) (value : Option (Value term)) (rest : List ℕ) : Type 0 where
-  pub form : octets ≡ octets_of_option (der term) value ++ rest
-  pub behind : AreFields fields rest
-  pub rest_within : length rest ≤ length octets
+-- the octets of a value that stand first, and what stands behind them
+pub record IsTaken (IsForm : List ℕ → Type 0) (front octets rest : List ℕ) : Type 0 where
+  pub parts : (those behind : List ℕ) → IsForm those → front ≡ those ++ behind → (octets ≡ those) × (rest ≡ behind)
+  pub rest_within : length rest ≤ length front
 
--- the fields of an EncryptedData from the cipher on, and from the kvno on
-abbrev pub cipher_fields : Fields
-cipher_fields = field 14 2 octet_string ⨟ End
+-- octets of a form, one after another
+pub record AreListed (IsForm : List ℕ → Type 0) (contents : List ℕ) : Type 0 where
+  pub items : List (List ℕ)
+  pub forms : AllByRecursion IsForm items
+  pub begun : AllByRecursion (λ octets. 0 < length octets) items
+  pub parts : contents ≡ flat_map (λ octets. octets) items
 
-abbrev pub kvno_fields : Fields
-kvno_fields = optional 13 1 wide32 ⨟ cipher_fields
+-- those of a SEQUENCE OF
+pub record IsListed (IsForm : List ℕ → Type 0) (octets : List ℕ) : Type 0 where
+  pub contents : List ℕ
+  pub listed : AreListed IsForm contents
+  pub parts : octets ≡ item 0x30 contents
 
--- AS-REP has the number 11 and the node 40, and TGS-REP the number 13 and the node 50. The fields from the crealm on, from the padata on, and all.
-abbrev pub crealm_fields : ℕ → Fields
-crealm_fields node =
-    field (node + 6) 3 kerberos_string
-    ⨟ field (node + 7) 4 principal_name
-    ⨟ field (node + 8) 5 ticket
-    ⨟ field (node + 9) 6 encrypted_data
-    ⨟ End
+-- ---- fields
+-- a field under its tag, and the fields behind it
+pub record HasRequired (tag : ℕ) (IsForm AreForm : List ℕ → Type 0) (contents : List ℕ) : Type 0 where
+  pub octets : List ℕ
+  pub rest : List ℕ
+  pub form : IsForm octets
+  pub behind : AreForm rest
+  pub parts : contents ≡ item tag octets ++ rest
 
-abbrev pub padata_fields : ℕ → Fields
-padata_fields node = optional (node + 5) 2 reply_padata ⨟ crealm_fields node
+-- a field that may be left out, whose tag the fields behind it don't begin with
+pub record HasOptional (tag : ℕ) (IsForm AreForm : List ℕ → Type 0) (contents : List ℕ) : Type 0 where
+  pub octets : Option (List ℕ)
+  pub rest : List ℕ
+  pub form : IfPresent IsForm octets
+  pub behind : AreForm rest
+  pub apart : slice_index rest 0 ≡ tag → ⊥
+  pub parts : contents ≡ octets_of_option (item tag) octets ++ rest
 
-abbrev pub kdc_rep_term : ℕ → ℕ → Term
-kdc_rep_term node number =
-    Application node number (Sequence (node + 2) (field (node + 3) 0 version ⨟ field (node + 4) 1 (exactly (node + 1) number) ⨟ padata_fields node))
-
--- the fields of a KDC-REP from the padata on
-pub record HasPadata (octets : List ℕ) : Type 0 where
-  pub node : ℕ
-  pub fields : AreFields (padata_fields node) octets
-
--- the padata that stands there, and what stands behind it
-pub record IsPadata (octets : List ℕ) (padata : Option (List PaData)) (rest : List ℕ) : Type 0 where
-  pub parts : (node : ℕ) → AreFields (padata_fields node) octets → IsOptional (Tagged (node + 5) 2 reply_padata) (crealm_fields node) octets (option_map (map pa_data_value) padata) rest
-  pub rest_within : length rest ≤ length octets
+-- a number that is fixed
+pub record HasFixed (tag number : ℕ) (AreForm : List ℕ → Type 0) (contents : List ℕ) : Type 0 where
+  pub rest : List ℕ
+  pub behind : AreForm rest
+  pub parts : contents ≡ item tag (item 0x02 (integer_octets (pos number))) ++ rest
 
 -- ---- messages
--- an AS-REP or a TGS-REP
-pub record IsKdcRep (octets : List ℕ) : Type 0 where
-  pub node : ℕ
-  pub number : ℕ
-  pub form : IsDer (kdc_rep_term node number) octets
-
--- the octets of a KDC-REP as one or the other
-abbrev pub SpellsKdcRep : List ℕ → KdcRep → Type 0
-SpellsKdcRep octets m = (node number : ℕ) → IsDer (kdc_rep_term node number) octets → Spells (kdc_rep_term node number) (kdc_rep_value number m) octets
-
--- the kind whose messages begin with a tag, and any where none do
-abbrev pub kind_of_tag : ℕ → Kind
-kind_of_tag tag = if tag == 0x6B then kind.AsRep else if tag == 0x6D then kind.TgsRep else if tag == 0x6E then kind.ApReq else kind.ApRep
+-- the fields of a SEQUENCE in the tag of a message
+pub record IsTagged (tag : ℕ) (AreForm : List ℕ → Type 0) (octets : List ℕ) : Type 0 where
+  pub contents : List ℕ
+  pub fields : AreForm contents
+  pub parts : octets ≡ item tag (item 0x30 contents)

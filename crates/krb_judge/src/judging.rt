@@ -11,7 +11,7 @@ mod outcome;
 
 ghost use Rattle.std.specs.Prelude.{◌≡◌, ◌+◌, ◌-◌, ◌^◌, ◌<◌, ◌≤◌, length, drop, true, false};
 ghost use Rattle.krb_msg.specs.Term.{End, Required};
-ghost use Rattle.krb_msg.specs.Judgement.{judgement, verdict_of, then_after, only_contents, has_size as term_has_size, item_outcome, contents_outcome, fields_outcome, items_contents};
+ghost use Rattle.krb_msg.specs.Judgement.{judgement, term_judgement, verdict_of, then_after, only_contents, has_size as term_has_size, item_outcome, contents_outcome, fields_outcome, items_contents};
 ghost use Rattle.krb_msg.specs.Nodes.{term_at};
 ghost use Rattle.krb_msg.specs.Table.{fields_from};
 ghost use Rattle.krb_msg.specs.declared.grammar.TheConstants.{FIELDS};
@@ -40,6 +40,17 @@ pub fn judge(n: u32, front: &[u8]) -> Verdict
             why: Why::Tag,
         }),
     }
+}
+
+/// What the octets present of an item of a node's term decide, of which alone there are `n` octets.
+pub(crate) fn judge_node(node: u16, n: u32, front: &[u8]) -> Verdict
+    requires known { node < 111 }
+    requires some { 0 < n }
+    requires short { n < 2 ^ 31 }
+    requires present { length front.now ≤ n }
+    ensures { result ≡ term_judgement (term_at node) n front.now }
+{
+    verdict(item(node, n, true, front))
 }
 
 /// An outcome as it is answered: what is done is whole.

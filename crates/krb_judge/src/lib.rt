@@ -1,13 +1,12 @@
 //! Kerberos V5 messages from whole slices: what octets decide ([`judge`]), and the message that
-//! octets are ([`parse`]).
+//! octets are ([`parse`]), also for a Ticket and for METHOD-DATA alone.
 #![tactic(auto)]
 
 mod judging;
 mod parsing;
 
 pub use judging::judge;
-pub use parsing::whole_kind;
-pub use parsing::{ParseFault, parse, parse_whole};
+pub use parsing::{ParseFault, parse, parse_method_data, parse_ticket, parse_whole, whole_kind};
 
 #[cfg(test)]
 mod tests;

@@ -1,20 +1,24 @@
 //! The message that octets are.
 
+mod fields;
+mod scalars;
 mod split;
 mod types;
 
-ghost use Rattle.std.specs.Prelude.{◌≡◌, ◌≢◌, ◌^◌, ◌<◌, ◌↔◌, ◌⊎◌, IfOk, IsErrOf, Ok, Err, Some, None, length};
+ghost use Rattle.std.specs.Prelude.{◌≡◌, ◌≢◌, ◌^◌, ◌<◌, ◌↔◌, ◌⊎◌, ℕ, List, IfOk, IsErrOf, Ok, Err, Some, None, length};
 ghost use Rattle.krb_der.specs.declared.verdict.Verdict.TheVariants.{Whole};
-ghost use Rattle.krb_msg.specs.Judgement.{judgement};
-ghost use Rattle.krb_msg.specs.Views.{kind_of, kind_term, message_der, message_value};
-ghost use Rattle.krb_judge.specs.Reads.{Spells, kind_of_tag};
-ghost use Rattle.krb_judge.specs.Parses.{refusal_of as refusal_in, AreOf, AreOfKind, HasNoMessage};
+ghost use Rattle.krb_msg.specs.Judgement.{judgement, term_judgement};
+ghost use Rattle.krb_msg.specs.Nodes.{term_at};
+ghost use Rattle.krb_msg.specs.Views.{kind_of_tag, message_der};
+ghost use Rattle.krb_judge.specs.Reads.{IsDer};
+ghost use Rattle.krb_judge.specs.Parses.{refusal_by, refusal_of as refusal_in, ticket_refusal, method_data_refusal, judged_as, IsKnown, AreOf, AreOfKind, AreOfTicket, AreOfMethodData, HasNoMessage};
 ghost use Rattle.krb_judge.specs.declared.parsing.ParseFault.TheVariants as fault;
 
-use crate::judging::judge;
-use crate::parsing::types::{ap_rep, ap_req, kdc_rep};
-use krb_der::{Memory, Refusal, Verdict, Why};
-use krb_msg::{Kind, Message};
+use crate::judging::{judge, judge_node};
+use crate::parsing::fields::Decode;
+use crate::parsing::types::{kdc_rep, kdc_req};
+use krb_der::{Many, Memory, Refusal, Verdict, Why};
+use krb_msg::{ApRep, ApReq, Kind, KrbError, Message, PaData, Ticket};
 use std::alloc::{AllocError, AllocFailed, Global};
 
 /// Why octets gave no message.
@@ -42,6 +46,21 @@ impl<T: Drop> From<AllocFailed<T>> for ParseFault {
     }
 }
 
+/// What a slice is judged as.
+#[derive(Clone, Copy)]
+enum Expected {
+    /// A message of any kind.
+    Message,
+    /// An item of the term of a node of `krb_msg::grammar`.
+    Node(u16),
+}
+
+/// The node of a Ticket (RFC 4120, 5.3).
+const TICKET: u16 = 16;
+
+/// The node of METHOD-DATA (RFC 4120, 5.9.1).
+const METHOD_DATA: u16 = 39;
+
 /// The message that octets are, or why they are none. A slice of more than 2147483647 octets is
 /// `TooLong` at 0, an empty one `Empty` at 0; else [`judge`] refuses it. A refusal is decided
 /// before any growth.
@@ -51,15 +70,57 @@ pub fn parse(alloc: Global, octets: &[u8]) -> Result<Message, ParseFault>
     ensures refused { (r : Refusal) → IsErrOf result (fault.Refused r) ↔ (refusal_in octets.now ≡ Some r) }
     ensures none { HasNoMessage octets.now ↔ (refusal_in octets.now ≢ None) }
 {
-    match refusal_of(octets) {
+    match refusal_of(Expected::Message, octets) {
         Some(refusal) => Err(ParseFault::Refused(refusal)),
         None => Ok(whole_message(alloc, octets)?),
     }
 }
 
-/// Why octets are no message, where they are none.
-fn refusal_of(octets: &[u8]) -> Option<Refusal>
-    ensures { result ≡ refusal_in octets.now }
+/// The Ticket (RFC 4120, 5.3) that octets are, or why they are none, as [`parse`] has it of a
+/// message.
+pub fn parse_ticket(alloc: Global, octets: &[u8]) -> Result<Ticket, ParseFault>
+    ensures ticket { IfOk result (AreOfTicket octets.now) }
+    ensures found { (t : Ticket) → AreOfTicket octets.now t → (result ≡ Ok t) ⊎ (result ≡ Err fault.Memory) }
+    ensures refused { (r : Refusal) → IsErrOf result (fault.Refused r) ↔ (ticket_refusal octets.now ≡ Some r) }
+    ensures none { ((t : Ticket) → AreOfTicket octets.now t → ⊥) ↔ (ticket_refusal octets.now ≢ None) }
+{
+    parse_node(alloc, TICKET, octets)
+}
+
+/// The METHOD-DATA (RFC 4120, 5.9.1) that octets are, or why they are none, as [`parse`] has it of
+/// a message.
+pub fn parse_method_data(alloc: Global, octets: &[u8]) -> Result<Vec<PaData>, ParseFault>
+    ensures items { IfOk result (λ items. AreOfMethodData octets.now items.items) }
+    ensures found { (items : List PaData) → AreOfMethodData octets.now items → IfOk result (λ those. those.items ≡ items) × (method_data_refusal octets.now ≡ None) }
+    ensures refused { (r : Refusal) → IsErrOf result (fault.Refused r) ↔ (method_data_refusal octets.now ≡ Some r) }
+    ensures none { ((items : List PaData) → AreOfMethodData octets.now items → ⊥) ↔ (method_data_refusal octets.now ≢ None) }
+{
+    match parse_node::<Many<PaData>>(alloc, METHOD_DATA, octets) {
+        Ok(items) => Ok(items.into_vec()),
+        Err(fault) => Err(fault),
+    }
+}
+
+/// The value whose octets these are, as an item of a node's term.
+fn parse_node<T: Decode>(alloc: Global, node: u16, octets: &[u8]) -> Result<T, ParseFault>
+    requires known { node < 111 }
+    requires form { (those : List ℕ) → IsDer (term_at node) those → T.IsForm those }
+    ensures value { IfOk result (λ value. IsDer (term_at node) octets.now × (length octets.now < 2 ^ 31) × (T.octets value ≡ octets.now)) }
+    ensures refused { (r : Refusal) → IsErrOf result (fault.Refused r) ↔ (refusal_by (term_judgement (term_at node)) octets.now ≡ Some r) }
+{
+    match refusal_of(Expected::Node(node), octets) {
+        Some(refusal) => Err(ParseFault::Refused(refusal)),
+        None => {
+            let (value, _) = T::decode(alloc, octets)?;
+            Ok(value)
+        }
+    }
+}
+
+/// Why octets are not what they are judged as, where they are not.
+fn refusal_of(expected: Expected, octets: &[u8]) -> Option<Refusal>
+    requires { IsKnown expected }
+    ensures { result ≡ refusal_by (judged_as expected) octets.now }
 {
     if octets.len() > 2147483647 {
         return Some(Refusal {
@@ -73,9 +134,23 @@ fn refusal_of(octets: &[u8]) -> Option<Refusal>
             why: Why::Empty,
         });
     }
-    match judge(octets.len() as u32, octets) {
+    match verdict_on(expected, octets) {
         Verdict::Refused(refusal) => Some(refusal),
         _ => None,
+    }
+}
+
+/// The verdict on all the octets of a slice.
+fn verdict_on(expected: Expected, octets: &[u8]) -> Verdict
+    requires known { IsKnown expected }
+    requires some { 0 < length octets.now }
+    requires short { length octets.now < 2 ^ 31 }
+    ensures { result ≡ judged_as expected (length octets.now) octets.now }
+{
+    let n = octets.len() as u32;
+    match expected {
+        Expected::Message => judge(n, octets),
+        Expected::Node(node) => judge_node(node, n, octets),
     }
 }
 
@@ -100,13 +175,16 @@ pub fn whole_kind(octets: &[u8]) -> Kind
 fn whole_message(alloc: Global, octets: &[u8]) -> Result<Message, AllocError>
     requires short { length octets.now < 2 ^ 31 }
     requires whole { judgement (length octets.now) octets.now ≡ Whole }
-    ensures { IfOk result (λ m. Spells (kind_term (kind_of m)) (message_value m) octets.now) }
+    ensures { IfOk result (λ m. message_der m ≡ octets.now) }
 {
     match kind(octets[0]) {
-        Kind::AsRep => Ok(Message::AsRep(kdc_rep(alloc, octets)?)),
-        Kind::TgsRep => Ok(Message::TgsRep(kdc_rep(alloc, octets)?)),
-        Kind::ApReq => Ok(Message::ApReq(ap_req(alloc, octets)?)),
-        Kind::ApRep => Ok(Message::ApRep(ap_rep(alloc, octets)?)),
+        Kind::AsReq => Ok(Message::AsReq(kdc_req::<0x6A, 10>(alloc, octets)?)),
+        Kind::AsRep => Ok(Message::AsRep(kdc_rep::<0x6B, 11>(alloc, octets)?)),
+        Kind::TgsReq => Ok(Message::TgsReq(kdc_req::<0x6C, 12>(alloc, octets)?)),
+        Kind::TgsRep => Ok(Message::TgsRep(kdc_rep::<0x6D, 13>(alloc, octets)?)),
+        Kind::ApReq => Ok(Message::ApReq(ApReq::decode(alloc, octets)?.0)),
+        Kind::ApRep => Ok(Message::ApRep(ApRep::decode(alloc, octets)?.0)),
+        Kind::KrbError => Ok(Message::KrbError(KrbError::decode(alloc, octets)?.0)),
     }
 }
 
@@ -115,9 +193,12 @@ fn kind(tag: u8) -> Kind
     ensures { result ≡ kind_of_tag tag }
 {
     match tag {
+        0x6A => Kind::AsReq,
         0x6B => Kind::AsRep,
+        0x6C => Kind::TgsReq,
         0x6D => Kind::TgsRep,
         0x6E => Kind::ApReq,
-        _ => Kind::ApRep,
+        0x6F => Kind::ApRep,
+        _ => Kind::KrbError,
     }
 }

@@ -1,6 +1,6 @@
 //! Messages parsed from octets that were worked out by hand from RFC 4120, appendix A.
 
-use crate::{ParseFault, parse};
+use crate::{ParseFault, parse, parse_method_data, parse_ticket};
 use krb_der::{Refusal, Why};
 use krb_msg::{EncryptedData, KdcRep, Message, PaData, PrincipalName, Ticket, encode, size};
 use std::alloc::Global;
@@ -16,6 +16,21 @@ const AS_REP: &str =
 
 const TGS_REP: &str =
     "6D5F305DA003020105A10302010DA3031B0141A40E300CA003020101A10530031B0175A52D612B3029A003020105A1031B0141A20E300CA003020102A10530031B0168A30D300BA003020112A2040402BEEFA60D300BA003020112A2040402BEEF";
+
+const TICKET: &str =
+    "612B3029A003020105A1031B0141A20E300CA003020102A10530031B0168A30D300BA003020112A2040402BEEF";
+
+/// A TGS-REQ with no encryption types and one further ticket.
+const TGS_REQ: &str =
+    "6C6B3069A103020105A20302010CA45D305BA00703050000000000A2031B0141A511180F31393730303130313030303030305AA703020101A8023000AB2F302D612B3029A003020105A1031B0141A20E300CA003020102A10530031B0168A30D300BA003020112A2040402BEEF";
+
+/// A KRB-ERROR with METHOD-DATA of one PA-DATA.
+const KRB_ERROR: &str =
+    "7E4F304DA003020105A10302011EA411180F32303030303130313030303030305AA503020100A603020119A9031B0141AA0E300CA003020102A10530031B0168AC0F040D300B3009A103020102A2020400";
+
+/// An AS-REQ with seven flag bits and the nonce -1.
+const AS_REQ: &str =
+    "6A3A3038A103020105A20302010AA42C302AA00403020140A2031B0141A511180F31393730303130313030303030305AA7030201FFA8053003020112";
 
 /// A TGS-REP with two PA-DATA (2, empty, and 136, 01 02), the client alice/admin, and kvno in both
 /// sealed parts: 2 in the ticket, 4294967295 beside it.
@@ -128,6 +143,116 @@ fn reads_a_tgs_rep(rt: HostRuntime) -> Result<(), Fail> {
 }
 
 #[test]
+fn reads_a_tgs_req(rt: HostRuntime) -> Result<(), Fail> {
+    let Message::TgsReq(request) = message(rt.alloc(), TGS_REQ)? else {
+        return Err(Fail::from("a TGS-REQ"));
+    };
+    let body = &request.body;
+    assert!(rt; request.padata.is_none() && body.cname.is_none() && body.sname.is_none());
+    assert_eq!(rt; body.realm.octets(), b"A".as_slice());
+    assert_eq!(rt;
+        body.till.octets().as_slice(),
+        b"19700101000000Z".as_slice()
+    );
+    assert!(rt; body.from.is_none() && body.rtime.is_none() && body.addresses.is_none());
+    assert_eq!(rt; body.nonce.get(), 1);
+    assert!(rt; body.etype.as_slice().is_empty() && body.enc_authorization_data.is_none());
+    let Some(tickets) = &body.additional_tickets else {
+        return Err(Fail::from("tickets"));
+    };
+    match tickets.as_slice() {
+        [only] => assert!(rt; is_for_h(only)),
+        _ => return Err(Fail::from("one ticket")),
+    }
+    Ok(())
+}
+
+#[test]
+fn reads_an_as_req(rt: HostRuntime) -> Result<(), Fail> {
+    let Message::AsReq(request) = message(rt.alloc(), AS_REQ)? else {
+        return Err(Fail::from("an AS-REQ"));
+    };
+    let body = &request.body;
+    assert_eq!(rt; body.kdc_options.unused(), 1);
+    assert_eq!(rt; body.kdc_options.octets(), b"\x40".as_slice());
+    assert_eq!(rt; body.nonce.get(), -1);
+    match body.etype.as_slice() {
+        [only] => assert_eq!(rt; only.get(), 18),
+        _ => return Err(Fail::from("one encryption type")),
+    }
+    Ok(())
+}
+
+#[test]
+fn reads_a_krb_error_and_its_method_data(rt: HostRuntime) -> Result<(), Fail> {
+    let alloc = rt.alloc();
+    let Message::KrbError(error) = message(alloc, KRB_ERROR)? else {
+        return Err(Fail::from("a KRB-ERROR"));
+    };
+    assert!(rt; error.ctime.is_none() && error.cusec.is_none());
+    assert_eq!(rt;
+        error.stime.octets().as_slice(),
+        b"20000101000000Z".as_slice()
+    );
+    assert_eq!(rt; error.susec.get(), 0);
+    assert_eq!(rt; error.error_code.get(), 25);
+    assert!(rt; error.crealm.is_none() && error.cname.is_none() && error.e_text.is_none());
+    assert_eq!(rt; error.realm.octets(), b"A".as_slice());
+    assert!(rt; is_named(&error.sname, 2, b"h"));
+    let Some(data) = &error.e_data else {
+        return Err(Fail::from("data"));
+    };
+    assert_eq!(rt; data.as_slice().len(), 13);
+    let methods = parse_method_data(alloc, data.as_slice()).map_err(|_| "METHOD-DATA")?;
+    match methods.as_slice() {
+        [only] => assert!(rt; is_padata(only, 2, b"")),
+        _ => return Err(Fail::from("one PA-DATA")),
+    }
+    Ok(())
+}
+
+#[test]
+fn reads_a_ticket_and_method_data_alone(rt: HostRuntime) -> Result<(), Fail> {
+    let alloc = rt.alloc();
+    let octets = hex::decode(alloc, TICKET)?;
+    let ticket = parse_ticket(alloc, octets.as_slice()).map_err(|_| "a ticket")?;
+    assert!(rt; is_for_h(&ticket));
+    let none = parse_method_data(alloc, b"\x30\x00").map_err(|_| "METHOD-DATA")?;
+    assert!(rt; none.as_slice().is_empty());
+    Ok(())
+}
+
+#[test]
+fn refuses_what_is_no_ticket(rt: HostRuntime) -> Result<(), Fail> {
+    let alloc = rt.alloc();
+    for (octets, place, why) in [
+        (b"".as_slice(), 0, Why::Empty),
+        (b"\x61\x80".as_slice(), 1, Why::Indefinite),
+        (b"\x30\x00".as_slice(), 0, Why::Tag),
+    ] {
+        match parse_ticket(alloc, octets) {
+            Err(ParseFault::Refused(refusal)) => {
+                assert_eq!(rt; refusal, Refusal { place, why });
+            }
+            _ => return Err(Fail::from("a refusal")),
+        }
+    }
+    match parse_method_data(alloc, b"\x31\x00") {
+        Err(ParseFault::Refused(refusal)) => {
+            assert_eq!(rt;
+                refusal,
+                Refusal {
+                    place: 0,
+                    why: Why::Tag
+                }
+            );
+        }
+        _ => return Err(Fail::from("a refusal")),
+    }
+    Ok(())
+}
+
+#[test]
 fn reads_what_may_be_left_out(rt: HostRuntime) -> Result<(), Fail> {
     let Message::TgsRep(reply) = message(rt.alloc(), FULL)? else {
         return Err(Fail::from("a TGS-REP"));
@@ -168,6 +293,21 @@ fn refuses_what_is_no_message(rt: HostRuntime) -> Result<(), Fail> {
             Why::Range,
         ),
         ("30", 0, Why::Tag),
+        (
+            "7E4F304DA003020105A10302011EA411180F41303030303130313030303030305AA503020100A603020119A9031B0141AA0E300CA003020102A10530031B0168AC0F040D300B3009A103020102A2020400",
+            18,
+            Why::Time,
+        ),
+        (
+            "6A3A3038A103020105A20302010AA42C302AA00403020840A2031B0141A511180F31393730303130313030303030305AA7030201FFA8053003020112",
+            22,
+            Why::Bits,
+        ),
+        (
+            "6A3A3038A103020105A20302010AA42C302AA00403020141A2031B0141A511180F31393730303130313030303030305AA7030201FFA8053003020112",
+            23,
+            Why::Bits,
+        ),
     ] {
         assert_eq!(rt; refusal(alloc, digits)?, Refusal { place, why }, "{digits}");
     }
@@ -177,7 +317,14 @@ fn refuses_what_is_no_message(rt: HostRuntime) -> Result<(), Fail> {
 #[test]
 fn comes_again(rt: HostRuntime) -> Result<(), Fail> {
     let alloc = rt.alloc();
-    for (digits, count) in [(AP_REP, 31), (AP_REQ, 85), (AS_REP, 97)] {
+    for (digits, count) in [
+        (AP_REP, 31),
+        (AP_REQ, 85),
+        (AS_REP, 97),
+        (AS_REQ, 60),
+        (TGS_REQ, 109),
+        (KRB_ERROR, 81),
+    ] {
         let message = message(alloc, digits)?;
         assert_eq!(rt; size(&message), Some(count));
         let octets = encode(alloc, &message).map_err(|_| "encodes")?;

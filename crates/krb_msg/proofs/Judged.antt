@@ -1,5 +1,5 @@
 -- The laws of the judgement and of DER, at the messages of the crate.
-use Rattle.std.proofs.Common.{◌≡◌, ℕ, suc, ◌^◌, ◌<◌, ◌≤◌, inl, inr, ℤ, pos, true, List, [], ◌∷◌, ◌++◌, length, map, take, Option, Some, None, refl, sym, ◌∙◌, ap, ap₂, subst, arith, append-nil}
+use Rattle.std.proofs.Common.{◌≡◌, ℕ, suc, ◌^◌, ◌<◌, ◌≤◌, inl, inr, ℤ, pos, negsuc, true, List, [], ◌∷◌, ◌++◌, length, map, take, Option, Some, None, refl, sym, ◌∙◌, ap, ap₂, subst, arith, append-nil}
 use Rattle.std.specs.Prelude.{◌≤ℤ◌, ◌==◌, if◌then◌else◌}
 use Rattle.std.specs.Option.{option_map}
 use Rattle.std.proofs.lemmas.Int.{ints}
@@ -10,18 +10,21 @@ use Rattle.krb_der.specs.declared.verdict.Refusal.{Refusal}
 use Rattle.krb_der.specs.declared.verdict.Verdict.TheVariants as verdict
 use Rattle.krb_msg.specs.declared.message.Message.{Message}
 use Rattle.krb_msg.specs.declared.message.Message.TheVariants as message
-use Rattle.krb_msg.specs.declared.pa_data.PaData.{PaData}
+use Rattle.krb_msg.specs.declared.kdc_req.KdcReq.{KdcReq}
 use Rattle.krb_msg.specs.declared.kdc_rep.KdcRep.{KdcRep}
 use Rattle.krb_msg.specs.declared.message.Kind.{Kind}
 use Rattle.krb_msg.specs.declared.message.Kind.TheVariants as kind
-use Rattle.krb_msg.specs.Term.{Term, tag_of, Value, der, Fits}
-use Rattle.krb_msg.specs.Grammar.{messages, ticket, pa_data}
-use Rattle.krb_msg.specs.Judgement.{Outcome, Open, Bad, Done, message_outcome, judgement, verdict_of}
-use Rattle.krb_msg.specs.Views.{kind_of, kind_term, message_value, message_of, message_der, pa_data_value, pa_data_of, ticket_value, ticket_of, KdcRepValue, kdc_rep_value, kdc_rep_of, ap_req_of, ap_rep_of, IsInProfile}
-use Rattle.krb_msg.specs.Laws.{AreMessage, IsFinal}
+use Rattle.krb_msg.specs.Term.{Term, tag_of, Value, der, Fits, IfPresent}
+use Rattle.std.specs.List.{AllByRecursion}
+use Rattle.krb_msg.specs.Grammar.{messages, ticket, principal_name, req_body, micros, krb_error}
+use Rattle.krb_msg.specs.Shape.{is_unambiguous}
+use Rattle.krb_msg.specs.Judgement.{Outcome, Open, Bad, Done, item_outcome, message_outcome, judgement, term_judgement, verdict_of}
+use Rattle.krb_msg.specs.Views.{kind_of, kind_term, kind_of_tag, message_value, message_of, message_der, pa_data_value, pa_data_of, principal_name_value, principal_name_of, host_address_value, host_address_of, encrypted_data_value, encrypted_data_of, ticket_value, ticket_of, kdc_req_body_value, kdc_req_body_of, KdcReqValue, kdc_req_value, kdc_req_of, KdcRepValue, kdc_rep_value, kdc_rep_of, micros_of, krb_error_value, krb_error_of, ap_req_of, ap_rep_of, IsInProfile}
+use Rattle.krb_msg.specs.Told.{option-back, list-back, kdc_req_body-back, krb_error-back}
+use Rattle.krb_msg.specs.Laws.{AreMessage, AreValue, IsFinal}
 use Rattle.krb_der.specs.Items.{same_from_cons}
 use Rattle.krb_msg.specs.Values.{der-append}
-use Rattle.krb_msg.proofs.Laws.{IsWhole, Settles, same_value}
+use Rattle.krb_msg.proofs.Laws.{IsWhole, IsWhole-done, Settles, item_outcome-der, decided, same_value}
 use Rattle.krb_msg.proofs.Messages.{IsChosen, IsWhole-message, Settles-message_outcome, message_outcome-decided, message-accepts, unambiguous_message}
 
 -- ---- the judgement and the outcome
@@ -46,52 +49,48 @@ open_outcome (Done count) e = absurd cc
 
 -- ---- messages of each kind
 chosen_kind : (k : Kind) → IsChosen (kind_term k) messages
-chosen_kind kind.AsRep = inl refl
-chosen_kind kind.TgsRep = inr (refl, inl refl)
-chosen_kind kind.ApReq = inr (refl, inr (refl, inl refl))
-chosen_kind kind.ApRep = inr (refl, inr (refl, inr (refl, inl refl)))
+chosen_kind kind.AsReq = inl refl
+chosen_kind kind.AsRep = inr (refl, inl refl)
+chosen_kind kind.TgsReq = inr (refl, inr (refl, inl refl))
+chosen_kind kind.TgsRep = inr (refl, inr (refl, inr (refl, inl refl)))
+chosen_kind kind.ApReq = inr (refl, inr (refl, inr (refl, inr (refl, inl refl))))
+chosen_kind kind.ApRep = inr (refl, inr (refl, inr (refl, inr (refl, inr (refl, inl refl)))))
+chosen_kind kind.KrbError = inr (refl, inr (refl, inr (refl, inr (refl, inr (refl, inr (refl, inl refl))))))
 
 kind_of_chosen : (term : Term) → IsChosen term messages → (k : Kind) × (term ≡ kind_term k)
-kind_of_chosen term (inl e) = (kind.AsRep, e)
-kind_of_chosen term (inr (x, inl e)) = (kind.TgsRep, e)
-kind_of_chosen term (inr (x, inr (y, inl e))) = (kind.ApReq, e)
-kind_of_chosen term (inr (x, inr (y, inr (z, inl e)))) = (kind.ApRep, e)
-kind_of_chosen term (inr (x, inr (y, inr (z, inr c)))) = absurd c.1
+kind_of_chosen term (inl e) = (kind.AsReq, e)
+kind_of_chosen term (inr (a, inl e)) = (kind.AsRep, e)
+kind_of_chosen term (inr (a, inr (b, inl e))) = (kind.TgsReq, e)
+kind_of_chosen term (inr (a, inr (b, inr (c, inl e)))) = (kind.TgsRep, e)
+kind_of_chosen term (inr (a, inr (b, inr (c, inr (d, inl e))))) = (kind.ApReq, e)
+kind_of_chosen term (inr (a, inr (b, inr (c, inr (d, inr (f, inl e)))))) = (kind.ApRep, e)
+kind_of_chosen term (inr (a, inr (b, inr (c, inr (d, inr (f, inr (g, inl e))))))) = (kind.KrbError, e)
+kind_of_chosen term (inr (a, inr (b, inr (c, inr (d, inr (f, inr (g, inr none))))))) = absurd none.1
 
--- the kind whose messages begin with a tag
-abbrev kind_of_tag : ℕ → Kind
-kind_of_tag tag = if tag == 0x6B then kind.AsRep else if tag == 0x6D then kind.TgsRep else if tag == 0x6E then kind.ApReq else kind.ApRep
-
-kind_of_tag-tag : (k : Kind) → kind_of_tag (tag_of (kind_term k)) ≡ k
+pub kind_of_tag-tag : (k : Kind) → kind_of_tag (tag_of (kind_term k)) ≡ k
+kind_of_tag-tag kind.AsReq = refl
 kind_of_tag-tag kind.AsRep = refl
+kind_of_tag-tag kind.TgsReq = refl
 kind_of_tag-tag kind.TgsRep = refl
 kind_of_tag-tag kind.ApReq = refl
 kind_of_tag-tag kind.ApRep = refl
+kind_of_tag-tag kind.KrbError = refl
 
 -- ---- values and back
-map-back : {A B : Type 0} (to : A → B) (from : B → A) → ((a : A) → from (to a) ≡ a) → (xs : List A) → map from (map to xs) ≡ xs
-map-back to from back [] = refl
-map-back to from back (x ∷ xs) = ap₂ (λ y ys. y ∷ ys) (back x) (map-back to from back xs)
-
-option-back : {A B : Type 0} (to : A → B) (from : B → A) → ((a : A) → from (to a) ≡ a) → (o : Option A) → option_map from (option_map to o) ≡ o
-option-back to from back None = refl
-option-back to from back (Some x) = ap Some (back x)
-
--- lists of PA-DATA and of their values
-padata-back : (padata : Option (List PaData)) → option_map (map pa_data_of) (option_map (map pa_data_value) padata) ≡ padata
-padata-back = option-back (map pa_data_value) (map pa_data_of) (map-back pa_data_value pa_data_of (λ p. refl))
-
-padata_value-back : (padata : Option (List (Value pa_data))) → option_map (map pa_data_value) (option_map (map pa_data_of) padata) ≡ padata
-padata_value-back = option-back (map pa_data_of) (map pa_data_value) (map-back pa_data_of pa_data_value (λ p. refl))
+kdc_req-back : (n : ℕ) (m : KdcReq) → kdc_req_of (kdc_req_value n m) ≡ m
+kdc_req-back n m = λ i. record { padata = list-back pa_data_value pa_data_of (λ p. refl) m.padata i; body = kdc_req_body-back m.body i }
 
 kdc_rep-back : (n : ℕ) (m : KdcRep) → kdc_rep_of (kdc_rep_value n m) ≡ m
-kdc_rep-back n m = λ i. record m { padata = padata-back m.padata i }
+kdc_rep-back n m = λ i. record m { padata = list-back pa_data_value pa_data_of (λ p. refl) m.padata i }
 
 pub message_comes_back : (m : Message) → message_of (kind_of m) (message_value m) ≡ m
+message_comes_back (message.AsReq m) = ap message.AsReq (kdc_req-back 10 m)
 message_comes_back (message.AsRep m) = ap message.AsRep (kdc_rep-back 11 m)
+message_comes_back (message.TgsReq m) = ap message.TgsReq (kdc_req-back 12 m)
 message_comes_back (message.TgsRep m) = ap message.TgsRep (kdc_rep-back 13 m)
 message_comes_back (message.ApReq m) = refl
 message_comes_back (message.ApRep m) = refl
+message_comes_back (message.KrbError m) = ap message.KrbError (krb_error-back m)
 
 exactly_one : (k : ℕ) (z : ℤ) → pos k ≤ℤ z → z ≤ℤ pos k → pos k ≡ z
 exactly_one k z low high = omega (arith, ints)
@@ -111,25 +110,74 @@ StandsFor-same m value e f = record {
 }
 
 -- the version that a ticket fixes
-ticket_value-of : (v : Value ticket) → Fits ticket v → ticket_value (ticket_of v) ≡ v
+pub ticket_value-of : (v : Value ticket) → Fits ticket v → ticket_value (ticket_of v) ≡ v
 ticket_value-of (five, (realm, (sname, (enc, none)))) f =
     let p : pos 5 ≡ five = exactly_one 5 five f.0.0 f.0.1 in
     λ i. (p i, (realm, (sname, (enc, none))))
 
+tickets_value-of : (vs : List (Value ticket)) → AllByRecursion (Fits ticket) vs → map ticket_value (map ticket_of vs) ≡ vs
+tickets_value-of [] f = refl
+tickets_value-of (v ∷ vs) f = ap₂ (λ t ts. t ∷ ts) (ticket_value-of v f.0) (tickets_value-of vs f.1)
+
+additional_tickets_value-of : (o : Option (List (Value ticket))) → IfPresent (AllByRecursion (Fits ticket)) o → option_map (map ticket_value) (option_map (map ticket_of) o) ≡ o
+additional_tickets_value-of None f = refl
+additional_tickets_value-of (Some vs) f = ap Some (tickets_value-of vs f)
+
+-- the values of a KDC-REQ-BODY, and the numbers that a KDC-REQ of either kind fixes
+body_value-of : (v : Value req_body) → Fits req_body v → kdc_req_body_value (kdc_req_body_of v) ≡ v
+body_value-of (options, (cname, (realm, (sname, (from, (till, (rtime, (nonce, (etype, (addresses, (sealed, (tickets, none)))))))))))) f =
+    let names : (o : Option (Value principal_name)) → option_map principal_name_value (option_map principal_name_of o) ≡ o = option-back principal_name_of principal_name_value (λ p. refl) in
+    let places : option_map (map host_address_value) (option_map (map host_address_of) addresses) ≡ addresses = list-back host_address_of host_address_value (λ a. refl) addresses in
+    let authorization : option_map encrypted_data_value (option_map encrypted_data_of sealed) ≡ sealed = option-back encrypted_data_of encrypted_data_value (λ e. refl) sealed in
+    let further : option_map (map ticket_value) (option_map (map ticket_of) tickets) ≡ tickets = additional_tickets_value-of tickets f.1.1.1.1.1.1.1.1.1.1.1.0 in
+    λ i. (options, (names cname i, (realm, (names sname i, (from, (till, (rtime, (nonce, (etype, (places i, (authorization i, (further i, none))))))))))))
+
+kdc_req_value-of : (n : ℕ) (v : KdcReqValue) → pos 5 ≡ v.0 → pos n ≡ v.1.0 → kdc_req_body_value (kdc_req_body_of v.1.1.1.0) ≡ v.1.1.1.0 → kdc_req_value n (kdc_req_of v) ≡ v
+kdc_req_value-of n (five, (number, (padata, (body, none)))) p q b =
+    λ i. (p i, (q i, (list-back pa_data_of pa_data_value (λ p. refl) padata i, (b i, none))))
+
 -- the numbers that a KDC-REP of either kind fixes
 kdc_rep_value-of : (n : ℕ) (v : KdcRepValue) → pos 5 ≡ v.0 → pos n ≡ v.1.0 → ticket_value (ticket_of v.1.1.1.1.1.0) ≡ v.1.1.1.1.1.0 → kdc_rep_value n (kdc_rep_of v) ≡ v
 kdc_rep_value-of n (five, (number, (padata, (crealm, (cname, (issued, (enc, none))))))) p q t =
-    λ i. (p i, (q i, (padata_value-back padata i, (crealm, (cname, (t i, (enc, none)))))))
+    λ i. (p i, (q i, (list-back pa_data_of pa_data_value (λ p. refl) padata i, (crealm, (cname, (t i, (enc, none)))))))
+
+-- the numbers that a KRB-ERROR fixes, and its microseconds
+micros_value-of : (z : ℤ) → pos 0 ≤ℤ z → pos (micros_of z) ≡ z
+micros_value-of (pos number) f = refl
+micros_value-of (negsuc number) f = absurd (omega (arith, ints, f))
+
+option_micros-of : (o : Option ℤ) → IfPresent (Fits micros) o → option_map pos (option_map micros_of o) ≡ o
+option_micros-of None f = refl
+option_micros-of (Some z) f = ap Some (micros_value-of z f.0)
+
+krb_error_value-of : (v : Value krb_error) → Fits krb_error v → pos 5 ≡ v.0 → pos 30 ≡ v.1.0 → krb_error_value (krb_error_of v) ≡ v
+krb_error_value-of (five, (number, (ctime, (cusec, (stime, (susec, (code, (crealm, (cname, (realm, (sname, (text, (more, none))))))))))))) f p q =
+    let client : option_map pos (option_map micros_of cusec) ≡ cusec = option_micros-of cusec f.1.1.1.0 in
+    let server : pos (micros_of susec) ≡ susec = micros_value-of susec f.1.1.1.1.1.0.0 in
+    let name : option_map principal_name_value (option_map principal_name_of cname) ≡ cname = option-back principal_name_of principal_name_value (λ p. refl) cname in
+    λ i. (p i, (q i, (ctime, (client i, (stime, (server i, (code, (crealm, (name i, (realm, (sname, (text, (more, none)))))))))))))
 
 kind_stands : (k : Kind) (value : Value (kind_term k)) → Fits (kind_term k) value → StandsFor (kind_term k) value
+kind_stands kind.AsReq value f =
+    let p : pos 5 ≡ value.0 = exactly_one 5 value.0 f.0.0 f.0.1 in
+    let q : pos 10 ≡ value.1.0 = exactly_one 10 value.1.0 f.1.0.0 f.1.0.1 in
+    StandsFor-same (message.AsReq (kdc_req_of value)) value (kdc_req_value-of 10 value p q (body_value-of value.1.1.1.0 f.1.1.1.0)) f
 kind_stands kind.AsRep value f =
     let p : pos 5 ≡ value.0 = exactly_one 5 value.0 f.0.0 f.0.1 in
     let q : pos 11 ≡ value.1.0 = exactly_one 11 value.1.0 f.1.0.0 f.1.0.1 in
     StandsFor-same (message.AsRep (kdc_rep_of value)) value (kdc_rep_value-of 11 value p q (ticket_value-of value.1.1.1.1.1.0 f.1.1.1.1.1.0)) f
+kind_stands kind.TgsReq value f =
+    let p : pos 5 ≡ value.0 = exactly_one 5 value.0 f.0.0 f.0.1 in
+    let q : pos 12 ≡ value.1.0 = exactly_one 12 value.1.0 f.1.0.0 f.1.0.1 in
+    StandsFor-same (message.TgsReq (kdc_req_of value)) value (kdc_req_value-of 12 value p q (body_value-of value.1.1.1.0 f.1.1.1.0)) f
 kind_stands kind.TgsRep value f =
     let p : pos 5 ≡ value.0 = exactly_one 5 value.0 f.0.0 f.0.1 in
     let q : pos 13 ≡ value.1.0 = exactly_one 13 value.1.0 f.1.0.0 f.1.0.1 in
     StandsFor-same (message.TgsRep (kdc_rep_of value)) value (kdc_rep_value-of 13 value p q (ticket_value-of value.1.1.1.1.1.0 f.1.1.1.1.1.0)) f
+kind_stands kind.KrbError value f =
+    let p : pos 5 ≡ value.0 = exactly_one 5 value.0 f.0.0 f.0.1 in
+    let q : pos 30 ≡ value.1.0 = exactly_one 30 value.1.0 f.1.0.0 f.1.0.1 in
+    StandsFor-same (message.KrbError (krb_error_of value)) value (krb_error_value-of value f p q) f
 kind_stands kind.ApReq (five, (fourteen, (options, (issued, (enc, none))))) f =
     let p : pos 5 ≡ five = exactly_one 5 five f.0.0 f.0.1 in
     let q : pos 14 ≡ fourteen = exactly_one 14 fourteen f.1.0.0 f.1.0.1 in
@@ -157,6 +205,24 @@ whole_is_message n octets small a l e = by (whole_outcome (message_outcome messa
             let all : length octets ≡ n = omega (arith, w.within) in
             let form : message_der s.message ≡ octets = s.form ∙ sym w.form ∙ take_all count octets (omega arith) in
             record { message = s.message; in_profile = record { fits = s.fits; short = omega (arith, ap length form) }; form = form; all = all }
+
+-- of any term
+pub whole_is_value : (term : Term) (octets : List ℕ) → AreOctets octets → term_judgement term (length octets) octets ≡ verdict.Whole → AreValue term octets
+whole_is_value term octets a e = by (whole_outcome (item_outcome term (length octets) true octets) e)
+  where
+    by : (count : ℕ) × (item_outcome term (length octets) true octets ≡ Done count) → AreValue term octets
+    by (count, d) =
+        let w : IsWhole term (length octets) true octets count = IsWhole-done term (length octets) true octets count a d in
+        record { value = w.value; fits = w.fits; form = sym w.form ∙ take_all count octets (omega (arith, w.fills refl)) }
+
+pub value_is_whole : (term : Term) (value : Value term) → is_unambiguous term ≡ true → Fits term value → length (der term value) < 2 ^ 31 → term_judgement term (length (der term value)) (der term value) ≡ verdict.Whole
+value_is_whole term value u f small =
+    let e : item_outcome term (length (der term value)) true (der term value ++ []) ≡ Done (length (der term value)) =
+    item_outcome-der term u value f (omega arith) (length (der term value)) true [] (omega arith) (λ t. refl) in
+    ap verdict_of (ap (item_outcome term (length (der term value)) true) (sym (append-nil (der term value))) ∙ e)
+
+pub value_is_decided : (term : Term) (octets : List ℕ) → 0 < length octets → term_judgement term (length octets) octets ≡ verdict.Open → ⊥
+value_is_decided term octets some e = decided term (length octets) true octets some refl (open_outcome (item_outcome term (length octets) true octets) e)
 
 pub message_is_whole : (m : Message) → IsInProfile m → judgement (length (message_der m)) (message_der m) ≡ verdict.Whole
 message_is_whole m p =

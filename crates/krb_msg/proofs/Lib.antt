@@ -16,4 +16,4 @@ pub mod Streams
 pub mod Judged
 pub mod Fronts
 pub mod Table
-pub mod KdcReps
+pub mod Fields

@@ -19,7 +19,7 @@ use Rattle.krb_msg.proofs.Laws.{item_outcome-der, Settles, Settles-stable, IsWho
 
 -- ---- the grammar
 pub unambiguous-messages : AllByRecursion (λ term. is_unambiguous term ≡ true) messages
-unambiguous-messages = (refl, (refl, (refl, (refl, tt))))
+unambiguous-messages = (refl, (refl, (refl, (refl, (refl, (refl, (refl, tt)))))))
 
 -- ---- the term of a tag
 -- a term whose tag is no earlier one's
@@ -133,11 +133,11 @@ pub message-accepts : (term : Term) → IsChosen term messages → (value : Valu
 message-accepts term c value f small rest = message_outcome-der messages term c (unambiguous_message term c) value f small rest
 
 pub octet_tags-messages : AllByRecursion (λ term. has_octet_tags term ≡ true) messages
-octet_tags-messages = (refl, (refl, (refl, (refl, tt))))
+octet_tags-messages = (refl, (refl, (refl, (refl, (refl, (refl, (refl, tt)))))))
 
 pub AreOctets-message : (term : Term) → IsChosen term messages → (value : Value term) → Fits term value → length (der term value) < 2 ^ 32 → AreOctets (der term value)
 AreOctets-message term c = AreOctets-der term (All-chosen (λ term. has_octet_tags term ≡ true) term messages octet_tags-messages c)
 
 -- each message is chosen by its own tag
 pub chosen-messages : AllByRecursion (λ term. IsChosen term messages) messages
-chosen-messages = (inl refl, (inr (refl, inl refl), (inr (refl, inr (refl, inl refl)), (inr (refl, inr (refl, inr (refl, inl refl))), tt))))
+chosen-messages = (inl refl, (inr (refl, inl refl), (inr (refl, inr (refl, inl refl)), (inr (refl, inr (refl, inr (refl, inl refl))), (inr (refl, inr (refl, inr (refl, inr (refl, inl refl)))), (inr (refl, inr (refl, inr (refl, inr (refl, inr (refl, inl refl))))), (inr (refl, inr (refl, inr (refl, inr (refl, inr (refl, inr (refl, inl refl)))))), tt)))))))

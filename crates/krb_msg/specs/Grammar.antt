@@ -160,4 +160,4 @@ krb_error = Application 93 30 (Sequence 95 (
 
 -- The messages that are judged, by their tags; any other first octet is refused.
 abbrev pub messages : List Term
-messages = as_rep ∷ tgs_rep ∷ ap_req ∷ ap_rep ∷ []
+messages = as_req ∷ as_rep ∷ tgs_req ∷ tgs_rep ∷ ap_req ∷ ap_rep ∷ krb_error ∷ []

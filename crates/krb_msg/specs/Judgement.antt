@@ -174,3 +174,7 @@ verdict_of (Done count) = verdict.Whole
 -- The judgement of the octets present of a message of n octets.
 abbrev pub judgement : ℕ → List ℕ → Verdict
 judgement n octets = verdict_of (message_outcome messages n octets)
+
+-- The judgement of the octets present of an item of a term, which alone has n octets.
+abbrev pub term_judgement : Term → ℕ → List ℕ → Verdict
+term_judgement term n octets = verdict_of (item_outcome term n true octets)

@@ -1,11 +1,13 @@
 -- What holds of all messages and of all octets. Each is the contract of a function of the module `law`.
-use Rattle.std.specs.Prelude.{ℕ, suc, ◌≡◌, ◌^◌, ◌<◌, ◌≤◌, List, ◌++◌, length, take}
+use Rattle.std.specs.Prelude.{ℕ, suc, true, ◌≡◌, ◌^◌, ◌<◌, ◌≤◌, List, ◌++◌, length, take}
 use Rattle.krb_der.specs.Octets.{AreOctets}
 use Rattle.krb_der.specs.declared.why.Why.{Why}
 use Rattle.krb_der.specs.declared.verdict.Verdict.TheVariants.{Open, Whole, Refused}
 use Rattle.krb_msg.specs.declared.message.Message.{Message}
 use Rattle.krb_msg.specs.Views.{kind_of, message_value, message_of, message_der, IsInProfile}
-use Rattle.krb_msg.specs.Judgement.{judgement}
+use Rattle.krb_msg.specs.Term.{Term, Value, der, Fits}
+use Rattle.krb_msg.specs.Shape.{is_unambiguous}
+use Rattle.krb_msg.specs.Judgement.{judgement, term_judgement}
 
 -- the octets are all of the n, and the DER of a message
 pub record AreMessage (n : ℕ) (octets : List ℕ) : Type 0 where
@@ -21,6 +23,20 @@ WholeIsMessage = (n : ℕ) (octets : List ℕ) → n < 2 ^ 31 → AreOctets octe
 -- The DER of a message is judged whole.
 abbrev pub MessageIsWhole : Type 0
 MessageIsWhole = (m : Message) → IsInProfile m → judgement (length (message_der m)) (message_der m) ≡ Whole
+
+-- the octets are the DER of a value of a term
+pub record AreValue (term : Term) (octets : List ℕ) : Type 0 where
+  pub value : Value term
+  pub fits : Fits term value
+  pub form : der term value ≡ octets
+
+-- What is judged whole as an item of a term is the DER of a value.
+abbrev pub WholeIsValue : Type 0
+WholeIsValue = (term : Term) (octets : List ℕ) → AreOctets octets → term_judgement term (length octets) octets ≡ Whole → AreValue term octets
+
+-- The DER of a value is judged whole as an item of its term, if tags tell the term's fields apart.
+abbrev pub ValueIsWhole : Type 0
+ValueIsWhole = (term : Term) (value : Value term) → is_unambiguous term ≡ true → Fits term value → length (der term value) < 2 ^ 31 → term_judgement term (length (der term value)) (der term value) ≡ Whole
 
 -- A refusal stands at an octet that is there. It is the same whatever follows that octet, and without that octet nothing is decided.
 pub record IsFinal (n : ℕ) (octets : List ℕ) (place : ℕ) (reason : Why) : Type 0 where

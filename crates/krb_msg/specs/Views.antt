@@ -1,13 +1,17 @@
 -- The types of this crate as values of their terms, and back. The numbers that a message fixes are in the value and not in the type.
-use Rattle.std.specs.Prelude.{ℕ, pos, ◌^◌, ◌<◌, List, length, map}
+use Rattle.std.specs.Prelude.{ℕ, ℤ, pos, negsuc, ◌^◌, ◌<◌, ◌==◌, if◌then◌else◌, List, length, map}
 use Rattle.std.specs.Option.{option_map}
 use Rattle.krb_msg.specs.declared.encrypted_data.EncryptedData.{EncryptedData}
 use Rattle.krb_msg.specs.declared.principal_name.PrincipalName.{PrincipalName}
 use Rattle.krb_msg.specs.declared.pa_data.PaData.{PaData}
 use Rattle.krb_msg.specs.declared.ticket.Ticket.{Ticket}
+use Rattle.krb_msg.specs.declared.host_address.HostAddress.{HostAddress}
+use Rattle.krb_msg.specs.declared.kdc_req_body.KdcReqBody.{KdcReqBody}
+use Rattle.krb_msg.specs.declared.kdc_req.KdcReq.{KdcReq}
 use Rattle.krb_msg.specs.declared.kdc_rep.KdcRep.{KdcRep}
 use Rattle.krb_msg.specs.declared.ap_req.ApReq.{ApReq}
 use Rattle.krb_msg.specs.declared.ap_rep.ApRep.{ApRep}
+use Rattle.krb_msg.specs.declared.krb_error.KrbError.{KrbError}
 use Rattle.krb_msg.specs.declared.message.Message.{Message}
 use Rattle.krb_msg.specs.declared.message.Message.TheVariants as message
 use Rattle.krb_msg.specs.declared.message.Kind.{Kind}
@@ -15,7 +19,7 @@ use Rattle.krb_msg.specs.declared.message.Kind.TheVariants as kind
 use Rattle.krb_der.specs.Octets.{item}
 use Rattle.krb_msg.specs.Term.{Term, Value, der, Fits}
 use Rattle.krb_msg.specs.Values.{contents}
-use Rattle.krb_msg.specs.Grammar.{encrypted_data, principal_name, pa_data, ticket, as_rep, tgs_rep, ap_req, ap_rep}
+use Rattle.krb_msg.specs.Grammar.{encrypted_data, principal_name, pa_data, ticket, host_address, req_body, as_req, as_rep, tgs_req, tgs_rep, ap_req, ap_rep, krb_error}
 
 abbrev pub encrypted_data_value : EncryptedData → Value encrypted_data
 encrypted_data_value e = (e.etype, (e.kvno, (e.cipher, tt)))
@@ -70,6 +74,118 @@ kdc_rep_of v = record {
   enc_part = encrypted_data_of v.1.1.1.1.1.1.0;
 }
 
+abbrev pub host_address_value : HostAddress → Value host_address
+host_address_value a = (a.addr_type, (a.address, tt))
+
+abbrev pub host_address_of : Value host_address → HostAddress
+host_address_of v = record { addr_type = v.0; address = v.1.0 }
+
+abbrev pub kdc_req_body_value : KdcReqBody → Value req_body
+kdc_req_body_value b = (
+  b.kdc_options,
+  (
+    option_map principal_name_value b.cname,
+    (
+      b.realm,
+      (
+        option_map principal_name_value b.sname,
+        (
+          b.from,
+          (
+            b.till,
+            (
+              b.rtime,
+              (
+                b.nonce,
+                (
+                  b.etype,
+                  (
+                    option_map (map host_address_value) b.addresses,
+                    (option_map encrypted_data_value b.enc_authorization_data, (option_map (map ticket_value) b.additional_tickets, tt)),
+                  ),
+                ),
+              ),
+            ),
+          ),
+        ),
+      ),
+    ),
+  ),
+)
+
+abbrev pub kdc_req_body_of : Value req_body → KdcReqBody
+kdc_req_body_of (kdc_options, (cname, (realm, (sname, (from, (till, (rtime, (nonce, (etype, (addresses, (enc_authorization_data, (additional_tickets, none)))))))))))) = record {
+  kdc_options = kdc_options;
+  cname = option_map principal_name_of cname;
+  realm = realm;
+  sname = option_map principal_name_of sname;
+  from = from;
+  till = till;
+  rtime = rtime;
+  nonce = nonce;
+  etype = etype;
+  addresses = option_map (map host_address_of) addresses;
+  enc_authorization_data = option_map encrypted_data_of enc_authorization_data;
+  additional_tickets = option_map (map ticket_of) additional_tickets;
+}
+
+-- the values of AS-REQ and of TGS-REQ, which differ in their message type alone
+abbrev pub KdcReqValue : Type 0
+KdcReqValue = Value as_req
+
+abbrev pub kdc_req_value : ℕ → KdcReq → KdcReqValue
+kdc_req_value message_type m = (pos 5, (pos message_type, (option_map (map pa_data_value) m.padata, (kdc_req_body_value m.body, tt))))
+
+abbrev pub kdc_req_of : KdcReqValue → KdcReq
+kdc_req_of v = record { padata = option_map (map pa_data_of) v.1.1.0; body = kdc_req_body_of v.1.1.1.0 }
+
+-- microseconds, which are not negative
+abbrev pub micros_of : ℤ → ℕ
+micros_of (pos number) = number
+micros_of (negsuc number) = 0
+
+abbrev pub krb_error_value : KrbError → Value krb_error
+krb_error_value m = (
+  pos 5,
+  (
+    pos 30,
+    (
+      m.ctime,
+      (
+        option_map pos m.cusec,
+        (
+          m.stime,
+          (
+            pos m.susec,
+            (
+              m.error_code,
+              (
+                m.crealm,
+                (option_map principal_name_value m.cname, (m.realm, (principal_name_value m.sname, (m.e_text, (m.e_data, tt))))),
+              ),
+            ),
+          ),
+        ),
+      ),
+    ),
+  ),
+)
+
+abbrev pub krb_error_of : Value krb_error → KrbError
+krb_error_of (pvno, (msg_type, (ctime, (cusec, (stime, (susec, (error_code, (crealm, (cname, (realm, (sname, (e_text, (e_data, none))))))))))))) = record {
+  ctime = ctime;
+  cusec = option_map micros_of cusec;
+  stime = stime;
+  susec = micros_of susec;
+  error_code = error_code;
+  crealm = crealm;
+  cname = option_map principal_name_of cname;
+  realm = realm;
+  sname = principal_name_of sname;
+  e_text = e_text;
+  e_data = e_data;
+}
+
 -- ---- the one DER form of the types that have one by themselves
 abbrev pub encrypted_data_der : EncryptedData → List ℕ
 encrypted_data_der e = der encrypted_data (encrypted_data_value e)
@@ -89,34 +205,69 @@ ap_req_der m = der ap_req (ap_req_value m)
 abbrev pub ap_rep_der : ApRep → List ℕ
 ap_rep_der m = der ap_rep (ap_rep_value m)
 
--- a KDC-REP under the tag of a message, with the message's type
+abbrev pub host_address_der : HostAddress → List ℕ
+host_address_der a = der host_address (host_address_value a)
+
+abbrev pub kdc_req_body_der : KdcReqBody → List ℕ
+kdc_req_body_der b = der req_body (kdc_req_body_value b)
+
+abbrev pub krb_error_der : KrbError → List ℕ
+krb_error_der m = der krb_error (krb_error_value m)
+
+-- a KDC-REQ and a KDC-REP under the tag of a message, with the message's type
+abbrev pub kdc_req_octets : ℕ → ℕ → KdcReq → List ℕ
+kdc_req_octets tag message_type m = item tag (contents as_req (kdc_req_value message_type m))
+
 abbrev pub kdc_rep_octets : ℕ → ℕ → KdcRep → List ℕ
 kdc_rep_octets tag message_type m = item tag (contents as_rep (kdc_rep_value message_type m))
 
 -- ---- messages of any kind
 abbrev pub kind_of : Message → Kind
+kind_of (message.AsReq m) = kind.AsReq
 kind_of (message.AsRep m) = kind.AsRep
+kind_of (message.TgsReq m) = kind.TgsReq
 kind_of (message.TgsRep m) = kind.TgsRep
 kind_of (message.ApReq m) = kind.ApReq
 kind_of (message.ApRep m) = kind.ApRep
+kind_of (message.KrbError m) = kind.KrbError
 
 abbrev pub kind_term : Kind → Term
+kind_term kind.AsReq = as_req
 kind_term kind.AsRep = as_rep
+kind_term kind.TgsReq = tgs_req
 kind_term kind.TgsRep = tgs_rep
 kind_term kind.ApReq = ap_req
 kind_term kind.ApRep = ap_rep
+kind_term kind.KrbError = krb_error
+
+-- the kind whose messages begin with a tag, and any where none do
+abbrev pub kind_of_tag : ℕ → Kind
+kind_of_tag tag =
+    if tag == 0x6A then kind.AsReq
+    else if tag == 0x6B then kind.AsRep
+    else if tag == 0x6C then kind.TgsReq
+    else if tag == 0x6D then kind.TgsRep
+    else if tag == 0x6E then kind.ApReq
+    else if tag == 0x6F then kind.ApRep
+    else kind.KrbError
 
 abbrev pub message_value : (m : Message) → Value (kind_term (kind_of m))
+message_value (message.AsReq m) = kdc_req_value 10 m
 message_value (message.AsRep m) = kdc_rep_value 11 m
+message_value (message.TgsReq m) = kdc_req_value 12 m
 message_value (message.TgsRep m) = kdc_rep_value 13 m
 message_value (message.ApReq m) = ap_req_value m
 message_value (message.ApRep m) = ap_rep_value m
+message_value (message.KrbError m) = krb_error_value m
 
 abbrev pub message_of : (k : Kind) → Value (kind_term k) → Message
+message_of kind.AsReq value = message.AsReq (kdc_req_of value)
 message_of kind.AsRep value = message.AsRep (kdc_rep_of value)
+message_of kind.TgsReq value = message.TgsReq (kdc_req_of value)
 message_of kind.TgsRep value = message.TgsRep (kdc_rep_of value)
 message_of kind.ApReq value = message.ApReq (ap_req_of value)
 message_of kind.ApRep value = message.ApRep (ap_rep_of value)
+message_of kind.KrbError value = message.KrbError (krb_error_of value)
 
 -- the one DER form of a message
 abbrev pub message_der : Message → List ℕ

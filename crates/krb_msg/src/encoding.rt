@@ -61,10 +61,13 @@ fn octets_of(message: &Message) -> u64
     ensures { result ≡ saturated (length (message_der message.now)) }
 {
     match message {
+        Message::AsReq(req) => req.encoding(0x6A, 10).size(),
         Message::AsRep(rep) => rep.encoding(0x6B, 11).size(),
+        Message::TgsReq(req) => req.encoding(0x6C, 12).size(),
         Message::TgsRep(rep) => rep.encoding(0x6D, 13).size(),
         Message::ApReq(req) => req.size(),
         Message::ApRep(rep) => rep.size(),
+        Message::KrbError(error) => error.size(),
     }
 }
 
@@ -76,9 +79,12 @@ pub fn put(message: &Message, out: &mut Vec<u8>)
     ensures { out.new.items ≡ out.old.items ++ message_der message.now }
 {
     match message {
+        Message::AsReq(req) => req.encoding(0x6A, 10).put(out),
         Message::AsRep(rep) => rep.encoding(0x6B, 11).put(out),
+        Message::TgsReq(req) => req.encoding(0x6C, 12).put(out),
         Message::TgsRep(rep) => rep.encoding(0x6D, 13).put(out),
         Message::ApReq(req) => req.put(out),
         Message::ApRep(rep) => rep.put(out),
+        Message::KrbError(error) => error.put(out),
     }
 }

@@ -332,7 +332,7 @@ pub static FIELDS: [Slot; 148] = [
 ];
 
 /// The messages that are judged.
-pub static MESSAGES: [u16; 4] = [40, 50, 28, 22];
+pub static MESSAGES: [u16; 7] = [79, 40, 86, 50, 28, 22, 93];
 
 /// Each row of the table is that of its term, and each message that is judged has its row.
 pub fn tables()

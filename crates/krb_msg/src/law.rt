@@ -1,6 +1,6 @@
 //! Laws of the messages, of their DER and of the judgement of octets. Each is the contract of a
 //! function that does nothing.
-ghost use Rattle.krb_msg.specs.Laws.{WholeIsMessage, MessageIsWhole, RefusalIsFinal, RefusalIsRight, AllIsDecided, DerTells, MessageComesBack};
+ghost use Rattle.krb_msg.specs.Laws.{WholeIsMessage, MessageIsWhole, WholeIsValue, ValueIsWhole, RefusalIsFinal, RefusalIsRight, AllIsDecided, DerTells, MessageComesBack};
 
 /// What is judged whole is the DER of a message.
 pub fn whole_is_message()
@@ -10,6 +10,16 @@ pub fn whole_is_message()
 /// The DER of a message is judged whole.
 pub fn message_is_whole()
     ensures { MessageIsWhole }
+{}
+
+/// What is judged whole as an item of a term, a Ticket say, is the DER of one of its values.
+pub fn whole_is_value()
+    ensures { WholeIsValue }
+{}
+
+/// The DER of a value of a term is judged whole as an item of the term.
+pub fn value_is_whole()
+    ensures { ValueIsWhole }
 {}
 
 /// A refusal is the same whatever follows the octet that it stands at, and comes with that octet.

@@ -47,10 +47,13 @@ ap_rep_line m = codes "AP-REP enc=" ++ sealed_text m.enc_part ++ codes " notes="
 
 -- The line of a message. Of the kinds that have no fields in it yet, it is the name.
 abbrev pub message_line : Message → List ℕ
+message_line (message.AsReq m) = codes "AS-REQ" ++ line_feed
 message_line (message.AsRep m) = codes "AS-REP" ++ line_feed
+message_line (message.TgsReq m) = codes "TGS-REQ" ++ line_feed
 message_line (message.TgsRep m) = codes "TGS-REP" ++ line_feed
 message_line (message.ApReq m) = codes "AP-REQ" ++ line_feed
 message_line (message.ApRep m) = ap_rep_line m
+message_line (message.KrbError m) = codes "KRB-ERROR" ++ line_feed
 
 -- the line of a refusal behind so many messages
 abbrev pub refused_line : ℕ → ℕ → Why → List ℕ

@@ -121,10 +121,13 @@ pub(crate) fn put_message(text: &mut String, message: &Message) -> Result<(), Al
     ensures { OnOk result (string_bytes text.new ≡ string_bytes text.old ++ message_line message.now) }
 {
     match message {
+        Message::AsReq(_) => text.push_str("AS-REQ\n"),
         Message::AsRep(_) => text.push_str("AS-REP\n"),
+        Message::TgsReq(_) => text.push_str("TGS-REQ\n"),
         Message::TgsRep(_) => text.push_str("TGS-REP\n"),
         Message::ApReq(_) => text.push_str("AP-REQ\n"),
         Message::ApRep(ap_rep) => put_ap_rep(text, ap_rep),
+        Message::KrbError(_) => text.push_str("KRB-ERROR\n"),
     }
 }
 

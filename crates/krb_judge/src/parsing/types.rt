@@ -1,201 +1,405 @@
-//! The types of RFC 4120, section 5, each read of octets that are known to be its DER. Nothing is
-//! tested again, and each string of octets is copied once.
+//! The types of RFC 4120, section 5, each read of octets that are known to be its DER.
 
-ghost use Rattle.std.specs.Prelude.{◌≡◌, ◌^◌, ◌<◌, IfOk, length, map};
-ghost use Rattle.std.specs.List.{flat_map};
-ghost use Rattle.krb_der.specs.Octets.{item};
-ghost use Rattle.krb_msg.specs.Term.{Tagged, der};
-ghost use Rattle.krb_msg.specs.Grammar.{wide32, kerberos_string, principal_name as principal_name_term, pa_data as pa_data_term, ticket as ticket_term, encrypted_data as encrypted_data_term, ap_req as ap_req_term, ap_rep as ap_rep_term};
-ghost use Rattle.krb_msg.specs.Views.{principal_name_value, pa_data_value, encrypted_data_value, ticket_value, ap_req_value, ap_rep_value};
-ghost use Rattle.krb_judge.specs.Reads.{IsDer, AreFields, AreItems, Spells, IsOptional, cipher_fields, kvno_fields, HasPadata, IsPadata, IsKdcRep, SpellsKdcRep};
+ghost use Rattle.std.specs.Prelude.{◌≡◌, ◌^◌, ◌<◌, IfOk, length};
+ghost use Rattle.krb_msg.specs.Grammar.{principal_name as principal_name_term, pa_data as pa_data_term, host_address as host_address_term, ticket as ticket_term, encrypted_data as encrypted_data_term, req_body as req_body_term, ap_req as ap_req_term, ap_rep as ap_rep_term, krb_error as krb_error_term};
+ghost use Rattle.krb_msg.specs.Views.{principal_name_value, pa_data_value, host_address_value, encrypted_data_value, ticket_value, kdc_req_body_value, kdc_req_octets, kdc_rep_octets, ap_req_value, ap_rep_value, krb_error_value};
+ghost use Rattle.krb_judge.specs.Reads.{value_octets, IsDer, IsTagged};
 
-use crate::parsing::split::{
-    split_flags, split_inner, split_int32, split_integer, split_item, split_octets, split_string,
+use crate::parsing::fields::{Decode, End, Fields, Fixed, Optional, Required};
+use crate::parsing::split::{split_inner, split_item};
+use krb_der::{Flags, Int32, KString, KerberosTime, Many, Micros, Octets, Wide32};
+use krb_msg::{
+    ApRep, ApReq, EncryptedData, HostAddress, KdcRep, KdcReq, KdcReqBody, KrbError, PaData,
+    PrincipalName, Ticket,
 };
-use krb_der::{KString, Many, Wide32};
-use krb_msg::{ApRep, ApReq, EncryptedData, KdcRep, PaData, PrincipalName, Ticket};
 use std::alloc::{AllocError, Global};
 
-/// The strings of a SEQUENCE OF KerberosString, one after another.
-fn strings(alloc: Global, octets: &[u8]) -> Result<Many<KString>, AllocError>
-    requires short { length octets.now < 2 ^ 31 }
-    requires form { AreItems kerberos_string octets.now }
-    ensures { IfOk result (λ strings. flat_map (der kerberos_string) strings ≡ octets.now) }
-{
-    let mut strings = Vec::new(alloc);
-    let mut rest = octets;
-    'strings: while !rest.is_empty() {
-        let (string, behind) = split_item(rest);
-        strings.push(KString::new(string.to_vec(alloc)?))?;
-        rest = behind;
-    }
-    Ok(Many::new(strings))
-}
-
 /// PrincipalName (5.2.2).
-pub(crate) fn principal_name(alloc: Global, octets: &[u8]) -> Result<PrincipalName, AllocError>
-    requires short { length octets.now < 2 ^ 31 }
-    requires form { IsDer principal_name_term octets.now }
-    ensures { IfOk result (λ p. Spells principal_name_term (principal_name_value p) octets.now) }
-{
-    let (fields, _) = split_item(octets);
-    let (name_type, fields) = split_int32(fields);
-    let (name, _) = split_inner(fields);
-    Ok(PrincipalName {
-        name_type,
-        name: strings(alloc, name)?,
-    })
-}
+type PrincipalNameFields = Required<0xA0, Int32, Required<0xA1, Many<KString>, End>>;
+
+/// HostAddress (5.2.5).
+type HostAddressFields = Required<0xA0, Int32, Required<0xA1, Octets, End>>;
+
+/// PA-DATA (5.2.7).
+type PaDataFields = Required<0xA1, Int32, Required<0xA2, Octets, End>>;
 
 /// EncryptedData (5.2.9).
-pub(crate) fn encrypted_data(alloc: Global, octets: &[u8]) -> Result<EncryptedData, AllocError>
-    requires short { length octets.now < 2 ^ 31 }
-    requires form { IsDer encrypted_data_term octets.now }
-    ensures { IfOk result (λ e. Spells encrypted_data_term (encrypted_data_value e) octets.now) }
-{
-    let (fields, _) = split_item(octets);
-    let (etype, fields) = split_int32(fields);
-    let (kvno, fields) = split_kvno(fields);
-    let (cipher, _) = split_octets(alloc, fields)?;
-    Ok(EncryptedData {
-        etype,
-        kvno,
-        cipher,
-    })
-}
+type EncryptedDataFields = Required<
+    0xA0,
+    Int32,
+    Optional<0xA1, Wide32, Required<0xA2, Octets, End>>,
+>;
 
-/// The kvno of an EncryptedData, where the tag `[1]` says that it is there, and what stands behind
-/// it.
-fn split_kvno(octets: &[u8]) -> (Option<Wide32>, &[u8])
-    requires short { length octets.now < 2 ^ 31 }
-    requires form { AreFields kvno_fields octets.now }
-    ensures { IsOptional (Tagged 13 1 wide32) cipher_fields octets.now result.0 result.1.now }
-{
-    match octets.first() {
-        Some(tag) if *tag == 0xA1 => {
-            let (kvno, rest) = split_integer(octets);
-            (Wide32::new(kvno), rest)
-        }
-        _ => (None, octets),
+/// Ticket (5.3).
+type TicketFields = Fixed<
+    0xA0,
+    5,
+    Required<0xA1, KString, Required<0xA2, PrincipalName, Required<0xA3, EncryptedData, End>>>,
+>;
+
+/// KDC-REQ-BODY (5.4.1).
+type KdcReqBodyFields = Required<
+    0xA0,
+    Flags,
+    Optional<
+        0xA1,
+        PrincipalName,
+        Required<0xA2, KString, Optional<0xA3, PrincipalName, BodyTimes>>,
+    >,
+>;
+
+/// The times of a KDC-REQ-BODY, and what stands behind them.
+type BodyTimesFields = Optional<
+    0xA4,
+    KerberosTime,
+    Required<0xA5, KerberosTime, Optional<0xA6, KerberosTime, BodyRest>>,
+>;
+
+/// What stands behind the times of a KDC-REQ-BODY.
+type BodyRestFields = Required<
+    0xA7,
+    Wide32,
+    Required<
+        0xA8,
+        Many<Int32>,
+        Optional<
+            0xA9,
+            Many<HostAddress>,
+            Optional<0xAA, EncryptedData, Optional<0xAB, Many<Ticket>, End>>,
+        >,
+    >,
+>;
+
+/// KDC-REQ (5.4.1) with this message type.
+pub(crate) type KdcReqFields<const TYPE: u8> = Fixed<
+    0xA1,
+    5,
+    Fixed<0xA2, TYPE, Optional<0xA3, Many<PaData>, Required<0xA4, KdcReqBody, End>>>,
+>;
+
+/// KDC-REP (5.4.2) with this message type.
+pub(crate) type KdcRepFields<const TYPE: u8> = Fixed<
+    0xA0,
+    5,
+    Fixed<
+        0xA1,
+        TYPE,
+        Optional<
+            0xA2,
+            Many<PaData>,
+            Required<
+                0xA3,
+                KString,
+                Required<
+                    0xA4,
+                    PrincipalName,
+                    Required<0xA5, Ticket, Required<0xA6, EncryptedData, End>>,
+                >,
+            >,
+        >,
+    >,
+>;
+
+/// AP-REQ (5.5.1).
+type ApReqFields = Fixed<
+    0xA0,
+    5,
+    Fixed<
+        0xA1,
+        14,
+        Required<0xA2, Flags, Required<0xA3, Ticket, Required<0xA4, EncryptedData, End>>>,
+    >,
+>;
+
+/// AP-REP (5.5.2).
+type ApRepFields = Fixed<0xA0, 5, Fixed<0xA1, 15, Required<0xA2, EncryptedData, End>>>;
+
+/// KRB-ERROR (5.9.1).
+type KrbErrorFields = Fixed<
+    0xA0,
+    5,
+    Fixed<0xA1, 30, Optional<0xA2, KerberosTime, Optional<0xA3, Micros, ErrorTime>>>,
+>;
+
+/// The time of the server of a KRB-ERROR, and what stands behind it.
+type ErrorTimeFields = Required<
+    0xA4,
+    KerberosTime,
+    Required<0xA5, Micros, Required<0xA6, Int32, ErrorNames>>,
+>;
+
+/// The client and the service of a KRB-ERROR, and what stands behind them.
+type ErrorNamesFields = Optional<
+    0xA7,
+    KString,
+    Optional<
+        0xA8,
+        PrincipalName,
+        Required<
+            0xA9,
+            KString,
+            Required<0xAA, PrincipalName, Optional<0xAB, KString, Optional<0xAC, Octets, End>>>,
+        >,
+    >,
+>;
+
+/// A KDC-REQ-BODY from its times on. Long lists of fields are cut so, because types nest no deeper than a proof of them stays short.
+struct BodyTimes(BodyTimesFields);
+
+impl Fields for BodyTimes {
+    ghost AreForm = { ⟦<BodyTimesFields as Fields>⟧.AreForm };
+
+    ghost octets = { λ behind. ⟦<BodyTimesFields as Fields>⟧.octets behind.0 };
+
+    fn read(alloc: Global, contents: &[u8]) -> Result<BodyTimes, AllocError> {
+        Ok(BodyTimes(BodyTimesFields::read(alloc, contents)?))
     }
 }
 
-/// Ticket (5.3), whose version is fixed.
-pub(crate) fn ticket(alloc: Global, octets: &[u8]) -> Result<Ticket, AllocError>
-    requires short { length octets.now < 2 ^ 31 }
-    requires form { IsDer ticket_term octets.now }
-    ensures { IfOk result (λ t. Spells ticket_term (ticket_value t) octets.now) }
-{
-    let (fields, _) = split_inner(octets);
-    let (_tkt_vno, fields) = split_item(fields);
-    let (realm, fields) = split_string(alloc, fields)?;
-    let (sname, fields) = split_item(fields);
-    let (enc_part, _) = split_item(fields);
-    Ok(Ticket {
-        realm,
-        sname: principal_name(alloc, sname)?,
-        enc_part: encrypted_data(alloc, enc_part)?,
-    })
-}
+/// A KDC-REQ-BODY from its nonce on.
+struct BodyRest(BodyRestFields);
 
-/// AP-REQ (5.5.1), whose version and message type are fixed.
-pub(crate) fn ap_req(alloc: Global, octets: &[u8]) -> Result<ApReq, AllocError>
-    requires short { length octets.now < 2 ^ 31 }
-    requires form { IsDer ap_req_term octets.now }
-    ensures { IfOk result (λ m. Spells ap_req_term (ap_req_value m) octets.now) }
-{
-    let (fields, _) = split_inner(octets);
-    let (_pvno, fields) = split_item(fields);
-    let (_msg_type, fields) = split_item(fields);
-    let (ap_options, fields) = split_flags(alloc, fields)?;
-    let (issued, fields) = split_item(fields);
-    let (authenticator, _) = split_item(fields);
-    Ok(ApReq {
-        ap_options,
-        ticket: ticket(alloc, issued)?,
-        authenticator: encrypted_data(alloc, authenticator)?,
-    })
-}
+impl Fields for BodyRest {
+    ghost AreForm = { ⟦<BodyRestFields as Fields>⟧.AreForm };
 
-/// AP-REP (5.5.2), whose version and message type are fixed.
-pub(crate) fn ap_rep(alloc: Global, octets: &[u8]) -> Result<ApRep, AllocError>
-    requires short { length octets.now < 2 ^ 31 }
-    requires form { IsDer ap_rep_term octets.now }
-    ensures { IfOk result (λ m. Spells ap_rep_term (ap_rep_value m) octets.now) }
-{
-    let (fields, _) = split_inner(octets);
-    let (_pvno, fields) = split_item(fields);
-    let (_msg_type, fields) = split_item(fields);
-    let (enc_part, _) = split_item(fields);
-    Ok(ApRep {
-        enc_part: encrypted_data(alloc, enc_part)?,
-    })
-}
+    ghost octets = { λ behind. ⟦<BodyRestFields as Fields>⟧.octets behind.0 };
 
-/// PA-DATA (5.2.7), of the contents of its item.
-fn pa_data(alloc: Global, contents: &[u8]) -> Result<PaData, AllocError>
-    requires short { length contents.now < 2 ^ 31 }
-    requires form { IsDer pa_data_term (item 0x30 contents.now) }
-    ensures { IfOk result (λ p. Spells pa_data_term (pa_data_value p) (item 0x30 contents.now)) }
-{
-    let (padata_type, fields) = split_int32(contents);
-    let (padata_value, _) = split_octets(alloc, fields)?;
-    Ok(PaData {
-        padata_type,
-        padata_value,
-    })
-}
-
-/// The items of a SEQUENCE OF PA-DATA, one after another.
-fn method_data(alloc: Global, octets: &[u8]) -> Result<Many<PaData>, AllocError>
-    requires short { length octets.now < 2 ^ 31 }
-    requires form { AreItems pa_data_term octets.now }
-    ensures { IfOk result (λ items. flat_map (der pa_data_term) (map pa_data_value items) ≡ octets.now) }
-{
-    let mut items = Vec::new(alloc);
-    let mut rest = octets;
-    'items: while !rest.is_empty() {
-        let (contents, behind) = split_item(rest);
-        items.push(pa_data(alloc, contents)?)?;
-        rest = behind;
-    }
-    Ok(Many::new(items))
-}
-
-/// The padata of a KDC-REP, where the tag `[2]` says that it is there, and what stands behind it.
-fn split_padata(alloc: Global, octets: &[u8]) -> Result<(Option<Many<PaData>>, &[u8]), AllocError>
-    requires short { length octets.now < 2 ^ 31 }
-    requires form { HasPadata octets.now }
-    ensures { IfOk result (λ r. IsPadata octets.now r.0 r.1.now) }
-{
-    match octets.first() {
-        Some(tag) if *tag == 0xA2 => {
-            let (items, rest) = split_inner(octets);
-            Ok((Some(method_data(alloc, items)?), rest))
-        }
-        _ => Ok((None, octets)),
+    fn read(alloc: Global, contents: &[u8]) -> Result<BodyRest, AllocError> {
+        Ok(BodyRest(BodyRestFields::read(alloc, contents)?))
     }
 }
 
-/// KDC-REP (5.4.2), whose version and message type are fixed.
-pub(crate) fn kdc_rep(alloc: Global, octets: &[u8]) -> Result<KdcRep, AllocError>
+/// A KRB-ERROR from the time of its server on.
+struct ErrorTime(ErrorTimeFields);
+
+impl Fields for ErrorTime {
+    ghost AreForm = { ⟦<ErrorTimeFields as Fields>⟧.AreForm };
+
+    ghost octets = { λ behind. ⟦<ErrorTimeFields as Fields>⟧.octets behind.0 };
+
+    fn read(alloc: Global, contents: &[u8]) -> Result<ErrorTime, AllocError> {
+        Ok(ErrorTime(ErrorTimeFields::read(alloc, contents)?))
+    }
+}
+
+/// A KRB-ERROR from its names on.
+struct ErrorNames(ErrorNamesFields);
+
+impl Fields for ErrorNames {
+    ghost AreForm = { ⟦<ErrorNamesFields as Fields>⟧.AreForm };
+
+    ghost octets = { λ behind. ⟦<ErrorNamesFields as Fields>⟧.octets behind.0 };
+
+    fn read(alloc: Global, contents: &[u8]) -> Result<ErrorNames, AllocError> {
+        Ok(ErrorNames(ErrorNamesFields::read(alloc, contents)?))
+    }
+}
+
+impl Decode for PrincipalName {
+    ghost IsForm = { IsDer principal_name_term };
+
+    ghost octets = { λ name. value_octets principal_name_term (principal_name_value name) };
+
+    fn decode(alloc: Global, front: &[u8]) -> Result<(PrincipalName, &[u8]), AllocError> {
+        let (contents, rest) = split_item(front);
+        let Required(name_type, Required(name, End)) = PrincipalNameFields::read(alloc, contents)?;
+        Ok((PrincipalName { name_type, name }, rest))
+    }
+}
+
+impl Decode for HostAddress {
+    ghost IsForm = { IsDer host_address_term };
+
+    ghost octets = { λ address. value_octets host_address_term (host_address_value address) };
+
+    fn decode(alloc: Global, front: &[u8]) -> Result<(HostAddress, &[u8]), AllocError> {
+        let (contents, rest) = split_item(front);
+        let Required(addr_type, Required(address, End)) = HostAddressFields::read(alloc, contents)?;
+        Ok((HostAddress { addr_type, address }, rest))
+    }
+}
+
+impl Decode for PaData {
+    ghost IsForm = { IsDer pa_data_term };
+
+    ghost octets = { λ padata. value_octets pa_data_term (pa_data_value padata) };
+
+    fn decode(alloc: Global, front: &[u8]) -> Result<(PaData, &[u8]), AllocError> {
+        let (contents, rest) = split_item(front);
+        let Required(padata_type, Required(padata_value, End)) = PaDataFields::read(
+            alloc, contents,
+        )?;
+        let padata = PaData {
+            padata_type,
+            padata_value,
+        };
+        Ok((padata, rest))
+    }
+}
+
+impl Decode for EncryptedData {
+    ghost IsForm = { IsDer encrypted_data_term };
+
+    ghost octets = { λ sealed. value_octets encrypted_data_term (encrypted_data_value sealed) };
+
+    fn decode(alloc: Global, front: &[u8]) -> Result<(EncryptedData, &[u8]), AllocError> {
+        let (contents, rest) = split_item(front);
+        let Required(etype, Optional(kvno, Required(cipher, End))) = EncryptedDataFields::read(
+            alloc, contents,
+        )?;
+        let sealed = EncryptedData {
+            etype,
+            kvno,
+            cipher,
+        };
+        Ok((sealed, rest))
+    }
+}
+
+impl Decode for Ticket {
+    ghost IsForm = { IsDer ticket_term };
+
+    ghost octets = { λ ticket. value_octets ticket_term (ticket_value ticket) };
+
+    fn decode(alloc: Global, front: &[u8]) -> Result<(Ticket, &[u8]), AllocError> {
+        let (contents, rest) = split_inner(front);
+        let Fixed(Required(realm, Required(sname, Required(enc_part, End)))) = TicketFields::read(
+            alloc, contents,
+        )?;
+        let ticket = Ticket {
+            realm,
+            sname,
+            enc_part,
+        };
+        Ok((ticket, rest))
+    }
+}
+
+impl Decode for KdcReqBody {
+    ghost IsForm = { IsDer req_body_term };
+
+    ghost octets = { λ body. value_octets req_body_term (kdc_req_body_value body) };
+
+    fn decode(alloc: Global, front: &[u8]) -> Result<(KdcReqBody, &[u8]), AllocError> {
+        let (contents, rest) = split_item(front);
+        let Required(kdc_options, Optional(cname, Required(realm, Optional(sname, times)))) =
+            KdcReqBodyFields::read(alloc, contents)?;
+        let BodyTimes(Optional(from, Required(till, Optional(rtime, behind_times)))) = times;
+        let BodyRest(Required(nonce, Required(etype, Optional(addresses, sealed)))) = behind_times;
+        let Optional(enc_authorization_data, Optional(additional_tickets, End)) = sealed;
+        let body = KdcReqBody {
+            kdc_options,
+            cname,
+            realm,
+            sname,
+            from,
+            till,
+            rtime,
+            nonce,
+            etype,
+            addresses,
+            enc_authorization_data,
+            additional_tickets,
+        };
+        Ok((body, rest))
+    }
+}
+
+impl Decode for ApReq {
+    ghost IsForm = { IsDer ap_req_term };
+
+    ghost octets = { λ m. value_octets ap_req_term (ap_req_value m) };
+
+    fn decode(alloc: Global, front: &[u8]) -> Result<(ApReq, &[u8]), AllocError> {
+        let (contents, rest) = split_inner(front);
+        let Fixed(Fixed(Required(ap_options, Required(ticket, Required(authenticator, End))))) =
+            ApReqFields::read(alloc, contents)?;
+        let request = ApReq {
+            ap_options,
+            ticket,
+            authenticator,
+        };
+        Ok((request, rest))
+    }
+}
+
+impl Decode for ApRep {
+    ghost IsForm = { IsDer ap_rep_term };
+
+    ghost octets = { λ m. value_octets ap_rep_term (ap_rep_value m) };
+
+    fn decode(alloc: Global, front: &[u8]) -> Result<(ApRep, &[u8]), AllocError> {
+        let (contents, rest) = split_inner(front);
+        let Fixed(Fixed(Required(enc_part, End))) = ApRepFields::read(alloc, contents)?;
+        Ok((ApRep { enc_part }, rest))
+    }
+}
+
+impl Decode for KrbError {
+    ghost IsForm = { IsDer krb_error_term };
+
+    ghost octets = { λ m. value_octets krb_error_term (krb_error_value m) };
+
+    fn decode(alloc: Global, front: &[u8]) -> Result<(KrbError, &[u8]), AllocError> {
+        let (contents, rest) = split_inner(front);
+        let Fixed(Fixed(Optional(ctime, Optional(cusec, times)))) = KrbErrorFields::read(
+            alloc, contents,
+        )?;
+        let ErrorTime(Required(stime, Required(susec, Required(error_code, names)))) = times;
+        let ErrorNames(Optional(crealm, Optional(cname, Required(realm, server)))) = names;
+        let Required(sname, Optional(e_text, Optional(e_data, End))) = server;
+        let error = KrbError {
+            ctime,
+            cusec,
+            stime,
+            susec,
+            error_code,
+            crealm,
+            cname,
+            realm,
+            sname,
+            e_text,
+            e_data,
+        };
+        Ok((error, rest))
+    }
+}
+
+/// The KDC-REQ in a message with this tag and this message type.
+pub(crate) fn kdc_req<const TAG: u8, const TYPE: u8>(
+    alloc: Global,
+    octets: &[u8],
+) -> Result<KdcReq, AllocError>
     requires short { length octets.now < 2 ^ 31 }
-    requires form { IsKdcRep octets.now }
-    ensures { IfOk result (SpellsKdcRep octets.now) }
+    requires form { IsTagged TAG ⟦<KdcReqFields<TYPE> as Fields>⟧.AreForm octets.now }
+    ensures { IfOk result (λ m. kdc_req_octets TAG TYPE m ≡ octets.now) }
 {
-    let (fields, _) = split_inner(octets);
-    let (_pvno, fields) = split_item(fields);
-    let (_msg_type, fields) = split_item(fields);
-    let (padata, fields) = split_padata(alloc, fields)?;
-    let (crealm, fields) = split_string(alloc, fields)?;
-    let (cname, fields) = split_item(fields);
-    let (issued, fields) = split_item(fields);
-    let (enc_part, _) = split_item(fields);
+    let (contents, _) = split_inner(octets);
+    let Fixed(Fixed(Optional(padata, Required(body, End)))) = KdcReqFields::<TYPE>::read(
+        alloc, contents,
+    )?;
+    Ok(KdcReq { padata, body })
+}
+
+/// The KDC-REP in a message with this tag and this message type.
+pub(crate) fn kdc_rep<const TAG: u8, const TYPE: u8>(
+    alloc: Global,
+    octets: &[u8],
+) -> Result<KdcRep, AllocError>
+    requires short { length octets.now < 2 ^ 31 }
+    requires form { IsTagged TAG ⟦<KdcRepFields<TYPE> as Fields>⟧.AreForm octets.now }
+    ensures { IfOk result (λ m. kdc_rep_octets TAG TYPE m ≡ octets.now) }
+{
+    let (contents, _) = split_inner(octets);
+    let Fixed(Fixed(Optional(padata, Required(crealm, Required(cname, issued))))) = KdcRepFields::<
+        TYPE,
+    >::read(alloc, contents)?;
+    let Required(ticket, Required(enc_part, End)) = issued;
     Ok(KdcRep {
         padata,
         crealm,
-        cname: principal_name(alloc, cname)?,
-        ticket: ticket(alloc, issued)?,
-        enc_part: encrypted_data(alloc, enc_part)?,
+        cname,
+        ticket,
+        enc_part,
     })
 }

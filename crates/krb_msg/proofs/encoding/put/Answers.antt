@@ -3,13 +3,31 @@ use Rattle.krb_msg.specs.Views.{message_der}
 use Rattle.krb_msg.proofs.encoding.put.Goals as goal
 
 pub put-requires-clause-short : goal.put-requires-clause-short
-put-requires-clause-short c = subst (λ (l : List ℕ). length l ≤ 2147483647) (ap message_der c.in-AsRep.is ∙ sym c.encoding.ensures) c.requires.short
+put-requires-clause-short c = subst (λ (l : List ℕ). length l ≤ 2147483647) (ap message_der c.in-AsReq.is ∙ sym c.encoding.ensures) c.requires.short
 
 pub put-requires-clause-room : goal.put-requires-clause-room
-put-requires-clause-room c = subst (λ (l : List ℕ). vec_len c.args.out.now + length l ≤ vec_capacity c.args.out.now) (ap message_der c.in-AsRep.is ∙ sym c.encoding.ensures) c.requires.room
+put-requires-clause-room c = subst (λ (l : List ℕ). vec_len c.args.out.now + length l ≤ vec_capacity c.args.out.now) (ap message_der c.in-AsReq.is ∙ sym c.encoding.ensures) c.requires.room
+
+pub returns-in-AsReq : goal.returns-in-AsReq
+returns-in-AsReq c = c.put.ensures.items ∙ ap (λ (l : List ℕ). c.args.out.now.items ++ l) (sym (ap message_der c.in-AsReq.is ∙ sym c.encoding.ensures))
+
+pub put-requires-in-AsRep-clause-short : goal.put-requires-in-AsRep-clause-short
+put-requires-in-AsRep-clause-short c = subst (λ (l : List ℕ). length l ≤ 2147483647) (ap message_der c.in-AsRep.is ∙ sym c.encoding-in-AsRep.ensures) c.requires.short
+
+pub put-requires-in-AsRep-clause-room : goal.put-requires-in-AsRep-clause-room
+put-requires-in-AsRep-clause-room c = subst (λ (l : List ℕ). vec_len c.args.out.now + length l ≤ vec_capacity c.args.out.now) (ap message_der c.in-AsRep.is ∙ sym c.encoding-in-AsRep.ensures) c.requires.room
 
 pub returns-in-AsRep : goal.returns-in-AsRep
-returns-in-AsRep c = c.put.ensures.items ∙ ap (λ (l : List ℕ). c.args.out.now.items ++ l) (sym (ap message_der c.in-AsRep.is ∙ sym c.encoding.ensures))
+returns-in-AsRep c = c.put-in-AsRep.ensures.items ∙ ap (λ (l : List ℕ). c.args.out.now.items ++ l) (sym (ap message_der c.in-AsRep.is ∙ sym c.encoding-in-AsRep.ensures))
+
+pub put-requires-in-TgsReq-clause-short : goal.put-requires-in-TgsReq-clause-short
+put-requires-in-TgsReq-clause-short c = subst (λ (l : List ℕ). length l ≤ 2147483647) (ap message_der c.in-TgsReq.is ∙ sym c.encoding-in-TgsReq.ensures) c.requires.short
+
+pub put-requires-in-TgsReq-clause-room : goal.put-requires-in-TgsReq-clause-room
+put-requires-in-TgsReq-clause-room c = subst (λ (l : List ℕ). vec_len c.args.out.now + length l ≤ vec_capacity c.args.out.now) (ap message_der c.in-TgsReq.is ∙ sym c.encoding-in-TgsReq.ensures) c.requires.room
+
+pub returns-in-TgsReq : goal.returns-in-TgsReq
+returns-in-TgsReq c = c.put-in-TgsReq.ensures.items ∙ ap (λ (l : List ℕ). c.args.out.now.items ++ l) (sym (ap message_der c.in-TgsReq.is ∙ sym c.encoding-in-TgsReq.ensures))
 
 pub put-requires-in-TgsRep-clause-short : goal.put-requires-in-TgsRep-clause-short
 put-requires-in-TgsRep-clause-short c = subst (λ (l : List ℕ). length l ≤ 2147483647) (ap message_der c.in-TgsRep.is ∙ sym c.encoding-in-TgsRep.ensures) c.requires.short
@@ -37,3 +55,12 @@ put-requires-in-ApRep-clause-room c = subst (λ (l : List ℕ). vec_len c.args.o
 
 pub returns-in-ApRep : goal.returns-in-ApRep
 returns-in-ApRep c = c.put-in-ApRep.ensures.items ∙ ap (λ (l : List ℕ). c.args.out.now.items ++ l) (sym (ap message_der c.in-ApRep.is))
+
+pub put-requires-in-KrbError-clause-short : goal.put-requires-in-KrbError-clause-short
+put-requires-in-KrbError-clause-short c = subst (λ (l : List ℕ). length l ≤ 2147483647) (ap message_der c.in-KrbError.is) c.requires.short
+
+pub put-requires-in-KrbError-clause-room : goal.put-requires-in-KrbError-clause-room
+put-requires-in-KrbError-clause-room c = subst (λ (l : List ℕ). vec_len c.args.out.now + length l ≤ vec_capacity c.args.out.now) (ap message_der c.in-KrbError.is) c.requires.room
+
+pub returns-in-KrbError : goal.returns-in-KrbError
+returns-in-KrbError c = c.put-in-KrbError.ensures.items ∙ ap (λ (l : List ℕ). c.args.out.now.items ++ l) (sym (ap message_der c.in-KrbError.is))

@@ -1,10 +1,7 @@
-use Rattle.std.proofs.Common.{ℕ, pos, List, [], ◌++◌, sym, ap}
-use Rattle.krb_der.specs.Octets.{item, integer_octets}
-use Rattle.krb_msg.specs.Views.{principal_name_der, ticket_der, encrypted_data_der}
-use Rattle.krb_msg.proofs.KdcReps.{padata-octets}
+use Rattle.std.proofs.Common.{ap}
+use Rattle.krb_der.specs.Octets.{item}
+use Rattle.krb_msg.proofs.Fields.{kdc_rep-contents}
 use Rattle.krb_msg.proofs.kdc_rep.KdcRep.encoding.Goals as goal
 
 pub returns : goal.returns
-returns c =
-    let m = c.args.self.now in
-    sym (ap (λ (l : List ℕ). item c.args.tag (item 0x30 (item 0xA0 (item 0x02 (integer_octets (pos 5))) ++ (item 0xA1 (item 0x02 (integer_octets (pos c.args.message_type))) ++ (l ++ (item 0xA3 (item 0x1B m.crealm) ++ (item 0xA4 (principal_name_der m.cname) ++ (item 0xA5 (ticket_der m.ticket) ++ (item 0xA6 (encrypted_data_der m.enc_part) ++ []))))))))) (padata-octets m.padata))
+returns c = ap (item c.args.tag) (kdc_rep-contents c.args.message_type c.args.self.now)

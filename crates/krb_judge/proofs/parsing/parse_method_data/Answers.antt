@@ -1,0 +1,34 @@
+use Rattle.std.proofs.Common.{◌∙◌, sym, ap, arith, subst}
+use Rattle.krb_msg.specs.Grammar.{method_data}
+use Rattle.krb_judge.specs.Parses.{AreOfMethodData}
+use Rattle.krb_judge.proofs.Slices.{are_octets}
+use Rattle.krb_judge.proofs.Values.{same_error, refused_as, method_data_node, method_data_forms, are_of_method_data, same_method_data, method_data_not_refused, no_method_data}
+use Rattle.krb_judge.proofs.parsing.parse_method_data.Goals as goal
+
+pub parse_node-requires-clause-form : goal.parse_node-requires-clause-form
+parse_node-requires-clause-form c = method_data_forms
+
+pub returns-in-Ok-clause-items : goal.returns-in-Ok-clause-items
+returns-in-Ok-clause-items c = subst (AreOfMethodData c.args.octets.now) (sym c.into_vec.ensures) (are_of_method_data c.in-Ok.items c.in-Ok.ensures.value)
+
+pub returns-in-Ok-clause-found : goal.returns-in-Ok-clause-found
+returns-in-Ok-clause-found c = λ items f. (c.into_vec.ensures ∙ same_method_data c.in-Ok.items items (are_of_method_data c.in-Ok.items c.in-Ok.ensures.value) f, method_data_not_refused items f)
+
+pub returns-in-Ok-clause-refused : goal.returns-in-Ok-clause-refused
+returns-in-Ok-clause-refused c = λ r.
+    let same = refused_as method_data c.args.octets.now 39 method_data_node in
+    (λ e. absurd cc, λ e. let f = (c.in-Ok.ensures.refused r).1 (same ∙ e) in absurd cc)
+
+pub returns-in-Ok-clause-none : goal.returns-in-Ok-clause-none
+returns-in-Ok-clause-none c = no_method_data c.args.octets.now (are_octets c.args.octets.now (λ k. omega (arith, c.type_inv.octets k)))
+
+pub returns-in-Err-clause-found : goal.returns-in-Err-clause-found
+returns-in-Err-clause-found c = λ items f. (tt, method_data_not_refused items f)
+
+pub returns-in-Err-clause-refused : goal.returns-in-Err-clause-refused
+returns-in-Err-clause-refused c = λ r.
+    let same = refused_as method_data c.args.octets.now 39 method_data_node in
+    (λ e. sym same ∙ (c.in-Err.ensures.refused r).0 (same_error e), λ e. same_error ((c.in-Err.ensures.refused r).1 (same ∙ e)))
+
+pub returns-in-Err-clause-none : goal.returns-in-Err-clause-none
+returns-in-Err-clause-none c = no_method_data c.args.octets.now (are_octets c.args.octets.now (λ k. omega (arith, c.type_inv.octets k)))

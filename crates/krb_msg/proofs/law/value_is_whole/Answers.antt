@@ -1,0 +1,5 @@
+use Rattle.krb_msg.proofs.Judged.{value_is_whole}
+use Rattle.krb_msg.proofs.law.value_is_whole.Goals as goal
+
+pub returns : goal.returns
+returns c = value_is_whole
