@@ -10,6 +10,9 @@ use std::io::{Read, Write};
 use std::process::ExitCode;
 use std::{env, io};
 
+/// The greatest limit that there is. What a frame announces is not what it takes memory for.
+const GREATEST: u32 = (1 << 31) - 1;
+
 /// How often a feed, or what is made of a message, is tried where memory is refused.
 const TRIES: u32 = 3;
 
@@ -17,7 +20,7 @@ const TRIES: u32 = 3;
 /// refused.
 fn comes_again(alloc: Global, framed: &Framed<'_>) -> Option<bool> {
     let message = framed.message(alloc).ok()?;
-    let octets = frame(alloc, &message, Limit::DEFAULT).ok()?;
+    let octets = frame(alloc, &message, Limit::new(GREATEST)?).ok()?;
     Some(octets.as_slice().get(4..) == Some(framed.octets()))
 }
 
@@ -63,7 +66,8 @@ fn main(rt: HostRuntime) -> io::Result<ExitCode> {
         .unwrap_or(1);
     let mut stream = Vec::new(alloc);
     rt.stdin().read_to_end(&mut stream)?;
-    let mut decoder = Decoder::new(alloc, Limit::DEFAULT);
+    let limit = Limit::new(GREATEST).unwrap_or(Limit::DEFAULT);
+    let mut decoder = Decoder::new(alloc, limit);
     let mut out = rt.stdout();
     let mut rest = stream.as_slice();
     let mut goes_on = true;
