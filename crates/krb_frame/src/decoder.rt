@@ -46,8 +46,8 @@ pub enum Status {
 }
 
 /// Decodes a stream of framed messages (RFC 4120, 7.2.2) that comes in pieces: four octets of
-/// length, the highest first, and so many of a message. A length is judged with its fourth octet,
-/// and a message with each piece, as far as it is there.
+/// length, the highest first, and so many of a message. What is refused is so with the octet that
+/// shows it.
 #[derive(Drop)]
 pub struct Decoder {
     limit: Limit,
