@@ -302,8 +302,8 @@ fn says_how_a_stream_ends(rt: HostRuntime) -> Result<(), Fail> {
         let octets = hex::decode(alloc, digits)?;
         let mut stream = decoder(alloc, USUAL)?;
         let _ = stream.feed(octets.as_slice());
-        assert_eq!(rt; stream.finish(), end, "{digits}");
-        assert_eq!(rt; stream.next(), digits == AP_REP);
+        assert_eq!(rt; stream.finish(), end);
+        assert_eq!(rt; stream.next(), octets.len() == 35);
     }
     Ok(())
 }
