@@ -1,5 +1,5 @@
-# krbls: build, run, test and measure. Needs the Rattle toolchain's `rt`; `make bench` also needs python3.
-.PHONY: run build test bench clean
+# krbls: build, run, test and measure. Needs the Rattle toolchain's `rt`, and python3 for tests and `make bench`.
+.PHONY: run build test fuzz bench clean
 
 # Lists a real stream.
 run: build
@@ -15,10 +15,17 @@ build:
 test:
 	tests/all
 
-# Octets per second: of the listing of a stream, and of messages parsed and encoded.
+# More than `make test` tries: 100000 made-up streams, and each change of the messages of krb_damage.
+fuzz: build
+	cd crates/krb_damage && rt run < stdin > /dev/null
+	tests/fuzz damage
+	tests/fuzz 100000 1
+
+# Octets per second: of the listing of streams and of a keytab, and of messages parsed and encoded.
 bench: build
 	cd crates/krb_again && rt run < stdin > /dev/null
 	bench/stream
+	bench/keytab
 
 clean:
 	rm -rf bin crates/*/out

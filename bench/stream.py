@@ -1,52 +1,41 @@
-"""Times bin/krbls on streams of framed AP-REPs, beside cat, in 8 MiB of address space. Then what
-krb_again does with a stream of framed AS-REPs: to parse them, and to encode them again, beside a
-memcpy of the same octets."""
+"""Times bin/krbls on streams of framed messages, beside cat, in 8 MiB of address space: real messages
+of six kinds, and AP-REPs. Then what krb_again does with streams: to parse their messages, and to encode
+them again, beside a memcpy of the same octets."""
 
 import ctypes
-import os
-import subprocess
+import pathlib
 import sys
 import tempfile
-import time
+
+from timing import best_of, best_run, rate
 
 KRBLS = ["bash", "-c", "ulimit -v 8192; exec bin/krbls stream"]
 AGAIN = "crates/krb_again/out/krb_again"
+MIXED_OCTETS = 64 << 20
+LARGE_OCTETS = 8192
 
 
-def best_of(runs, action):
-    """The least of the seconds that an action took."""
-    least = None
-    for _ in range(runs):
-        start = time.perf_counter()
-        action()
-        seconds = time.perf_counter() - start
-        least = seconds if least is None else min(least, seconds)
-    return least
-
-
-def best_run(command, path):
-    """The least of the seconds that runs of a command took on a file."""
-
-    def run():
-        with open(path, "rb") as stream, open(os.devnull, "wb") as null:
-            subprocess.run(command, stdin=stream, stdout=null, check=True)
-
-    return best_of(5, run)
-
-
-def repeated(path, count):
-    """A file of so many thousand times the octets of an example, and its size."""
-    with open(path, "rb") as example:
-        frame = example.read()
+def repeated(frames, count):
+    """A file of so many times some frames."""
     stream = tempfile.NamedTemporaryFile()
-    for _ in range(count):
-        stream.write(frame * 1000)
+    piece = max(1, (1 << 20) // len(frames))
+    for done in range(0, count, piece):
+        stream.write(frames * min(piece, count - done))
     stream.flush()
-    return stream, count * 1000 * len(frame)
+    return stream
 
 
-def rate(size, seconds):
-    return f"{seconds:.3f} s, {size / seconds / 1e6:.1f} MB/s"
+def mixed_frames():
+    """The real messages of tests/streams that are no AP-REPs, one behind another, and how many they
+    are. The few large ones, which are almost all cipher, are left out."""
+    frames, messages = b"", 0
+    for path in sorted(pathlib.Path("tests/streams").glob("*.stream")):
+        lines = path.with_suffix(".want").read_text().splitlines()
+        if lines[1:] == ["end messages=1", "status 0"] and not lines[0].startswith("AP-REP"):
+            if path.stat().st_size < LARGE_OCTETS:
+                frames += path.read_bytes()
+                messages += 1
+    return frames, messages
 
 
 def copy_seconds(size):
@@ -55,24 +44,42 @@ def copy_seconds(size):
     return best_of(5, lambda: ctypes.memmove(copy, source, size))
 
 
+def time_listing(name, frames, messages, count):
+    """Prints what it takes to list so many times some frames."""
+    size, messages = count * len(frames), count * messages
+    with repeated(frames, count) as stream:
+        listing = best_run(KRBLS, stream.name)
+        copying = best_run(["cat"], stream.name)
+    print(
+        f"{messages} {name}, {size} octets: list {rate(size, listing)}, "
+        f"{messages / listing / 1e6:.3f} million messages/s; cat {rate(size, copying)}"
+    )
+
+
+def time_again(name, frames, messages, count):
+    """Prints what it takes to parse the messages of so many times some frames, and to encode them."""
+    size, messages = count * len(frames), count * messages
+    with repeated(frames, count) as stream:
+        cutting = best_run([AGAIN, "frames"], stream.name)
+        parse = best_run([AGAIN, "parse"], stream.name) - cutting
+        encode = best_run([AGAIN, "encode"], stream.name) - cutting - parse
+    print(
+        f"{messages} {name}, {size} octets: parse {rate(size, parse)}; "
+        f"encode and compare {rate(size, encode)}; memcpy {rate(size, copy_seconds(size))}"
+    )
+
+
 def main():
-    thousands = int(sys.argv[1]) // 1000
-    for count in (thousands, 2 * thousands):
-        stream, size = repeated("examples/ap-rep.stream", count)
-        with stream:
-            listing = best_run(KRBLS, stream.name)
-            copying = best_run(["cat"], stream.name)
-            print(f"{count}000 AP-REPs, {size} octets: list {rate(size, listing)}; cat {rate(size, copying)}")
-    count = max(thousands // 5, 1)
-    stream, size = repeated("examples/as-rep.stream", count)
-    with stream:
-        frames = best_run([AGAIN, "frames"], stream.name)
-        parse = best_run([AGAIN, "parse"], stream.name) - frames
-        encode = best_run([AGAIN], stream.name) - frames - parse
-        print(
-            f"{count}000 AS-REPs, {size} octets: parse {rate(size, parse)}; "
-            f"encode and compare {rate(size, encode)}; memcpy {rate(size, copy_seconds(size))}"
-        )
+    messages = int(sys.argv[1])
+    frames, kinds = mixed_frames()
+    mixed = ("mixed messages", frames, kinds, MIXED_OCTETS // len(frames))
+    ap_rep = pathlib.Path("examples/ap-rep.stream").read_bytes()
+    as_rep = pathlib.Path("examples/as-rep.stream").read_bytes()
+    time_listing(*mixed)
+    time_listing("AP-REPs", ap_rep, 1, messages)
+    time_listing("AP-REPs", ap_rep, 1, 2 * messages)
+    time_again(*mixed)
+    time_again("AS-REPs", as_rep, 1, max(messages // 5, 1))
 
 
 main()

@@ -5,3 +5,6 @@ pub mod Sizes
 pub mod Numbers
 pub mod Items
 pub mod Tells
+pub mod Faults
+pub mod Fields
+pub mod Hex

@@ -50,7 +50,7 @@ pub fn put_header(out: &mut Vec<u8>, tag: u8, contents: u32)
 }
 
 /// Appends octets into room that is there.
-pub(crate) fn put_octets(out: &mut Vec<u8>, octets: &[u8])
+pub fn put_octets(out: &mut Vec<u8>, octets: &[u8])
     requires { vec_len out.old + length octets.now ≤ vec_capacity out.old }
     ensures items { out.new.items ≡ out.old.items ++ octets.now }
     ensures len { vec_len out.new ≡ vec_len out.old + length octets.now }

@@ -4,11 +4,16 @@
 //!
 //! `Numbers`, `Items` and `Tells` of `specs/` define nothing: they prove the laws of [`Der`].
 //!
+//! Beside these stands what keytabs and credential caches share: why a file is refused
+//! ([`FileFault`]), and, in `specs/Fields`, how the fields of files are spelled and read.
+//!
 //! Nothing here knows a Kerberos message; `krb_msg` does.
 #![tactic(auto)]
 
 mod der;
 mod encoding;
+mod field;
+mod file;
 mod flags;
 mod int32;
 mod item;
@@ -25,9 +30,11 @@ mod wide32;
 
 pub use der::Der;
 pub use encoding::{Encoding, End, Fixed, Optional, Required, Sequence, Tagged};
+pub use field::Source;
+pub use file::{FileFault, FileWhy, file_why_number, file_why_text};
 pub use flags::Flags;
 pub use int32::Int32;
-pub use item::{TOO_LONG, item_size, put_header, put_item};
+pub use item::{TOO_LONG, item_size, put_header, put_item, put_octets};
 pub use kerberos_time::KerberosTime;
 pub use kstring::KString;
 pub use many::Many;

@@ -1,6 +1,6 @@
 -- Worked examples, computed by the definitions: octets in hexadecimal, and what they are.
-use Rattle.std.specs.Prelude.{ℕ, pos, negsuc, ◌+◌, ◌-◌, ◌*◌, ◌==◌, ◌≡◌, true, nat_lt, if◌then◌else◌, List, [], ◌∷◌, ◌++◌, take, Some, None, codes, refl}
-use Rattle.krb_der.specs.Octets.{when}
+use Rattle.std.specs.Prelude.{ℕ, pos, negsuc, ◌+◌, ◌-◌, ◌≡◌, true, List, [], ◌∷◌, ◌++◌, take, Some, None, codes, refl}
+use Rattle.krb_der.specs.Hex.{hex}
 use Rattle.krb_der.specs.declared.why.Why.TheVariants as why
 use Rattle.krb_der.specs.declared.verdict.Verdict.TheVariants as verdict
 use Rattle.krb_msg.specs.declared.message.Message.{Message}
@@ -9,15 +9,6 @@ use Rattle.krb_msg.specs.Grammar.{messages, ticket, ap_req, as_rep, tgs_rep, as_
 use Rattle.krb_msg.specs.Judgement.{Bad, Done, item_outcome, judgement}
 use Rattle.krb_msg.specs.Stream.{Frames, Boundary, Within, Refused, ends, frames}
 use Rattle.krb_msg.specs.Views.{message_der}
-
--- ---- octets written in hexadecimal, blanks between them
-abbrev digit : ℕ → ℕ
-digit code = if nat_lt code 58 then code - 48 else code - 55
-
-abbrev pub hex : List ℕ → List ℕ
-hex [] = []
-hex (high ∷ []) = []
-hex (high ∷ low ∷ rest) = when (high == 32) (λ _. hex (low ∷ rest)) (λ _. (digit high * 16 + digit low) ∷ hex rest)
 
 -- ---- an AP-REP
 abbrev ap_rep_octets : List ℕ

@@ -2,3 +2,4 @@ pub mod Texts
 pub mod Listings
 pub mod Transfers
 pub mod Runs
+pub mod Files

@@ -1,4 +1,5 @@
 pub mod Lines
 pub mod Listing
 pub mod Transfers
+pub mod Files
 pub mod Listers

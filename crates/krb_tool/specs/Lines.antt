@@ -1,33 +1,15 @@
 -- The lines of a listing, as lists of ASCII codes. Each ends with a line feed.
-use Rattle.std.specs.Prelude.{ℕ, ℤ, pos, negsuc, List, [], ◌∷◌, ◌++◌, length, Option, Some, None, codes}
-use Rattle.std.specs.List.{flat_map}
-use Rattle.std.specs.Fmt.{decimal, signed_decimal}
+use Rattle.std.specs.Prelude.{ℕ, ℤ, pos, negsuc, List, [], ◌∷◌, ◌++◌, Option, Some, None, codes}
+use Rattle.std.specs.Fmt.{decimal}
 use Rattle.krb_der.specs.Reasons.{reason_number, reason_name}
 use Rattle.krb_der.specs.declared.why.Why.{Why}
 use Rattle.krb_der.specs.declared.why.Why.TheVariants.{Truncated}
-use Rattle.krb_msg.specs.declared.encrypted_data.EncryptedData.{EncryptedData}
 use Rattle.krb_msg.specs.declared.ap_rep.ApRep.{ApRep}
 use Rattle.krb_msg.specs.declared.message.Message.{Message}
 use Rattle.krb_msg.specs.declared.message.Message.TheVariants as message
 use Rattle.krb_msg.specs.Stream.{End, Boundary, Within, Refused}
-
--- what is absent is `-`
-abbrev pub or_dash : {A : Type 0} → (A → List ℕ) → Option A → List ℕ
-or_dash text None = codes "-"
-or_dash text (Some value) = text value
-
--- what each element gives, with a separator between two
-abbrev pub joined : {A : Type 0} → List ℕ → (A → List ℕ) → List A → List ℕ
-joined separator text [] = []
-joined separator text (first ∷ others) = text first ++ flat_map (λ other. separator ++ text other) others
-
--- elements in brackets
-abbrev pub list_text : {A : Type 0} → (A → List ℕ) → List A → List ℕ
-list_text text values = codes "[" ++ joined (codes ",") text values ++ codes "]"
-
--- the encryption type, the key version and the number of cipher octets
-abbrev pub sealed_text : EncryptedData → List ℕ
-sealed_text sealed = signed_decimal sealed.etype ++ codes ":" ++ or_dash signed_decimal sealed.kvno ++ codes ":" ++ decimal (length sealed.cipher)
+use Rattle.krb_list.specs.Text.{line_feed, list_text, sealed_text}
+use Rattle.krb_list.specs.Refusals.{fault_text}
 
 -- the note 3 of a key version that is negative
 abbrev pub key_version_notes : Option ℤ → List ℕ
@@ -38,9 +20,6 @@ key_version_notes (Some (negsuc version)) = 3 ∷ []
 -- the notes in brackets
 abbrev pub notes_text : Option ℤ → List ℕ
 notes_text kvno = list_text decimal (key_version_notes kvno)
-
-abbrev pub line_feed : List ℕ
-line_feed = 10 ∷ []
 
 abbrev pub ap_rep_line : ApRep → List ℕ
 ap_rep_line m = codes "AP-REP enc=" ++ sealed_text m.enc_part ++ codes " notes=" ++ notes_text m.enc_part.kvno ++ line_feed
@@ -58,9 +37,7 @@ message_line (message.KrbError m) = codes "KRB-ERROR" ++ line_feed
 -- the line of a refusal behind so many messages
 abbrev pub refused_line : ℕ → ℕ → Why → List ℕ
 refused_line messages place reason =
-    codes "refused messages=" ++ decimal messages ++ codes " place=" ++ decimal place
-    ++ codes " why=" ++ decimal (reason_number reason) ++ codes " " ++ reason_name reason
-    ++ line_feed
+    codes "refused messages=" ++ decimal messages ++ fault_text place (reason_number reason) (reason_name reason) ++ line_feed
 
 -- the last line of a listing, behind so many messages
 abbrev pub end_line : ℕ → End → List ℕ

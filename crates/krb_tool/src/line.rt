@@ -1,69 +1,13 @@
 //! The lines of a listing, each appended to the text so far.
 
-ghost use Rattle.std.specs.Prelude.{◌≡◌, ◌++◌, List, ℕ, OnOk, codes, string_bytes};
-ghost use Rattle.std.specs.List.{flat_map};
-ghost use Rattle.std.specs.Fmt.{decimal, signed_decimal};
+ghost use Rattle.std.specs.Prelude.{◌≡◌, ◌++◌, OnOk, string_bytes};
 ghost use Rattle.krb_msg.specs.Stream.{Boundary};
-ghost use Rattle.krb_tool.specs.Lines.{or_dash, list_text, joined, sealed_text, key_version_notes, notes_text, ap_rep_line, message_line, refused_line, end_line};
+ghost use Rattle.krb_tool.specs.Lines.{key_version_notes, notes_text, ap_rep_line, message_line, refused_line, end_line};
 
-use krb_der::{Int32, Refusal, Wide32, why_number, why_text};
-use krb_msg::{ApRep, EncryptedData, Message};
+use krb_der::{Refusal, Wide32, why_number, why_text};
+use krb_list::{Piece, put_fault, put_list};
+use krb_msg::{ApRep, Message};
 use std::alloc::AllocError;
-
-/// What a line shows of a value.
-pub(crate) trait Piece {
-    ghost text: { Self → List ℕ };
-
-    /// Appends the text of the value.
-    fn put(&self, line: &mut String) -> Result<(), AllocError>
-        ensures { OnOk result (string_bytes line.new ≡ string_bytes line.old ++ text self.now) };
-}
-
-impl Piece for u8 {
-    ghost text = { decimal };
-
-    fn put(&self, line: &mut String) -> Result<(), AllocError> {
-        write!(line, "{}", *self)
-    }
-}
-
-impl Piece for Int32 {
-    ghost text = { signed_decimal };
-
-    fn put(&self, line: &mut String) -> Result<(), AllocError> {
-        write!(line, "{}", self.get())
-    }
-}
-
-impl Piece for Wide32 {
-    ghost text = { signed_decimal };
-
-    fn put(&self, line: &mut String) -> Result<(), AllocError> {
-        write!(line, "{}", self.get())
-    }
-}
-
-impl<T: Piece> Piece for Option<T> {
-    ghost text = { or_dash T.text };
-
-    fn put(&self, line: &mut String) -> Result<(), AllocError> {
-        match self {
-            None => line.push('-'),
-            Some(value) => value.put(line),
-        }
-    }
-}
-
-impl Piece for EncryptedData {
-    ghost text = { sealed_text };
-
-    fn put(&self, line: &mut String) -> Result<(), AllocError> {
-        self.etype.put(line)?;
-        line.push(':')?;
-        self.kvno.put(line)?;
-        write!(line, ":{}", self.cipher.as_slice().len())
-    }
-}
 
 /// The notes on a key version: 3 where it is negative.
 fn notes_on(kvno: &Option<Wide32>) -> &'static [u8]
@@ -73,29 +17,6 @@ fn notes_on(kvno: &Option<Wide32>) -> &'static [u8]
         Some(version) if version.get() < 0 => &[3],
         _ => &[],
     }
-}
-
-/// Appends a comma and the text of a value, for each of the values.
-fn put_others<T: Piece>(line: &mut String, values: &[T]) -> Result<(), AllocError>
-    ensures { OnOk result (string_bytes line.new ≡ string_bytes line.old ++ flat_map (λ value. codes "," ++ T.text value) values.now) }
-{
-    for value in values {
-        line.push(',')?;
-        value.put(line)?;
-    }
-    Ok(())
-}
-
-/// Appends the texts of the values in brackets, with commas between them.
-fn put_list<T: Piece>(line: &mut String, values: &[T]) -> Result<(), AllocError>
-    ensures { OnOk result (string_bytes line.new ≡ string_bytes line.old ++ list_text T.text values.now) }
-{
-    line.push('[')?;
-    if let Some((first, others)) = values.split_first() {
-        first.put(line)?;
-        put_others(line, others)?;
-    }
-    line.push(']')
 }
 
 /// Appends the notes on a key version.
@@ -146,9 +67,8 @@ pub(crate) fn put_refusal(
 ) -> Result<(), AllocError>
     ensures { OnOk result (string_bytes text.new ≡ string_bytes text.old ++ refused_line messages refusal.place refusal.why) }
 {
-    let place = refusal.place;
-    write!(text, "refused messages={messages} place={place}")?;
-    let number = why_number(refusal.why);
-    let name = why_text(refusal.why);
-    writeln!(text, " why={number} {name}")
+    write!(text, "refused messages={messages}")?;
+    let place = u64::from(refusal.place);
+    put_fault(text, place, why_number(refusal.why), why_text(refusal.why))?;
+    text.push('\n')
 }

@@ -13,7 +13,7 @@ use std::io::{Read, Write};
 use thiserror::Error;
 
 /// How many octets a run asks its reader for at once: 64 KiB.
-const PIECE_OCTETS: usize = 1 << 16;
+pub(crate) const PIECE_OCTETS: usize = 1 << 16;
 
 /// How a run ended that neither its reader, its writer nor memory failed.
 #[derive(Clone, Copy, PartialEq, Eq, Debug)]

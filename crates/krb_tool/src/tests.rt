@@ -1,6 +1,8 @@
 //! Streams listed from readers and to writers of every kind. The texts that are expected were
 //! worked out by hand from the rules of `docs/FORMATS.md`.
 
+mod keytabs;
+
 use crate::{Limit, RunEnd, RunFault, run_stream, status};
 use std::alloc::Global;
 use std::io;

@@ -1,7 +1,8 @@
 //! Reading and writing by pieces.
 
-ghost use Rattle.std.specs.Prelude.{◌≡◌, ◌+◌, ◌^◌, ◌<◌, ◌≤◌, length, take, IfErr, IfOk, OnOk};
+ghost use Rattle.std.specs.Prelude.{◌≡◌, ◌+◌, ◌^◌, ◌<◌, ◌≤◌, length, take, IfErr, IfOk, OnErr, OnOk};
 ghost use Rattle.std.specs.Io.KnownBytes.{Consumes, Appends, IsAtEnd};
+ghost use Rattle.krb_tool.specs.Files.{AddsFront};
 ghost use Rattle.krb_tool.specs.Transfers.{Gives};
 
 use crate::run::RunFault;
@@ -48,6 +49,7 @@ pub(crate) fn ask<R: Read>(
 /// Writes all the octets. A write that fails, or takes nothing, is a fault.
 pub(crate) fn write_all<W: Write>(writer: &mut W, octets: &[u8]) -> Result<(), RunFault>
     ensures all { OnOk result (Appends (W.contents writer.old) (W.contents writer.new) octets.now) }
+    ensures front { OnErr result (AddsFront (W.contents writer.old) (W.contents writer.new) octets.now) }
     ensures fault { IfErr result (λ e. e ≡ RunFault.Write) }
 {
     let mut rest = octets;

@@ -1,5 +1,6 @@
 use Rattle.std.proofs.Common.{ℕ, List, ◌++◌, ◌∙◌, ap, codes, string_bytes}
-use Rattle.krb_tool.specs.Lines.{sealed_text, notes_text, line_feed}
+use Rattle.krb_list.specs.Text.{line_feed, sealed_text}
+use Rattle.krb_tool.specs.Lines.{notes_text}
 use Rattle.krb_tool.proofs.Texts.{appended_five}
 use Rattle.krb_tool.proofs.line.put_ap_rep.Goals as goal
 

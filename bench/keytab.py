@@ -1,0 +1,61 @@
+"""Times bin/krbls on keytabs of entries that are made here, beside cat and, where it is installed,
+beside MIT's klist -k; and says how much memory each took. Then on keytabs of a tenth and of all of
+the entries, so that the growth is seen."""
+
+import shutil
+import struct
+import sys
+import tempfile
+
+from timing import best_run, peak_octets, rate
+
+KRBLS = ["bin/krbls", "keytab"]
+
+
+def counted(octets):
+    return struct.pack(">H", len(octets)) + octets
+
+
+def entry(number):
+    """The record of a key of host/serverNUMBER.example.org@EXAMPLE.ORG."""
+    name = counted(b"host") + counted(b"server%06d.example.org" % number)
+    key = bytes((number + place) % 256 for place in range(32))
+    version = number % 1000 + 1
+    fields = (
+        struct.pack(">H", 2)
+        + counted(b"EXAMPLE.ORG")
+        + name
+        + struct.pack(">IIBH", 1, 1700000000 + number, version % 256, 18)
+        + counted(key)
+        + struct.pack(">I", version)
+    )
+    return struct.pack(">i", len(fields)) + fields
+
+
+def keytab(entries):
+    """A file of so many entries, and its size."""
+    file = tempfile.NamedTemporaryFile(suffix=".keytab")
+    octets = b"\x05\x02" + b"".join(entry(number) for number in range(entries))
+    file.write(octets)
+    file.flush()
+    return file, len(octets)
+
+
+def cost(command, path, size):
+    peak = peak_octets(command, path) / 1e6
+    return f"{rate(size, best_run(command, path))}, {peak:.1f} MB of memory"
+
+
+def main():
+    most = int(sys.argv[1])
+    for entries in (most // 10, most):
+        file, size = keytab(entries)
+        with file:
+            print(f"keytab of {entries} entries, {size} octets: list {cost(KRBLS, file.name, size)}")
+            print(f"    cat {cost(['cat'], file.name, size)}")
+            if shutil.which("klist"):
+                klist = ["klist", "-k", f"FILE:{file.name}"]
+                print(f"    MIT's klist -k {cost(klist, file.name, size)}")
+
+
+main()

@@ -1,0 +1,45 @@
+"""What commands cost on a file: seconds, and memory."""
+
+import os
+import subprocess
+import time
+
+
+def best_of(runs, action):
+    """The least of the seconds that an action took."""
+    least = None
+    for _ in range(runs):
+        start = time.perf_counter()
+        action()
+        seconds = time.perf_counter() - start
+        least = seconds if least is None else min(least, seconds)
+    return least
+
+
+def best_run(command, path):
+    """The least of the seconds that runs of a command took on a file."""
+
+    def run():
+        with open(path, "rb") as octets, open(os.devnull, "wb") as null:
+            subprocess.run(command, stdin=octets, stdout=null, check=True)
+
+    return best_of(5, run)
+
+
+def peak_octets(command, path):
+    """The most memory that a run of a command had on a file, in octets, looked at while its output
+    is taken from it."""
+    most = 0
+    with open(path, "rb") as octets, subprocess.Popen(command, stdin=octets, stdout=subprocess.PIPE) as run:
+        while run.stdout.read(1 << 14):
+            with open(f"/proc/{run.pid}/status") as status:
+                for line in status:
+                    if line.startswith("VmHWM:"):
+                        most = max(most, int(line.split()[1]) * 1024)
+    if run.returncode != 0:
+        raise subprocess.CalledProcessError(run.returncode, command)
+    return most
+
+
+def rate(size, seconds):
+    return f"{seconds:.3f} s, {size / seconds / 1e6:.1f} MB/s"

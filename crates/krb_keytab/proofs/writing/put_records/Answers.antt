@@ -1,0 +1,16 @@
+use Rattle.std.proofs.Common.{length, ap, arith}
+use Rattle.std.proofs.lemmas.List.Folds.{length-flat_map-take}
+use Rattle.krb_keytab.specs.Writing.{written_record}
+use Rattle.krb_keytab.proofs.Sizes.{fault-none}
+use Rattle.krb_keytab.proofs.writing.put_records.Goals as goal
+
+pub put_record-requires-clause-fault : goal.put_record-requires-clause-fault
+put_record-requires-clause-fault c = fault-none c.args.records.now c.loop-record.record-index c.record-item.result c.loop-record-test.true c.record-item.is c.requires.fault
+
+pub put_record-requires-clause-room : goal.put_record-requires-clause-room
+put_record-requires-clause-room c =
+    omega (
+      arith,
+      length-flat_map-take written_record c.args.records.now c.loop-record.record-index c.record-item.result (omega arith),
+      ap (λ r. length (written_record r)) c.record-item.is,
+    )

@@ -1,0 +1,6 @@
+pub mod Rooms
+pub mod Spelling
+pub mod Reading
+pub mod Writing
+pub mod Examples
+pub mod Laws

@@ -1,0 +1,103 @@
+-- Reading a keytab from left to right, up to the first fault.
+use Rattle.std.specs.Prelude.{ℕ, zero, suc, ℤ, pos, negsuc, ◌≡◌, ◌≤◌, List, [], ◌∷◌, length, Option, None, Result, Ok, Err}
+use Rattle.std.specs.Int.{w8, w16, w32}
+use Rattle.krb_der.specs.Octets.{when}
+use Rattle.krb_der.specs.Fields.{Source, source_of, Fault, limited, Reader, ◌>>=◌, gives, piece_at, rest_at, is_empty, number_at, signed_at, counted_at, names_at, within, version_at}
+use Rattle.krb_der.specs.declared.file.FileFault.{FileFault}
+use Rattle.krb_der.specs.declared.file.FileFault.TheVariants as faults
+use Rattle.krb_der.specs.declared.file.FileWhy.TheVariants as whys
+use Rattle.krb_keytab.specs.declared.value.Keytab.{Keytab}
+use Rattle.krb_keytab.specs.declared.value.Record.{Record}
+use Rattle.krb_keytab.specs.declared.value.Record.TheVariants as records
+use Rattle.krb_keytab.specs.declared.reading.Next.{Next}
+use Rattle.krb_keytab.specs.declared.reading.Next.TheVariants as nexts
+use Rattle.krb_keytab.specs.declared.value.Stop.{Stop}
+use Rattle.krb_keytab.specs.declared.value.Stop.TheVariants as stops
+use Rattle.krb_keytab.specs.declared.value.Entry.{Entry}
+use Rattle.krb_keytab.specs.Spelling.{are_zero}
+
+-- ---- one record
+
+abbrev pub entry_at : Reader Entry
+entry_at = do
+  names ← names_at w16
+  name_type ← signed_at w32
+  time ← number_at w32
+  vno8 ← number_at w8
+  enctype ← number_at w16
+  key ← counted_at w16
+  rest ← rest_at
+  gives (record { realm = names.realm; components = names.components; name_type = name_type; time = time; vno8 = vno8; enctype = enctype; key = key; rest = rest })
+
+-- behind a record's length: zero is the stop, an entry has so many octets, a hole the negated number
+abbrev pub record_of : ℤ → Reader Next
+record_of (pos zero) = gives (nexts.Done stops.Zero)
+record_of (pos (suc n)) = do
+  entry ← within (suc n) entry_at
+  gives (nexts.Item (records.Entry entry))
+record_of (negsuc n) = do
+  octets ← piece_at None (suc n)
+  gives (nexts.Item (records.Hole (record { size = suc n; clean = are_zero octets })))
+
+-- the next record, or the stop
+abbrev pub record_at : Reader Next
+record_at bounds source =
+    when (is_empty source.octets) (λ _. Ok (nexts.Done stops.File, source)) (λ _. (signed_at w32 >>= record_of) bounds source)
+
+-- ---- records up to the stop
+
+-- The records before the first fault or the stop; and the fault, or the stop and the number of octets read.
+pub record Items : Type 0 where
+  pub records : List Record
+  pub end : Result (Stop × ℕ) Fault
+
+abbrev pub no_items : Result (Stop × ℕ) Fault → Items
+no_items end = record { records = []; end = end }
+
+abbrev pub with_first : Record → Items → Items
+with_first first others = record { records = first ∷ others.records; end = others.end }
+
+abbrev pub after : Next → Source → (Source → Items) → Items
+after (nexts.Done stop) source others = no_items (Ok (stop, source.place))
+after (nexts.Item first) source others = with_first first (others source)
+
+abbrev pub items_from : Result (Next × Source) Fault → (Source → Items) → Items
+items_from (Err fault) others = no_items (Err fault)
+items_from (Ok read) others = after read.0 read.1 others
+
+-- the first number bounds how many records there are
+abbrev pub items_within : ℕ → Option ℕ → Source → Items
+items_within zero limit source = no_items (Ok (stops.File, source.place))
+items_within (suc bound) limit source = items_from (record_at (limited limit) source) (items_within bound limit)
+
+-- what stands behind a place where a record or the stop begins
+abbrev pub items_behind : Option ℕ → Source → Items
+items_behind limit source = items_within (length source.octets) limit source
+
+-- ---- a file: the version, and the records
+
+abbrev pub opened : Result (ℕ × Source) Fault → (Source → Items) → Items
+opened (Err fault) others = no_items (Err fault)
+opened (Ok read) others = others read.1
+
+-- under a field limit
+abbrev pub items : Option ℕ → List ℕ → Items
+items limit file = opened (version_at (2 ∷ []) (limited limit) (source_of file)) (items_behind limit)
+
+-- a keytab, and the number of its octets
+abbrev pub keytab_of : List Record → Result (Stop × ℕ) Fault → Result (Keytab × ℕ) Fault
+keytab_of records (Err fault) = Err fault
+keytab_of records (Ok end) = Ok (record { records = records; stop = end.0 }, end.1)
+
+abbrev pub keytab_of_items : Items → Result (Keytab × ℕ) Fault
+keytab_of_items items = keytab_of items.records items.end
+
+-- the keytab that a file holds, or the first fault
+abbrev pub read : List ℕ → Result (Keytab × ℕ) Fault
+read file = keytab_of_items (items None file)
+
+-- What the reader of a whole file answers where it gives no keytab: a refusal in the file or at its end, which no limit brings, or want of memory.
+abbrev pub IsFaultIn : List ℕ → FileFault → Type 0
+IsFaultIn file (faults.Refused place why) = (place ≤ length file) × (why ≡ whys.TooLong → ⊥)
+IsFaultIn file faults.Read = ⊥
+IsFaultIn file faults.Memory = Unit {0}

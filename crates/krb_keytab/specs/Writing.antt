@@ -1,0 +1,62 @@
+-- What is written of a keytab, and what keeps one from being written.
+use Rattle.std.specs.Prelude.{ℕ, zero, suc, pos, ◌+◌, ◌^◌, ◌≡◌, Bool, true, false, ◌||◌, nat_lt, Option, Some, None, List, [], ◌∷◌, ◌++◌, length}
+use Rattle.std.specs.List.{flat_map, list_any}
+use Rattle.std.specs.Int.{w32}
+use Rattle.krb_der.specs.Octets.{when}
+use Rattle.krb_der.specs.Fields.{signed, zeros}
+use Rattle.krb_keytab.specs.Rooms.{IsRoom}
+use Rattle.krb_keytab.specs.declared.value.Keytab.{Keytab}
+use Rattle.krb_keytab.specs.declared.value.Record.{Record}
+use Rattle.krb_keytab.specs.declared.value.Record.TheVariants as records
+use Rattle.krb_keytab.specs.declared.value.Entry.{Entry}
+use Rattle.krb_keytab.specs.declared.writing.KeytabFault.{KeytabFault}
+use Rattle.krb_keytab.specs.declared.writing.KeytabFault.TheVariants as faults
+use Rattle.krb_keytab.specs.Spelling.{entry, EntryFits, negated, stop_octets}
+
+-- ---- the octets: each hole has as many 00 as its size says
+
+abbrev pub written_record : Record → List ℕ
+written_record (records.Entry e) = signed w32 (pos (length (entry e))) ++ entry e
+written_record (records.Hole hole) = signed w32 (negated hole.size) ++ zeros hole.size
+
+abbrev pub written : Keytab → List ℕ
+written v = 5 ∷ 2 ∷ flat_map written_record v.records ++ stop_octets v.stop
+
+-- what can be written
+abbrev pub CanWrite : Record → Type 0
+CanWrite (records.Entry e) = EntryFits e
+CanWrite (records.Hole hole) = IsRoom hole.size × (hole.clean ≡ true)
+
+-- ---- the faults
+
+-- more than a number of 16 bits says
+abbrev pub is_long : {A : Type 0} → List A → Bool
+is_long xs = nat_lt 65535 (length xs)
+
+abbrev pub any_long : List (List ℕ) → Bool
+any_long fields = list_any is_long fields
+
+-- too many components, a field of octets that is too long, or a content that is
+abbrev pub is_long_entry : Entry → Bool
+is_long_entry e = is_long e.components || is_long e.realm || is_long e.key || any_long e.components || nat_lt 2147483647 (length (entry e))
+
+abbrev pub record_fault : Record → Option KeytabFault
+record_fault (records.Entry e) = when (is_long_entry e) (λ _. Some faults.TooLong) (λ _. None)
+record_fault (records.Hole hole) = when hole.clean (λ _. None) (λ _. Some faults.Dirty)
+
+abbrev pub or_else : Option KeytabFault → (Unit {0} → Option KeytabFault) → Option KeytabFault
+or_else (Some fault) other = Some fault
+or_else None other = other tt
+
+-- the fault of the first record that has one
+abbrev pub records_fault : List Record → Option KeytabFault
+records_fault [] = None
+records_fault (first ∷ others) = or_else (record_fault first) (λ _. records_fault others)
+
+-- the greatest number of octets of a file
+abbrev pub greatest : ℕ
+greatest = 2 ^ 40
+
+-- What keeps a keytab from being written: a fault of a record, and then more octets than a file may have.
+abbrev pub write_fault : Keytab → Option KeytabFault
+write_fault v = or_else (records_fault v.records) (λ _. when (nat_lt greatest (length (written v))) (λ _. Some faults.TooLong) (λ _. None))

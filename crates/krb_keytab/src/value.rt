@@ -1,0 +1,130 @@
+//! What a keytab holds.
+
+use krb_der::{KString, Many, Octets};
+use std::marker::Model;
+
+/// A keytab: its records in order, and how it ends.
+#[derive(Drop)]
+pub struct Keytab {
+    /// The keys, and the room between them that no key uses.
+    pub records: Many<Record>,
+    /// How the records end.
+    pub stop: Stop,
+}
+
+/// A record of a keytab.
+#[derive(Drop)]
+pub enum Record {
+    /// A key of a principal.
+    Entry(Entry),
+    /// Room that no key uses.
+    Hole(Hole),
+}
+
+/// How the records of a keytab end.
+#[derive(Clone, Copy, PartialEq, Eq, Debug)]
+pub enum Stop {
+    /// Where the file ends.
+    File,
+    /// By a record of length 0, behind which nothing is read.
+    Zero,
+}
+
+/// A key of a principal. None of its texts shows the octets of the key, and so it has no `Debug`.
+#[derive(Drop)]
+pub struct Entry {
+    /// The realm of the principal.
+    pub realm: KString,
+    /// The components of the principal's name, in order.
+    pub components: Many<KString>,
+    /// How the name is meant (RFC 4120, 6.2).
+    pub name_type: i32,
+    /// When the key was written, in seconds since 1970-01-01T00:00:00Z.
+    pub time: u32,
+    /// The version of the key, modulo 256. [`Entry::kvno`] gives the whole version.
+    pub vno8: u8,
+    /// The encryption type of the key (RFC 3961), of which none is refused.
+    pub enctype: u16,
+    /// The key.
+    pub key: Octets,
+    /// What stands behind the key: where there are four octets, the first four are the version of
+    /// the key in 32 bits. Octets behind these are kept and not looked into.
+    pub rest: Octets,
+}
+
+/// Room that no key uses: how many octets, 1 to 2147483648, and whether all of them are 00.
+#[derive(Clone, Copy, PartialEq, Eq, Debug)]
+pub struct Hole {
+    size: u32,
+    clean: bool,
+}
+
+impl Model for Hole {
+    ghost use Rattle.krb_keytab.specs.Rooms.{Room, IsRoom};
+
+    ghost Value = { Room };
+
+    ghost view = { λ hole. record { size = hole.size; clean = hole.clean } };
+
+    ghost invariant = { λ hole. IsRoom hole.size };
+
+    ghost inverse = { λ room. record { size = room.size; clean = room.clean } };
+}
+
+ghost use Rattle.std.specs.Prelude.{◌≡◌, ◌↔◌, IsSome, IfSome};
+ghost use Rattle.krb_keytab.specs.Rooms.{IsRoom};
+ghost use Rattle.krb_keytab.specs.Spelling.{kvno};
+
+impl Entry {
+    /// The version of the key: the first four octets of `rest`, the highest first, where there are
+    /// four and their number is not 0, else `vno8`.
+    pub fn kvno(&self) -> u32
+        ensures { result ≡ kvno self.now }
+    {
+        if let [first, second, third, fourth, ..] = self.rest.as_slice() {
+            let wide = u32::from_be_bytes([*first, *second, *third, *fourth]);
+            if wide != 0 {
+                return wide;
+            }
+        }
+        u32::from(self.vno8)
+    }
+}
+
+impl Hole {
+    /// The hole of so many octets, and `None` of 0 and of more than 2147483648. It is clean where
+    /// all of them are 00.
+    pub fn new(size: u32, clean: bool) -> Option<Hole>
+        ensures range { IsSome result ↔ IsRoom size }
+        ensures value { IfSome result (λ hole. hole ≡ record { size = size; clean = clean }) }
+    {
+        if (1..=1 << 31).contains(&size) {
+            Some(Hole::of(size, clean))
+        } else {
+            None
+        }
+    }
+
+    /// The hole of so many octets, which are few enough.
+    pub(crate) fn of(size: u32, clean: bool) -> Hole
+        requires { IsRoom size }
+        ensures { result ≡ record { size = size; clean = clean } }
+    {
+        Hole { size, clean }
+    }
+
+    /// The number of octets, 1 to 2147483648.
+    pub fn size(self) -> u32
+        ensures value { result ≡ self.size }
+        ensures range { IsRoom result }
+    {
+        self.size
+    }
+
+    /// Whether all the octets are 00.
+    pub fn clean(self) -> bool
+        ensures { result ≡ self.clean }
+    {
+        self.clean
+    }
+}

@@ -1,0 +1,4 @@
+pub mod Pieces
+pub mod Dates
+pub mod Escapes
+pub mod Masks

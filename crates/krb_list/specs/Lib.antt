@@ -1,0 +1,6 @@
+pub mod Text
+pub mod Time
+pub mod Refusals
+pub mod Keytabs
+pub mod Laws
+pub mod Examples

@@ -1,0 +1,13 @@
+-- The line of a refused file.
+use Rattle.std.specs.Prelude.{ℕ, List, ◌++◌, codes}
+use Rattle.std.specs.Fmt.{decimal}
+use Rattle.krb_der.specs.Faults.{file_reason_number, file_reason_name}
+use Rattle.krb_der.specs.declared.file.FileWhy.{FileWhy}
+use Rattle.krb_list.specs.Text.{line_feed}
+
+-- a place, and the number and the name of a reason
+unfoldable pub fault_text : ℕ → ℕ → List ℕ → List ℕ
+fault_text place number name = codes " place=" ++ decimal place ++ codes " why=" ++ decimal number ++ codes " " ++ name
+
+abbrev pub file_refused_line : ℕ → FileWhy → List ℕ
+file_refused_line place reason = codes "refused" ++ fault_text place (file_reason_number reason) (file_reason_name reason) ++ line_feed

@@ -1,0 +1,52 @@
+-- The pieces of the printed lines, as lists of ASCII codes.
+use Rattle.std.specs.Prelude.{ℕ, ◌/◌, ◌%◌, Bool, true, false, not, ◌&&◌, ◌||◌, ◌==◌, nat_le, List, [], ◌∷◌, ◌++◌, length, Option, Some, None, codes, if◌then◌else◌}
+use Rattle.std.specs.List.{flat_map}
+use Rattle.std.specs.Fmt.{decimal, signed_decimal, digit_glyph}
+use Rattle.krb_msg.specs.declared.encrypted_data.EncryptedData.{EncryptedData}
+
+-- 21 to 7E but `/`, `@` and `\`
+abbrev pub is_plain : ℕ → Bool
+is_plain octet = nat_le 0x21 octet && nat_le octet 0x7E && not (octet == 0x2F || octet == 0x40 || octet == 0x5C)
+
+-- an octet as two hexadecimal digits in lower case
+abbrev pub two_hex : ℕ → List ℕ
+two_hex octet = digit_glyph false (octet / 16) ∷ digit_glyph false (octet % 16) ∷ []
+
+-- an octet itself, or `\x` and its two digits
+abbrev pub escape_octet : ℕ → List ℕ
+escape_octet octet = if is_plain octet then octet ∷ [] else codes "\\x" ++ two_hex octet
+
+abbrev pub escape : List ℕ → List ℕ
+escape octets = flat_map escape_octet octets
+
+-- what each element gives, with a separator between two; what stands for none where there is no element
+abbrev pub joined : {A : Type 0} → List ℕ → List ℕ → (A → List ℕ) → List A → List ℕ
+joined none separator text [] = none
+joined none separator text (first ∷ others) = text first ++ flat_map (λ other. separator ++ text other) others
+
+-- the components joined by `/`, or `\-` where there is none
+abbrev pub components_text : List (List ℕ) → List ℕ
+components_text components = joined (codes "\\-") (codes "/") escape components
+
+unfoldable pub principal_text : List (List ℕ) → List ℕ → List ℕ
+principal_text components realm = components_text components ++ codes "@" ++ escape realm
+
+-- what is absent is `-`
+abbrev pub or_dash : {A : Type 0} → (A → List ℕ) → Option A → List ℕ
+or_dash text None = codes "-"
+or_dash text (Some value) = text value
+
+-- what is sealed: the encryption type, the key version and the number of cipher octets
+abbrev pub sealed_text : EncryptedData → List ℕ
+sealed_text sealed = signed_decimal sealed.etype ++ codes ":" ++ or_dash signed_decimal sealed.kvno ++ codes ":" ++ decimal (length sealed.cipher)
+
+-- elements in brackets
+abbrev pub list_text : {A : Type 0} → (A → List ℕ) → List A → List ℕ
+list_text text values = codes "[" ++ joined [] (codes ",") text values ++ codes "]"
+
+abbrev pub yes_or_no : Bool → List ℕ
+yes_or_no true = codes "yes"
+yes_or_no false = codes "no"
+
+abbrev pub line_feed : List ℕ
+line_feed = 10 ∷ []

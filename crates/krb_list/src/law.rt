@@ -1,0 +1,22 @@
+//! Laws of the texts. Each is the contract of a function that does nothing.
+ghost use Rattle.krb_list.specs.Laws.{DatesAreTheCalendars, EscapeIsGraphic, KeysAreNotShown, PrincipalTextTells};
+
+/// Different components or realms have different texts.
+pub fn principal_text_tells()
+    ensures { PrincipalTextTells }
+{}
+
+/// Escaped octets are graphic characters of ASCII: no blank, no line feed.
+pub fn escape_is_graphic()
+    ensures { EscapeIsGraphic }
+{}
+
+/// The date so many days after 1970-01-01, found by counting, is the calendar's.
+pub fn dates_are_the_calendars()
+    ensures { DatesAreTheCalendars }
+{}
+
+/// The lines of a keytab and of the same with every octet of each key 00 are equal.
+pub fn keys_are_not_shown()
+    ensures { KeysAreNotShown }
+{}

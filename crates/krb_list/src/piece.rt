@@ -1,0 +1,115 @@
+//! A piece of a line, appended to the text so far.
+
+ghost use Rattle.std.specs.Prelude.{◌≡◌, ◌++◌, List, ℕ, OnOk, string_bytes};
+ghost use Rattle.std.specs.List.{flat_map};
+ghost use Rattle.std.specs.Fmt.{decimal, signed_decimal};
+ghost use Rattle.krb_list.specs.Text.{escape, or_dash, list_text, joined, sealed_text};
+
+use crate::escape::put_escaped;
+use krb_der::{Int32, KString, Wide32};
+use krb_msg::EncryptedData;
+use std::alloc::AllocError;
+
+/// What a line shows of a value.
+pub trait Piece {
+    ghost text: { Self → List ℕ };
+
+    /// Appends the text of the value. Where a growth is refused, a part of it may stand there.
+    fn put(&self, line: &mut String) -> Result<(), AllocError>
+        ensures { OnOk result (string_bytes line.new ≡ string_bytes line.old ++ text self.now) };
+}
+
+impl Piece for u8 {
+    ghost text = { decimal };
+
+    fn put(&self, line: &mut String) -> Result<(), AllocError> {
+        write!(line, "{}", *self)
+    }
+}
+
+impl Piece for Int32 {
+    ghost text = { signed_decimal };
+
+    fn put(&self, line: &mut String) -> Result<(), AllocError> {
+        write!(line, "{}", self.get())
+    }
+}
+
+impl Piece for Wide32 {
+    ghost text = { signed_decimal };
+
+    fn put(&self, line: &mut String) -> Result<(), AllocError> {
+        write!(line, "{}", self.get())
+    }
+}
+
+/// The octets, escaped.
+impl Piece for KString {
+    ghost text = { escape };
+
+    fn put(&self, line: &mut String) -> Result<(), AllocError> {
+        put_escaped(line, self.octets())
+    }
+}
+
+/// `-` where there is none.
+impl<T: Piece> Piece for Option<T> {
+    ghost text = { or_dash T.text };
+
+    fn put(&self, line: &mut String) -> Result<(), AllocError> {
+        match self {
+            None => line.push('-'),
+            Some(value) => value.put(line),
+        }
+    }
+}
+
+/// The encryption type, the key version or `-`, and the number of cipher octets, with `:` between.
+impl Piece for EncryptedData {
+    ghost text = { sealed_text };
+
+    fn put(&self, line: &mut String) -> Result<(), AllocError> {
+        self.etype.put(line)?;
+        line.push(':')?;
+        self.kvno.put(line)?;
+        write!(line, ":{}", self.cipher.as_slice().len())
+    }
+}
+
+/// Appends the separator and the text of a value, for each of the values.
+fn put_others<T: Piece>(line: &mut String, separator: &str, values: &[T]) -> Result<(), AllocError>
+    ensures { OnOk result (string_bytes line.new ≡ string_bytes line.old ++ flat_map (λ value. separator.now ++ T.text value) values.now) }
+{
+    for value in values {
+        line.push_str(separator)?;
+        value.put(line)?;
+    }
+    Ok(())
+}
+
+/// Appends the texts of the values, with the separator between two, or what stands for none.
+pub fn put_joined<T: Piece>(
+    line: &mut String,
+    none: &str,
+    separator: &str,
+    values: &[T],
+) -> Result<(), AllocError>
+    ensures { OnOk result (string_bytes line.new ≡ string_bytes line.old ++ joined none.now separator.now T.text values.now) }
+{
+    match values.split_first() {
+        None => line.push_str(none),
+        Some((first, others)) => {
+            first.put(line)?;
+            put_others(line, separator, others)
+        }
+    }
+}
+
+/// Appends the texts of the values in brackets, with commas between them.
+pub fn put_list<T: Piece>(line: &mut String, values: &[T]) -> Result<(), AllocError>
+    ensures { OnOk result (string_bytes line.new ≡ string_bytes line.old ++ list_text T.text values.now) }
+{
+    line.push('[')?;
+    put_joined(line, "", ",", values)?;
+    line.push(']')
+}
