@@ -1,22 +1,19 @@
 -- What the end of a stream tells, and what a refusal leaves.
-use Rattle.std.proofs.Common.{◌≡◌, ℕ, suc, ◌+◌, ◌^◌, ◌<◌, ◌≤◌, ◌⊎◌, ◌↔◌, inl, inr, true, false, ltb, leb, eqb, List, [], ◌∷◌, ◌++◌, length, take, drop, Option, Some, None, refl, sym, ◌∙◌, ap, subst, arith, append_assoc, append-nil, length-append, length-take, length-drop, take-append-drop}
+use Rattle.std.proofs.Common.{◌≡◌, ℕ, suc, ◌+◌, ◌^◌, ◌<◌, ◌≤◌, ◌⊎◌, inl, inr, List, [], ◌∷◌, ◌++◌, length, take, drop, Some, None, refl, sym, ◌∙◌, ap, arith, append_assoc, append-nil, length-append, length-take, take-append-drop}
 use Rattle.std.specs.Prelude.{if◌then◌else◌, is_some}
 use Rattle.std.proofs.lemmas.Bool.{cases_lt}
-use Rattle.std.proofs.lemmas.List.{take-append-le, drop-append-le, take-take, take_all}
+use Rattle.std.proofs.lemmas.List.{take-append-le, drop-append-le, take-take}
 use Rattle.krb_der.specs.Octets.{number}
 use Rattle.krb_der.specs.declared.why.Why.{Why}
-use Rattle.krb_der.specs.declared.why.Why.TheVariants as why
 use Rattle.krb_der.specs.declared.verdict.Refusal.{Refusal}
 use Rattle.krb_msg.specs.Grammar.{messages}
 use Rattle.krb_msg.specs.Judgement.{Outcome, Open, Bad, Done, message_outcome, verdict_of}
-use Rattle.krb_msg.specs.Laws.{IsFinal}
 use Rattle.krb_msg.specs.Stream.{Frames, End, Boundary, Within, Refused, ends, with_first, frames}
 use Rattle.krb_msg.proofs.Fronts.{MayFollow, frames-high, frames-long, frames-empty, frames-open, frames-bad, frames-done, frames-short, frames-nil}
 use Rattle.krb_msg.proofs.Judged.{refused_outcome, refusal_is_final}
-use Rattle.krb_frame.specs.Decoding.{Decoding, found, status_at, status_of, first_of, lent, kept_contents, AreOfOne, IsOfOneFrame}
+use Rattle.krb_frame.specs.Decoding.{Decoding, found, status_at, first_of, AreOfOne}
 use Rattle.krb_frame.specs.Stands.{Stands, EndsWith, behind_frames}
 use Rattle.krb_frame.specs.Laws.{HasOfStream}
-use Rattle.krb_frame.specs.declared.decoder.Status.{Status}
 use Rattle.krb_frame.specs.declared.decoder.Status.TheVariants as status
 
 -- ---- octets behind a refusal
@@ -143,6 +140,7 @@ module _ (octets : List ℕ) where
   is_within (first ∷ second ∷ others) end present a e = absurd a
 
 pub found_of : (d : Decoding) (stream : List ℕ) (cleared : List (List ℕ)) → Stands d stream cleared → frames messages d.limit stream ≡ behind_frames cleared (found d)
+unfolding found
 found_of d stream cleared s =
     ap (frames messages d.limit) (sym (append-nil stream))
     ∙ s.goes_on []
@@ -180,6 +178,7 @@ standing_tells d stream cleared s = record {
     }
 
 pub refusal_ends : (d : Decoding) (stream more : List ℕ) (cleared : List (List ℕ)) (place : ℕ) (reason : Why) → Stands d stream cleared → (frames messages d.limit stream).end ≡ Refused place reason → frames messages d.limit (stream ++ more) ≡ frames messages d.limit stream
+unfolding found
 refusal_ends d stream more cleared place reason s e =
     let t = standing_tells d stream cleared s in
     let r = refused_end (found d).contents (found d).end (record { place = place; why = reason }) ((t.refused place reason).0 e) in

@@ -11,7 +11,7 @@ use Rattle.krb_msg.specs.Judgement.{Open, Bad, Done, message_outcome, judgement}
 use Rattle.krb_msg.specs.Stream.{Frames, Boundary, Within, Refused, ends, with_first, frames}
 use Rattle.krb_msg.proofs.Fronts.{MayFollow, frames-high, frames-long, frames-empty, frames-open, frames-bad, frames-done_more, frames-short, frames-nil}
 use Rattle.krb_msg.proofs.Judged.{whole_outcome, refused_outcome, open_outcome}
-use Rattle.krb_frame.specs.Decoding.{Decoding, status_at, status_of, first_of, lent, finish_at, finish_of, AreOfOne, IsOfOneFrame}
+use Rattle.krb_frame.specs.Decoding.{Decoding, found, status_at, status_of, first_of, lent, finish_at, finish_of, AreOfOne, IsOfOneFrame}
 use Rattle.krb_frame.specs.Phases.{end_behind, octets_of, IsRefusedIn, IsTaken, phase_of, IsAccepted, HasPartOfLength, HasPart, HasFrame, HasRefused, IsAt, phase_status}
 use Rattle.krb_frame.specs.declared.decoder.Phase.{Phase}
 use Rattle.krb_frame.specs.declared.decoder.Phase.TheVariants as phase
@@ -168,15 +168,18 @@ pub record Comes (d : Decoding) (answer : Status) : Type 0 where
   pub one : IsOfOneFrame d
 
 pub comes : (limit : ℕ) (announced contents : List ℕ) (p : Phase) → IsAt limit announced contents p → Comes (record { limit = limit; octets = octets_of p announced contents }) (phase_status p)
+unfolding found
 comes limit announced contents p h = record {
   is = ap (λ f. status_at f.contents f.end) (found-at limit announced contents p h) ∙ status-at p contents;
   one = subst (λ f. AreOfOne (octets_of p announced contents) f.contents f.end) (sym (found-at limit announced contents p h)) (one-at limit announced contents p h);
 }
 
 pub one-nothing : (limit : ℕ) → IsOfOneFrame (record { limit = limit; octets = [] })
+unfolding found
 one-nothing limit = subst (λ f. AreOfOne [] f.contents f.end) (sym (frames-nil messages limit)) refl
 
 pub more-nothing : (limit : ℕ) → status_of (record { limit = limit; octets = [] }) ≡ status.More
+unfolding found
 more-nothing limit = ap (λ f. status_at f.contents f.end) (frames-nil messages limit)
 
 -- ---- what is lent, kept and answered at the end
@@ -187,12 +190,15 @@ none_ready phase.Ready contents n = absurd (n refl)
 none_ready (phase.Refused refusal) contents n = refl
 
 pub lent-none : (limit : ℕ) (announced contents : List ℕ) (p : Phase) → IsAt limit announced contents p → (p ≡ phase.Ready → ⊥) → lent (record { limit = limit; octets = octets_of p announced contents }) ≡ None
+unfolding found
 lent-none limit announced contents p h n = ap (λ f. first_of f.contents) (found-at limit announced contents p h) ∙ none_ready p contents n
 
 pub lent-ready : (limit : ℕ) (announced contents : List ℕ) (p : Phase) → IsAt limit announced contents p → p ≡ phase.Ready → lent (record { limit = limit; octets = octets_of p announced contents }) ≡ Some contents
+unfolding found
 lent-ready limit announced contents p h e = ap (λ f. first_of f.contents) (found-at limit announced contents p h ∙ ap (λ q. frames_at q contents) e)
 
 pub finish-at : (limit : ℕ) (announced contents : List ℕ) (p : Phase) → IsAt limit announced contents p → finish_of (record { limit = limit; octets = octets_of p announced contents }) ≡ finish_at (frames_at p contents).end
+unfolding found
 finish-at limit announced contents p h = ap (λ f. finish_at f.end) (found-at limit announced contents p h)
 
 -- the contents are those that are kept

@@ -6,7 +6,7 @@ use Rattle.std.specs.Prelude.{is_some}
 use Rattle.krb_msg.specs.Grammar.{messages}
 use Rattle.krb_msg.specs.Stream.{with_first, frames}
 use Rattle.krb_frame.specs.Decoding.{Decoding, status_of, lent, IsOfOneFrame}
-use Rattle.krb_frame.specs.Stands.{Stands, EndsWith, behind_frames}
+use Rattle.krb_frame.specs.Stands.{Stands, behind_frames}
 use Rattle.krb_frame.specs.Feeds.{IsAnswer, Feeds, Clears}
 use Rattle.krb_frame.specs.Phases.{octets_of, length_present, IsDecided, IsTaken, phase_of, HasPartOfLength, HasPart, HasFrame, IsAt, IsPut, FeedsLength, phase_status}
 use Rattle.krb_frame.specs.declared.decoder.Phase.{Phase}
@@ -14,7 +14,7 @@ use Rattle.krb_frame.specs.declared.decoder.Phase.TheVariants as phase
 use Rattle.krb_frame.specs.declared.decoder.Fed.{Fed}
 use Rattle.krb_frame.specs.declared.decoder.Status.{Status}
 use Rattle.krb_frame.specs.declared.decoder.Status.TheVariants as status
-use Rattle.krb_frame.proofs.Founds.{Comes, comes, one-nothing, found-frame, four_octets, lent-none, lent-ready, length_of-part, taken-at}
+use Rattle.krb_frame.proofs.Founds.{Comes, comes, one-nothing, found-frame, four_octets, lent-ready, length_of-part, taken-at}
 
 pub Stands-new : (limit : ℕ) → Stands (record { limit = limit; octets = [] }) [] []
 Stands-new limit = record { goes_on = λ more. refl; last = record { before = []; parts = refl }; one = one-nothing limit }

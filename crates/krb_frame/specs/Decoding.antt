@@ -1,5 +1,5 @@
 -- What a decoder stands for, and what it answers.
-use Rattle.std.specs.Prelude.{ℕ, ◌+◌, ◌≡◌, Bool, true, false, if◌then◌else◌, List, [], ◌∷◌, length, drop, Option, Some, None, is_some, Result, Ok, Err}
+use Rattle.std.specs.Prelude.{ℕ, ◌+◌, ◌≡◌, if◌then◌else◌, List, [], ◌∷◌, length, drop, Option, Some, None, is_some, Result, Ok, Err}
 use Rattle.krb_der.specs.declared.verdict.Refusal.{Refusal}
 use Rattle.krb_der.specs.declared.why.Why.TheVariants as why
 use Rattle.krb_msg.specs.Grammar.{messages}
@@ -13,7 +13,7 @@ pub record Decoding : Type 0 where
   pub octets : List ℕ
 
 -- the frames of these octets: the current one, where it is whole, and the end
-abbrev pub found : Decoding → Frames
+unfoldable pub found : Decoding → Frames
 found d = frames messages d.limit d.octets
 
 -- ready where there is a frame, refused where the end is so, and else more octets are needed

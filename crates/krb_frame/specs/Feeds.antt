@@ -1,6 +1,6 @@
 -- What the calls of a decoder do.
 use Rattle.std.specs.Prelude.{ℕ, ◌≡◌, ◌≢◌, ◌<◌, ◌≤◌, ◌⊎◌, Bool, List, [], ◌∷◌, ◌++◌, length, take, Some, is_some}
-use Rattle.krb_frame.specs.Decoding.{Decoding, status_of, lent, after_next, IsOfOneFrame}
+use Rattle.krb_frame.specs.Decoding.{Decoding, status_of, lent, after_next}
 use Rattle.krb_frame.specs.Stands.{Stands}
 use Rattle.krb_frame.specs.declared.decoder.Fed.{Fed}
 use Rattle.krb_frame.specs.declared.decoder.Status.{Status}

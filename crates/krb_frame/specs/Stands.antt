@@ -1,6 +1,5 @@
 -- What a decoder has to do with the stream that it was fed.
-use Rattle.std.specs.Prelude.{ℕ, ◌≡◌, List, [], ◌∷◌, ◌++◌, length, Some, None}
-use Rattle.krb_der.specs.declared.verdict.Refusal.{Refusal}
+use Rattle.std.specs.Prelude.{ℕ, ◌≡◌, List, ◌++◌}
 use Rattle.krb_msg.specs.Grammar.{messages}
 use Rattle.krb_msg.specs.Stream.{Frames, frames}
 use Rattle.krb_frame.specs.Decoding.{Decoding, IsOfOneFrame}

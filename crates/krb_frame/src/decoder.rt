@@ -46,8 +46,8 @@ pub enum Status {
 }
 
 /// Decodes a stream of framed messages (RFC 4120, 7.2.2) that comes in pieces: four octets of
-/// length, the highest first, and so many of a message. A length is judged with its fourth octet,
-/// and a message with each piece, as far as it is there.
+/// length, the highest first, and so many of a message. What is refused is so with the octet that
+/// shows it.
 #[derive(Drop)]
 pub struct Decoder {
     limit: Limit,
@@ -193,15 +193,15 @@ fn answer(status: Status) -> Fed
 }
 
 /// What is refused of a stream that ends behind so many octets of a frame.
-fn ended(present: usize) -> Result<(), Refusal>
-    requires { present < 2 ^ 32 }
-    ensures { result ≡ finish_at (end_behind present) }
+fn ended(seen: usize) -> Result<(), Refusal>
+    requires { seen < 2 ^ 32 }
+    ensures { result ≡ finish_at (end_behind seen) }
 {
-    if present == 0 {
+    if seen == 0 {
         return Ok(());
     }
     Err(Refusal {
-        place: present as u32,
+        place: seen as u32,
         why: Why::Truncated,
     })
 }

@@ -15,6 +15,15 @@ const AP_REQ: &str =
 const AS_REP: &str =
     "000000616B5F305DA003020105A10302010BA3031B0141A40E300CA003020101A10530031B0175A52D612B3029A003020105A1031B0141A20E300CA003020102A10530031B0168A30D300BA003020112A2040402BEEFA60D300BA003020112A2040402BEEF";
 
+const TGS_REQ: &str =
+    "0000006D6C6B3069A103020105A20302010CA45D305BA00703050000000000A2031B0141A511180F31393730303130313030303030305AA703020101A8023000AB2F302D612B3029A003020105A1031B0141A20E300CA003020102A10530031B0168A30D300BA003020112A2040402BEEF";
+
+const KRB_ERROR: &str =
+    "000000517E4F304DA003020105A10302011EA411180F32303030303130313030303030305AA503020100A603020119A9031B0141AA0E300CA003020102A10530031B0168AC0F040D300B3009A103020102A2020400";
+
+const AS_REQ: &str =
+    "0000003C6A3A3038A103020105A20302010AA42C302AA00403020140A2031B0141A511180F31393730303130313030303030305AA7030201FFA8053003020112";
+
 const WRONG_VERSION: &str =
     "0000001F6F1D301BA003020104A10302010FA20F300DA003020112A2060404DEADBEEF";
 
@@ -44,7 +53,7 @@ const USUAL: u32 = 16777216;
 
 const GREATEST: u32 = 2147483647;
 
-const ROWS: [Row; 26] = [
+const ROWS: [Row; 29] = [
     Row("", USUAL, 0, Answer::More, 0),
     Row("000000", USUAL, 3, Answer::More, 0),
     Row(AP_REP, USUAL, 35, Answer::Ready, 31),
@@ -52,6 +61,9 @@ const ROWS: [Row; 26] = [
     Row(AP_REP, 30, 4, Answer::Refused(3, Why::TooLong), 0),
     Row(AP_REQ, USUAL, 89, Answer::Ready, 85),
     Row(AS_REP, USUAL, 101, Answer::Ready, 97),
+    Row(TGS_REQ, USUAL, 113, Answer::Ready, 109),
+    Row(KRB_ERROR, USUAL, 85, Answer::Ready, 81),
+    Row(AS_REQ, USUAL, 64, Answer::Ready, 60),
     Row("80000005", USUAL, 4, Answer::Refused(3, Why::HighBit), 0),
     Row("80000005", GREATEST, 4, Answer::Refused(3, Why::HighBit), 0),
     Row("00000000", USUAL, 4, Answer::Refused(3, Why::Empty), 0),
@@ -179,29 +191,44 @@ fn has_come_to(decoder: &mut Decoder, fed: Fed, row: &Row) -> bool {
         && is_ready == (status == Status::Ready)
 }
 
+/// Whether a decoder fed in pieces of at most so many octets comes to what a row says.
+fn comes_to(alloc: Global, row: &Row, octets: &[u8], at_most: usize) -> Result<bool, Fail> {
+    let Row(_, limit, _, _, _) = row;
+    let mut pieces = decoder(alloc, *limit)?;
+    let fed = feed_pieces(&mut pieces, octets, at_most);
+    Ok(has_come_to(&mut pieces, fed, row))
+}
+
+/// Whether a decoder fed two pieces comes to what a row says.
+fn comes_to_cut(alloc: Global, row: &Row, front: &[u8], back: &[u8]) -> Result<bool, Fail> {
+    let Row(_, limit, _, _, _) = row;
+    let mut cut = decoder(alloc, *limit)?;
+    let mut fed = cut.feed(front);
+    if fed.status == Status::More {
+        let second = cut.feed(back);
+        fed = Fed {
+            used: fed.used.saturating_add(second.used),
+            status: second.status,
+        };
+    }
+    Ok(has_come_to(&mut cut, fed, row))
+}
+
 #[test]
 fn decodes_in_pieces_of_every_kind(rt: HostRuntime) -> Result<(), Fail> {
     let alloc = rt.alloc();
     for row in &ROWS {
-        let Row(digits, limit, _, _, _) = row;
+        let Row(digits, _, _, _, _) = row;
         let octets = hex::decode(alloc, *digits)?;
+        let octets = octets.as_slice();
         for at_most in [octets.len().max(1), 1, 2, 3, 7] {
-            let mut pieces = decoder(alloc, *limit)?;
-            let fed = feed_pieces(&mut pieces, octets.as_slice(), at_most);
-            assert!(rt; has_come_to(&mut pieces, fed, row), "{digits} by {at_most}");
+            let as_said = comes_to(alloc, row, octets, at_most)?;
+            assert!(rt; as_said, "{digits} by {at_most}");
         }
         for place in 0..=octets.len() {
-            let (front, back) = octets.as_slice().split_at(place);
-            let mut cut = decoder(alloc, *limit)?;
-            let mut fed = cut.feed(front);
-            if fed.status == Status::More {
-                let second = cut.feed(back);
-                fed = Fed {
-                    used: fed.used.saturating_add(second.used),
-                    status: second.status,
-                };
-            }
-            assert!(rt; has_come_to(&mut cut, fed, row), "{digits} cut at {place}");
+            let (front, back) = octets.split_at(place);
+            let as_said = comes_to_cut(alloc, row, front, back)?;
+            assert!(rt; as_said, "{digits} cut at {place}");
         }
     }
     Ok(())
@@ -236,10 +263,9 @@ fn leaves_what_is_behind_a_frame(rt: HostRuntime) -> Result<(), Fail> {
     let alloc = rt.alloc();
     let octets = two(alloc)?;
     let mut frames = decoder(alloc, USUAL)?;
-    let first = frames.feed(octets.as_slice());
+    let rest = octets.as_slice().get(35..).ok_or("two frames")?;
     let status = Status::Ready;
-    assert_eq!(rt; first, Fed { used: 35, status });
-    let rest = &octets.as_slice()[first.used..];
+    assert_eq!(rt; frames.feed(octets.as_slice()), Fed { used: 35, status });
     assert_eq!(rt; frames.feed(rest), Fed { used: 0, status });
     assert_eq!(rt; frames.kept(), 31);
     assert!(rt; frames.next(), "one is ready");
@@ -276,8 +302,8 @@ fn says_how_a_stream_ends(rt: HostRuntime) -> Result<(), Fail> {
         let octets = hex::decode(alloc, digits)?;
         let mut stream = decoder(alloc, USUAL)?;
         let _ = stream.feed(octets.as_slice());
-        assert_eq!(rt; stream.finish(), end, "{digits}");
-        assert_eq!(rt; stream.next(), digits == AP_REP);
+        assert_eq!(rt; stream.finish(), end);
+        assert_eq!(rt; stream.next(), octets.len() == 35);
     }
     Ok(())
 }
@@ -302,6 +328,9 @@ fn frames_come_again(rt: HostRuntime) -> Result<(), Fail> {
         (AP_REP, Kind::ApRep, 31),
         (AP_REQ, Kind::ApReq, 85),
         (AS_REP, Kind::AsRep, 97),
+        (TGS_REQ, Kind::TgsReq, 109),
+        (KRB_ERROR, Kind::KrbError, 81),
+        (AS_REQ, Kind::AsReq, 60),
     ] {
         let message = message(alloc, digits, kind)?;
         let limit = Limit::new(size).ok_or("a limit")?;
@@ -321,6 +350,14 @@ fn frames_come_again(rt: HostRuntime) -> Result<(), Fail> {
 const FRAMES: &[u8] =
     b"\0\0\0\x1F\x6F\x1D\x30\x1B\xA0\x03\x02\x01\x05\xA1\x03\x02\x01\x0F\xA2\x0F\x30\x0D\xA0\x03\x02\x01\x12\xA2\x06\x04\x04\xDE\xAD\xBE\xEF\0\0\0\x1F\x6F\x1D\x30\x1B\xA0\x03\x02\x01\x05\xA1\x03\x02\x01\x0F\xA2\x0F\x30\x0D\xA0\x03\x02\x01\x12\xA2\x06\x04\x04\xDE\xAD\xBE\xEF\0\0\0\0";
 
+/// Whether a ready frame's message is had, at the first or the second try.
+fn has_message(alloc: Global, stream: &Decoder) -> bool {
+    match stream.ready() {
+        Some(framed) => framed.message(alloc).is_ok() || framed.message(alloc).is_ok(),
+        None => false,
+    }
+}
+
 /// How many messages octets hold, fed in pieces of at most so many, and what refuses the rest. A
 /// feed whose growth is refused is made again, with the octets behind those that were used.
 fn messages_in(
@@ -334,19 +371,16 @@ fn messages_in(
     for _ in 0..1000 {
         let (piece, _) = rest.split_at(at_most.min(rest.len()));
         let fed = stream.feed(piece);
-        rest = &rest[fed.used..];
+        rest = rest.get(fed.used..).ok_or("no more is used than there is")?;
         match fed.status {
             Status::More if rest.is_empty() => return Ok((messages, None)),
             Status::More | Status::Memory => {}
             Status::Refused(refusal) => return Ok((messages, Some(refusal))),
-            Status::Ready => {
-                let framed = stream.ready().ok_or("a frame")?;
-                if framed.message(alloc).is_err() {
-                    let _ = framed.message(alloc).ok().ok_or("memory twice")?;
-                }
+            Status::Ready if has_message(alloc, &stream) => {
                 messages = messages.saturating_add(1);
                 stream.next();
             }
+            Status::Ready => return Err(Fail::from("memory twice")),
         }
     }
     Err(Fail::from("the stream ends"))

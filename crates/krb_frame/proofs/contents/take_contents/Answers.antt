@@ -1,6 +1,5 @@
-use Rattle.std.proofs.Common.{◌≡◌, ◌≤◌, ◌<◌, ℕ, suc, ◌+◌, ◌-◌, ◌^◌, ◌++◌, List, [], ◌∷◌, length, take, drop, refl, sym, ◌∙◌, ap, subst, arith, length-append, length-take}
+use Rattle.std.proofs.Common.{◌≡◌, ◌≤◌, ◌+◌, length, take, sym, ◌∙◌, ap, arith}
 use Rattle.krb_msg.specs.Judgement.{judgement}
-use Rattle.krb_frame.specs.Phases.{IsTaken}
 use Rattle.krb_frame.proofs.Takes.{extended, AreOctets-each, stops, taken-refused, taken-whole, taken-open}
 use Rattle.krb_frame.proofs.contents.take_contents.Goals as goal
 

@@ -1,5 +1,4 @@
-use Rattle.std.proofs.Common.{◌≡◌, ◌≤◌, ◌<◌, ℕ, suc, ◌+◌, ◌-◌, ◌^◌, ◌++◌, List, [], ◌∷◌, length, take, drop, refl, sym, ◌∙◌, ap, subst, arith, length-append, length-take}
-use Rattle.krb_frame.specs.Phases.{IsLengthJudged}
+use Rattle.std.proofs.Common.{refl, sym, ◌∙◌, subst, arith}
 use Rattle.krb_frame.proofs.Founds.{Announces, from_be_bytes-number, high, long, empty}
 use Rattle.krb_frame.proofs.decoder.judge_length.Goals as goal
 

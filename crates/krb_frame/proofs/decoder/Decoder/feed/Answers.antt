@@ -1,6 +1,4 @@
-use Rattle.std.proofs.Common.{◌≡◌, ◌≤◌, ◌<◌, ℕ, suc, ◌+◌, ◌-◌, ◌^◌, ◌++◌, List, [], ◌∷◌, length, take, drop, refl, sym, ◌∙◌, ap, subst, arith, length-append, length-take}
 use Rattle.krb_frame.proofs.Standing.{Feeds-both}
-use Rattle.krb_frame.specs.Feeds.{Feeds}
 use Rattle.std.proofs.lemmas.List.{take_rest}
 use Rattle.krb_frame.proofs.decoder.Decoder.feed.Goals as goal
 

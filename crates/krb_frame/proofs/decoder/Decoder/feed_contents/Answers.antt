@@ -1,6 +1,5 @@
-use Rattle.std.proofs.Common.{◌≡◌, ◌≤◌, ◌<◌, ◌⊎◌, ℕ, suc, ◌+◌, ◌-◌, ◌^◌, ◌++◌, List, [], ◌∷◌, length, take, drop, refl, sym, ◌∙◌, ap, subst, arith, length-append, length-take}
+use Rattle.std.proofs.Common.{◌≡◌, ◌≤◌, ◌⊎◌, [], length, refl, sym, ◌∙◌, ap, subst}
 use Rattle.krb_frame.specs.Decoding.{Decoding}
-use Rattle.krb_frame.specs.Feeds.{Feeds}
 use Rattle.krb_frame.specs.Phases.{IsAt, octets_of}
 use Rattle.krb_frame.specs.declared.decoder.Phase.TheVariants as phase
 use Rattle.krb_frame.specs.declared.decoder.Status.TheVariants as status
@@ -19,6 +18,11 @@ pub returns-in-Ready : goal.returns-in-Ready
 returns-in-Ready c =
     let d = c.self.inside in
     rw (c.answer-in-Ready.ensures, ← c.self.view_is) (Feeds-idle d.limit d.length d.contents.items c.args.piece.now d.phase status.Ready c.self.invariant (rw c.in-Ready.is refl) (λ e. absurd cc) (λ e. cc))
+
+pub returns-in-Refused : goal.returns-in-Refused
+returns-in-Refused c =
+    let d = c.self.inside in
+    rw (c.answer-in-Refused.ensures, ← c.self.view_is) (Feeds-idle d.limit d.length d.contents.items c.args.piece.now d.phase (status.Refused c.in-Refused.refusal) c.self.invariant (rw c.in-Refused.is refl) (λ e. absurd cc) (λ e. cc))
 
 pub invariant_of-self : goal.invariant_of-self
 invariant_of-self c =

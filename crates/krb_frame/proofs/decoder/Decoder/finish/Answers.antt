@@ -1,6 +1,6 @@
-use Rattle.std.proofs.Common.{◌≡◌, ◌≤◌, ◌<◌, ℕ, suc, ◌+◌, ◌-◌, ◌^◌, ◌++◌, List, [], ◌∷◌, length, take, drop, refl, sym, ◌∙◌, ap, subst, arith, length-append, length-take}
-use Rattle.krb_frame.specs.Decoding.{finish_at, finish_of}
-use Rattle.krb_frame.specs.Phases.{IsAt, end_behind}
+use Rattle.std.proofs.Common.{◌≡◌, ◌+◌, length, sym, ◌∙◌, ap, arith}
+use Rattle.krb_frame.specs.Decoding.{finish_at}
+use Rattle.krb_frame.specs.Phases.{end_behind}
 use Rattle.krb_frame.proofs.Founds.{frames_at, finish-at, end-some}
 use Rattle.krb_frame.proofs.decoder.Decoder.finish.Goals as goal
 
@@ -19,3 +19,8 @@ pub returns-in-Ready : goal.returns-in-Ready
 returns-in-Ready c =
     let d = c.self.inside in
     rw (← c.self.view_is) (sym (finish-at d.limit d.length d.contents.items d.phase c.self.invariant ∙ ap (λ p. finish_at (frames_at p d.contents.items).end) c.in-Ready.is))
+
+pub returns-in-Refused : goal.returns-in-Refused
+returns-in-Refused c =
+    let d = c.self.inside in
+    rw (← c.self.view_is) (sym (finish-at d.limit d.length d.contents.items d.phase c.self.invariant ∙ ap (λ p. finish_at (frames_at p d.contents.items).end) c.in-Refused.is))

@@ -1,6 +1,5 @@
-use Rattle.std.proofs.Common.{◌≡◌, ◌≤◌, ◌<◌, ℕ, suc, ◌+◌, ◌-◌, ◌^◌, ◌++◌, List, [], ◌∷◌, length, take, drop, refl, sym, ◌∙◌, ap, subst, arith, length-append, length-take}
-use Rattle.std.specs.Prelude.{Some, None}
-use Rattle.krb_frame.specs.Decoding.{lent}
+use Rattle.std.proofs.Common.{sym, ◌∙◌, ap}
+use Rattle.std.specs.Prelude.{Some}
 use Rattle.krb_frame.proofs.Founds.{lent-none, lent-ready}
 use Rattle.krb_frame.proofs.decoder.Decoder.ready.Goals as goal
 

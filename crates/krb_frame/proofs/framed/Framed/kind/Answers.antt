@@ -1,4 +1,3 @@
-use Rattle.krb_frame.specs.Frame.{AreOfKind}
 use Rattle.krb_frame.proofs.framed.Framed.kind.Goals as goal
 
 pub returns : goal.returns
