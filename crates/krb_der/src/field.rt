@@ -97,11 +97,7 @@ impl<'a> Source<'a> {
     /// The next octets, so many, lent, and what follows them. A field of octets that passes `end`,
     /// where the entry or the header that it stands in ends, is Overrun, and else one that passes
     /// the end of the file Truncated. So are the other fields.
-    pub fn octets(
-        self,
-        end: Option<u64>,
-        size: u32,
-    ) -> Result<(&'a [u8], Source<'a>), FileFault>
+    pub fn octets(self, end: Option<u64>, size: u32) -> Result<(&'a [u8], Source<'a>), FileFault>
         ensures { Gives (λ taken. (taken.0.now, taken.1)) result (piece_at None size (ended end) self.entry) }
     {
         let size = u64::from(size);

@@ -1,5 +1,5 @@
 -- What a function answers that gives what reading gives.
-use Rattle.std.proofs.Common.{◌≡◌, ℕ, List, Result, Ok, Err, subst}
+use Rattle.std.proofs.Common.{ℕ, List, Result, Ok, Err, subst}
 use Rattle.std.specs.Prelude.{IfOk, IfErr}
 use Rattle.krb_der.specs.Octets.{AreOctets}
 use Rattle.krb_der.specs.Fields.{Gives}

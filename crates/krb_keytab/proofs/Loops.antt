@@ -1,5 +1,5 @@
 -- The records of a file read one after the other, as a loop reads them.
-use Rattle.std.proofs.Common.{◌≡◌, ℕ, ◌<◌, None, Result, Ok, Err, List, [], ◌∷◌, ◌++◌, length, sym, ◌∙◌, ap, append_assoc}
+use Rattle.std.proofs.Common.{◌≡◌, ℕ, ◌<◌, None, Result, Ok, List, [], ◌∷◌, ◌++◌, length, sym, ◌∙◌, ap, append_assoc}
 use Rattle.std.proofs.lemmas.List.{append-nil}
 use Rattle.krb_der.specs.Fields.{Source, Fault, limited, Fails}
 use Rattle.krb_der.specs.declared.file.FileFault.{FileFault}
@@ -7,9 +7,8 @@ use Rattle.krb_der.specs.declared.file.FileFault.TheVariants as faults
 use Rattle.krb_keytab.specs.declared.value.Keytab.{Keytab}
 use Rattle.krb_keytab.specs.declared.value.Record.{Record}
 use Rattle.krb_keytab.specs.declared.value.Stop.{Stop}
-use Rattle.krb_keytab.specs.declared.reading.Next.{Next}
 use Rattle.krb_keytab.specs.declared.reading.Next.TheVariants as nexts
-use Rattle.krb_keytab.specs.Reading.{record_at, Items, with_first, no_items, items_behind, keytab_of_items}
+use Rattle.krb_keytab.specs.Reading.{record_at, Items, with_first, items_behind, keytab_of_items}
 use Rattle.krb_keytab.proofs.Stepwise.{record-shorter, behind-item, behind-done, behind-fault}
 
 -- what was read before, and what stands behind it

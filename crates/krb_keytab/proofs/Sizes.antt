@@ -1,21 +1,18 @@
 -- How many octets a keytab has.
-use Rattle.std.proofs.Common.{◌≡◌, ℕ, zero, suc, ◌+◌, ◌≤◌, ◌<◌, Bool, true, false, ◌||◌, Option, Some, None, nat_lt, List, [], ◌∷◌, ◌++◌, length, get_or, take, drop, min, refl, sym, ap, ◌∙◌, append_assoc, arith, length-append, lt-ltb}
+use Rattle.std.proofs.Common.{◌≡◌, ℕ, zero, suc, ◌+◌, ◌≤◌, ◌<◌, Bool, true, false, ◌||◌, Option, Some, None, List, [], ◌∷◌, ◌++◌, length, get_or, take, drop, refl, sym, ap, ◌∙◌, append_assoc, arith, length-append, lt-ltb}
 use native.Mathlib.Numerals.{unary_clauses}
 use Rattle.std.proofs.lemmas.List.{take_more}
 use Rattle.std.proofs.lemmas.List.Concat.{flat_map-append, flat_map-cons}
 use Rattle.std.specs.List.{flat_map}
 use Rattle.std.specs.Int.{w16}
-use Rattle.krb_der.specs.Octets.{when}
 use Rattle.krb_der.specs.Fields.{counted, zeros}
 use Rattle.krb_keytab.specs.Rooms.{Room}
 use Rattle.krb_keytab.specs.declared.value.Entry.{Entry}
 use Rattle.krb_keytab.specs.declared.value.Record.{Record}
 use Rattle.krb_keytab.specs.declared.value.Record.TheVariants as records
-use Rattle.krb_keytab.specs.declared.value.Keytab.{Keytab}
 use Rattle.krb_keytab.specs.declared.writing.KeytabFault.{KeytabFault}
-use Rattle.krb_keytab.specs.declared.writing.KeytabFault.TheVariants as faults
-use Rattle.krb_keytab.specs.Spelling.{entry, negated, stop_octets}
-use Rattle.krb_keytab.specs.Writing.{is_long, any_long, is_long_entry, or_else, record_fault, records_fault, greatest, write_fault, written_record, written}
+use Rattle.krb_keytab.specs.Spelling.{entry}
+use Rattle.krb_keytab.specs.Writing.{is_long, any_long, is_long_entry, or_else, record_fault, records_fault, written_record}
 
 pub length-entry : (e : Entry) → length (entry e) ≡ 17 + length e.realm + length (flat_map (counted w16) e.components) + length e.key + length e.rest
 length-entry e = simp length-append (omega arith)
@@ -81,10 +78,6 @@ size-more rs i r lt is =
     ∙ ap (λ (r : Record). length (flat_map written_record (take i rs)) + length (flat_map written_record (r ∷ []))) (sym is)
     ∙ ap (λ (l : List ℕ). length (flat_map written_record (take i rs)) + length l) (flat_map-cons written_record r [])
     ∙ omega (arith, length-append (written_record r) [])
-
--- ---- a keytab
-pub length-written : (v : Keytab) → length (written v) ≡ 2 + length (flat_map written_record v.records) + length (stop_octets v.stop)
-length-written v = omega (arith, length-append (flat_map written_record v.records) (stop_octets v.stop))
 
 -- ---- parts appended one by one
 pub appended : (o a b c d e f g h i o1 o2 o3 o4 o5 o6 o7 o8 o9 : List ℕ) → o1 ≡ o ++ a → o2 ≡ o1 ++ b → o3 ≡ o2 ++ c → o4 ≡ o3 ++ d → o5 ≡ o4 ++ e → o6 ≡ o5 ++ f → o7 ≡ o6 ++ g → o8 ≡ o7 ++ h → o9 ≡ o8 ++ i → o9 ≡ o ++ (a ++ b ++ c ++ d ++ e ++ f ++ g ++ h ++ i)

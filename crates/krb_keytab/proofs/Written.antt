@@ -8,7 +8,7 @@ use Rattle.krb_der.specs.Fields.{zeros}
 use Rattle.krb_keytab.specs.declared.value.Keytab.{Keytab}
 use Rattle.krb_keytab.specs.declared.value.Record.{Record}
 use Rattle.krb_keytab.specs.declared.value.Record.TheVariants as records
-use Rattle.krb_keytab.specs.Spelling.{are_zero, RecordSpells, RecordsSpell, KeytabSpells}
+use Rattle.krb_keytab.specs.Spelling.{are_zero, RecordSpells, RecordsSpell, stop_octets, KeytabSpells}
 use Rattle.krb_keytab.specs.Reading.{read}
 use Rattle.krb_keytab.specs.Writing.{written_record, written, CanWrite}
 use Rattle.krb_keytab.proofs.Keytabs.{read-again}
@@ -36,3 +36,7 @@ spells-written v can = (flat_map written_record v.records, records-written v.rec
 -- what is written is read back
 pub read-written : (v : Keytab) → AllByRecursion CanWrite v.records → read (written v) ≡ Ok (v, length (written v))
 read-written v can = ap read (sym (append-nil (written v))) ∙ read-again v (written v) [] (spells-written v can) (λ _. refl)
+
+-- what three parts make, put one behind another
+pub octets_written : (v : Keytab) (none front behind whole : List ℕ) → none ≡ [] → front ≡ none ++ 5 ∷ 2 ∷ [] → behind ≡ front ++ flat_map written_record v.records → whole ≡ behind ++ stop_octets v.stop → whole ≡ written v
+octets_written v none front behind whole a b c d = rw (d, c, b, a) refl

@@ -1,5 +1,5 @@
 -- What is written of a keytab, and what keeps one from being written.
-use Rattle.std.specs.Prelude.{ℕ, zero, suc, pos, ◌+◌, ◌^◌, ◌≡◌, Bool, true, false, ◌||◌, nat_lt, Option, Some, None, List, [], ◌∷◌, ◌++◌, length}
+use Rattle.std.specs.Prelude.{ℕ, pos, ◌^◌, ◌≡◌, Bool, true, ◌||◌, nat_lt, Option, Some, None, List, [], ◌∷◌, ◌++◌, length}
 use Rattle.std.specs.List.{flat_map, list_any}
 use Rattle.std.specs.Int.{w32}
 use Rattle.krb_der.specs.Octets.{when}

@@ -2,7 +2,7 @@
 
 ghost use Rattle.std.specs.Prelude.{◌≡◌, ℕ, None, Some, Ok, IfOk, IfErr};
 ghost use Rattle.std.specs.Int.{w16, w32};
-ghost use Rattle.krb_der.specs.Fields.{Gives, ended, limited, times, counted_at, within};
+ghost use Rattle.krb_der.specs.Fields.{Gives, ended, limited, times, counted_at};
 ghost use Rattle.krb_keytab.specs.Spelling.{are_zero, ReadAs};
 ghost use Rattle.krb_keytab.specs.declared.value.Keytab.{Keytab as KeytabValue};
 ghost use Rattle.krb_keytab.specs.Reading.{entry_at, record_of, record_at, items_behind, keytab_of_items, read, IsFaultIn};
@@ -13,7 +13,7 @@ use std::alloc::Global;
 
 /// What stands where a record is due.
 #[derive(Drop)]
-pub(crate) enum Next {
+enum Next {
     /// A record.
     Item(Record),
     /// No record: how they end.

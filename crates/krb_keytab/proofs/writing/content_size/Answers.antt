@@ -1,4 +1,4 @@
-use Rattle.std.proofs.Common.{◌≡◌, ℕ, ◌+◌, rules, refl, List, length, ap, arith}
+use Rattle.std.proofs.Common.{ℕ, rules, refl, List, length, ap, arith}
 use Rattle.std.specs.Int.{w16}
 use Rattle.std.specs.List.{flat_map}
 use Rattle.krb_der.specs.Fields.{counted}

@@ -1,4 +1,4 @@
-use Rattle.std.proofs.Common.{List, ℕ, length, ap, arith}
+use Rattle.std.proofs.Common.{length, ap, arith}
 use Rattle.std.proofs.lemmas.List.Folds.{length-flat_map-take}
 use Rattle.std.specs.Int.{w16}
 use Rattle.krb_der.specs.Fields.{counted}
