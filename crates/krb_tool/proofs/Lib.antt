@@ -1,4 +1,3 @@
-pub mod Texts
 pub mod Listings
 pub mod Transfers
 pub mod Runs

@@ -13,7 +13,8 @@ use Rattle.krb_frame.specs.Decoding.{found, status_at, status_of}
 use Rattle.krb_frame.specs.Stands.{behind_frames}
 use Rattle.krb_frame.specs.declared.decoder.Status.TheVariants as status
 use Rattle.krb_frame.proofs.Ends.{none_found, refused_end, found_of, refusal_ends}
-use Rattle.krb_tool.specs.Lines.{message_line, end_line}
+use Rattle.krb_list.specs.Messages.{message_line}
+use Rattle.krb_list.specs.Streams.{end_line}
 use Rattle.krb_tool.specs.Listing.{end_of, run_end, AllIsRead, Lists}
 use Rattle.krb_tool.specs.Transfers.{Gives}
 use Rattle.krb_tool.specs.Listers.{HasListed, IsNewLister, Feeds, IsWrittenOut, Finishes}

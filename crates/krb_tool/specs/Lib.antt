@@ -1,4 +1,3 @@
-pub mod Lines
 pub mod Listing
 pub mod Transfers
 pub mod Files

@@ -8,7 +8,8 @@ use Rattle.krb_frame.specs.Decoding.{Decoding, found, status_of, lent}
 use Rattle.krb_frame.specs.Stands.{Stands}
 use Rattle.krb_frame.specs.Feeds.{Clears}
 use Rattle.krb_frame.specs.declared.decoder.Status.TheVariants as status
-use Rattle.krb_tool.specs.Lines.{message_line, end_line}
+use Rattle.krb_list.specs.Messages.{message_line}
+use Rattle.krb_list.specs.Streams.{end_line}
 use Rattle.krb_tool.specs.Listing.{run_end}
 use Rattle.krb_tool.specs.declared.listing.Lister.{Lister}
 use Rattle.krb_tool.specs.declared.run.RunEnd.{RunEnd}

@@ -6,7 +6,8 @@ use Rattle.krb_msg.specs.declared.message.Message.{Message}
 use Rattle.krb_msg.specs.Grammar.{messages}
 use Rattle.krb_msg.specs.Views.{message_der}
 use Rattle.krb_msg.specs.Stream.{End, Boundary, Within, Refused, frames}
-use Rattle.krb_tool.specs.Lines.{message_line, end_line}
+use Rattle.krb_list.specs.Messages.{message_line}
+use Rattle.krb_list.specs.Streams.{end_line}
 use Rattle.krb_tool.specs.declared.run.RunEnd.{RunEnd}
 use Rattle.krb_tool.specs.declared.run.RunEnd.TheVariants as run
 use Rattle.krb_tool.specs.declared.run.RunFault.{RunFault}

@@ -5,9 +5,9 @@ ghost use Rattle.krb_frame.specs.Decoding.{status_of, lent};
 ghost use Rattle.krb_frame.specs.declared.decoder.Status.TheVariants as status;
 ghost use Rattle.krb_tool.specs.Listers.{IsNewLister, ListsReady, Feeds, IsWrittenOut, Finishes};
 
-use crate::line::{put_end, put_message, put_refusal};
 use crate::run::{RunEnd, RunFault};
 use krb_frame::{Decoder, Limit, Status};
+use krb_list::{put_message, put_stream_end, put_stream_refusal};
 use std::alloc::{AllocError, Global};
 
 /// Lists a stream that comes in pieces: its decoder, the lines that are not written yet, and the
@@ -89,11 +89,11 @@ impl Lister {
     {
         match self.decoder.finish() {
             Ok(()) => {
-                put_end(&mut self.text, self.messages)?;
+                put_stream_end(&mut self.text, self.messages)?;
                 Ok(RunEnd::Clean)
             }
             Err(refusal) => {
-                put_refusal(&mut self.text, self.messages, refusal)?;
+                put_stream_refusal(&mut self.text, self.messages, refusal)?;
                 Ok(RunEnd::Refused)
             }
         }

@@ -7,7 +7,6 @@
 #![tactic(auto)]
 
 mod file_run;
-mod line;
 mod listing;
 mod run;
 mod transfer;

@@ -1,8 +1,8 @@
 use Rattle.std.proofs.Common.{ℕ, List, ◌++◌, ◌∙◌, ap, codes, string_bytes}
 use Rattle.krb_list.specs.Text.{line_feed, sealed_text}
-use Rattle.krb_tool.specs.Lines.{notes_text}
-use Rattle.krb_tool.proofs.Texts.{appended_five}
-use Rattle.krb_tool.proofs.line.put_ap_rep.Goals as goal
+use Rattle.krb_list.specs.Messages.{notes_text}
+use Rattle.krb_list.proofs.Pieces.{appended_five}
+use Rattle.krb_list.proofs.message.put_ap_rep.Goals as goal
 
 pub returns : goal.returns
 returns c =

@@ -1,15 +1,10 @@
--- The lines of a listing, as lists of ASCII codes. Each ends with a line feed.
-use Rattle.std.specs.Prelude.{ℕ, ℤ, pos, negsuc, List, [], ◌∷◌, ◌++◌, Option, Some, None, codes}
+-- The lines of messages. Each ends with a line feed.
+use Rattle.std.specs.Prelude.{ℤ, ℕ, pos, negsuc, List, [], ◌∷◌, ◌++◌, Option, Some, None, codes}
 use Rattle.std.specs.Fmt.{decimal}
-use Rattle.krb_der.specs.Reasons.{reason_number, reason_name}
-use Rattle.krb_der.specs.declared.why.Why.{Why}
-use Rattle.krb_der.specs.declared.why.Why.TheVariants.{Truncated}
 use Rattle.krb_msg.specs.declared.ap_rep.ApRep.{ApRep}
 use Rattle.krb_msg.specs.declared.message.Message.{Message}
 use Rattle.krb_msg.specs.declared.message.Message.TheVariants as message
-use Rattle.krb_msg.specs.Stream.{End, Boundary, Within, Refused}
 use Rattle.krb_list.specs.Text.{line_feed, list_text, sealed_text}
-use Rattle.krb_list.specs.Refusals.{fault_text}
 
 -- the note 3 of a key version that is negative
 abbrev pub key_version_notes : Option ℤ → List ℕ
@@ -33,14 +28,3 @@ message_line (message.TgsRep m) = codes "TGS-REP" ++ line_feed
 message_line (message.ApReq m) = codes "AP-REQ" ++ line_feed
 message_line (message.ApRep m) = ap_rep_line m
 message_line (message.KrbError m) = codes "KRB-ERROR" ++ line_feed
-
--- the line of a refusal behind so many messages
-abbrev pub refused_line : ℕ → ℕ → Why → List ℕ
-refused_line messages place reason =
-    codes "refused messages=" ++ decimal messages ++ fault_text place (reason_number reason) (reason_name reason) ++ line_feed
-
--- the last line of a listing, behind so many messages
-abbrev pub end_line : ℕ → End → List ℕ
-end_line messages Boundary = codes "end messages=" ++ decimal messages ++ line_feed
-end_line messages (Within present) = refused_line messages present Truncated
-end_line messages (Refused place reason) = refused_line messages place reason

@@ -1,11 +1,10 @@
-//! The lines of a listing, each appended to the text so far.
+//! Lines of messages.
 
 ghost use Rattle.std.specs.Prelude.{◌≡◌, ◌++◌, OnOk, string_bytes};
-ghost use Rattle.krb_msg.specs.Stream.{Boundary};
-ghost use Rattle.krb_tool.specs.Lines.{key_version_notes, notes_text, ap_rep_line, message_line, refused_line, end_line};
+ghost use Rattle.krb_list.specs.Messages.{key_version_notes, notes_text, ap_rep_line, message_line};
 
-use krb_der::{Refusal, Wide32, why_number, why_text};
-use krb_list::{Piece, put_fault, put_list};
+use crate::piece::{Piece, put_list};
+use krb_der::Wide32;
 use krb_msg::{ApRep, Message};
 use std::alloc::AllocError;
 
@@ -38,7 +37,7 @@ fn put_ap_rep(text: &mut String, ap_rep: &ApRep) -> Result<(), AllocError>
 }
 
 /// Appends the line of a message.
-pub(crate) fn put_message(text: &mut String, message: &Message) -> Result<(), AllocError>
+pub fn put_message(text: &mut String, message: &Message) -> Result<(), AllocError>
     ensures { OnOk result (string_bytes text.new ≡ string_bytes text.old ++ message_line message.now) }
 {
     match message {
@@ -50,25 +49,4 @@ pub(crate) fn put_message(text: &mut String, message: &Message) -> Result<(), Al
         Message::ApRep(ap_rep) => put_ap_rep(text, ap_rep),
         Message::KrbError(_) => text.push_str("KRB-ERROR\n"),
     }
-}
-
-/// Appends the last line of a stream that ends between frames, behind so many messages.
-pub(crate) fn put_end(text: &mut String, messages: u64) -> Result<(), AllocError>
-    ensures { OnOk result (string_bytes text.new ≡ string_bytes text.old ++ end_line messages Boundary) }
-{
-    writeln!(text, "end messages={messages}")
-}
-
-/// Appends the line of a refusal, behind so many messages.
-pub(crate) fn put_refusal(
-    text: &mut String,
-    messages: u64,
-    refusal: Refusal,
-) -> Result<(), AllocError>
-    ensures { OnOk result (string_bytes text.new ≡ string_bytes text.old ++ refused_line messages refusal.place refusal.why) }
-{
-    write!(text, "refused messages={messages}")?;
-    let place = u64::from(refusal.place);
-    put_fault(text, place, why_number(refusal.why), why_text(refusal.why))?;
-    text.push('\n')
 }

@@ -1,6 +1,0 @@
--- Texts appended one after another.
-use Rattle.std.proofs.Common.{◌≡◌, ℕ, List, ◌++◌, append_assoc}
-
--- five pieces behind a text, each appended to the text so far
-pub appended_five : (text a b c d e : List ℕ) → ((((text ++ a) ++ b) ++ c) ++ d) ++ e ≡ text ++ ((((a ++ b) ++ c) ++ d) ++ e)
-appended_five text a b c d e = simp append_assoc
