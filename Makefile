@@ -1,4 +1,4 @@
-# krbls: build, run, test and measure. Needs the Rattle toolchain's `rt`, and python3 for tests and `make bench`.
+# krbls: build, run, test and measure. Needs the Rattle toolchain's `rt`; `make test` and `make bench` also need python3.
 .PHONY: run build test fuzz bench clean
 
 # Lists a real stream.
