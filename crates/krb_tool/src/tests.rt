@@ -171,7 +171,7 @@ const CASES: [Case; 34] = [
         "refused messages=0 place=4 why=4 Tag\n",
     ),
     Case(
-        "0000001F6A",
+        "0000001F74",
         USUAL,
         "refused messages=0 place=4 why=4 Tag\n",
     ),
