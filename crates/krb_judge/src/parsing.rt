@@ -21,7 +21,7 @@ use krb_der::{Many, Memory, Refusal, Verdict, Why};
 use krb_msg::{ApRep, ApReq, Kind, KrbError, Message, PaData, Ticket};
 use std::alloc::{AllocError, AllocFailed, Global};
 
-/// Why octets gave no message.
+/// Why octets gave no message, no Ticket and no METHOD-DATA.
 #[derive(Clone, Copy, PartialEq, Eq, Debug)]
 pub enum ParseFault {
     /// They are none.

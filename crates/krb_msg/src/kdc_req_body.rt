@@ -22,7 +22,7 @@ pub struct KdcReqBody {
     pub cname: Option<PrincipalName>,
     /// The realm of the server, and in an AS-REQ that of the client.
     pub realm: KString,
-    /// The server, which may be left out for a ticket to the user's own ticket.
+    /// The server, which only a request with ENC-TKT-IN-SKEY may leave out.
     pub sname: Option<PrincipalName>,
     /// From when on the ticket is to serve.
     pub from: Option<KerberosTime>,
