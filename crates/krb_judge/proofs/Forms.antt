@@ -1,5 +1,5 @@
 -- The DER of the values of terms has the forms that are read.
-use Rattle.std.proofs.Common.{◌≡◌, ℕ, ◌+◌, ◌<◌, pos, true, not, eqb, Option, Some, None, List, [], ◌∷◌, ◌++◌, length, map, slice_index, refl, sym, ap, ◌∙◌, arith}
+use Rattle.std.proofs.Common.{◌≡◌, ℕ, ◌+◌, ◌<◌, pos, true, not, Option, Some, None, List, [], ◌∷◌, ◌++◌, length, map, slice_index, refl, sym, ap, ◌∙◌, arith}
 use Rattle.std.proofs.lemmas.Bool.{not-true, true≢false}
 use Rattle.std.proofs.lemmas.Int.{ints}
 use Rattle.std.specs.List.{flat_map, AllByRecursion}
@@ -8,7 +8,7 @@ use Rattle.krb_msg.specs.Term.{Term, Fields, Sequence, SequenceOf, Tagged, Appli
 use Rattle.krb_msg.specs.Grammar.{exactly}
 use Rattle.krb_msg.specs.Shape.{may_begin}
 use Rattle.krb_msg.specs.Values.{der_begins, may_begin_from_der}
-use Rattle.krb_judge.specs.Reads.{IsDer, AreFields, HasRequired, HasOptional, HasFixed, AreListed, IsListed, IsTagged}
+use Rattle.krb_judge.specs.Reads.{IsDer, AreFields, HasRequired, HasOptional, HasFixed, IsListed, IsTagged}
 
 -- what has the one form has the other
 abbrev pub Gives : (List ℕ → Type 0) → (List ℕ → Type 0) → Type 0

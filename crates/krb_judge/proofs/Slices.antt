@@ -8,7 +8,6 @@ use Rattle.krb_der.specs.declared.verdict.Verdict.{Verdict}
 use Rattle.krb_der.specs.declared.verdict.Verdict.TheVariants as verdict
 use Rattle.krb_msg.specs.declared.message.Message.{Message}
 use Rattle.krb_msg.specs.declared.message.Kind.{Kind}
-use Rattle.krb_msg.specs.declared.message.Kind.TheVariants as kind
 use Rattle.krb_msg.specs.Term.{Term, Value, Fits, der, tag_of}
 use Rattle.krb_msg.specs.Shape.{is_unambiguous}
 use Rattle.krb_msg.specs.Views.{kind_of, kind_term, kind_of_tag, message_value, message_der, IsInProfile}

@@ -1,8 +1,8 @@
 -- What the judge's functions need of the judgement: its offsets and counts are within the octets present, and the contents of the forms of the table.
-use Rattle.std.proofs.Common.{◌≡◌, ℕ, zero, suc, ◌+◌, ◌-◌, ◌<◌, ◌≤◌, Bool, true, false, eqb, List, [], ◌∷◌, length, take, drop, get_or, length-drop, refl, sym, ap, ◌∙◌, arith, eq-eqb}
+use Rattle.std.proofs.Common.{◌≡◌, ℕ, zero, suc, ◌+◌, ◌-◌, ◌<◌, ◌≤◌, Bool, true, false, List, length, take, drop, length-drop, sym, ap, ◌∙◌, arith}
 use Rattle.std.proofs.lemmas.List.{take_all}
 use Rattle.krb_der.specs.declared.why.Why.{Why}
-use Rattle.krb_msg.specs.Term.{Term, Fields, Sequence, SequenceOf, Tagged, Application, End, Required, Optional, tag_of}
+use Rattle.krb_msg.specs.Term.{Term, Fields, Sequence, SequenceOf, Tagged, Application, End, Required}
 use Rattle.krb_msg.specs.Judgement.{Outcome, Bad, Done, then_after, item_outcome, items_contents, only_contents, contents_outcome, fields_outcome}
 use Rattle.krb_msg.specs.Nodes.{term_at}
 use Rattle.krb_msg.specs.Table.{IsFormOf, fields_from}
@@ -43,14 +43,10 @@ pub rest_taken : (octets : List ℕ) (count : ℕ) → take (length octets - cou
 rest_taken octets count = take_all (length octets - count) (drop count octets) (rw length-drop (omega arith))
 
 -- ---- fields
-pub required : (term : Term) (fields : Fields) (before room : ℕ) (octets : List ℕ) → 0 < room → fields_outcome (Required term fields) before room octets ≡ then_after before (item_outcome term room false octets) (λ count. fields_outcome fields (before + count) (room - count) (drop count octets))
-required term fields before zero octets p = absurd (omega arith)
-required term fields before (suc room) octets p = refl
-
-pub optional : (term : Term) (fields : Fields) (before room : ℕ) (octets : List ℕ) → 0 < room → 0 < length octets → get_or octets 0 0 ≡ tag_of term → fields_outcome (Optional term fields) before room octets ≡ then_after before (item_outcome term room false octets) (λ count. fields_outcome fields (before + count) (room - count) (drop count octets))
-optional term fields before room [] p l t = absurd (omega arith)
-optional term fields before zero (octet ∷ octets) p l t = absurd (omega arith)
-optional term fields before (suc room) (octet ∷ octets) p l t = let e : eqb octet (tag_of term) ≡ true = eq-eqb octet (tag_of term) t in rw e
+pub field_done : (fields : Fields) (outcome : Outcome) (before room count : ℕ) (octets : List ℕ) → Done count ≡ outcome → then_after before outcome (λ some. fields_outcome fields (before + some) (room - some) (drop some octets)) ≡ fields_outcome fields (before + count) (room - count) (take (length octets - count) (drop count octets))
+field_done fields outcome before room count octets e =
+    ap (λ o. then_after before o (λ some. fields_outcome fields (before + some) (room - some) (drop some octets))) (sym e)
+    ∙ ap (fields_outcome fields (before + count) (room - count)) (sym (rest_taken octets count))
 
 -- ---- items
 items_next : (one : ℕ → List ℕ → Outcome) (bound before room count : ℕ) (octets : List ℕ) → 0 < room → Done count ≡ one room octets → items_contents one (suc bound) before room octets ≡ items_contents one bound (before + count) (room - count) (drop count octets)

@@ -9,19 +9,28 @@ mod leaf;
 pub(crate) mod number;
 mod outcome;
 
-ghost use Rattle.std.specs.Prelude.{◌≡◌, ◌+◌, ◌-◌, ◌^◌, ◌<◌, ◌≤◌, length, drop, true, false};
+ghost use Rattle.std.specs.Prelude.{◌≡◌, ◌+◌, ◌^◌, ◌<◌, ◌≤◌, length, true, false};
 ghost use Rattle.krb_msg.specs.Term.{End, Required};
-ghost use Rattle.krb_msg.specs.Judgement.{judgement, term_judgement, verdict_of, then_after, only_contents, has_size as term_has_size, item_outcome, contents_outcome, fields_outcome, items_contents};
+ghost use Rattle.krb_msg.specs.Judgement.{judgement, term_judgement, verdict_of, only_contents, has_size as term_has_size, item_outcome, contents_outcome, fields_outcome, items_contents};
 ghost use Rattle.krb_msg.specs.Nodes.{term_at};
-ghost use Rattle.krb_msg.specs.Table.{fields_from};
-ghost use Rattle.krb_msg.specs.declared.grammar.TheConstants.{FIELDS};
-ghost use Rattle.krb_judge.specs.Outcomes.{outcome_of, IsOne};
+ghost use Rattle.krb_judge.specs.Outcomes.{outcome_of, fields_at, IsOne, IsDue};
 
 use crate::judging::head::{Head, part, read_head};
 use crate::judging::leaf::{bits, integer, string, time};
 use crate::judging::outcome::Outcome;
 use krb_der::{Refusal, Verdict, Why};
 use krb_msg::grammar::{Form, Slot, form_of, message_of, slot_at, tag_of};
+
+/// What is due where fields are left.
+#[derive(Clone, Copy)]
+enum Due {
+    /// This is decided.
+    Decided(Outcome),
+    /// The field is left out.
+    LeftOut,
+    /// The item of a node's term.
+    Item { node: u16 },
+}
 
 /// What the octets present of a message of `n` octets decide.
 pub fn judge(n: u32, front: &[u8]) -> Verdict
@@ -122,6 +131,7 @@ fn has_size(node: u16, size: u32) -> bool
 
 /// The contents of an item, behind its tag and length octets.
 #[cycle(judge)]
+#[inline(always)]
 fn contents(node: u16, before: u32, size: u32, octets: &[u8]) -> Outcome
     requires known { node < 111 }
     requires some { 0 < before }
@@ -146,6 +156,7 @@ fn contents(node: u16, before: u32, size: u32, octets: &[u8]) -> Outcome
 
 /// The one item of a tag.
 #[cycle(judge)]
+#[inline(always)]
 fn only(node: u16, before: u32, size: u32, octets: &[u8]) -> Outcome
     requires known { node < 111 }
     requires some { 0 < before }
@@ -175,9 +186,9 @@ fn only(node: u16, before: u32, size: u32, octets: &[u8]) -> Outcome
 /// The node of the one field of a tag.
 fn only_node(first: u16) -> u16
     requires known { first < 148 }
-    requires one { IsOne (fields_from (drop first FIELDS)) }
+    requires one { IsOne (fields_at first) }
     ensures known { result < 111 }
-    ensures same { fields_from (drop first FIELDS) ≡ Required (term_at result) End }
+    ensures same { fields_at first ≡ Required (term_at result) End }
 {
     match slot_at(first) {
         Slot::Required { node } => node,
@@ -185,36 +196,70 @@ fn only_node(first: u16) -> u16
     }
 }
 
-/// The fields that are left, in the room that is left.
+/// The fields from a place on.
 #[cycle(judge)]
-fn fields(place: u16, before: u32, room: u32, octets: &[u8]) -> Outcome
+fn fields(first: u16, before: u32, size: u32, octets: &[u8]) -> Outcome
+    requires known { first < 148 }
+    requires some { 0 < before }
+    requires short { before + size < 2 ^ 31 }
+    requires present { length octets.now ≤ size }
+    ensures { outcome_of result ≡ fields_outcome (fields_at first) before size octets.now }
+{
+    let mut place = first;
+    let mut taken = before;
+    let mut room = size;
+    let mut rest = octets;
+    'fields: loop {
+        let node = match due_at(place, taken, room, rest) {
+            Due::Decided(outcome) => return outcome,
+            Due::LeftOut => {
+                place += 1;
+                continue 'fields;
+            }
+            Due::Item { node } => node,
+        };
+        match item(node, room, false, rest) {
+            Outcome::Open => return Outcome::Open,
+            Outcome::Bad { offset, why } => return Outcome::Bad {
+                offset: taken + offset,
+                why,
+            },
+            Outcome::Done { count } => {
+                place += 1;
+                taken += count;
+                room -= count;
+                rest = &rest[count as usize..];
+            }
+        }
+    }
+}
+
+/// What is due of the fields that are left, from a place on, in the room that is left.
+#[inline(always)]
+fn due_at(place: u16, before: u32, room: u32, octets: &[u8]) -> Due
     requires known { place < 148 }
     requires some { 0 < before }
-    requires short { before + room < 2 ^ 31 }
     requires present { length octets.now ≤ room }
-    ensures { outcome_of result ≡ fields_outcome (fields_from (drop place FIELDS)) before room octets.now }
+    ensures { IsDue place before room octets.now result }
 {
     match slot_at(place) {
-        Slot::End => end(before, room, octets),
+        Slot::End => Due::Decided(end(before, room, octets)),
         Slot::Required { node } => if room == 0 {
-            Outcome::Bad {
+            Due::Decided(Outcome::Bad {
                 offset: before - 1,
                 why: Why::Missing,
-            }
+            })
         } else {
-            field(node, place, before, room, octets)
+            Due::Item { node }
         },
         Slot::Optional { node } => {
             if room == 0 {
-                return fields(place + 1, before, room, octets);
+                return Due::LeftOut;
             }
-            let Some(tag) = octets.first() else {
-                return Outcome::Open;
-            };
-            if *tag == tag_of(node) {
-                field(node, place, before, room, octets)
-            } else {
-                fields(place + 1, before, room, octets)
+            match octets.first() {
+                None => Due::Decided(Outcome::Open),
+                Some(tag) if *tag == tag_of(node) => Due::Item { node },
+                Some(_) => Due::LeftOut,
             }
         }
     }
@@ -234,33 +279,6 @@ fn end(before: u32, room: u32, octets: &[u8]) -> Outcome
             offset: before,
             why: Why::Tag,
         }
-    }
-}
-
-/// The item of a field, and then the fields behind it.
-#[cycle(judge)]
-fn field(node: u16, place: u16, before: u32, room: u32, octets: &[u8]) -> Outcome
-    requires known { node < 111 }
-    requires more { place + 1 < 148 }
-    requires some { 0 < before }
-    requires left { 0 < room }
-    requires short { before + room < 2 ^ 31 }
-    requires present { length octets.now ≤ room }
-    ensures { outcome_of result
-        ≡ then_after before (item_outcome (term_at node) room false octets.now) (λ count. fields_outcome (fields_from (drop (place + 1) FIELDS)) (before + count) (room - count) (drop count octets.now)) }
-{
-    match item(node, room, false, octets) {
-        Outcome::Open => Outcome::Open,
-        Outcome::Bad { offset, why } => Outcome::Bad {
-            offset: before + offset,
-            why,
-        },
-        Outcome::Done { count } => fields(
-            place + 1,
-            before + count,
-            room - count,
-            &octets[count as usize..],
-        ),
     }
 }
 

@@ -1,10 +1,11 @@
-use Rattle.std.proofs.Common.{ℕ, ◌+◌, ◌-◌, ◌<◌, ◌≤◌, List, length, drop, true, false, arith, sym, ap, ◌∙◌, length-take, length-drop}
-use Rattle.krb_msg.specs.Judgement.{Outcome, item_outcome, fields_outcome}
+use Rattle.std.proofs.Common.{ℕ, ◌+◌, ◌-◌, ◌<◌, ◌≤◌, List, length, true, false, arith, sym, ◌∙◌, length-take, length-drop}
+use Rattle.krb_msg.specs.Judgement.{Outcome, item_outcome}
 use Rattle.krb_msg.specs.Nodes.{term_at}
-use Rattle.krb_msg.specs.Table.{IsFormOf, fields_from}
+use Rattle.krb_msg.specs.Table.{IsFormOf}
 use Rattle.krb_msg.specs.declared.grammar.Form.TheVariants as form
 use Rattle.krb_msg.specs.declared.grammar.TheConstants.{FIELDS}
-use Rattle.krb_judge.proofs.Within.{refused, some_taken, taken, items_of, only_of, required, optional, items_more}
+use Rattle.krb_judge.specs.Outcomes.{fields_at}
+use Rattle.krb_judge.proofs.Within.{refused, some_taken, taken, items_of, only_of, field_done, items_more}
 use Rattle.krb_judge.proofs.judging.+judge.Goals as goal
 
 pub contents-returns-in-Items : goal.contents-returns-in-Items
@@ -15,38 +16,41 @@ contents-returns-then-sole t c =
     let h : IsFormOf FIELDS (form.Fields c.in-Fields.first true) (term_at c.args.node) = rw c.if-sole.true at c.in-Fields.ensures in
     c.only.ensures ∙ sym (only_of FIELDS c.in-Fields.first c.only_node.result (term_at c.args.node) h c.only_node.ensures.same c.args.before c.args.size c.args.octets.now)
 
-pub field-overflow_add-result : goal.field-overflow_add-result
-field-overflow_add-result t c = omega (arith, refused (term_at c.args.node) c.args.room false c.args.octets.now c.in-Bad.offset c.in-Bad.why c.requires.present c.in-Bad.ensures)
+pub fields-overflow_add-result : goal.fields-overflow_add-result
+fields-overflow_add-result t c =
+    let i = c.fields.invariant in
+    omega (arith, i.2, i.3, refused (term_at c.in-Item.node) c.fields.room false c.fields.rest.now c.in-Bad.offset c.in-Bad.why i.2 c.in-Bad.ensures)
 
-pub field-overflow_add-before : goal.field-overflow_add-before
-field-overflow_add-before t c = omega (arith, taken (term_at c.args.node) c.args.room false c.args.octets.now c.in-Done.count c.requires.present c.in-Done.ensures)
+pub fields-overflow_add-taken : goal.fields-overflow_add-taken
+fields-overflow_add-taken t c =
+    let i = c.fields.invariant in
+    omega (arith, i.2, i.3, taken (term_at c.in-Item.node) c.fields.room false c.fields.rest.now c.in-Done.count i.2 c.in-Done.ensures)
 
-pub field-overflow_sub-room : goal.field-overflow_sub-room
-field-overflow_sub-room t c = omega (arith, taken (term_at c.args.node) c.args.room false c.args.octets.now c.in-Done.count c.requires.present c.in-Done.ensures)
+pub fields-overflow_sub-room : goal.fields-overflow_sub-room
+fields-overflow_sub-room t c =
+    let i = c.fields.invariant in
+    omega (arith, i.2, taken (term_at c.in-Item.node) c.fields.room false c.fields.rest.now c.in-Done.count i.2 c.in-Done.ensures)
 
-pub field-slice_bounds-fields-count : goal.field-slice_bounds-fields-count
-field-slice_bounds-fields-count t c = taken (term_at c.args.node) c.args.room false c.args.octets.now c.in-Done.count c.requires.present c.in-Done.ensures
+pub fields-slice_bounds-rest-count : goal.fields-slice_bounds-rest-count
+fields-slice_bounds-rest-count t c = taken (term_at c.in-Item.node) c.fields.room false c.fields.rest.now c.in-Done.count c.fields.invariant.2 c.in-Done.ensures
 
-pub field-slice_bounds-fields-start : goal.field-slice_bounds-fields-start
-field-slice_bounds-fields-start t c = taken (term_at c.args.node) c.args.room false c.args.octets.now c.in-Done.count c.requires.present c.in-Done.ensures
+pub fields-slice_bounds-rest-start : goal.fields-slice_bounds-rest-start
+fields-slice_bounds-rest-start t c = taken (term_at c.in-Item.node) c.fields.room false c.fields.rest.now c.in-Done.count c.fields.invariant.2 c.in-Done.ensures
 
-pub field-fields-requires : goal.field-fields-requires
-field-fields-requires t c =
-    let n : c.in-Done.count ≤ length c.args.octets.now = taken (term_at c.args.node) c.args.room false c.args.octets.now c.in-Done.count c.requires.present c.in-Done.ensures in
-    (omega arith, (c.requires.more, (omega arith, (omega arith, rw (length-take, length-drop) (omega arith)))))
-
-pub fields-returns-else-room-eq0 : goal.fields-returns-else-room-eq0
-fields-returns-else-room-eq0 t c =
-    c.field.ensures
-    ∙ sym (ap (λ fields. fields_outcome fields c.args.before c.args.room c.args.octets.now) c.in-Required.ensures.0
-    ∙ required (term_at c.in-Required.node) (fields_from (drop (c.args.place + 1) FIELDS)) c.args.before c.args.room c.args.octets.now (omega arith))
-
-pub fields-returns-then-tag-tag_of : goal.fields-returns-then-tag-tag_of
-fields-returns-then-tag-tag_of t c =
-    let first = c.in-Some.ensures.item.3 in
-    c.field-then-tag-tag_of.ensures
-    ∙ sym (ap (λ fields. fields_outcome fields c.args.before c.args.room c.args.octets.now) c.in-Optional.ensures.0
-    ∙ optional (term_at c.in-Optional.node) (fields_from (drop (c.args.place + 1) FIELDS)) c.args.before c.args.room c.args.octets.now (omega arith) first.0 (sym (first.1 0) ∙ c.if-tag-tag_of.true ∙ c.tag_of.ensures))
+pub fields-fields-preserved : goal.fields-fields-preserved
+fields-fields-preserved t c =
+    let i = c.fields.invariant in
+    let due = c.in-Item.ensures in
+    let n : c.in-Done.count ≤ length c.fields.rest.now = taken (term_at c.in-Item.node) c.fields.room false c.fields.rest.now c.in-Done.count i.2 c.in-Done.ensures in (
+      due.next.more,
+      omega (arith, due.next.shallow, i.1),
+      rw (length-take, length-drop) (omega (arith, i.2)),
+      omega (arith, i.2, i.3, n),
+      omega (arith, i.4),
+      i.5
+          ∙ due.same
+          ∙ field_done (fields_at (c.fields.place + 1)) (item_outcome (term_at c.in-Item.node) c.fields.room false c.fields.rest.now) c.fields.taken c.fields.room c.in-Done.count c.fields.rest.now c.in-Done.ensures,
+    )
 
 pub items-overflow_add-result : goal.items-overflow_add-result
 items-overflow_add-result t c =

@@ -1,4 +1,4 @@
-use Rattle.std.proofs.Common.{◌∙◌, sym, ap, arith, subst}
+use Rattle.std.proofs.Common.{◌∙◌, sym, arith, subst}
 use Rattle.krb_msg.specs.Grammar.{method_data}
 use Rattle.krb_judge.specs.Parses.{AreOfMethodData}
 use Rattle.krb_judge.proofs.Slices.{are_octets}
