@@ -1,6 +1,6 @@
 -- The contents of a frame as they come.
 use Rattle.std.specs.Prelude.{if◌then◌else◌, is_ok, is_err}
-use Rattle.std.proofs.Common.{◌≡◌, ℕ, suc, ◌+◌, ◌-◌, ◌^◌, ◌<◌, ◌≤◌, min, inl, inr, List, [], ◌∷◌, ◌++◌, length, get_or, take, false, Result, Ok, Err, refl, sym, ◌∙◌, ap, arith, length-append, length-take}
+use Rattle.std.proofs.Common.{◌≡◌, ℕ, suc, ◌+◌, ◌-◌, ◌^◌, ◌<◌, ◌≤◌, min, inl, inr, List, ◌++◌, length, take, false, Result, Ok, Err, refl, sym, ◌∙◌, ap, arith, length-append, length-take}
 use Rattle.std.proofs.lemmas.Bool.{cases_lt}
 use Rattle.std.proofs.lemmas.List.{take-append-le, take-take}
 use Rattle.std.proofs.Math.Seq.{take-append-add}
@@ -18,10 +18,6 @@ use Rattle.krb_frame.specs.Phases.{IsTaken}
 pub extended : {A B : Type 0} (r : Result A B) (held all kept : List ℕ) → held ≡ (if is_ok r then all else kept) → false ≡ is_err r → held ≡ all
 extended (Ok done) held all kept e f = e
 extended (Err error) held all kept e f = absurd cc
-
-pub AreOctets-each : (octets : List ℕ) → ((i d : ℕ) → i < length octets → get_or octets i d < 256) → AreOctets octets
-AreOctets-each [] each = tt
-AreOctets-each (octet ∷ octets) each = (each 0 0 (omega arith), AreOctets-each octets (λ i d h. each (suc i) d (omega arith)))
 
 -- a refusal stands behind the octets that left all open
 pub refused_later : (size : ℕ) (refusal : Refusal) (before piece : List ℕ) → length (before ++ piece) ≤ size → judgement size before ≡ verdict.Open → judgement size (before ++ piece) ≡ verdict.Refused refusal → length before ≤ refusal.place

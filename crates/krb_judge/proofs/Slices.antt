@@ -1,5 +1,5 @@
 -- Messages that fill a slice.
-use Rattle.std.proofs.Common.{◌≡◌, ◌≢◌, ℕ, suc, ◌^◌, ◌<◌, ◌↔◌, Bool, true, false, List, [], ◌∷◌, ◌++◌, length, get_or, Some, None, refl, sym, ap, ◌∙◌, subst, arith}
+use Rattle.std.proofs.Common.{◌≡◌, ◌≢◌, ℕ, ◌^◌, ◌<◌, ◌↔◌, Bool, true, false, List, [], ◌∷◌, ◌++◌, length, get_or, Some, None, refl, sym, ap, ◌∙◌, subst, arith}
 use Rattle.std.specs.Prelude.{nat_lt, ◌==◌, if◌then◌else◌}
 use Rattle.std.proofs.lemmas.Bool.Decides.{nat_tests}
 use Rattle.krb_der.specs.Octets.{AreOctets}
@@ -18,10 +18,6 @@ use Rattle.krb_msg.proofs.Laws.{same_value}
 use Rattle.krb_msg.specs.Values.{der_is, der_begins}
 use Rattle.krb_judge.specs.Reads.{IsDer}
 use Rattle.krb_judge.specs.Parses.{refused, refusal_by, refusal_of, AreOf, AreOfValue, HasNoMessage}
-
-pub are_octets : (octets : List ℕ) → ((k : ℕ) → get_or octets k 0 < 256) → AreOctets octets
-are_octets [] h = tt
-are_octets (octet ∷ octets) h = (h 0, are_octets octets (λ k. h (suc k)))
 
 -- ---- the kind
 first_octet : {term : Term} {octets : List ℕ} → IsDer term octets → get_or octets 0 0 ≡ tag_of term

@@ -107,10 +107,10 @@ fn content_size(entry: &Entry) -> Option<u32>
 
 /// The number of octets of a record; what keeps it from being written where there is something.
 fn record_size(record: &Record) -> Result<u64, KeytabFault>
-    ensures fault { MatchResult result (λ _. record_fault record.now ≡ None) (λ fault. record_fault record.now ≡ Some fault) }
-    ensures size { IfOk result (λ size. size ≡ length (written_record record.now)) }
+    ensures fault { MatchResult result (λ _. record_fault «record».now ≡ None) (λ fault. record_fault «record».now ≡ Some fault) }
+    ensures size { IfOk result (λ size. size ≡ length (written_record «record».now)) }
     ensures small { IfOk result (λ size. size < 2 ^ 32) }
-    ensures can { IfOk result (λ _. CanWrite record.now) }
+    ensures can { IfOk result (λ _. CanWrite «record».now) }
 {
     let size = match record {
         Record::Entry(entry) => content_size(entry).ok_or(KeytabFault::TooLong)?,
@@ -223,10 +223,10 @@ fn put_content(out: &mut Vec<u8>, entry: &Entry)
 
 /// Appends a record that has no fault, into room that is there.
 fn put_record(out: &mut Vec<u8>, record: &Record)
-    requires fault { record_fault record.now ≡ None }
-    requires room { vec_len out.old + length (written_record record.now) ≤ vec_capacity out.old }
-    ensures items { out.new.items ≡ out.old.items ++ written_record record.now }
-    ensures len { vec_len out.new ≡ vec_len out.old + length (written_record record.now) }
+    requires fault { record_fault «record».now ≡ None }
+    requires room { vec_len out.old + length (written_record «record».now) ≤ vec_capacity out.old }
+    ensures items { out.new.items ≡ out.old.items ++ written_record «record».now }
+    ensures len { vec_len out.new ≡ vec_len out.old + length (written_record «record».now) }
     ensures capacity { vec_capacity out.new ≡ vec_capacity out.old }
 {
     match record {

@@ -1,5 +1,5 @@
 -- Frames listed one after another.
-use Rattle.std.proofs.Common.{◌≡◌, ℕ, zero, suc, ◌+◌, ◌-◌, ◌<◌, ◌≤◌, ◌⊎◌, inl, inr, true, false, List, [], ◌∷◌, ◌++◌, length, take, drop, map, Option, Some, string_bytes, refl, sym, ◌∙◌, ap, subst, arith, append_assoc, append-nil, length-append, length-drop}
+use Rattle.std.proofs.Common.{◌≡◌, ℕ, zero, suc, ◌+◌, ◌-◌, ◌<◌, ◌≤◌, ◌⊎◌, inl, inr, true, false, List, [], ◌∷◌, ◌++◌, length, take, drop, map, Some, string_bytes, refl, sym, ◌∙◌, ap, subst, arith, append_assoc, append-nil, length-append, length-drop}
 use Rattle.std.specs.Prelude.{IsSome, if◌then◌else◌, is_some}
 use Rattle.std.proofs.lemmas.List.{map-append, drop-drop}
 use Rattle.std.proofs.lemmas.Grind.{flat_map-append}

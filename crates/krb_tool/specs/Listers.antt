@@ -4,7 +4,7 @@ use Rattle.std.specs.List.{flat_map}
 use Rattle.krb_der.specs.declared.verdict.Refusal.{Refusal}
 use Rattle.krb_msg.specs.declared.message.Message.{Message}
 use Rattle.krb_msg.specs.Views.{message_der}
-use Rattle.krb_frame.specs.Decoding.{Decoding, found, status_of, lent}
+use Rattle.krb_frame.specs.Decoding.{found, status_of, lent}
 use Rattle.krb_frame.specs.Stands.{Stands}
 use Rattle.krb_frame.specs.Feeds.{Clears}
 use Rattle.krb_frame.specs.declared.decoder.Status.TheVariants as status
@@ -59,7 +59,9 @@ pub record IsWrittenOut (old new : Lister) : Type 0 where
   pub no_text : string_bytes new.text ≡ []
   pub messages : new.messages ≡ old.messages
 
--- the line of the end was added
+-- the line of the end was added, and all else is as it was
 pub record Finishes (old new : Lister) (ended : RunEnd) : Type 0 where
+  pub same_decoder : new.decoder ≡ old.decoder
+  pub messages : new.messages ≡ old.messages
   pub lines : string_bytes new.text ≡ string_bytes old.text ++ end_line old.messages (found old.decoder).end
   pub ended_so : ended ≡ run_end (found old.decoder).end

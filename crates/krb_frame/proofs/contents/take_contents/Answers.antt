@@ -1,6 +1,7 @@
 use Rattle.std.proofs.Common.{◌≡◌, ◌≤◌, ◌+◌, length, take, sym, ◌∙◌, ap, arith}
+use Rattle.krb_der.specs.Numbers.{AreOctets-each}
 use Rattle.krb_msg.specs.Judgement.{judgement}
-use Rattle.krb_frame.proofs.Takes.{extended, AreOctets-each, stops, taken-refused, taken-whole, taken-open}
+use Rattle.krb_frame.proofs.Takes.{extended, stops, taken-refused, taken-whole, taken-open}
 use Rattle.krb_frame.proofs.contents.take_contents.Goals as goal
 
 pub overflow_add-place : goal.overflow_add-place
@@ -32,7 +33,7 @@ pub returns-in-Whole : goal.returns-in-Whole
 returns-in-Whole c =
     let held = extended c.extend_from_slice.result _ _ _ c.extend_from_slice.ensures.items c.if-is_err.ensures.value in
     let judged = c.in-Whole.ensures ∙ ap (judgement c.args.size) (c.as_slice.ensures.value ∙ held) in
-    let are = rw held at (AreOctets-each c.extend_from_slice.new.self.items c.type_inv.contents) in
+    let are = rw held at (AreOctets-each c.extend_from_slice.new.self.items (λ i. c.type_inv.contents i 0)) in
     rw held (taken-whole c.args.size c.min-count.result c.args.contents.now.items c.args.piece.now (omega arith) (omega arith) c.requires.short are judged)
 
 pub returns-in-Open : goal.returns-in-Open

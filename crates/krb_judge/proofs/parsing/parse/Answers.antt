@@ -1,26 +1,27 @@
-use Rattle.std.proofs.Common.{◌∙◌, sym, ap, inl, Ok, arith}
-use Rattle.krb_judge.proofs.Slices.{are_octets, whole_message, message_in, are_of, same_message, message_not_refused, no_message}
+use Rattle.std.proofs.Common.{◌∙◌, sym, ap, inl, Ok}
+use Rattle.krb_der.specs.Numbers.{AreOctets-slice}
+use Rattle.krb_judge.proofs.Slices.{whole_message, message_in, are_of, same_message, message_not_refused, no_message}
 use Rattle.krb_judge.proofs.parsing.parse.Goals as goal
 
 pub whole_message-requires-clause-whole : goal.whole_message-requires-clause-whole
 whole_message-requires-clause-whole c = (whole_message c.args.octets.now (sym c.refusal_of.ensures ∙ c.in-None.is)).whole
 
 pub returns-in_err-whole_message-in-None-clause-none : goal.returns-in_err-whole_message-in-None-clause-none
-returns-in_err-whole_message-in-None-clause-none c = no_message c.args.octets.now (are_octets c.args.octets.now (λ k. omega (arith, c.type_inv.octets k)))
+returns-in_err-whole_message-in-None-clause-none c = no_message c.args.octets.now (AreOctets-slice c.args.octets.now c.type_inv.octets)
 
 pub returns-in-Some-clause-found : goal.returns-in-Some-clause-found
 returns-in-Some-clause-found c = λ m a. let e = sym c.in-Some.is ∙ c.refusal_of.ensures ∙ message_not_refused m a in absurd cc
 
 pub returns-in-Some-clause-none : goal.returns-in-Some-clause-none
-returns-in-Some-clause-none c = no_message c.args.octets.now (are_octets c.args.octets.now (λ k. omega (arith, c.type_inv.octets k)))
+returns-in-Some-clause-none c = no_message c.args.octets.now (AreOctets-slice c.args.octets.now c.type_inv.octets)
 
 pub returns-in_ok-whole_message-in-None-clause-message : goal.returns-in_ok-whole_message-in-None-clause-message
 returns-in_ok-whole_message-in-None-clause-message c =
     let octets = c.args.octets.now in
-    are_of c.in_ok-whole_message-in-None.field-0 (message_in octets (are_octets octets (λ k. omega (arith, c.type_inv.octets k))) (sym c.refusal_of.ensures ∙ c.in-None.is)) c.in_ok-whole_message-in-None.ensures
+    are_of c.in_ok-whole_message-in-None.field-0 (message_in octets (AreOctets-slice c.args.octets.now c.type_inv.octets) (sym c.refusal_of.ensures ∙ c.in-None.is)) c.in_ok-whole_message-in-None.ensures
 
 pub returns-in_ok-whole_message-in-None-clause-found : goal.returns-in_ok-whole_message-in-None-clause-found
 returns-in_ok-whole_message-in-None-clause-found c = λ m a. inl (ap Ok (same_message c.in_ok-whole_message-in-None.field-0 m c.in_ok-whole_message-in-None.ensures a.form))
 
 pub returns-in_ok-whole_message-in-None-clause-none : goal.returns-in_ok-whole_message-in-None-clause-none
-returns-in_ok-whole_message-in-None-clause-none c = no_message c.args.octets.now (are_octets c.args.octets.now (λ k. omega (arith, c.type_inv.octets k)))
+returns-in_ok-whole_message-in-None-clause-none c = no_message c.args.octets.now (AreOctets-slice c.args.octets.now c.type_inv.octets)

@@ -1,7 +1,7 @@
-use Rattle.std.proofs.Common.{◌∙◌, sym, arith, subst}
+use Rattle.std.proofs.Common.{◌∙◌, sym, subst}
+use Rattle.krb_der.specs.Numbers.{AreOctets-slice}
 use Rattle.krb_msg.specs.Grammar.{method_data}
 use Rattle.krb_judge.specs.Parses.{AreOfMethodData}
-use Rattle.krb_judge.proofs.Slices.{are_octets}
 use Rattle.krb_judge.proofs.Values.{same_error, refused_as, method_data_node, method_data_forms, are_of_method_data, same_method_data, method_data_not_refused, no_method_data}
 use Rattle.krb_judge.proofs.parsing.parse_method_data.Goals as goal
 
@@ -20,7 +20,7 @@ returns-in-Ok-clause-refused c = λ r.
     (λ e. absurd cc, λ e. let f = (c.in-Ok.ensures.refused r).1 (same ∙ e) in absurd cc)
 
 pub returns-in-Ok-clause-none : goal.returns-in-Ok-clause-none
-returns-in-Ok-clause-none c = no_method_data c.args.octets.now (are_octets c.args.octets.now (λ k. omega (arith, c.type_inv.octets k)))
+returns-in-Ok-clause-none c = no_method_data c.args.octets.now (AreOctets-slice c.args.octets.now c.type_inv.octets)
 
 pub returns-in-Err-clause-found : goal.returns-in-Err-clause-found
 returns-in-Err-clause-found c = λ items f. (tt, method_data_not_refused items f)
@@ -31,4 +31,4 @@ returns-in-Err-clause-refused c = λ r.
     (λ e. sym same ∙ (c.in-Err.ensures.refused r).0 (same_error e), λ e. same_error ((c.in-Err.ensures.refused r).1 (same ∙ e)))
 
 pub returns-in-Err-clause-none : goal.returns-in-Err-clause-none
-returns-in-Err-clause-none c = no_method_data c.args.octets.now (are_octets c.args.octets.now (λ k. omega (arith, c.type_inv.octets k)))
+returns-in-Err-clause-none c = no_method_data c.args.octets.now (AreOctets-slice c.args.octets.now c.type_inv.octets)

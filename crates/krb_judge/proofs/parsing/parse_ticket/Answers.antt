@@ -1,7 +1,7 @@
-use Rattle.std.proofs.Common.{◌∙◌, sym, arith}
+use Rattle.std.proofs.Common.{◌∙◌, sym}
 use Rattle.std.proofs.lemmas.Result.{IfOk-weaker}
+use Rattle.krb_der.specs.Numbers.{AreOctets-slice}
 use Rattle.krb_msg.specs.Grammar.{ticket}
-use Rattle.krb_judge.proofs.Slices.{are_octets}
 use Rattle.krb_judge.proofs.Values.{found_or_memory, refused_as, ticket_node, ticket_forms, are_of_ticket, same_ticket, ticket_not_refused, no_ticket}
 use Rattle.krb_judge.proofs.parsing.parse_ticket.Goals as goal
 
@@ -24,4 +24,4 @@ returns-clause-refused c = λ r.
     (λ e. sym same ∙ (c.parse_node.ensures.refused r).0 e, λ e. (c.parse_node.ensures.refused r).1 (same ∙ e))
 
 pub returns-clause-none : goal.returns-clause-none
-returns-clause-none c = no_ticket c.args.octets.now (are_octets c.args.octets.now (λ k. omega (arith, c.type_inv.octets k)))
+returns-clause-none c = no_ticket c.args.octets.now (AreOctets-slice c.args.octets.now c.type_inv.octets)

@@ -1,9 +1,10 @@
 use Rattle.std.proofs.Common.{◌∙◌, sym, arith}
+use Rattle.krb_der.specs.Numbers.{AreOctets-slice}
 use Rattle.krb_msg.proofs.Judged.{whole_is_message}
-use Rattle.krb_judge.proofs.Slices.{are_octets, kind_of_octets}
+use Rattle.krb_judge.proofs.Slices.{kind_of_octets}
 use Rattle.krb_judge.proofs.parsing.whole_kind.Goals as goal
 
 pub returns : goal.returns
 returns c =
-    let w = whole_is_message _ c.args.octets.now c.requires.short (are_octets c.args.octets.now (λ k. omega (arith, c.type_inv.octets k))) (omega arith) c.requires.whole in
+    let w = whole_is_message _ c.args.octets.now c.requires.short (AreOctets-slice c.args.octets.now c.type_inv.octets) (omega arith) c.requires.whole in
     record { message = w.message; are = record { in_profile = w.in_profile; form = w.form }; same_kind = kind_of_octets w.message w.form ∙ sym c.kind.ensures }

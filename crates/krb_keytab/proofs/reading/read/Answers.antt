@@ -1,10 +1,9 @@
-use Rattle.std.proofs.Common.{arith}
-use Rattle.krb_der.specs.Numbers.{AreOctets-each}
+use Rattle.krb_der.specs.Numbers.{AreOctets-slice}
 use Rattle.krb_keytab.proofs.Answered.{found, only, refused}
 use Rattle.krb_keytab.proofs.reading.read.Goals as goal
 
 pub returns-clause-found : goal.returns-clause-found
-returns-clause-found c = found c.args.octets.now c.whole.result (AreOctets-each c.args.octets.now (λ i. omega (arith, c.type_inv.octets i))) c.whole.ensures
+returns-clause-found c = found c.args.octets.now c.whole.result (AreOctets-slice c.args.octets.now c.type_inv.octets) c.whole.ensures
 
 pub returns-clause-only : goal.returns-clause-only
 returns-clause-only c = only c.args.octets.now c.whole.result c.whole.ensures

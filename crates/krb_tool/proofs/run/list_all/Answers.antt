@@ -1,4 +1,4 @@
-use Rattle.std.proofs.Common.{◌≡◌, ℕ, ◌^◌, ◌<◌, ◌≤◌, List, [], length, take, true, false, sym, ◌∙◌, ap, subst, arith, length-take}
+use Rattle.std.proofs.Common.{◌≡◌, ℕ, ◌^◌, ◌<◌, ◌≤◌, List, [], length, take, ◌∙◌, ap, subst, arith, length-take}
 use Rattle.std.specs.Io.KnownBytes.{Appends}
 use Rattle.krb_tool.proofs.Runs.{Waits-start, Waits-room, Runs-fed, Ends-refused, Ends-read, Waits-written, AllIsRead-more, AllIsRead-refused, Lists-made, written-slice}
 use Rattle.krb_tool.proofs.run.list_all.Goals as goal

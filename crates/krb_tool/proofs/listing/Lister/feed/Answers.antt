@@ -1,8 +1,7 @@
-use Rattle.std.proofs.Common.{◌≡◌, ℕ, ◌+◌, ◌-◌, ◌<◌, List, length, take, drop, refl, sym, ◌∙◌, ap, arith, length-drop}
+use Rattle.std.proofs.Common.{refl, arith, length-drop}
 use Rattle.std.proofs.lemmas.List.{take_rest}
-use Rattle.krb_frame.specs.Decoding.{status_of}
 use Rattle.krb_tool.specs.declared.listing.Lister.{Lister}
-use Rattle.krb_tool.proofs.Listings.{IsFed-start, Feeds-made, IsFed-ready, is_lent, goes_on, goes_no_more, some_used}
+use Rattle.krb_tool.proofs.Listings.{Feeds-made, IsFed-ready, goes_on, goes_no_more, some_used}
 use Rattle.krb_tool.proofs.listing.Lister.feed.Goals as goal
 
 pub returns-in-More : goal.returns-in-More

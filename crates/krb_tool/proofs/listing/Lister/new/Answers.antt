@@ -1,4 +1,4 @@
-use Rattle.std.proofs.Common.{◌≡◌, List, [], ◌++◌, string_bytes, refl, sym, ◌∙◌, ap, subst}
+use Rattle.std.proofs.Common.{[], refl, ◌∙◌, ap}
 use Rattle.krb_frame.specs.Decoding.{status_of}
 use Rattle.krb_frame.proofs.Founds.{more-nothing}
 use Rattle.krb_tool.proofs.listing.Lister.new.Goals as goal
