@@ -3,11 +3,12 @@ use Rattle.std.proofs.Common.{◌≡◌, ℕ, zero, suc, ◌+◌, ◌-◌, ◌<�
 use Rattle.std.proofs.lemmas.List.{take_all}
 use Rattle.krb_der.specs.declared.why.Why.{Why}
 use Rattle.krb_msg.specs.Term.{Term, Fields, Sequence, SequenceOf, Tagged, Application, End, Required}
-use Rattle.krb_msg.specs.Judgement.{Outcome, Bad, Done, then_after, item_outcome, items_contents, only_contents, contents_outcome, fields_outcome}
+use Rattle.krb_msg.specs.Judgement.{Outcome, Bad, Done, then_after, item_outcome, items_contents, only_contents, fields_outcome}
 use Rattle.krb_msg.specs.Nodes.{term_at}
 use Rattle.krb_msg.specs.Table.{IsFormOf, fields_from}
 use Rattle.krb_msg.specs.declared.grammar.Slot.{Slot}
 use Rattle.krb_msg.specs.declared.grammar.Form.TheVariants as form
+use Rattle.krb_judge.specs.Outcomes.{sized_outcome}
 use Rattle.krb_msg.proofs.Laws.{bad_within, done_within}
 use Rattle.krb_msg.proofs.TermsDecided.{item-count, contents-count}
 
@@ -21,14 +22,14 @@ pub taken : (term : Term) (room : ℕ) (sole : Bool) (octets : List ℕ) (count 
 taken term room sole octets count h e = done_within term room sole octets count h (sym e)
 
 -- ---- forms
-pub items_of : (slots : List Slot) (inner : ℕ) (term : Term) → IsFormOf slots (form.Items inner) term → (before room : ℕ) (octets : List ℕ) → contents_outcome term before room octets ≡ items_contents (λ left. item_outcome (term_at inner) left false) room before room octets
+pub items_of : (slots : List Slot) (inner : ℕ) (term : Term) → IsFormOf slots (form.Items inner) term → (before room : ℕ) (octets : List ℕ) → sized_outcome term before room octets ≡ items_contents (λ left. item_outcome (term_at inner) left false) room before room octets
 items_of slots inner (SequenceOf node term) h before room octets = rw h.1
 items_of slots inner term h before room octets = absurd h
 
 only_item : (term inner : Term) (other : Fields) → Required inner End ≡ Required term other → inner ≡ term
 only_item term inner other e = cc
 
-pub only_of : (slots : List Slot) (first node : ℕ) (term : Term) → IsFormOf slots (form.Fields first true) term → fields_from (drop first slots) ≡ Required (term_at node) End → (before room : ℕ) (octets : List ℕ) → contents_outcome term before room octets ≡ only_contents before room (item_outcome (term_at node) room true octets)
+pub only_of : (slots : List Slot) (first node : ℕ) (term : Term) → IsFormOf slots (form.Fields first true) term → fields_from (drop first slots) ≡ Required (term_at node) End → (before room : ℕ) (octets : List ℕ) → sized_outcome term before room octets ≡ only_contents before room (item_outcome (term_at node) room true octets)
 only_of slots first node (Tagged number index term) h e before room octets =
     let same : term_at node ≡ term = only_item term (term_at node) End (sym e ∙ h.1) in
     rw same

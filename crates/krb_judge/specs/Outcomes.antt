@@ -1,9 +1,9 @@
 -- The values of the code as those of the judgement.
 use Rattle.std.specs.Prelude.{ℕ, ◌≡◌, ◌+◌, ◌-◌, ◌<◌, ◌≤◌, ◌==◌, nat_lt, nat_le, ◌&&◌, Bool, false, if◌then◌else◌, List, drop}
 use Rattle.krb_der.specs.declared.why.Why.TheVariants as why
-use Rattle.krb_msg.specs.Term.{Fields, End, Required}
+use Rattle.krb_msg.specs.Term.{Term, Fields, End, Required}
 use Rattle.krb_msg.specs.Shape.{depth, depth_of_fields}
-use Rattle.krb_msg.specs.Judgement.{Outcome, Open, Bad, Done, Head, Partial, Refused, Got, fitting, long_head, then_after, item_outcome, fields_outcome}
+use Rattle.krb_msg.specs.Judgement.{Outcome, Open, Bad, Done, Head, Partial, Refused, Got, fitting, long_head, then_after, has_size, item_outcome, contents_outcome, fields_outcome}
 use Rattle.krb_msg.specs.Nodes.{term_at}
 use Rattle.krb_msg.specs.Table.{fields_from}
 use Rattle.krb_msg.specs.declared.grammar.TheConstants.{FIELDS}
@@ -41,6 +41,10 @@ time_octet place octet = if nat_lt place 14 then nat_le 48 octet && nat_le octet
 abbrev pub IsOne : Fields → Type 0
 IsOne (Required term End) = Unit {0}
 IsOne fields = ⊥
+
+-- an item's contents of a length, which may be none that the item has
+abbrev pub sized_outcome : Term → ℕ → ℕ → List ℕ → Outcome
+sized_outcome term before size octets = if has_size term size then contents_outcome term before size octets else Bad (before - 1) why.Size
 
 -- the fields from a place on
 abbrev pub fields_at : ℕ → Fields

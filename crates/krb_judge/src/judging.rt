@@ -11,9 +11,9 @@ mod outcome;
 
 ghost use Rattle.std.specs.Prelude.{◌≡◌, ◌+◌, ◌^◌, ◌<◌, ◌≤◌, length, true, false};
 ghost use Rattle.krb_msg.specs.Term.{End, Required};
-ghost use Rattle.krb_msg.specs.Judgement.{judgement, term_judgement, verdict_of, only_contents, has_size as term_has_size, item_outcome, contents_outcome, fields_outcome, items_contents};
+ghost use Rattle.krb_msg.specs.Judgement.{judgement, term_judgement, verdict_of, only_contents, item_outcome, fields_outcome, items_contents};
 ghost use Rattle.krb_msg.specs.Nodes.{term_at};
-ghost use Rattle.krb_judge.specs.Outcomes.{outcome_of, fields_at, IsOne, IsDue};
+ghost use Rattle.krb_judge.specs.Outcomes.{outcome_of, sized_outcome, fields_at, IsOne, IsDue};
 
 use crate::judging::head::{Head, part, read_head};
 use crate::judging::leaf::{bits, integer, string, time};
@@ -105,27 +105,9 @@ fn item(node: u16, room: u32, sole: bool, octets: &[u8]) -> Outcome
                 offset: header - 1,
                 why: Why::Loose,
             }
-        } else if has_size(node, size) {
-            contents(node, header, size, part(octets, header, size))
         } else {
-            Outcome::Bad {
-                offset: header - 1,
-                why: Why::Size,
-            }
+            contents(node, header, size, part(octets, header, size))
         },
-    }
-}
-
-/// Whether a node's term has contents of a length.
-fn has_size(node: u16, size: u32) -> bool
-    requires { node < 111 }
-    ensures { result ≡ term_has_size (term_at node) size }
-{
-    match form_of(node) {
-        Form::Integer { widest, .. } => 0 < size && size <= widest,
-        Form::Time => size == 15,
-        Form::Bits => 0 < size,
-        _ => true,
     }
 }
 
@@ -135,16 +117,21 @@ fn has_size(node: u16, size: u32) -> bool
 fn contents(node: u16, before: u32, size: u32, octets: &[u8]) -> Outcome
     requires known { node < 111 }
     requires some { 0 < before }
-    requires sized { term_has_size (term_at node) size ≡ true }
     requires short { before + size < 2 ^ 31 }
     requires present { length octets.now ≤ size }
-    ensures { outcome_of result ≡ contents_outcome (term_at node) before size octets.now }
+    ensures { outcome_of result ≡ sized_outcome (term_at node) before size octets.now }
 {
     match form_of(node) {
-        Form::Integer { low, high, .. } => integer(low, high, before, size, octets),
+        Form::Integer { low, high, widest } if 0 < size && size <= widest => {
+            integer(low, high, before, size, octets)
+        }
+        Form::Time if size == 15 => time(before, octets),
+        Form::Bits if 0 < size => bits(before, size, octets),
+        Form::Integer { .. } | Form::Time | Form::Bits => Outcome::Bad {
+            offset: before - 1,
+            why: Why::Size,
+        },
         Form::Text | Form::Octets => string(before, size, octets),
-        Form::Time => time(before, octets),
-        Form::Bits => bits(before, size, octets),
         Form::Items { node } => items(node, before, size, octets),
         Form::Fields { first, sole } => if sole {
             only(only_node(first), before, size, octets)
