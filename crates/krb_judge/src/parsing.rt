@@ -30,6 +30,14 @@ pub enum ParseFault {
     Memory,
 }
 
+impl From<Memory> for ParseFault {
+    ghost from_gives = { λ _ e. e ≡ fault.Memory };
+
+    fn from(_error: Memory) -> ParseFault {
+        ParseFault::Memory
+    }
+}
+
 impl From<AllocError> for ParseFault {
     ghost from_gives = { λ _ e. e ≡ fault.Memory };
 
@@ -72,7 +80,7 @@ pub fn parse(alloc: Global, octets: &[u8]) -> Result<Message, ParseFault>
 {
     match refusal_of(Expected::Message, octets) {
         Some(refusal) => Err(ParseFault::Refused(refusal)),
-        None => Ok(whole_message(alloc, octets)?),
+        None => Ok(parse_whole(alloc, octets)?),
     }
 }
 
@@ -160,23 +168,6 @@ pub fn parse_whole(alloc: Global, octets: &[u8]) -> Result<Message, Memory>
     requires whole { judgement (length octets.now) octets.now ≡ Whole }
     ensures { IfOk result (λ m. message_der m ≡ octets.now) }
 {
-    Ok(whole_message(alloc, octets)?)
-}
-
-/// The kind of the message whose octets these are, which [`judge`] found whole. It takes no memory.
-pub fn whole_kind(octets: &[u8]) -> Kind
-    requires short { length octets.now < 2 ^ 31 }
-    requires whole { judgement (length octets.now) octets.now ≡ Whole }
-    ensures { AreOfKind octets.now result }
-{
-    kind(octets[0])
-}
-
-fn whole_message(alloc: Global, octets: &[u8]) -> Result<Message, AllocError>
-    requires short { length octets.now < 2 ^ 31 }
-    requires whole { judgement (length octets.now) octets.now ≡ Whole }
-    ensures { IfOk result (λ m. message_der m ≡ octets.now) }
-{
     match kind(octets[0]) {
         Kind::AsReq => Ok(Message::AsReq(kdc_req::<0x6A, 10>(alloc, octets)?)),
         Kind::AsRep => Ok(Message::AsRep(kdc_rep::<0x6B, 11>(alloc, octets)?)),
@@ -186,6 +177,15 @@ fn whole_message(alloc: Global, octets: &[u8]) -> Result<Message, AllocError>
         Kind::ApRep => Ok(Message::ApRep(ApRep::decode(alloc, octets)?.0)),
         Kind::KrbError => Ok(Message::KrbError(KrbError::decode(alloc, octets)?.0)),
     }
+}
+
+/// The kind of the message whose octets these are, which [`judge`] found whole. It takes no memory.
+pub fn whole_kind(octets: &[u8]) -> Kind
+    requires short { length octets.now < 2 ^ 31 }
+    requires whole { judgement (length octets.now) octets.now ≡ Whole }
+    ensures { AreOfKind octets.now result }
+{
+    kind(octets[0])
 }
 
 /// The kind of the messages that begin with a tag octet (RFC 4120, 5.10).

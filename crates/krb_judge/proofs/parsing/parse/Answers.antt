@@ -3,11 +3,11 @@ use Rattle.krb_der.specs.Numbers.{AreOctets-slice}
 use Rattle.krb_judge.proofs.Slices.{whole_message, message_in, are_of, same_message, message_not_refused, no_message}
 use Rattle.krb_judge.proofs.parsing.parse.Goals as goal
 
-pub whole_message-requires-clause-whole : goal.whole_message-requires-clause-whole
-whole_message-requires-clause-whole c = (whole_message c.args.octets.now (sym c.refusal_of.ensures ∙ c.in-None.is)).whole
+pub parse_whole-requires-clause-whole : goal.parse_whole-requires-clause-whole
+parse_whole-requires-clause-whole c = (whole_message c.args.octets.now (sym c.refusal_of.ensures ∙ c.in-None.is)).whole
 
-pub returns-in_err-whole_message-in-None-clause-none : goal.returns-in_err-whole_message-in-None-clause-none
-returns-in_err-whole_message-in-None-clause-none c = no_message c.args.octets.now (AreOctets-slice c.args.octets.now c.type_inv.octets)
+pub returns-in_err-parse_whole-in-None-clause-none : goal.returns-in_err-parse_whole-in-None-clause-none
+returns-in_err-parse_whole-in-None-clause-none c = no_message c.args.octets.now (AreOctets-slice c.args.octets.now c.type_inv.octets)
 
 pub returns-in-Some-clause-found : goal.returns-in-Some-clause-found
 returns-in-Some-clause-found c = λ m a. let e = sym c.in-Some.is ∙ c.refusal_of.ensures ∙ message_not_refused m a in absurd cc
@@ -15,13 +15,13 @@ returns-in-Some-clause-found c = λ m a. let e = sym c.in-Some.is ∙ c.refusal_
 pub returns-in-Some-clause-none : goal.returns-in-Some-clause-none
 returns-in-Some-clause-none c = no_message c.args.octets.now (AreOctets-slice c.args.octets.now c.type_inv.octets)
 
-pub returns-in_ok-whole_message-in-None-clause-message : goal.returns-in_ok-whole_message-in-None-clause-message
-returns-in_ok-whole_message-in-None-clause-message c =
+pub returns-in_ok-parse_whole-in-None-clause-message : goal.returns-in_ok-parse_whole-in-None-clause-message
+returns-in_ok-parse_whole-in-None-clause-message c =
     let octets = c.args.octets.now in
-    are_of c.in_ok-whole_message-in-None.field-0 (message_in octets (AreOctets-slice c.args.octets.now c.type_inv.octets) (sym c.refusal_of.ensures ∙ c.in-None.is)) c.in_ok-whole_message-in-None.ensures
+    are_of c.in_ok-parse_whole-in-None.field-0 (message_in octets (AreOctets-slice c.args.octets.now c.type_inv.octets) (sym c.refusal_of.ensures ∙ c.in-None.is)) c.in_ok-parse_whole-in-None.ensures
 
-pub returns-in_ok-whole_message-in-None-clause-found : goal.returns-in_ok-whole_message-in-None-clause-found
-returns-in_ok-whole_message-in-None-clause-found c = λ m a. inl (ap Ok (same_message c.in_ok-whole_message-in-None.field-0 m c.in_ok-whole_message-in-None.ensures a.form))
+pub returns-in_ok-parse_whole-in-None-clause-found : goal.returns-in_ok-parse_whole-in-None-clause-found
+returns-in_ok-parse_whole-in-None-clause-found c = λ m a. inl (ap Ok (same_message c.in_ok-parse_whole-in-None.field-0 m c.in_ok-parse_whole-in-None.ensures a.form))
 
-pub returns-in_ok-whole_message-in-None-clause-none : goal.returns-in_ok-whole_message-in-None-clause-none
-returns-in_ok-whole_message-in-None-clause-none c = no_message c.args.octets.now (AreOctets-slice c.args.octets.now c.type_inv.octets)
+pub returns-in_ok-parse_whole-in-None-clause-none : goal.returns-in_ok-parse_whole-in-None-clause-none
+returns-in_ok-parse_whole-in-None-clause-none c = no_message c.args.octets.now (AreOctets-slice c.args.octets.now c.type_inv.octets)

@@ -5,7 +5,7 @@ use Rattle.krb_judge.proofs.Slices.{message_of_kind}
 use Rattle.krb_judge.proofs.Taken.{stands_alone, taken_alone}
 use Rattle.krb_judge.proofs.Forms.{tagged, fixed, required, optional, listed, same, done}
 use Rattle.krb_judge.specs.Reads.{value_octets}
-use Rattle.krb_judge.proofs.parsing.whole_message.Goals as goal
+use Rattle.krb_judge.proofs.parsing.parse_whole.Goals as goal
 
 pub kdc_req-requires-clause-form : goal.kdc_req-requires-clause-form
 kdc_req-requires-clause-form c = tagged (fixed (fixed (optional refl (listed (same _)) (required (same _) done)))) _ (message_of_kind c.args.octets.now kind.AsReq c.requires.short (AreOctets-slice c.args.octets.now c.type_inv.octets) c.requires.whole (sym c.kind.ensures ∙ c.in-AsReq.is))
