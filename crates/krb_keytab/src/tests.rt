@@ -67,43 +67,26 @@ fn reads_the_fronts_that_end_between_records(rt: HostRuntime) {
     }
 }
 
+/// Files that are refused, with the place of the first field at fault and its reason.
+const FAULTS: [(&[u8], u64, FileWhy); 12] = [
+    (b"", 0, FileWhy::Truncated),
+    (b"\x05", 1, FileWhy::Truncated),
+    (b"\x06\x01", 0, FileWhy::Magic),
+    (b"\x05\x01", 1, FileWhy::Version),
+    (b"\x05\x02\0\0", 2, FileWhy::Truncated),
+    (b"\x05\x02\0\0\0\x01\0", 6, FileWhy::Overrun),
+    (b"\x05\x02\0\0\0\x03\0\x01\0", 8, FileWhy::Overrun),
+    (b"\x05\x02\0\0\0\x04\0\x01\0\0", 10, FileWhy::Overrun),
+    (b"\x05\x02\0\0\0\x1B\0\x01\0\x03A", 10, FileWhy::Truncated),
+    (b"\x05\x02\0\0\0\x05\0\x01\0\x03A", 10, FileWhy::Overrun),
+    (b"\x05\x02\x80\0\0\0", 6, FileWhy::Truncated),
+    (b"\x05\x02\0\0\0\xFF\xFF\xFF\0\0", 10, FileWhy::Truncated),
+];
+
 #[test]
 fn refuses_at_the_first_field_at_fault(rt: HostRuntime) {
     let alloc = rt.alloc();
-    for (octets, place, why) in [
-        (b"".as_slice(), 0, FileWhy::Truncated),
-        (b"\x05".as_slice(), 1, FileWhy::Truncated),
-        (b"\x06\x01".as_slice(), 0, FileWhy::Magic),
-        (b"\x05\x01".as_slice(), 1, FileWhy::Version),
-        (b"\x05\x02\0\0".as_slice(), 2, FileWhy::Truncated),
-        (b"\x05\x02\0\0\0\x01\0".as_slice(), 6, FileWhy::Overrun),
-        (
-            b"\x05\x02\0\0\0\x03\0\x01\0".as_slice(),
-            8,
-            FileWhy::Overrun,
-        ),
-        (
-            b"\x05\x02\0\0\0\x04\0\x01\0\0".as_slice(),
-            10,
-            FileWhy::Overrun,
-        ),
-        (
-            b"\x05\x02\0\0\0\x1B\0\x01\0\x03A".as_slice(),
-            10,
-            FileWhy::Truncated,
-        ),
-        (
-            b"\x05\x02\0\0\0\x05\0\x01\0\x03A".as_slice(),
-            10,
-            FileWhy::Overrun,
-        ),
-        (b"\x05\x02\x80\0\0\0".as_slice(), 6, FileWhy::Truncated),
-        (
-            b"\x05\x02\0\0\0\xFF\xFF\xFF\0\0".as_slice(),
-            10,
-            FileWhy::Truncated,
-        ),
-    ] {
+    for (octets, place, why) in FAULTS {
         assert_eq!(rt; refused(alloc, octets), Some((place, why)));
     }
     assert_eq!(rt;
