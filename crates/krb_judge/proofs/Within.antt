@@ -8,9 +8,9 @@ use Rattle.krb_msg.specs.Nodes.{term_at}
 use Rattle.krb_msg.specs.Table.{IsFormOf, fields_from}
 use Rattle.krb_msg.specs.declared.grammar.Slot.{Slot}
 use Rattle.krb_msg.specs.declared.grammar.Form.TheVariants as form
-use Rattle.krb_judge.specs.Outcomes.{sized_outcome}
 use Rattle.krb_msg.proofs.Laws.{bad_within, done_within}
 use Rattle.krb_msg.proofs.TermsDecided.{item-count, contents-count}
+use Rattle.krb_judge.specs.Outcomes.{sized_outcome}
 
 pub refused : (term : Term) (room : ℕ) (sole : Bool) (octets : List ℕ) (offset : ℕ) (reason : Why) → length octets ≤ room → Bad offset reason ≡ item_outcome term room sole octets → offset < length octets
 refused term room sole octets offset reason h e = bad_within term room sole octets offset reason h (sym e)

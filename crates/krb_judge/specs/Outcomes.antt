@@ -42,7 +42,7 @@ abbrev pub IsOne : Fields → Type 0
 IsOne (Required term End) = Unit {0}
 IsOne fields = ⊥
 
--- an item's contents of a length, which may be none that the item has
+-- an item's contents of a length, where the item may have that length, and else that it may not
 abbrev pub sized_outcome : Term → ℕ → ℕ → List ℕ → Outcome
 sized_outcome term before size octets = if has_size term size then contents_outcome term before size octets else Bad (before - 1) why.Size
 
