@@ -84,6 +84,14 @@ pub record Reads {A : Type 0} (reader : Reader A) (spell : A → List ℕ) (Fits
   -- what is spelled so is read again
   pub again : (bounds : Bounds) (place : ℕ) (rest : List ℕ) (v : A) → Fits v → bounds.limit ≡ None → Inside bounds (place + length (spell v)) → reader bounds (at place (spell v ++ rest)) ≡ Ok (v, at (place + length (spell v)) rest)
 
+-- the same by another spelling
+pub Reads-as : {A : Type 0} (reader : Reader A) (spell other : A → List ℕ) (Fits Others : A → Type 0) → Reads reader spell Fits → ((v : A) → spell v ≡ other v) → ((v : A) → Fits v → Others v) → ((v : A) → Others v → Fits v) → Reads reader other Others
+Reads-as reader spell other Fits Others laws same there back = record {
+  sound = λ bounds s t v fits inside e. let p = laws.sound bounds s t v fits inside e in (subst (λ (w : List ℕ). Took bounds w s t) (same v) p.0, there v p.1);
+  again = λ bounds place rest v fits free inside.
+      subst (λ (w : List ℕ). Inside bounds (place + length w) → reader bounds (at place (w ++ rest)) ≡ Ok (v, at (place + length w) rest)) (same v) (laws.again bounds place rest v (back v fits) free) inside;
+}
+
 -- ---- so many octets
 pub record IsPiece (limit : Option ℕ) (size : ℕ) (bounds : Bounds) (s t : Source) (taken : List ℕ) : Type 0 where
   pub inside : Inside bounds (s.place + size)
@@ -306,6 +314,19 @@ fields-again (Field A reader spell Fits laws fields) X next bounds place rest va
     ∙ second
     ∙ ap (λ (k : ℕ). next values bounds (at k rest)) places
 
+-- a record of fields: its parts, and making it of them
+module _ (fields : Fields) (X : Type 0) (make : Values fields → X) (parts : X → Values fields) (make_parts : (x : X) → make (parts x) ≡ x) (parts_make : (values : Values fields) → parts (make values) ≡ values) where
+  pub Reads-fields : Reads (read_fields fields (λ values. gives (make values))) (λ x. spell_fields fields (parts x)) (λ x. AllFit fields (parts x))
+  Reads-fields = record {
+    sound = λ bounds s t x fits inside e.
+        let a = fields-sound fields X (λ values. gives (make values)) bounds s t x fits inside e in
+        let same : Took bounds (spell_fields fields (parts (make a.0))) s a.1 × AllFit fields (parts (make a.0)) = subst (λ (values : Values fields). Took bounds (spell_fields fields values) s a.1 × AllFit fields values) (sym (parts_make a.0)) (a.2, a.3) in
+        subst (λ (p : X × Source). Took bounds (spell_fields fields (parts p.0)) s p.1 × AllFit fields (parts p.0)) (ok_is (make a.0, a.1) (x, t) a.4) same;
+    again = λ bounds place rest x fits free inside.
+        fields-again fields X (λ values. gives (make values)) bounds place rest (parts x) fits free inside
+        ∙ ap (λ (y : X). done (y, at (place + length (spell_fields fields (parts x))) rest)) (make_parts x);
+  }
+
 -- ---- a realm and components behind their number
 module _ (w : Width) (wide : IsWide w) where
   abbrev count_and_realm : Fields
@@ -390,3 +411,59 @@ version-again versions bounds rest v lt is_wanted free =
     let inside = λ (n : ℕ). let it : Inside bounds n = record { inside = rw free } in it in
     ap (λ (r : Result (ℕ × Source) Fault). onward r (λ p. expect versions why.Version bounds p.1)) (expect-again (5 ∷ []) why.Magic bounds 0 (to_be_bytes w8 v ++ rest) 5 (omega arith) refl (inside 1))
     ∙ expect-again versions why.Version bounds 1 rest v lt is_wanted (inside 2)
+
+-- ---- fields, and then a part that keeps their values
+module _ (fields : Fields) (X : Type 0) (next : Values fields → Reader X) (front_of : X → Values fields) (back : X → List ℕ) (BackFits : X → Type 0) (laws : (values : Values fields) → Reads (next values) back (λ x. BackFits x × (front_of x ≡ values))) where
+  pub Reads-then : Reads (read_fields fields next) (λ x. spell_fields fields (front_of x) ++ back x) (λ x. AllFit fields (front_of x) × BackFits x)
+  Reads-then = record {
+    sound = λ bounds s t x fits inside e.
+        let a = fields-sound fields X next bounds s t x fits inside e in
+        let b = (laws a.0).sound bounds a.1 t x a.2.fits a.2.inside a.4 in
+        let both = Took-then bounds (spell_fields fields a.0) (back x) s a.1 t a.2 b.0 in
+        subst (λ (values : Values fields). Took bounds (spell_fields fields values ++ back x) s t × (AllFit fields values × BackFits x)) (sym b.1.1) (both, (a.3, b.1.0));
+    again = λ bounds place rest x fits free inside.
+        let front = spell_fields fields (front_of x) in
+        let len : length (front ++ back x) ≡ length front + length (back x) = length-append front (back x) in
+        let places : (place + length front) + length (back x) ≡ place + length (front ++ back x) = omega (arith, len) in
+        let before : Inside bounds (place + length front) = Inside-before bounds _ (place + length (front ++ back x)) (omega (arith, len)) inside in
+        ap (λ (w : List ℕ). read_fields fields next bounds (at place w)) (append_assoc front (back x) rest)
+        ∙ fields-again fields X next bounds place (back x ++ rest) (front_of x) fits.0 free before
+        ∙ (laws (front_of x)).again bounds (place + length front) rest x (fits.1, refl) free (subst (Inside bounds) (sym places) inside)
+        ∙ ap (λ (k : ℕ). done (x, at k rest)) places;
+  }
+
+-- ---- items behind their number
+module _ (w : Width) (wide : IsWide w) {A : Type 0} (item_at : Reader A) (spell : A → List ℕ) (Fits : A → Type 0) (laws : Reads item_at spell Fits) where
+  abbrev count_field : Fields
+  count_field = Field ℕ (number_at w) (to_be_bytes w) (λ n. n < bound_of w) (Reads-number w wide) End
+
+  counted_items : (n : ℕ) → Reads (times n item_at) (flat_map spell) (λ vs. AllByRecursion Fits vs × (length vs ≡ n))
+  counted_items n = record {
+    sound = λ bounds s t vs fits inside e. let p = times-sound item_at spell Fits laws n bounds s t vs fits inside e in (p.0, (p.2, p.1));
+    again = λ bounds place rest vs fits free inside.
+        subst (λ (k : ℕ). times k item_at bounds (at place (flat_map spell vs ++ rest)) ≡ Ok (vs, at (place + length (flat_map spell vs)) rest)) fits.1 (times-again item_at spell Fits laws vs bounds place rest fits.0 free inside);
+  }
+
+  items_then : (values : Values count_field) → Reads (times values.0 item_at) (flat_map spell) (λ vs. AllByRecursion Fits vs × (◌≡◌ {A = Values count_field} (length vs, tt) values))
+  items_then values = Reads-as (times values.0 item_at) (flat_map spell) (flat_map spell) _ _ (counted_items values.0) (λ vs. refl) (λ vs p. (p.0, ap (λ (k : ℕ). let it : Values count_field = (k, tt) in it) p.1)) (λ vs p. (p.0, ap (λ (v : Values count_field). v.0) p.1))
+
+  pub Reads-list : Reads (number_at w >>= λ count. times count item_at) (λ vs. to_be_bytes w (length vs) ++ flat_map spell vs) (λ vs. (length vs < bound_of w) × AllByRecursion Fits vs)
+  Reads-list =
+      Reads-as (number_at w >>= λ count. times count item_at) _ _ _ _
+      (Reads-then count_field (List A) (λ values. times values.0 item_at) (λ vs. (length vs, tt)) (flat_map spell) (AllByRecursion Fits) items_then)
+      (λ vs. ap (λ (x : List ℕ). x ++ flat_map spell vs) (append-nil (to_be_bytes w (length vs))))
+      (λ vs p. (p.0.0, p.1))
+      (λ vs p. ((p.0, tt), p.1))
+
+-- fields that are made into part of a value, the rest of which is given
+module _ (fields : Fields) (X : Type 0) (make : Values fields → X) (parts : X → Values fields) (Given : X → Type 0) (given_make : (values : Values fields) → Given (make values)) (parts_make : (values : Values fields) → parts (make values) ≡ values) (make_parts : (x : X) → Given x → make (parts x) ≡ x) where
+  pub Reads-given : Reads (read_fields fields (λ values. gives (make values))) (λ x. spell_fields fields (parts x)) (λ x. AllFit fields (parts x) × Given x)
+  Reads-given = record {
+    sound = λ bounds s t x fits inside e.
+        let a = fields-sound fields X (λ values. gives (make values)) bounds s t x fits inside e in
+        let same : Took bounds (spell_fields fields (parts (make a.0))) s a.1 × (AllFit fields (parts (make a.0)) × Given (make a.0)) = subst (λ (values : Values fields). Took bounds (spell_fields fields values) s a.1 × (AllFit fields values × Given (make a.0))) (sym (parts_make a.0)) (a.2, (a.3, given_make a.0)) in
+        subst (λ (p : X × Source). Took bounds (spell_fields fields (parts p.0)) s p.1 × (AllFit fields (parts p.0) × Given p.0)) (ok_is (make a.0, a.1) (x, t) a.4) same;
+    again = λ bounds place rest x fits free inside.
+        fields-again fields X (λ values. gives (make values)) bounds place rest (parts x) fits.0 free inside
+        ∙ ap (λ (y : X). done (y, at (place + length (spell_fields fields (parts x))) rest)) (make_parts x fits.1);
+  }

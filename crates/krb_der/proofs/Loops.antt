@@ -10,7 +10,7 @@ abbrev pub with_front : {A : Type 0} → List A → Result (List A × Source) Fa
 with_front front read = onward read (λ x. Ok (front ++ x.0, x.1))
 
 module _ {A : Type 0} (item_at : Reader A) (bounds : Bounds) where
-  regroup : (front : List A) (item : A) (read : Result (List A × Source) Fault) → with_front front (onward read (λ x. Ok (item ∷ x.0, x.1))) ≡ with_front (front ++ item ∷ []) read
+  pub regroup : (front : List A) (item : A) (read : Result (List A × Source) Fault) → with_front front (onward read (λ x. Ok (item ∷ x.0, x.1))) ≡ with_front (front ++ item ∷ []) read
   regroup front item (Ok x) = ap (λ (items : List A). Ok (items, x.1)) (simp append_assoc)
   regroup front item (Err f) = refl
 

@@ -153,6 +153,14 @@ impl<'a> Source<'a> {
         let (size, rest) = self.number16(end)?;
         rest.octets(end, u32::from(size))
     }
+
+    /// Octets behind their number of 32 bits, lent.
+    pub fn counted32(self, end: Option<u64>) -> Result<(&'a [u8], Source<'a>), FileFault>
+        ensures { Gives (λ taken. (taken.0.now, taken.1)) result (counted_at w32 (ended end) self.entry) }
+    {
+        let (size, rest) = self.number32(end)?;
+        rest.octets(end, size)
+    }
 }
 
 /// Whether an octet is one of some.

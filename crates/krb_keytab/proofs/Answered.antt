@@ -2,12 +2,12 @@
 use Rattle.std.proofs.Common.{ℕ, List, Result, Ok, Err, subst}
 use Rattle.std.specs.Prelude.{IfOk, IfErr}
 use Rattle.krb_der.specs.Octets.{AreOctets}
-use Rattle.krb_der.specs.Fields.{Gives}
+use Rattle.krb_der.specs.Fields.{Gives, IsFaultIn}
 use Rattle.krb_der.specs.declared.file.FileFault.{FileFault}
 use Rattle.krb_der.specs.declared.file.FileFault.TheVariants as faults
 use Rattle.krb_keytab.specs.declared.value.Keytab.{Keytab}
 use Rattle.krb_keytab.specs.Spelling.{ReadAs}
-use Rattle.krb_keytab.specs.Reading.{read, IsFaultIn}
+use Rattle.krb_keytab.specs.Reading.{read}
 use Rattle.krb_keytab.proofs.Keytabs.{read-sound, read_as-again}
 use Rattle.krb_keytab.proofs.Faults.{read-fault}
 

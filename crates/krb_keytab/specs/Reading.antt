@@ -1,11 +1,8 @@
 -- Reading a keytab from left to right, up to the first fault.
-use Rattle.std.specs.Prelude.{ℕ, zero, suc, ℤ, pos, negsuc, ◌≡◌, ◌≤◌, List, [], ◌∷◌, length, Option, None, Result, Ok, Err}
+use Rattle.std.specs.Prelude.{ℕ, zero, suc, ℤ, pos, negsuc, List, [], ◌∷◌, length, Option, None, Result, Ok, Err}
 use Rattle.std.specs.Int.{w8, w16, w32}
 use Rattle.krb_der.specs.Octets.{when}
 use Rattle.krb_der.specs.Fields.{Source, source_of, Fault, limited, Reader, ◌>>=◌, gives, piece_at, rest_at, is_empty, number_at, signed_at, counted_at, names_at, within, version_at}
-use Rattle.krb_der.specs.declared.file.FileFault.{FileFault}
-use Rattle.krb_der.specs.declared.file.FileFault.TheVariants as faults
-use Rattle.krb_der.specs.declared.file.FileWhy.TheVariants as whys
 use Rattle.krb_keytab.specs.declared.value.Keytab.{Keytab}
 use Rattle.krb_keytab.specs.declared.value.Record.{Record}
 use Rattle.krb_keytab.specs.declared.value.Record.TheVariants as records
@@ -95,9 +92,3 @@ keytab_of_items items = keytab_of items.records items.end
 -- the keytab that a file holds, or the first fault
 abbrev pub read : List ℕ → Result (Keytab × ℕ) Fault
 read file = keytab_of_items (items None file)
-
--- What the reader of a whole file answers where it gives no keytab: a refusal in the file or at its end, which no limit brings, or want of memory.
-abbrev pub IsFaultIn : List ℕ → FileFault → Type 0
-IsFaultIn file (faults.Refused place why) = (place ≤ length file) × (why ≡ whys.TooLong → ⊥)
-IsFaultIn file faults.Read = ⊥
-IsFaultIn file faults.Memory = Unit {0}

@@ -2,10 +2,10 @@
 
 ghost use Rattle.std.specs.Prelude.{◌≡◌, ℕ, None, Some, Ok, IfOk, IfErr};
 ghost use Rattle.std.specs.Int.{w16, w32};
-ghost use Rattle.krb_der.specs.Fields.{Gives, ended, limited, times, counted_at};
+ghost use Rattle.krb_der.specs.Fields.{Gives, IsFaultIn, ended, limited, times, counted_at};
 ghost use Rattle.krb_keytab.specs.Spelling.{are_zero, ReadAs};
 ghost use Rattle.krb_keytab.specs.declared.value.Keytab.{Keytab as KeytabValue};
-ghost use Rattle.krb_keytab.specs.Reading.{entry_at, record_of, record_at, items_behind, keytab_of_items, read, IsFaultIn};
+ghost use Rattle.krb_keytab.specs.Reading.{entry_at, record_of, record_at, items_behind, keytab_of_items, read};
 
 use crate::value::{Entry, Hole, Keytab, Record, Stop};
 use krb_der::{FileFault, KString, Many, Octets, Source};

@@ -1,4 +1,7 @@
 pub mod Pieces
+pub mod Lines
+pub mod Methods
 pub mod Dates
 pub mod Escapes
 pub mod Masks
+pub mod CcacheLines

@@ -9,7 +9,7 @@ use Rattle.krb_keytab.specs.Spelling.{masked, masked_record}
 use Rattle.krb_list.specs.Text.{line_feed}
 use Rattle.krb_list.specs.Keytabs.{name_text, version_text, sizes_text, entry_text, record_text, keytab_lines}
 
-length-zeros : (n : ℕ) → length (zeros n) ≡ n
+pub length-zeros : (n : ℕ) → length (zeros n) ≡ n
 length-zeros zero = refl
 length-zeros (suc n) = ap (λ m. suc m) (length-zeros n)
 

@@ -1,5 +1,5 @@
 -- Texts, computed.
-use Rattle.std.specs.Prelude.{pos, true, ◌≡◌, [], ◌∷◌, refl, codes}
+use Rattle.std.specs.Prelude.{pos, true, Some, None, ◌≡◌, [], ◌∷◌, refl, codes}
 use Rattle.std.specs.Fmt.{digits}
 use Rattle.krb_der.specs.declared.file.FileWhy.TheVariants as why
 use Rattle.krb_keytab.specs.declared.value.Entry.{Entry}
@@ -7,7 +7,13 @@ use Rattle.krb_keytab.specs.declared.value.Record.TheVariants as records
 use Rattle.krb_keytab.specs.declared.value.Stop.TheVariants as stops
 use Rattle.krb_list.specs.Keytabs.{name_text, version_text, sizes_text, entry_text, hole_text, stop_text, keytab_end_text, keytab_lines}
 use Rattle.krb_list.specs.Refusals.{fault_text, file_refused_line}
-use Rattle.krb_list.specs.Text.{principal_text}
+use Rattle.krb_der.specs.declared.why.Why.TheVariants as reasons
+use Rattle.krb_ccache.specs.declared.value.Credential.{Credential}
+use Rattle.krb_ccache.specs.declared.value.FilePrincipal.{FilePrincipal}
+use Rattle.krb_ccache.specs.declared.ticket.TicketState.TheVariants as states
+use Rattle.krb_list.specs.Ccaches.{cache_text, who_text, key_text, times_text, state_text, flags_text, counts_text, tickets_text, credential_front, credential_text, config_text, refused_ticket_text, credential_line, cache_end_text}
+use Rattle.krb_list.specs.TicketFlags.{ticket_flags_text, first_names, last_names, name_if_set, eight_hex}
+use Rattle.krb_list.specs.Text.{principal_text, field}
 use Rattle.krb_list.specs.Time.{civil_date, date_from, date_in_year, the_date, time_text, two_digits, date_text, clock_text}
 
 no_components : principal_text [] (codes "A") ≡ codes "\\-@A"
@@ -96,3 +102,52 @@ no_record = refl
 refused : file_refused_line 37 why.Truncated ≡ codes "refused place=37 why=3 Truncated\n"
 unfolding digits fault_text
 refused = refl
+
+-- ---- ticket flags
+flags : ticket_flags_text 0x40E1_0000 ≡ codes "forwardable,renewable,initial,pre-authent+00010000"
+unfolding ticket_flags_text first_names last_names name_if_set eight_hex
+flags = refl
+
+no_flags : ticket_flags_text 0 ≡ codes "-"
+unfolding ticket_flags_text first_names last_names name_if_set eight_hex
+no_flags = refl
+
+flags_without_names : ticket_flags_text 0x8000_0001 ≡ codes "-+80000001"
+unfolding ticket_flags_text first_names last_names name_if_set eight_hex
+flags_without_names = refl
+
+-- ---- a cache of u@A: a configuration entry, and a credential for h@A whose ticket is refused
+abbrev user : FilePrincipal
+user = record { name_type = pos 1; realm = codes "A"; components = codes "u" ∷ [] }
+
+abbrev no_ticket : Credential
+no_ticket = record { client = user; server = record { name_type = pos 2; realm = codes "A"; components = codes "h" ∷ [] }; enctype = 18; key = 0xAB ∷ 0xCD ∷ []; authtime = 946684800; starttime = 946684800; endtime = 946688400; renew_till = 0; is_skey = 0; flags = 0x40E1_0000; addresses = []; authdata = []; ticket = 0x61 ∷ 0x80 ∷ []; second_ticket = [] }
+
+abbrev config : Credential
+config = record no_ticket { server = record { name_type = pos 0; realm = codes "X-CACHECONF:"; components = codes "krb5_ccache_conf_data" ∷ codes "pa_type" ∷ [] }; ticket = codes "2" }
+
+cache_line : cache_text (record { header = record { fields = record { tag = 1; value = 0 ∷ 0 ∷ 0 ∷ 0 ∷ 0 ∷ 0 ∷ 0 ∷ 0 ∷ [] } ∷ [] }; principal = user; credentials = [] }) ≡ codes "cache principal=u@A type=1 offset=0:0 fields=1"
+unfolding cache_text field principal_text digits
+cache_line = refl
+
+no_offset : cache_text (record { header = record { fields = [] }; principal = user; credentials = [] }) ≡ codes "cache principal=u@A type=1 offset=- fields=0"
+unfolding cache_text field principal_text digits
+no_offset = refl
+
+config_line : config_text config ≡ codes "config client=u@A server=krb5_ccache_conf_data/pa_type@X-CACHECONF: size=1"
+unfolding config_text who_text field principal_text digits
+config_line = refl
+
+refused_line : credential_line None no_ticket (states.Refused (record { place = 1; why = reasons.Indefinite })) ≡ codes "cred client=u@A server=h@A enctype=18 key=2 auth=2000-01-01T00:00:00Z start=2000-01-01T00:00:00Z end=2000-01-01T01:00:00Z renew=- skey=0 flags=forwardable,renewable,initial,pre-authent+00010000 state=- addresses=0 authdata=0 ticket=refused:1:6 tserver=- second=0"
+unfolding credential_text credential_front who_text key_text times_text flags_text counts_text tickets_text refused_ticket_text field principal_text ticket_flags_text first_names last_names name_if_set eight_hex civil_date date_from date_in_year two_digits date_text clock_text digits
+refused_line = refl
+
+still_live : state_text (Some 946688399) 946688400 ≡ codes "live"
+still_live = refl
+
+expired : state_text (Some 946688400) 946688400 ≡ codes "expired"
+expired = refl
+
+cache_end : cache_end_text 2 ≡ codes "end credentials=2"
+unfolding cache_end_text field digits
+cache_end = refl

@@ -2,7 +2,10 @@ pub mod Text
 pub mod Time
 pub mod Refusals
 pub mod Keytabs
+pub mod TicketFlags
+pub mod Ccaches
 pub mod Messages
 pub mod Streams
 pub mod Laws
 pub mod Examples
+pub mod MessageExamples

@@ -50,3 +50,7 @@ yes_or_no false = codes "no"
 
 abbrev pub line_feed : List ℕ
 line_feed = 10 ∷ []
+
+-- a field of a line: its name and what it shows
+unfoldable pub field : List ℕ → List ℕ → List ℕ
+field name text = codes " " ++ name ++ codes "=" ++ text

@@ -2,26 +2,36 @@
 //! what was appended.
 #![tactic(auto)]
 
+mod ccache;
+mod error;
 mod escape;
+mod field;
 mod keytab;
 mod law;
 mod message;
+mod notes;
 mod piece;
 mod principal;
 mod refusal;
 mod stream;
+mod ticket_flags;
 mod time;
 
+pub use ccache::{ccache_lines, put_ccache};
 pub use escape::put_escaped;
+pub use field::put_field;
 pub use keytab::{keytab_lines, put_keytab};
 pub use law::{
-    dates_are_the_calendars, escape_is_graphic, keys_are_not_shown, principal_text_tells,
+    dates_are_the_calendars, escape_is_graphic, keys_are_not_shown, one_listing,
+    principal_text_tells, session_keys_are_not_shown,
 };
-pub use message::put_message;
-pub use piece::{Piece, put_joined, put_list};
+pub use message::{message_line, put_message};
+pub use notes::{Notes, notes_of};
+pub use piece::{Name, Piece, put_joined, put_list};
 pub use principal::{principal_text, put_principal};
-pub use refusal::{put_fault, put_file_refusal};
+pub use refusal::{put_fault, put_file_refusal, put_message_refusal};
 pub use stream::{put_stream_end, put_stream_refusal};
+pub use ticket_flags::TicketFlags;
 pub use time::{put_time, time_text};
 
 #[cfg(test)]

@@ -1,52 +1,128 @@
 //! Lines of messages.
 
-ghost use Rattle.std.specs.Prelude.{◌≡◌, ◌++◌, OnOk, string_bytes};
-ghost use Rattle.krb_list.specs.Messages.{key_version_notes, notes_text, ap_rep_line, message_line};
+ghost use Rattle.std.specs.Prelude.{◌≡◌, ◌++◌, IfOk, OnOk, string_bytes};
+ghost use Rattle.krb_list.specs.Messages.{kdc_req_text, kdc_rep_text, ap_req_text, ap_rep_text, fields_text, message_text, message_line};
 
-use crate::piece::{Piece, put_list};
-use krb_der::Wide32;
-use krb_msg::{ApRep, Message};
-use std::alloc::AllocError;
+use crate::error::put_krb_error;
+use crate::field::{put_count_field, put_field, put_optional_principal_field, put_principal_field};
+use crate::notes::notes_of;
+use krb_der::Memory;
+use krb_msg::{ApRep, ApReq, KdcRep, KdcReq, KdcReqBody, Message};
+use std::alloc::{AllocError, Global};
 
-/// The notes on a key version: 3 where it is negative.
-fn notes_on(kvno: &Option<Wide32>) -> &'static [u8]
-    ensures { result.now ≡ key_version_notes kvno.now }
+#[tactic(auto, unfolding(crate::specs::Messages::kdc_req_text))]
+fn put_kdc_req(line: &mut String, req: &KdcReq) -> Result<(), AllocError>
+    ensures { OnOk result (string_bytes line.new ≡ kdc_req_text (string_bytes line.old) req.now) }
 {
-    match kvno {
-        Some(version) if version.get() < 0 => &[3],
-        _ => &[],
+    let body: &KdcReqBody = &req.body;
+    put_field(line, "realm", &body.realm)?;
+    put_optional_principal_field(line, "client", &body.cname, &body.realm)?;
+    put_optional_principal_field(line, "server", &body.sname, &body.realm)?;
+    put_field(line, "options", &body.kdc_options)?;
+    put_field(line, "from", &body.from)?;
+    put_field(line, "till", &body.till)?;
+    put_field(line, "rtime", &body.rtime)?;
+    put_field(line, "nonce", &body.nonce)?;
+    put_field(line, "etypes", &body.etype)?;
+    put_field(line, "padata", &req.padata)?;
+    put_count_field(line, "addresses", &body.addresses)?;
+    put_field(line, "authdata", &body.enc_authorization_data)?;
+    put_count_field(line, "tickets", &body.additional_tickets)?;
+    Ok(())
+}
+
+#[tactic(auto, unfolding(crate::specs::Messages::kdc_rep_text))]
+fn put_kdc_rep(line: &mut String, rep: &KdcRep) -> Result<(), AllocError>
+    ensures { OnOk result (string_bytes line.new ≡ kdc_rep_text (string_bytes line.old) rep.now) }
+{
+    put_principal_field(line, "client", &rep.cname, &rep.crealm)?;
+    put_principal_field(line, "server", &rep.ticket.sname, &rep.ticket.realm)?;
+    put_field(line, "padata", &rep.padata)?;
+    put_field(line, "ticket", &rep.ticket.enc_part)?;
+    put_field(line, "enc", &rep.enc_part)?;
+    Ok(())
+}
+
+#[tactic(auto, unfolding(crate::specs::Messages::ap_req_text))]
+fn put_ap_req(line: &mut String, req: &ApReq) -> Result<(), AllocError>
+    ensures { OnOk result (string_bytes line.new ≡ ap_req_text (string_bytes line.old) req.now) }
+{
+    put_principal_field(line, "server", &req.ticket.sname, &req.ticket.realm)?;
+    put_field(line, "options", &req.ap_options)?;
+    put_field(line, "ticket", &req.ticket.enc_part)?;
+    put_field(line, "auth", &req.authenticator)?;
+    Ok(())
+}
+
+#[tactic(auto, unfolding(crate::specs::Messages::ap_rep_text))]
+fn put_ap_rep(line: &mut String, rep: &ApRep) -> Result<(), AllocError>
+    ensures { OnOk result (string_bytes line.new ≡ ap_rep_text (string_bytes line.old) rep.now) }
+{
+    put_field(line, "enc", &rep.enc_part)
+}
+
+/// Appends the name of a message, and its fields but the notes.
+#[tactic(auto, using(crate::proofs::Lines::kdc_req_behind, crate::proofs::Lines::kdc_rep_behind, crate::proofs::Lines::ap_req_behind, crate::proofs::Lines::ap_rep_behind, crate::proofs::Lines::krb_error_behind))]
+fn put_fields(line: &mut String, message: &Message) -> Result<(), Memory>
+    ensures { OnOk result (string_bytes line.new ≡ string_bytes line.old ++ fields_text message.now) }
+{
+    match message {
+        Message::AsReq(req) => {
+            line.push_str("AS-REQ")?;
+            put_kdc_req(line, req)?;
+        }
+        Message::AsRep(rep) => {
+            line.push_str("AS-REP")?;
+            put_kdc_rep(line, rep)?;
+        }
+        Message::TgsReq(req) => {
+            line.push_str("TGS-REQ")?;
+            put_kdc_req(line, req)?;
+        }
+        Message::TgsRep(rep) => {
+            line.push_str("TGS-REP")?;
+            put_kdc_rep(line, rep)?;
+        }
+        Message::ApReq(req) => {
+            line.push_str("AP-REQ")?;
+            put_ap_req(line, req)?;
+        }
+        Message::ApRep(rep) => {
+            line.push_str("AP-REP")?;
+            put_ap_rep(line, rep)?;
+        }
+        Message::KrbError(error) => {
+            line.push_str("KRB-ERROR")?;
+            put_krb_error(line, error)?;
+        }
     }
+    Ok(())
 }
 
-/// Appends the notes on a key version.
-fn put_notes(text: &mut String, kvno: &Option<Wide32>) -> Result<(), AllocError>
-    ensures { OnOk result (string_bytes text.new ≡ string_bytes text.old ++ notes_text kvno.now) }
+/// Appends the line of a message without its line feed.
+fn put_text(line: &mut String, message: &Message) -> Result<(), Memory>
+    ensures { OnOk result (string_bytes line.new ≡ string_bytes line.old ++ message_text message.now) }
 {
-    put_list(text, notes_on(kvno))
-}
-
-fn put_ap_rep(text: &mut String, ap_rep: &ApRep) -> Result<(), AllocError>
-    ensures { OnOk result (string_bytes text.new ≡ string_bytes text.old ++ ap_rep_line ap_rep.now) }
-{
-    text.push_str("AP-REP enc=")?;
-    ap_rep.enc_part.put(text)?;
-    text.push_str(" notes=")?;
-    put_notes(text, &ap_rep.enc_part.kvno)?;
-    text.push_str("\n")?;
+    put_fields(line, message)?;
+    put_field(line, "notes", &notes_of(message))?;
     Ok(())
 }
 
 /// Appends the line of a message.
-pub fn put_message(text: &mut String, message: &Message) -> Result<(), AllocError>
+#[tactic(auto, unfolding(crate::specs::Messages::message_line))]
+pub fn put_message(text: &mut String, message: &Message) -> Result<(), Memory>
     ensures { OnOk result (string_bytes text.new ≡ string_bytes text.old ++ message_line message.now) }
 {
-    match message {
-        Message::AsReq(_) => text.push_str("AS-REQ\n"),
-        Message::AsRep(_) => text.push_str("AS-REP\n"),
-        Message::TgsReq(_) => text.push_str("TGS-REQ\n"),
-        Message::TgsRep(_) => text.push_str("TGS-REP\n"),
-        Message::ApReq(_) => text.push_str("AP-REQ\n"),
-        Message::ApRep(ap_rep) => put_ap_rep(text, ap_rep),
-        Message::KrbError(_) => text.push_str("KRB-ERROR\n"),
-    }
+    put_text(text, message)?;
+    text.push('\n')?;
+    Ok(())
+}
+
+/// The line of a message, without a line feed: its name, its fields and its notes.
+pub fn message_line(alloc: Global, message: &Message) -> Result<String, Memory>
+    ensures { IfOk result (λ text. string_bytes text ≡ message_text message.now) }
+{
+    let mut line = String::new(alloc);
+    put_text(&mut line, message)?;
+    Ok(line)
 }

@@ -4,11 +4,13 @@ ghost use Rattle.std.specs.Prelude.{◌≡◌, ◌++◌, List, ℕ, OnOk, string
 ghost use Rattle.std.specs.List.{flat_map};
 ghost use Rattle.std.specs.Fmt.{decimal, signed_decimal};
 ghost use Rattle.krb_list.specs.Text.{escape, or_dash, list_text, joined, sealed_text};
+ghost use Rattle.krb_list.specs.Messages.{flags_text, padata_text};
 
-use crate::escape::put_escaped;
-use krb_der::{Int32, KString, Wide32};
-use krb_msg::EncryptedData;
+use crate::escape::{put_ascii, put_escaped, put_hex};
+use krb_der::{Flags, Int32, KString, KerberosTime, Many, Micros, Wide32};
+use krb_msg::{EncryptedData, PaData};
 use std::alloc::AllocError;
+use std::marker::Model;
 
 /// What a line shows of a value.
 pub trait Piece {
@@ -19,11 +21,58 @@ pub trait Piece {
         ensures { OnOk result (string_bytes line.new ≡ string_bytes line.old ++ text self.now) };
 }
 
+/// A word that a line shows as it is. Contracts see it as its octets.
+#[derive(Drop)]
+pub struct Name(pub &'static str);
+
+impl Model for Name {
+    ghost use Rattle.std.specs.Prelude.{List, ℕ};
+
+    ghost Value = { List ℕ };
+
+    ghost view = { λ name. name.0.now };
+}
+
+impl Piece for Name {
+    ghost text = { λ name. name };
+
+    fn put(&self, line: &mut String) -> Result<(), AllocError> {
+        line.push_str(self.0)
+    }
+}
+
 impl Piece for u8 {
     ghost text = { decimal };
 
     fn put(&self, line: &mut String) -> Result<(), AllocError> {
         write!(line, "{}", *self)
+    }
+}
+
+impl Piece for u16 {
+    ghost text = { decimal };
+
+    fn put(&self, line: &mut String) -> Result<(), AllocError> {
+        let number = *self;
+        write!(line, "{number}")
+    }
+}
+
+impl Piece for usize {
+    ghost text = { decimal };
+
+    fn put(&self, line: &mut String) -> Result<(), AllocError> {
+        let number = *self;
+        write!(line, "{number}")
+    }
+}
+
+impl Piece for i32 {
+    ghost text = { signed_decimal };
+
+    fn put(&self, line: &mut String) -> Result<(), AllocError> {
+        let number = *self;
+        write!(line, "{number}")
     }
 }
 
@@ -40,6 +89,34 @@ impl Piece for Wide32 {
 
     fn put(&self, line: &mut String) -> Result<(), AllocError> {
         write!(line, "{}", self.get())
+    }
+}
+
+impl Piece for Micros {
+    ghost text = { decimal };
+
+    fn put(&self, line: &mut String) -> Result<(), AllocError> {
+        write!(line, "{}", self.get())
+    }
+}
+
+/// The fifteen characters.
+impl Piece for KerberosTime {
+    ghost text = { λ time. time };
+
+    fn put(&self, line: &mut String) -> Result<(), AllocError> {
+        put_ascii(line, self.octets())
+    }
+}
+
+/// The number of bits, `:` and the octets in hexadecimal.
+impl Piece for Flags {
+    ghost text = { flags_text };
+
+    fn put(&self, line: &mut String) -> Result<(), AllocError> {
+        let bits = 8 * self.octets().len() as u128 - u128::from(self.unused());
+        write!(line, "{bits}:")?;
+        put_hex(line, self.octets())
     }
 }
 
@@ -61,6 +138,24 @@ impl<T: Piece> Piece for Option<T> {
             None => line.push('-'),
             Some(value) => value.put(line),
         }
+    }
+}
+
+/// The values in brackets, with commas between them.
+impl<T: Piece> Piece for Many<T> {
+    ghost text = { list_text T.text };
+
+    fn put(&self, line: &mut String) -> Result<(), AllocError> {
+        put_list(line, self.as_slice())
+    }
+}
+
+/// Its type.
+impl Piece for PaData {
+    ghost text = { padata_text };
+
+    fn put(&self, line: &mut String) -> Result<(), AllocError> {
+        self.padata_type.put(line)
     }
 }
 

@@ -1,9 +1,9 @@
 //! Lines of what is refused.
 
 ghost use Rattle.std.specs.Prelude.{◌≡◌, ◌++◌, OnOk, string_bytes};
-ghost use Rattle.krb_list.specs.Refusals.{fault_text, file_refused_line};
+ghost use Rattle.krb_list.specs.Refusals.{fault_text, file_refused_line, message_refused_line};
 
-use krb_der::{FileWhy, file_why_number, file_why_text};
+use krb_der::{FileWhy, Refusal, file_why_number, file_why_text, why_number, why_text};
 use std::alloc::AllocError;
 
 /// Appends a place, and the number and the name of a reason: ` place=P why=NUMBER NAME`.
@@ -21,5 +21,16 @@ pub fn put_file_refusal(lines: &mut String, place: u64, why: FileWhy) -> Result<
 {
     lines.push_str("refused")?;
     put_fault(lines, place, file_why_number(why), file_why_text(why))?;
+    lines.push('\n')
+}
+
+/// Appends the line of octets that are no message: the place of the octet at fault, and what is wrong
+/// with it.
+pub fn put_message_refusal(lines: &mut String, refusal: Refusal) -> Result<(), AllocError>
+    ensures { OnOk result (string_bytes lines.new ≡ string_bytes lines.old ++ message_refused_line refusal) }
+{
+    lines.push_str("refused")?;
+    let place = u64::from(refusal.place);
+    put_fault(lines, place, why_number(refusal.why), why_text(refusal.why))?;
     lines.push('\n')
 }

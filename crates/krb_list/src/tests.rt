@@ -1,11 +1,15 @@
 use crate::{
-    Piece, dates_are_the_calendars, escape_is_graphic, keys_are_not_shown, keytab_lines,
-    principal_text, principal_text_tells, put_escaped, put_fault, put_file_refusal, put_joined,
-    put_keytab, put_list, put_principal, put_time, time_text,
+    Piece, TicketFlags, ccache_lines, dates_are_the_calendars, escape_is_graphic,
+    keys_are_not_shown, keytab_lines, message_line, notes_of, one_listing, principal_text,
+    principal_text_tells, put_ccache, put_escaped, put_fault, put_field, put_file_refusal,
+    put_joined, put_keytab, put_list, put_message, put_message_refusal, put_principal, put_time,
+    session_keys_are_not_shown, time_text,
 };
-use krb_der::{FileWhy, Int32, KString, Many, Octets, Wide32};
+use krb_ccache::{Ccache, Credential, FilePrincipal, Header, HeaderField, Typed};
+use krb_der::{FileWhy, Int32, KString, Many, Octets, Refusal, Why, Wide32};
+use krb_judge::{ParseFault, parse};
 use krb_keytab::{Entry, Hole, Keytab, Record, Stop};
-use krb_msg::EncryptedData;
+use krb_msg::{EncryptedData, Message};
 use std::alloc::{AllocError, Global};
 use std::test::Fail;
 
@@ -147,6 +151,102 @@ fn lists_keytabs(rt: HostRuntime) -> Result<(), Fail> {
     Ok(())
 }
 
+fn user(alloc: Global, components: &[&[u8]], realm: &[u8]) -> Result<FilePrincipal, Fail> {
+    let mut names = Vec::new(alloc);
+    for component in components {
+        names.push(string(alloc, component)?)?;
+    }
+    Ok(FilePrincipal {
+        name_type: 1,
+        realm: string(alloc, realm)?,
+        components: Many::new(names),
+    })
+}
+
+/// A credential of u@A with this server and this ticket.
+fn credential(alloc: Global, server: FilePrincipal, ticket: &[u8]) -> Result<Credential, Fail> {
+    let address = Typed {
+        kind: 2,
+        octets: Octets::new(Vec::from_slice(alloc, &[127, 0, 0, 1])?),
+    };
+    Ok(Credential {
+        client: user(alloc, &[b"u"], b"A")?,
+        server,
+        enctype: 18,
+        key: Octets::new(Vec::from_slice(alloc, &[0xAB, 0xCD])?),
+        authtime: 946684800,
+        starttime: 946684800,
+        endtime: 946688400,
+        renew_till: 0,
+        is_skey: 1,
+        flags: 0x40E10000,
+        addresses: Many::new(vec![in alloc; address]?),
+        authdata: Many::new(Vec::new(alloc)),
+        ticket: Octets::new(Vec::from_slice(alloc, ticket)?),
+        second_ticket: Octets::new(Vec::from_slice(alloc, b"two")?),
+    })
+}
+
+/// A Ticket for h@A (RFC 4120, 5.3).
+const TICKET: [u8; 45] =
+    *b"\x61\x2B\x30\x29\xA0\x03\x02\x01\x05\xA1\x03\x1B\x01A\xA2\x0E\x30\x0C\xA0\x03\x02\x01\x02\xA1\x05\x30\x03\x1B\x01h\xA3\x0D\x30\x0B\xA0\x03\x02\x01\x12\xA2\x04\x04\x02\xBE\xEF";
+
+#[test]
+fn lists_caches(rt: HostRuntime) -> Result<(), Fail> {
+    let alloc = rt.alloc();
+    let config = user(
+        alloc,
+        &[b"krb5_ccache_conf_data", b"pa_type"],
+        b"X-CACHECONF:",
+    )?;
+    let credentials = vec![in alloc;
+        credential(alloc, config, b"2")?,
+        credential(alloc, user(alloc, &[b"h"], b"A")?, &TICKET)?,
+        credential(alloc, user(alloc, &[b"h"], b"A")?, b"\x61\x80")?,
+        credential(alloc, user(alloc, &[b"h"], b"A")?, b"")?,
+    ]?;
+    let offset = HeaderField {
+        tag: 1,
+        value: Octets::new(Vec::from_slice(alloc, &[255, 255, 255, 255, 0, 0, 0, 7])?),
+    };
+    let cache = Ccache {
+        header: Header {
+            fields: Many::new(vec![in alloc; offset]?),
+        },
+        principal: user(alloc, &[b"u"], b"A")?,
+        credentials: Many::new(credentials),
+    };
+    let lines = ccache_lines(alloc, &cache, Some(946688399))?;
+    assert_eq!(rt;
+        lines.as_str(),
+        "cache principal=u@A type=1 offset=-1:7 fields=1\nconfig client=u@A server=krb5_ccache_conf_data/pa_type@X-CACHECONF: size=1\ncred client=u@A server=h@A enctype=18 key=2 auth=2000-01-01T00:00:00Z start=2000-01-01T00:00:00Z end=2000-01-01T01:00:00Z renew=- skey=1 flags=forwardable,renewable,initial,pre-authent+00010000 state=live addresses=1 authdata=0 ticket=18:-:2 tserver=h@A second=3\ncred client=u@A server=h@A enctype=18 key=2 auth=2000-01-01T00:00:00Z start=2000-01-01T00:00:00Z end=2000-01-01T01:00:00Z renew=- skey=1 flags=forwardable,renewable,initial,pre-authent+00010000 state=live addresses=1 authdata=0 ticket=refused:1:6 tserver=- second=3\ncred client=u@A server=h@A enctype=18 key=2 auth=2000-01-01T00:00:00Z start=2000-01-01T00:00:00Z end=2000-01-01T01:00:00Z renew=- skey=1 flags=forwardable,renewable,initial,pre-authent+00010000 state=live addresses=1 authdata=0 ticket=absent tserver=- second=3\nend credentials=4\n"
+    );
+    let mut text = String::new(alloc);
+    put_ccache(alloc, &mut text, &cache, Some(946688399))?;
+    assert_eq!(rt; text.as_str(), lines.as_str());
+    let expired = ccache_lines(alloc, &cache, Some(946688400))?;
+    assert_eq!(rt; expired.as_str().contains(" state=live "), false);
+    Ok(())
+}
+
+#[test]
+fn shows_ticket_flags(rt: HostRuntime) -> Result<(), Fail> {
+    for (flags, text) in [
+        (0, " flags=-"),
+        (0x80000001, " flags=-+80000001"),
+        (0x00040000, " flags=ok-as-delegate"),
+        (
+            0x7FFC0000,
+            " flags=forwardable,forwarded,proxiable,proxy,may-postdate,postdated,invalid,renewable,initial,pre-authent,hw-authent,transited-policy-checked,ok-as-delegate",
+        ),
+    ] {
+        let mut line = String::new(rt.alloc());
+        put_field(&mut line, "flags", &TicketFlags(flags))?;
+        assert_eq!(rt; line.as_str(), text);
+    }
+    Ok(())
+}
+
 #[test]
 fn shows_refusals(rt: HostRuntime) -> Result<(), Fail> {
     let mut lines = String::new(rt.alloc());
@@ -160,10 +260,55 @@ fn shows_refusals(rt: HostRuntime) -> Result<(), Fail> {
     Ok(())
 }
 
+/// An AS-REQ with seven flags and a nonce of -1.
+const AS_REQ: &str =
+    "6A3A3038A103020105A20302010AA42C302AA00403020140A2031B0141A511180F31393730303130313030303030305AA7030201FFA8053003020112";
+
+const AS_REQ_TEXT: &str =
+    "AS-REQ realm=A client=- server=- options=7:40 from=- till=19700101000000Z rtime=- nonce=-1 etypes=[18] padata=- addresses=- authdata=- tickets=- notes=[2,3]";
+
+fn message(alloc: Global, digits: &str) -> Result<Message, Fail> {
+    let octets = hex::decode(alloc, digits)?;
+    match parse(alloc, octets.as_slice()) {
+        Ok(message) => Ok(message),
+        Err(ParseFault::Refused(_)) => Err(Fail::from("a message")),
+        Err(ParseFault::Memory) => Err(Fail::from("memory")),
+    }
+}
+
+#[test]
+fn lists_messages(rt: HostRuntime) -> Result<(), Fail> {
+    let alloc = rt.alloc();
+    let message = message(alloc, AS_REQ)?;
+    assert_eq!(rt; message_line(alloc, &message)?.as_str(), AS_REQ_TEXT);
+    let mut text = String::from_str(alloc, "> ")?;
+    put_message(&mut text, &message)?;
+    assert!(rt; text.ends_with(" notes=[2,3]\n") && text.starts_with("> AS-REQ realm=A "));
+    let notes = notes_of(&message);
+    for number in 0..=255u8 {
+        assert_eq!(rt; notes.has(number), number == 2 || number == 3, "{number}");
+    }
+    Ok(())
+}
+
+#[test]
+fn refuses_messages(rt: HostRuntime) -> Result<(), Fail> {
+    let mut text = String::new(rt.alloc());
+    let refusal = Refusal {
+        place: 1,
+        why: Why::Overrun,
+    };
+    put_message_refusal(&mut text, refusal)?;
+    assert_eq!(rt; text.as_str(), "refused place=1 why=5 Overrun\n");
+    Ok(())
+}
+
 #[test]
 fn has_its_laws(_rt: HostRuntime) {
     dates_are_the_calendars();
     escape_is_graphic();
     keys_are_not_shown();
+    one_listing();
     principal_text_tells();
+    session_keys_are_not_shown();
 }

@@ -17,3 +17,6 @@ pub mod Judged
 pub mod Fronts
 pub mod Table
 pub mod Fields
+pub mod Noted
+pub mod Read
+pub mod MessageRead

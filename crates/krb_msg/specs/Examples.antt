@@ -1,5 +1,5 @@
 -- Worked examples, computed by the definitions: octets in hexadecimal, and what they are.
-use Rattle.std.specs.Prelude.{ℕ, pos, negsuc, ◌+◌, ◌-◌, ◌≡◌, true, List, [], ◌∷◌, ◌++◌, take, Some, None, codes, refl}
+use Rattle.std.specs.Prelude.{ℕ, pos, negsuc, ◌≡◌, true, List, [], ◌∷◌, ◌++◌, take, Some, None, codes, refl}
 use Rattle.krb_der.specs.Hex.{hex}
 use Rattle.krb_der.specs.declared.why.Why.TheVariants as why
 use Rattle.krb_der.specs.declared.verdict.Verdict.TheVariants as verdict

@@ -8,6 +8,7 @@ use Rattle.krb_msg.specs.Views.{kind_of, message_value, message_of, message_der,
 use Rattle.krb_msg.specs.Term.{Term, Value, der, Fits}
 use Rattle.krb_msg.specs.Shape.{is_unambiguous}
 use Rattle.krb_msg.specs.Judgement.{judgement, term_judgement}
+use Rattle.krb_msg.specs.Reading.{value_read, message_read}
 
 -- the octets are all of the n, and the DER of a message
 pub record AreMessage (n : ℕ) (octets : List ℕ) : Type 0 where
@@ -37,6 +38,14 @@ WholeIsValue = (term : Term) (octets : List ℕ) → AreOctets octets → term_j
 -- The DER of a value is judged whole as an item of its term, if tags tell the term's fields apart.
 abbrev pub ValueIsWhole : Type 0
 ValueIsWhole = (term : Term) (value : Value term) → is_unambiguous term ≡ true → Fits term value → length (der term value) < 2 ^ 31 → term_judgement term (length (der term value)) (der term value) ≡ Whole
+
+-- What is read of the DER of a value is the value, if tags tell the term's fields apart.
+abbrev pub ValueIsRead : Type 0
+ValueIsRead = (term : Term) (value : Value term) → is_unambiguous term ≡ true → length (der term value) < 2 ^ 32 → value_read term (der term value) ≡ value
+
+-- What is read of the DER of a message is the message.
+abbrev pub MessageIsRead : Type 0
+MessageIsRead = (m : Message) → IsInProfile m → message_read (message_der m) ≡ m
 
 -- A refusal stands at an octet that is there. It is the same whatever follows that octet, and without that octet nothing is decided.
 pub record IsFinal (n : ℕ) (octets : List ℕ) (place : ℕ) (reason : Why) : Type 0 where

@@ -4,6 +4,8 @@ pub mod Grammar
 pub mod Judgement
 pub mod Stream
 pub mod Views
+pub mod Reading
+pub mod Notes
 pub mod Laws
 pub mod Nodes
 pub mod Table

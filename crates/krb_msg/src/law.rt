@@ -1,6 +1,6 @@
 //! Laws of the messages, of their DER and of the judgement of octets. Each is the contract of a
 //! function that does nothing.
-ghost use Rattle.krb_msg.specs.Laws.{WholeIsMessage, MessageIsWhole, WholeIsValue, ValueIsWhole, RefusalIsFinal, RefusalIsRight, AllIsDecided, DerTells, MessageComesBack};
+ghost use Rattle.krb_msg.specs.Laws.{WholeIsMessage, MessageIsWhole, WholeIsValue, ValueIsWhole, ValueIsRead, MessageIsRead, RefusalIsFinal, RefusalIsRight, AllIsDecided, DerTells, MessageComesBack};
 
 /// What is judged whole is the DER of a message.
 pub fn whole_is_message()
@@ -20,6 +20,16 @@ pub fn whole_is_value()
 /// The DER of a value of a term is judged whole as an item of the term.
 pub fn value_is_whole()
     ensures { ValueIsWhole }
+{}
+
+/// What is read of the DER of a value is the value.
+pub fn value_is_read()
+    ensures { ValueIsRead }
+{}
+
+/// What is read of the DER of a message is the message.
+pub fn message_is_read()
+    ensures { MessageIsRead }
 {}
 
 /// A refusal is the same whatever follows the octet that it stands at, and comes with that octet.

@@ -1,10 +1,13 @@
--- The listing of a file, and what a run on one does to its reader and its writer.
+-- The listings of files, and what a run on one does to its reader and its writer.
 use Rattle.std.specs.Prelude.{ℕ, ◌≡◌, ◌⊎◌, List, ◌++◌, Option, Result, Ok, Err, string_bytes}
 use Rattle.std.specs.Io.KnownBytes.{Consumes, Appends, Keeps, IsAtEnd}
 use Rattle.krb_der.specs.Fields.{Fault}
 use Rattle.krb_keytab.specs.declared.value.Keytab.{Keytab}
 use Rattle.krb_keytab.specs.Reading.{read}
+use Rattle.krb_ccache.specs.declared.value.Ccache.{Ccache}
+use Rattle.krb_ccache.specs.Reading.{read as read_ccache}
 use Rattle.krb_list.specs.Keytabs.{keytab_lines}
+use Rattle.krb_list.specs.Ccaches.{ListsCcache}
 use Rattle.krb_list.specs.Refusals.{file_refused_line}
 use Rattle.krb_tool.specs.declared.run.RunEnd.{RunEnd}
 use Rattle.krb_tool.specs.declared.run.RunEnd.TheVariants as run
@@ -22,25 +25,45 @@ pub record FileListing : Type 0 where
   pub text : List ℕ
   pub end : RunEnd
 
+-- what the code made
+abbrev pub shown : FileText → FileListing
+shown made = record { text = string_bytes made.text; end = made.end }
+
+-- the one line of a refused file
+abbrev pub refused_listing : Fault → FileListing
+refused_listing refusal = record { text = file_refused_line refusal.place refusal.why; end = run.Refused }
+
+-- ---- the listings of keytabs and of caches
+
 -- the lines of a keytab and of its end, or the one line of a refusal
 abbrev pub keytab_outcome : Result (Keytab × ℕ) Fault → FileListing
 keytab_outcome (Ok found) = record { text = keytab_lines found.0; end = run.Clean }
-keytab_outcome (Err refusal) = record { text = file_refused_line refusal.place refusal.why; end = run.Refused }
+keytab_outcome (Err refusal) = refused_listing refusal
 
 unfoldable pub keytab_listing : List ℕ → FileListing
 keytab_listing file = keytab_outcome (read file)
 
--- the code's text is the listing
-pub record IsListed (listing : FileListing) (made : FileText) : Type 0 where
-  pub text : string_bytes made.text ≡ listing.text
-  pub end : made.end ≡ listing.end
+abbrev pub IsKeytabListing : List ℕ → FileListing → Type 0
+IsKeytabListing file listing = listing ≡ keytab_listing file
+
+-- the lines of a cache, or the one line of a refusal
+abbrev pub IsCcacheOutcome : Option ℕ → Result Ccache Fault → FileListing → Type 0
+IsCcacheOutcome now (Ok found) listing = ListsCcache now found listing.text × (listing.end ≡ run.Clean)
+IsCcacheOutcome now (Err refusal) listing = listing ≡ refused_listing refusal
+
+unfoldable pub IsCcacheListing : Option ℕ → List ℕ → FileListing → Type 0
+IsCcacheListing now file listing = IsCcacheOutcome now (read_ccache file) listing
+
+-- ---- what a run does
 
 -- A run took all that its reader had, and added the listing of that to what its writer held.
-pub record ListsFile (listing : List ℕ → FileListing) (had left held holds : Option (List ℕ)) (ended : RunEnd) : Type 0 where
+pub record ListsFile (Lists : List ℕ → FileListing → Type 0) (had left held holds : Option (List ℕ)) (ended : RunEnd) : Type 0 where
   pub file : List ℕ
+  pub listing : FileListing
+  pub listed : Lists file listing
   pub taken : TakesAll had left file
-  pub added : Appends held holds (listing file).text
-  pub ended_so : ended ≡ (listing file).end
+  pub added : Appends held holds listing.text
+  pub ended_so : ended ≡ listing.end
 
 -- a front of a text was added to what a writer held
 pub record AddsFront (held holds : Option (List ℕ)) (text : List ℕ) : Type 0 where
@@ -50,16 +73,18 @@ pub record AddsFront (held holds : Option (List ℕ)) (text : List ℕ) : Type 0
   pub whole : text ≡ front ++ rest
 
 -- A run took all that its reader had, and added a front of the listing of that to what its writer held.
-pub record ListsFront (listing : List ℕ → FileListing) (had left held holds : Option (List ℕ)) : Type 0 where
+pub record ListsFront (Lists : List ℕ → FileListing → Type 0) (had left held holds : Option (List ℕ)) : Type 0 where
   pub file : List ℕ
+  pub listing : FileListing
+  pub listed : Lists file listing
   pub taken : TakesAll had left file
-  pub added : AddsFront held holds (listing file).text
+  pub added : AddsFront held holds listing.text
 
 -- Where a run fails by a write, a front of the listing is written, and else nothing.
-abbrev pub FailsFile : (List ℕ → FileListing) → Option (List ℕ) → Option (List ℕ) → Option (List ℕ) → Option (List ℕ) → RunFault → Type 0
-FailsFile listing had left held holds fault.Read = Keeps held holds
-FailsFile listing had left held holds fault.Write = ListsFront listing had left held holds
-FailsFile listing had left held holds fault.Memory = Keeps held holds
+abbrev pub FailsFile : (List ℕ → FileListing → Type 0) → Option (List ℕ) → Option (List ℕ) → Option (List ℕ) → Option (List ℕ) → RunFault → Type 0
+FailsFile Lists had left held holds fault.Read = Keeps held holds
+FailsFile Lists had left held holds fault.Write = ListsFront Lists had left held holds
+FailsFile Lists had left held holds fault.Memory = Keeps held holds
 
 -- no write failed
 abbrev pub IsOfReading : RunFault → Type 0

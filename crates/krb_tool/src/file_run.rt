@@ -1,21 +1,20 @@
 //! Runs over files, which are read whole before anything is written.
 
-ghost use Rattle.std.specs.Prelude.{◌≡◌, ◌^◌, ◌≤◌, IfErr, IfOk};
-ghost use Rattle.krb_tool.specs.Files.{TakesAll, IsOfReading, IsListed, keytab_listing, ListsFile, FailsFile};
+ghost use Rattle.std.specs.Prelude.{◌≡◌, ◌^◌, ◌≤◌, List, ℕ, IfErr, IfOk};
+ghost use Rattle.krb_tool.specs.Files.{TakesAll, IsOfReading, FileListing, shown, refused_listing, IsKeytabListing, IsCcacheListing, ListsFile, FailsFile};
 
 use crate::run::{PIECE_OCTETS, RunEnd, RunFault};
 use crate::transfer::{Asks, ask, write_all};
-use krb_der::FileFault;
-use krb_keytab::read;
-use krb_list::{put_file_refusal, put_keytab};
+use krb_der::{FileFault, FileWhy};
+use krb_list::{ccache_lines, put_file_refusal, put_keytab};
 use std::alloc::Global;
 use std::io::{Read, Write};
 
 /// What is written of a file, and how its run ends.
 #[derive(Drop)]
-struct FileText {
-    text: String,
-    end: RunEnd,
+pub(crate) struct FileText {
+    pub text: String,
+    pub end: RunEnd,
 }
 
 /// All that a reader holds, in a vector that grows as the octets come.
@@ -35,27 +34,91 @@ fn read_all<R: Read>(alloc: Global, reader: &mut R, asks: &mut Asks) -> Result<V
     }
 }
 
-/// The lines of the keytab that a file holds, or the line of its refusal.
-#[tactic(auto, unfolding(crate::specs::Files::keytab_listing))]
-fn list_keytab(alloc: Global, file: &[u8]) -> Result<FileText, RunFault>
-    ensures listed { IfOk result (IsListed (keytab_listing file.now)) }
+/// A format of files that can be listed.
+pub(crate) trait FileFormat {
+    /// What the listing of a file is.
+    ghost Lists: { Self → List ℕ → FileListing → Type 0 };
+
+    /// The lines of what a file holds, or the line of its refusal.
+    fn list(&self, alloc: Global, file: &[u8]) -> Result<FileText, RunFault>
+        ensures listed { IfOk result (λ made. Lists self.now file.now (shown made)) }
+        ensures fault { IfErr result (λ e. e ≡ RunFault.Memory) };
+}
+
+/// The line of a refused file.
+fn list_refusal(alloc: Global, place: u64, why: FileWhy) -> Result<FileText, RunFault>
+    ensures listed { IfOk result (λ made. shown made ≡ refused_listing (record { place = place; why = why })) }
     ensures fault { IfErr result (λ e. e ≡ RunFault.Memory) }
 {
     let mut text = String::new(alloc);
-    match read(alloc, file) {
-        Ok((keytab, _)) => {
-            put_keytab(&mut text, &keytab)?;
-            let end = RunEnd::Clean;
-            Ok(FileText { text, end })
+    put_file_refusal(&mut text, place, why)?;
+    let end = RunEnd::Refused;
+    Ok(FileText { text, end })
+}
+
+/// Keytabs of format 0x0502.
+#[derive(Drop)]
+struct KeytabFormat;
+
+impl FileFormat for KeytabFormat {
+    ghost Lists = { λ _ file listing. IsKeytabListing file listing };
+
+    #[tactic(auto, unfolding(crate::specs::Files::keytab_listing))]
+    fn list(&self, alloc: Global, file: &[u8]) -> Result<FileText, RunFault> {
+        match krb_keytab::read(alloc, file) {
+            Ok((keytab, _)) => {
+                let mut text = String::new(alloc);
+                put_keytab(&mut text, &keytab)?;
+                let end = RunEnd::Clean;
+                Ok(FileText { text, end })
+            }
+            Err(FileFault::Refused { place, why }) => list_refusal(alloc, place, why),
+            // The octets are all here, and so memory alone can fail.
+            Err(FileFault::Read | FileFault::Memory) => Err(RunFault::Memory),
         }
-        Err(FileFault::Refused { place, why }) => {
-            put_file_refusal(&mut text, place, why)?;
-            let end = RunEnd::Refused;
-            Ok(FileText { text, end })
-        }
-        // The octets are all here, and so memory alone can fail.
-        Err(FileFault::Read | FileFault::Memory) => Err(RunFault::Memory),
     }
+}
+
+/// Credential caches of version 4, at a time in seconds since 1970 where one is given.
+#[derive(Drop)]
+struct CcacheFormat {
+    now: Option<u32>,
+}
+
+impl FileFormat for CcacheFormat {
+    ghost Lists = { λ format. IsCcacheListing format.now };
+
+    #[tactic(auto, unfolding(crate::specs::Files::IsCcacheListing))]
+    fn list(&self, alloc: Global, file: &[u8]) -> Result<FileText, RunFault> {
+        match krb_ccache::read(alloc, file) {
+            Ok(ccache) => {
+                let text = ccache_lines(alloc, &ccache, self.now)?;
+                let end = RunEnd::Clean;
+                Ok(FileText { text, end })
+            }
+            Err(FileFault::Refused { place, why }) => list_refusal(alloc, place, why),
+            // The octets are all here, and so memory alone can fail.
+            Err(FileFault::Read | FileFault::Memory) => Err(RunFault::Memory),
+        }
+    }
+}
+
+/// Lists a file of a format. All that the reader holds is read first, by at most 2^40 asks for 64
+/// KiB each.
+pub(crate) fn run_file<R: Read, W: Write, F: FileFormat>(
+    alloc: Global,
+    reader: &mut R,
+    writer: &mut W,
+    format: &F,
+) -> Result<RunEnd, RunFault>
+    ensures listed { IfOk result (ListsFile (F.Lists format.now) (R.remaining reader.old) (R.remaining reader.new) (W.contents writer.old) (W.contents writer.new)) }
+    ensures fault { IfErr result (FailsFile (F.Lists format.now) (R.remaining reader.old) (R.remaining reader.new) (W.contents writer.old) (W.contents writer.new)) }
+{
+    let mut asks = Asks::none();
+    let file = read_all(alloc, reader, &mut asks)?;
+    let listed = format.list(alloc, file.as_slice())?;
+    write_all(writer, listed.text.as_bytes())?;
+    Ok(listed.end)
 }
 
 /// Lists a keytab of format 0x0502: a line for each record, then the line of the end; or, of a file
@@ -66,12 +129,24 @@ pub fn run_keytab<R: Read, W: Write>(
     reader: &mut R,
     writer: &mut W,
 ) -> Result<RunEnd, RunFault>
-    ensures listed { IfOk result (ListsFile keytab_listing (R.remaining reader.old) (R.remaining reader.new) (W.contents writer.old) (W.contents writer.new)) }
-    ensures fault { IfErr result (FailsFile keytab_listing (R.remaining reader.old) (R.remaining reader.new) (W.contents writer.old) (W.contents writer.new)) }
+    ensures listed { IfOk result (ListsFile IsKeytabListing (R.remaining reader.old) (R.remaining reader.new) (W.contents writer.old) (W.contents writer.new)) }
+    ensures fault { IfErr result (FailsFile IsKeytabListing (R.remaining reader.old) (R.remaining reader.new) (W.contents writer.old) (W.contents writer.new)) }
 {
-    let mut asks = Asks::none();
-    let file = read_all(alloc, reader, &mut asks)?;
-    let listed = list_keytab(alloc, file.as_slice())?;
-    write_all(writer, listed.text.as_bytes())?;
-    Ok(listed.end)
+    run_file(alloc, reader, writer, &KeytabFormat)
+}
+
+/// Lists a credential cache of version 4: a line for the cache, one for each credential, and the line
+/// of the end; or, of a file that is refused, the one line of the refusal. Where a now is given, in
+/// seconds since 1970, each line of a credential says whether it has ended. It reads as
+/// [`run_keytab`] does.
+pub fn run_ccache<R: Read, W: Write>(
+    alloc: Global,
+    reader: &mut R,
+    writer: &mut W,
+    now: Option<u32>,
+) -> Result<RunEnd, RunFault>
+    ensures listed { IfOk result (ListsFile (IsCcacheListing now) (R.remaining reader.old) (R.remaining reader.new) (W.contents writer.old) (W.contents writer.new)) }
+    ensures fault { IfErr result (FailsFile (IsCcacheListing now) (R.remaining reader.old) (R.remaining reader.new) (W.contents writer.old) (W.contents writer.new)) }
+{
+    run_file(alloc, reader, writer, &CcacheFormat { now })
 }

@@ -1,56 +1,84 @@
-//! `krbls` lists streams of Kerberos V5 messages (RFC 4120), and keytabs, without trusting an octet:
-//! a line for each message or record, or a numbered refusal at an exact place.
+//! `krbls` lists streams of Kerberos V5 messages (RFC 4120), single messages, keytabs and credential
+//! caches, without trusting an octet: a line for each message, record or credential, or a numbered
+//! refusal at an exact place.
 //!
-//! `krbls stream` reads framed messages from the standard input, and `krbls keytab` a keytab. The
-//! statuses are 0 where all was read, 1 where something was refused, 2 for a wrong command line, and
-//! 3 where a read, a write or memory failed.
+//! `krbls stream` reads framed messages, `krbls message` one message in hexadecimal, `krbls keytab` a
+//! keytab, and `krbls ccache` a cache, each from the standard input or from a file. The statuses are 0
+//! where all was read, 1 where something was refused, 2 for a wrong command line, and 3 where a read,
+//! a write or memory failed.
 #![tactic(auto)]
 
 mod file_run;
 mod listing;
+mod message_run;
 mod run;
 mod transfer;
+mod words;
 
-pub use file_run::run_keytab;
+pub use file_run::{run_ccache, run_keytab};
 pub use krb_frame::Limit;
+pub use message_run::run_message;
 pub use run::{RunEnd, RunFault, run_stream, status};
+use std::io::Read;
 use std::process::ExitCode;
-use std::{env, io};
+use std::{env, fs, io};
+pub use words::{Job, Order, WordsFault, read_words};
 
 /// The status of a wrong command line.
 const WRONG_COMMAND_LINE: u8 = 2;
 
-/// What the command line asks for.
-enum Command {
-    /// List the standard input as framed messages.
-    Stream,
-    /// List the standard input as a keytab.
-    Keytab,
-    /// Nothing that there is.
-    Wrong,
+fn main(rt: HostRuntime) -> ExitCode {
+    match order(&rt) {
+        Ok(order) => carry_out(&rt, &order),
+        Err(WordsFault::Wrong) => wrong(&rt),
+        Err(WordsFault::Memory) => report(&rt, &Err(RunFault::Memory)),
+    }
 }
 
-fn main(rt: HostRuntime) -> ExitCode {
-    match read_words(&rt) {
-        Ok(Command::Stream) => {
-            let outcome = run_stream(
-                rt.alloc(),
-                &mut rt.stdin(),
-                &mut rt.stdout(),
-                Limit::DEFAULT,
-            );
-            report(&rt, &outcome)
-        }
-        Ok(Command::Keytab) => {
-            let outcome = run_keytab(rt.alloc(), &mut rt.stdin(), &mut rt.stdout());
-            report(&rt, &outcome)
-        }
-        Ok(Command::Wrong) => {
-            let _ = eprintln!(rt; "krbls: command line");
-            ExitCode::from(WRONG_COMMAND_LINE)
-        }
-        Err(fault) => report(&rt, &Err(fault)),
+/// The order that the words behind the program's name give.
+fn order(rt: &HostRuntime) -> Result<Order, WordsFault> {
+    let mut words = match env::args(rt) {
+        Ok(words) => words,
+        Err(error) if error.kind() == io::ErrorKind::OutOfMemory => return Err(WordsFault::Memory),
+        Err(_) => return Err(WordsFault::Wrong),
+    };
+    let _program = words.next();
+    let words: Vec<String> = words.collect(rt.alloc())?;
+    read_words(rt.alloc(), words.as_slice())
+}
+
+/// Lists what the order names, from its file or from the standard input.
+fn carry_out(rt: &HostRuntime, order: &Order) -> ExitCode {
+    match &order.file {
+        None => list(rt, &order.job, &mut rt.stdin()),
+        Some(path) => match fs::open(rt, path.as_str()) {
+            Ok(mut file) => list(rt, &order.job, &mut file),
+            Err(_) => report(rt, &Err(RunFault::Read)),
+        },
     }
+}
+
+fn list<R: Read>(rt: &HostRuntime, job: &Job, reader: &mut R) -> ExitCode {
+    let mut writer = rt.stdout();
+    match job {
+        Job::Stream(limit) => report(rt, &run_stream(rt.alloc(), reader, &mut writer, *limit)),
+        Job::Message => report(rt, &run_message(rt.alloc(), reader, &mut writer)),
+        Job::Keytab => report(rt, &run_keytab(rt.alloc(), reader, &mut writer)),
+        Job::Ccache(now) => report(rt, &run_ccache(rt.alloc(), reader, &mut writer, *now)),
+        Job::Help(text) => help(rt, text.as_str()),
+    }
+}
+
+fn help(rt: &HostRuntime, text: &str) -> ExitCode {
+    match print!(rt; "{text}") {
+        Ok(()) => ExitCode::SUCCESS,
+        Err(_) => report(rt, &Err(RunFault::Write)),
+    }
+}
+
+fn wrong(rt: &HostRuntime) -> ExitCode {
+    let _ = eprintln!(rt; "krbls: command line");
+    ExitCode::from(WRONG_COMMAND_LINE)
 }
 
 /// The status of an outcome. Of a fault, the standard error gets a line.
@@ -59,27 +87,6 @@ fn report(rt: &HostRuntime, outcome: &Result<RunEnd, RunFault>) -> ExitCode {
         let _ = eprintln!(rt; "krbls: {fault}");
     }
     ExitCode::from(status(outcome))
-}
-
-/// What the words behind the program's name ask for: one word, `stream` or `keytab`, as yet.
-fn read_words<R: env::Env + AllocGlobal>(rt: &R) -> Result<Command, RunFault> {
-    let mut words = match env::args(rt) {
-        Ok(words) => words,
-        Err(error) if error.kind() == io::ErrorKind::OutOfMemory => return Err(RunFault::Memory),
-        Err(_) => return Ok(Command::Wrong),
-    };
-    let _program = words.next();
-    let Some(word) = words.next() else {
-        return Ok(Command::Wrong);
-    };
-    if words.next().is_some() {
-        return Ok(Command::Wrong);
-    }
-    Ok(match word.as_str() {
-        "stream" => Command::Stream,
-        "keytab" => Command::Keytab,
-        _ => Command::Wrong,
-    })
 }
 
 #[cfg(test)]

@@ -1,0 +1,11 @@
+pub mod Parts
+pub mod Headers
+pub mod Items
+pub mod Faults
+pub mod Stepwise
+pub mod Ccaches
+pub mod Loops
+pub mod Answered
+pub mod Offsets
+pub mod Layouts
+pub mod Tickets

@@ -1,0 +1,174 @@
+-- The parts of a cache: what is read is spelled so, and what is spelled is read again.
+use Rattle.std.proofs.Common.{◌≡◌, ℕ, ◌<◌, ℤ, List, [], ◌++◌, refl, sym, ap, append_assoc}
+use Rattle.std.proofs.lemmas.List.{append-nil}
+use Rattle.std.specs.Int.{w8, w16, w32, to_be_bytes}
+use Rattle.std.specs.Int.RustNames.{FitsSigned}
+use Rattle.krb_der.specs.Fields.{signed, counted, Names, names, bound_of, IsCounted, AreNames, Reader, number_at, signed_at, counted_at, names_at}
+use Rattle.krb_der.proofs.Fields.{Reads, Reads-as, wide8, wide16, wide32, Reads-number, Reads-signed, Reads-counted, Reads-names, Reads-list, Reads-then, Reads-fields, Reads-given, Fields, End, Field, Values, spell_fields, AllFit}
+use Rattle.krb_ccache.specs.declared.value.Credential.{Credential}
+use Rattle.krb_ccache.specs.declared.value.FilePrincipal.{FilePrincipal}
+use Rattle.krb_ccache.specs.declared.value.HeaderField.{HeaderField}
+use Rattle.krb_ccache.specs.declared.value.Typed.{Typed}
+use Rattle.krb_ccache.specs.Spelling.{names_of, principal, PrincipalFits, typed, TypedFits, typed_list, TypedListFits, credential_front, credential_back, credential, CredentialFits, header_field, HeaderFieldFits}
+use Rattle.krb_ccache.specs.Reading.{principal_at, typed_at, typed_list_at, credential_from, credential_at, header_field_at}
+
+-- ---- fields that occur
+abbrev a_number32 : Fields → Fields
+a_number32 fields = Field ℕ (number_at w32) (to_be_bytes w32) (λ n. n < bound_of w32) (Reads-number w32 wide32) fields
+
+abbrev a_number16 : Fields → Fields
+a_number16 fields = Field ℕ (number_at w16) (to_be_bytes w16) (λ n. n < bound_of w16) (Reads-number w16 wide16) fields
+
+abbrev a_number8 : Fields → Fields
+a_number8 fields = Field ℕ (number_at w8) (to_be_bytes w8) (λ n. n < bound_of w8) (Reads-number w8 wide8) fields
+
+abbrev data_field : Fields → Fields
+data_field fields = Field (List ℕ) (counted_at w32) (counted w32) (IsCounted w32) (Reads-counted w32 wide32) fields
+
+-- ---- principals
+abbrev principal_fields : Fields
+principal_fields = Field ℤ (signed_at w32) (signed w32) (FitsSigned w32) Reads-signed (Field Names (names_at w32) (names w32) (AreNames w32) (Reads-names w32 wide32) End)
+
+abbrev principal_of : Values principal_fields → FilePrincipal
+principal_of v = record { name_type = v.0; realm = v.1.0.realm; components = v.1.0.components }
+
+abbrev principal_parts : FilePrincipal → Values principal_fields
+principal_parts p = (p.name_type, (names_of p, tt))
+
+pub Reads-principal : Reads principal_at principal PrincipalFits
+Reads-principal =
+    Reads-as principal_at _ principal _ PrincipalFits
+    (Reads-fields principal_fields FilePrincipal principal_of principal_parts (λ p. refl) (λ v. refl))
+    (λ p. ap (λ (x : List ℕ). signed w32 p.name_type ++ x) (append-nil (names w32 (names_of p))))
+    (λ p f. record { name_type = f.0; names = f.1.0 })
+    (λ p f. (f.name_type, (f.names, tt)))
+
+-- ---- typed octets
+abbrev typed_fields : Fields
+typed_fields = a_number16 (data_field End)
+
+abbrev typed_of : Values typed_fields → Typed
+typed_of v = record { kind = v.0; octets = v.1.0 }
+
+pub Reads-typed : Reads typed_at typed TypedFits
+Reads-typed =
+    Reads-as typed_at _ typed _ TypedFits
+    (Reads-fields typed_fields Typed typed_of (λ t. (t.kind, (t.octets, tt))) (λ t. refl) (λ v. refl))
+    (λ t. ap (λ (x : List ℕ). to_be_bytes w16 t.kind ++ x) (append-nil (counted w32 t.octets)))
+    (λ t f. record { kind = f.0; octets = f.1.0 })
+    (λ t f. (f.kind, (f.octets, tt)))
+
+pub Reads-typed_list : Reads typed_list_at typed_list TypedListFits
+Reads-typed_list =
+    Reads-as typed_list_at _ typed_list _ TypedListFits (Reads-list w32 wide32 typed_at typed TypedFits Reads-typed) (λ ts. refl)
+    (λ ts f. record { few = f.0; each = f.1 })
+    (λ ts f. (f.few, f.each))
+
+-- ---- header fields
+abbrev header_field_fields : Fields
+header_field_fields = a_number16 (Field (List ℕ) (counted_at w16) (counted w16) (IsCounted w16) (Reads-counted w16 wide16) End)
+
+abbrev header_field_of : Values header_field_fields → HeaderField
+header_field_of v = record { tag = v.0; value = v.1.0 }
+
+pub Reads-header_field : Reads header_field_at header_field HeaderFieldFits
+Reads-header_field =
+    Reads-as header_field_at _ header_field _ HeaderFieldFits
+    (Reads-fields header_field_fields HeaderField header_field_of (λ t. (t.tag, (t.value, tt))) (λ t. refl) (λ v. refl))
+    (λ t. ap (λ (x : List ℕ). to_be_bytes w16 t.tag ++ x) (append-nil (counted w16 t.value)))
+    (λ t f. record { tag = f.0; value = f.1.0 })
+    (λ t f. (f.tag, (f.value, tt)))
+
+-- ---- credentials, from the key on
+abbrev list_field : Fields → Fields
+list_field fields = Field (List Typed) typed_list_at typed_list TypedListFits Reads-typed_list fields
+
+abbrev principal_field : Fields → Fields
+principal_field fields = Field FilePrincipal principal_at principal PrincipalFits Reads-principal fields
+
+abbrev back_fields : Fields
+back_fields = data_field (a_number32 (a_number32 (a_number32 (a_number32 (a_number8 (a_number32 (list_field (list_field (data_field (data_field End))))))))))
+
+abbrev front_fields : Fields
+front_fields = principal_field (principal_field (a_number16 End))
+
+abbrev credential_of : Values front_fields → Values back_fields → Credential
+credential_of f v = record {
+  client = f.0;
+  server = f.1.0;
+  enctype = f.1.1.0;
+  key = v.0;
+  authtime = v.1.0;
+  starttime = v.1.1.0;
+  endtime = v.1.1.1.0;
+  renew_till = v.1.1.1.1.0;
+  is_skey = v.1.1.1.1.1.0;
+  flags = v.1.1.1.1.1.1.0;
+  addresses = v.1.1.1.1.1.1.1.0;
+  authdata = v.1.1.1.1.1.1.1.1.0;
+  ticket = v.1.1.1.1.1.1.1.1.1.0;
+  second_ticket = v.1.1.1.1.1.1.1.1.1.1.0;
+}
+
+abbrev front_parts : Credential → Values front_fields
+front_parts c = (c.client, (c.server, (c.enctype, tt)))
+
+abbrev back_parts : Credential → Values back_fields
+back_parts c = (c.key, (c.authtime, (c.starttime, (c.endtime, (c.renew_till, (c.is_skey, (c.flags, (c.addresses, (c.authdata, (c.ticket, (c.second_ticket, tt)))))))))))
+
+abbrev BackFits : Credential → Type 0
+BackFits c = AllFit back_fields (back_parts c)
+
+abbrev from_key : Values front_fields → Reader Credential
+from_key f = credential_from f.0 f.1.0 f.1.1.0
+
+regroup : (a b c d e f g h i j k : List ℕ) → a ++ (b ++ (c ++ (d ++ (e ++ (f ++ (g ++ (h ++ (i ++ (j ++ (k ++ [])))))))))) ≡ a ++ b ++ c ++ d ++ e ++ f ++ g ++ h ++ i ++ j ++ k
+regroup a b c d e f g h i j k = simp (append_assoc, append-nil {A = ℕ})
+
+back-parts : (c : Credential) → spell_fields back_fields (back_parts c) ≡ credential_back c
+back-parts c = regroup (counted w32 c.key) (to_be_bytes w32 c.authtime) (to_be_bytes w32 c.starttime) (to_be_bytes w32 c.endtime) (to_be_bytes w32 c.renew_till) (to_be_bytes w8 c.is_skey) (to_be_bytes w32 c.flags) (typed_list c.addresses) (typed_list c.authdata) (counted w32 c.ticket) (counted w32 c.second_ticket)
+
+pub Reads-from_key : (f : Values front_fields) → Reads (from_key f) credential_back (λ c. BackFits c × (front_parts c ≡ f))
+Reads-from_key f =
+    Reads-as (from_key f) _ credential_back _ _
+    (Reads-given back_fields Credential (credential_of f) back_parts (λ c. front_parts c ≡ f) (λ v. refl) (λ v. refl) (λ c e. ap (λ (g : Values front_fields). credential_of g (back_parts c)) (sym e)))
+    back-parts (λ c p. p) (λ c p. p)
+
+regroup_front : (a b c : List ℕ) → a ++ (b ++ (c ++ [])) ≡ a ++ b ++ c
+regroup_front a b c = simp (append_assoc, append-nil {A = ℕ})
+
+front-parts : (c : Credential) → spell_fields front_fields (front_parts c) ≡ credential_front c
+front-parts c = regroup_front (principal c.client) (principal c.server) (to_be_bytes w16 c.enctype)
+
+fits_of : (c : Credential) → AllFit front_fields (front_parts c) → BackFits c → CredentialFits c
+fits_of c f b = record {
+  client = f.0;
+  server = f.1.0;
+  enctype = f.1.1.0;
+  key = b.0;
+  authtime = b.1.0;
+  starttime = b.1.1.0;
+  endtime = b.1.1.1.0;
+  renew_till = b.1.1.1.1.0;
+  is_skey = b.1.1.1.1.1.0;
+  flags = b.1.1.1.1.1.1.0;
+  addresses = b.1.1.1.1.1.1.1.0;
+  authdata = b.1.1.1.1.1.1.1.1.0;
+  ticket = b.1.1.1.1.1.1.1.1.1.0;
+  second_ticket = b.1.1.1.1.1.1.1.1.1.1.0;
+}
+
+front_fits : (c : Credential) → CredentialFits c → AllFit front_fields (front_parts c)
+front_fits c f = (f.client, (f.server, (f.enctype, tt)))
+
+back_fits : (c : Credential) → CredentialFits c → BackFits c
+back_fits c f = (f.key, (f.authtime, (f.starttime, (f.endtime, (f.renew_till, (f.is_skey, (f.flags, (f.addresses, (f.authdata, (f.ticket, (f.second_ticket, tt)))))))))))
+
+-- ---- a credential
+pub Reads-credential : Reads credential_at credential CredentialFits
+Reads-credential =
+    Reads-as credential_at _ credential _ CredentialFits
+    (Reads-then front_fields Credential from_key front_parts credential_back BackFits Reads-from_key)
+    (λ c. ap (λ (x : List ℕ). x ++ credential_back c) (front-parts c))
+    (λ c p. fits_of c p.0 p.1)
+    (λ c p. (front_fits c p, back_fits c p))

@@ -1,0 +1,15 @@
+use Rattle.std.proofs.Common.{None}
+use Rattle.std.specs.Int.{w32}
+use Rattle.std.proofs.lemmas.Result.{err_from_is_err_and}
+use Rattle.krb_der.specs.Fields.{times, limited, counted_at}
+use Rattle.krb_der.proofs.Loops.{goes_on, ends}
+use Rattle.krb_ccache.proofs.reading.components.Goals as goal
+
+pub returns-in_err-component : goal.returns-in_err-component
+returns-in_err-component c =
+    let p = err_from_is_err_and c.from_residual.result c.from_residual.ensures.1 in
+    rw (p.1, p.2) (ends (counted_at w32) (limited None) c.in_err-component.field-0.0 c.loop.components.items c.args.count c.loop.counter c.loop.rest (times c.args.count (counted_at w32) (limited None) c.args.source) c.loop-test.true c.in_err-component.ensures c.loop.invariant)
+
+pub loop-preserved : goal.loop-preserved
+loop-preserved c =
+    rw c.in_ok-push.ensures.items (goes_on (counted_at w32) (limited None) c.loop.components.items c.args.count c.loop.counter c.loop.rest c.in_ok-component.component c.in_ok-component.behind (times c.args.count (counted_at w32) (limited None) c.args.source) c.loop-test.true c.in_ok-component.ensures c.loop.invariant)

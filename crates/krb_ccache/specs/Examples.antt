@@ -1,0 +1,156 @@
+-- Worked examples, computed by the definitions: octets in hexadecimal, and what they are.
+use Rattle.std.specs.Prelude.{ℕ, zero, suc, pos, negsuc, ◌≡◌, Bool, true, false, Some, None, Result, Ok, Err, List, [], ◌∷◌, ◌++◌, codes, take, map, refl}
+use Rattle.krb_der.specs.Octets.{when}
+use Rattle.krb_der.specs.Hex.{hex}
+use Rattle.krb_der.specs.Fields.{Fault, limited, source_of}
+use Rattle.krb_der.specs.declared.file.FileWhy.TheVariants as why
+use Rattle.krb_ccache.specs.declared.value.Ccache.{Ccache}
+use Rattle.krb_ccache.specs.declared.value.Credential.{Credential}
+use Rattle.krb_ccache.specs.declared.value.FilePrincipal.{FilePrincipal}
+use Rattle.krb_ccache.specs.declared.value.Header.{Header}
+use Rattle.krb_ccache.specs.declared.value.HeaderField.{HeaderField}
+use Rattle.krb_ccache.specs.Spelling.{ccache, offset, is_config, masked}
+use Rattle.krb_ccache.specs.Reading.{start_at, read}
+use Rattle.krb_ccache.specs.Writing.{is_too_long}
+
+-- ---- a cache of u@A: an offset of 0, a configuration entry and a credential for h@A
+abbrev user_octets : List ℕ
+user_octets = hex (codes "00000001 00000001 00000001 41 00000001 75")
+
+abbrev front_octets : List ℕ
+front_octets = hex (codes "0504 000C 0001 0008 00000000 00000000") ++ user_octets
+
+abbrev config_octets : List ℕ
+config_octets =
+    user_octets
+    ++ hex (codes "00000000 00000002 0000000C 582D4341434845434F4E463A 00000015 6B7262355F6363616368655F636F6E665F64617461 00000007 70615F74797065")
+    ++ hex (codes "0000 00000000 00000000 00000000 00000000 00000000 00 00000000 00000000 00000000 00000001 32 00000000")
+
+abbrev credential_octets : List ℕ
+credential_octets =
+    user_octets
+    ++ hex (codes "00000002 00000001 00000001 41 00000001 68")
+    ++ hex (codes "0012 00000002 ABCD 386D4380 386D4380 386D5190 00000000 00 40E10000 00000000 00000000 00000002 6180 00000000")
+
+abbrev cache_octets : List ℕ
+cache_octets = front_octets ++ config_octets ++ credential_octets
+
+abbrev user : FilePrincipal
+user = record { name_type = pos 1; realm = codes "A"; components = codes "u" ∷ [] }
+
+abbrev header : Header
+header = record { fields = record { tag = 1; value = hex (codes "00000000 00000000") } ∷ [] }
+
+abbrev config : Credential
+config = record {
+  client = user;
+  server = record { name_type = pos 0; realm = codes "X-CACHECONF:"; components = codes "krb5_ccache_conf_data" ∷ codes "pa_type" ∷ [] };
+  enctype = 0;
+  key = [];
+  authtime = 0;
+  starttime = 0;
+  endtime = 0;
+  renew_till = 0;
+  is_skey = 0;
+  flags = 0;
+  addresses = [];
+  authdata = [];
+  ticket = codes "2";
+  second_ticket = [];
+}
+
+abbrev credential : Credential
+credential = record {
+  client = user;
+  server = record { name_type = pos 2; realm = codes "A"; components = codes "h" ∷ [] };
+  enctype = 18;
+  key = hex (codes "ABCD");
+  authtime = 946684800;
+  starttime = 946684800;
+  endtime = 946688400;
+  renew_till = 0;
+  is_skey = 0;
+  flags = 0x40E10000;
+  addresses = [];
+  authdata = [];
+  ticket = hex (codes "6180");
+  second_ticket = [];
+}
+
+abbrev cache : Ccache
+cache = record { header = header; principal = user; credentials = config ∷ credential ∷ [] }
+
+cache_read : read cache_octets ≡ Ok cache
+cache_read = refl
+
+cache_written : ccache cache ≡ cache_octets
+cache_written = refl
+
+cache_can_be_written : is_too_long cache ≡ false
+cache_can_be_written = refl
+
+header_offset : offset header ≡ Some (pos 0, pos 0)
+header_offset = refl
+
+config_told : map is_config cache.credentials ≡ true ∷ false ∷ []
+config_told = refl
+
+key_masked : masked cache ≡ record cache { credentials = config ∷ record credential { key = 0 ∷ 0 ∷ [] } ∷ [] }
+key_masked = refl
+
+-- no header field and no credential
+empty_read : read (hex (codes "0504 0000") ++ user_octets) ≡ Ok (record { header = record { fields = [] }; principal = user; credentials = [] })
+empty_read = refl
+
+-- ---- the offset is that of the first field with tag 1 and eight octets
+abbrev field : ℕ → List ℕ → HeaderField
+field tag value = record { tag = tag; value = value }
+
+offset_behind_others : offset (record { fields = field 1 (7 ∷ []) ∷ field 2 (hex (codes "00000000 00000000")) ∷ field 1 (hex (codes "FFFFFFFF 00000002")) ∷ [] }) ≡ Some (negsuc 0, pos 2)
+offset_behind_others = refl
+
+offset_none : offset (record { fields = field 1 (7 ∷ []) ∷ [] }) ≡ None
+offset_none = refl
+
+-- ---- the front of a file
+abbrev is_read : {A : Type 0} → Result A Fault → Bool
+is_read (Ok value) = true
+is_read (Err fault) = false
+
+-- the numbers of octets, from 0 to k, whose front of a file is read
+abbrev lengths_read : List ℕ → ℕ → List ℕ
+lengths_read file zero = when (is_read (read [])) (λ _. 0 ∷ []) (λ _. [])
+lengths_read file (suc k) = lengths_read file k ++ when (is_read (read (take (suc k) file))) (λ _. suc k ∷ []) (λ _. [])
+
+cache_lengths : lengths_read cache_octets 239 ≡ 34 ∷ 156 ∷ 239 ∷ []
+cache_lengths = refl
+
+-- ---- faults
+no_octet : read ([]) ≡ Err (record { place = 0; why = why.Truncated })
+no_octet = refl
+
+one_octet : read (hex (codes "05")) ≡ Err (record { place = 1; why = why.Truncated })
+one_octet = refl
+
+not_five : read (hex (codes "0601")) ≡ Err (record { place = 0; why = why.Magic })
+not_five = refl
+
+other_version : read (hex (codes "0503")) ≡ Err (record { place = 1; why = why.Version })
+other_version = refl
+
+field_overruns : read (hex (codes "0504 0003 000100")) ≡ Err (record { place = 6; why = why.Overrun })
+field_overruns = refl
+
+value_overruns : read (hex (codes "0504 0005 0001 0002 00")) ≡ Err (record { place = 8; why = why.Overrun })
+value_overruns = refl
+
+header_cut : read (hex (codes "0504 000C 0001")) ≡ Err (record { place = 6; why = why.Truncated })
+header_cut = refl
+
+-- a number of addresses that are not there is looked at one address after another, and so at none
+addresses_announced : read (take 221 cache_octets ++ hex (codes "FFFFFFFF")) ≡ Err (record { place = 225; why = why.Truncated })
+addresses_announced = refl
+
+-- ---- a limit on fields of octets
+header_too_long : start_at (limited (Some 1)) (source_of cache_octets) ≡ Err (record { place = 8; why = why.TooLong })
+header_too_long = refl

@@ -1,0 +1,6 @@
+pub mod Spelling
+pub mod Reading
+pub mod Writing
+pub mod Tickets
+pub mod Laws
+pub mod Examples

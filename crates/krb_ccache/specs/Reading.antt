@@ -1,0 +1,140 @@
+-- Reading a cache from left to right, up to the first fault.
+use Rattle.std.specs.Prelude.{ℕ, zero, suc, List, [], ◌∷◌, length, Option, None, Result, Ok, Err}
+use Rattle.std.specs.Int.{w8, w16, w32}
+use Rattle.krb_der.specs.Octets.{when}
+use Rattle.krb_der.specs.Fields.{Source, source_of, Fault, limited, Reader, onward, ◌>>=◌, gives, is_empty, number_at, signed_at, counted_at, times, names_at, within, is_at_end, version_at}
+use Rattle.krb_ccache.specs.declared.value.Ccache.{Ccache}
+use Rattle.krb_ccache.specs.declared.value.Credential.{Credential}
+use Rattle.krb_ccache.specs.declared.value.FilePrincipal.{FilePrincipal}
+use Rattle.krb_ccache.specs.declared.value.Header.{Header}
+use Rattle.krb_ccache.specs.declared.value.HeaderField.{HeaderField}
+use Rattle.krb_ccache.specs.declared.value.Typed.{Typed}
+
+-- ---- a principal
+
+abbrev pub principal_at : Reader FilePrincipal
+principal_at = do
+  name_type ← signed_at w32
+  names ← names_at w32
+  gives (record { name_type = name_type; realm = names.realm; components = names.components })
+
+-- ---- addresses and authorization data
+
+abbrev pub typed_at : Reader Typed
+typed_at = do
+  kind ← number_at w16
+  octets ← counted_at w32
+  gives (record { kind = kind; octets = octets })
+
+abbrev pub typed_list_at : Reader (List Typed)
+typed_list_at = do
+  count ← number_at w32
+  times count typed_at
+
+-- ---- a credential
+
+-- from the key on
+abbrev pub credential_from : FilePrincipal → FilePrincipal → ℕ → Reader Credential
+credential_from client server enctype = do
+  key ← counted_at w32
+  authtime ← number_at w32
+  starttime ← number_at w32
+  endtime ← number_at w32
+  renew_till ← number_at w32
+  is_skey ← number_at w8
+  flags ← number_at w32
+  addresses ← typed_list_at
+  authdata ← typed_list_at
+  ticket ← counted_at w32
+  second_ticket ← counted_at w32
+  gives (record { client = client; server = server; enctype = enctype; key = key; authtime = authtime; starttime = starttime; endtime = endtime; renew_till = renew_till; is_skey = is_skey; flags = flags; addresses = addresses; authdata = authdata; ticket = ticket; second_ticket = second_ticket })
+
+abbrev pub credential_at : Reader Credential
+credential_at = do
+  client ← principal_at
+  server ← principal_at
+  enctype ← number_at w16
+  credential_from client server enctype
+
+-- ---- the header
+
+abbrev pub header_field_at : Reader HeaderField
+header_field_at = do
+  tag ← number_at w16
+  value ← counted_at w16
+  gives (record { tag = tag; value = value })
+
+-- fields up to the header's end; the number bounds how many there are
+abbrev pub header_fields_at : ℕ → Reader (List HeaderField)
+header_fields_at zero = gives []
+header_fields_at (suc bound) = λ bounds source.
+    when (is_at_end bounds source) (λ _. Ok ([], source)) (λ _. (do
+      first ← header_field_at
+      others ← header_fields_at bound
+      gives (first ∷ others)) bounds source)
+
+abbrev pub header_at : Reader Header
+header_at = do
+  size ← number_at w16
+  fields ← within size (header_fields_at size)
+  gives (record { fields = fields })
+
+-- ---- what stands before the credentials
+
+pub record Start : Type 0 where
+  pub header : Header
+  pub principal : FilePrincipal
+
+abbrev pub start_at : Reader Start
+start_at = do
+  version ← version_at (4 ∷ [])
+  header ← header_at
+  principal ← principal_at
+  gives (record { header = header; principal = principal })
+
+-- ---- items up to the end of the file
+
+-- those before the first fault, and the fault or the number of octets read
+pub record Items (A : Type 0) : Type 0 where
+  pub items : List A
+  pub end : Result ℕ Fault
+
+abbrev pub no_items : {A : Type 0} → Result ℕ Fault → Items A
+no_items end = record { items = []; end = end }
+
+abbrev pub with_first : {A : Type 0} → A → Items A → Items A
+with_first first others = record { items = first ∷ others.items; end = others.end }
+
+abbrev pub item_and : {A : Type 0} → Result (A × Source) Fault → (Source → Items A) → Items A
+item_and (Err fault) others = no_items (Err fault)
+item_and (Ok read) others = with_first read.0 (others read.1)
+
+-- the number bounds how many there are
+abbrev pub items_within : {A : Type 0} → ℕ → Reader A → Option ℕ → Source → Items A
+items_within zero item_at limit source = no_items (Ok source.place)
+items_within (suc bound) item_at limit source =
+    when (is_empty source.octets) (λ _. no_items (Ok source.place)) (λ _. item_and (item_at (limited limit) source) (items_within bound item_at limit))
+
+-- what stands behind a place where an item begins, or where the file ends
+abbrev pub items_behind : {A : Type 0} → Reader A → Option ℕ → Source → Items A
+items_behind item_at limit source = items_within (length source.octets) item_at limit source
+
+-- all of them, where none is at fault
+abbrev pub all_items : {A : Type 0} → Items A → Result (List A) Fault
+all_items found = onward found.end (λ size. Ok found.items)
+
+-- ---- a file
+
+-- the credentials behind the start
+abbrev pub credentials_behind : Source → Result (List Credential) Fault
+credentials_behind source = all_items (items_behind credential_at None source)
+
+abbrev pub started : List ℕ → Result (Start × Source) Fault
+started file = start_at (limited None) (source_of file)
+
+-- the cache that a file holds, or the first fault
+abbrev pub read : List ℕ → Result Ccache Fault
+read file =
+    onward (started file) (λ start.
+    onward (credentials_behind start.1) (λ credentials.
+    Ok (record { header = start.0.header; principal = start.0.principal; credentials = credentials })))

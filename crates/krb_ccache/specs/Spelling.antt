@@ -1,0 +1,149 @@
+-- Credential cache files of version 4 (MIT krb5): the one spelling of each cache.
+use Rattle.std.specs.Prelude.{ℕ, ℤ, ◌^◌, ◌<◌, ◌≡◌, Bool, false, ◌&&◌, ◌==◌, codes, List, [], ◌∷◌, ◌++◌, length, map, take, drop, Option, Some, None}
+use Rattle.std.specs.List.{flat_map, AllByRecursion}
+use Rattle.std.specs.Int.{w8, w16, w32, to_be_bytes, from_be_bytes, cast_signed}
+use Rattle.std.specs.Int.RustNames.{FitsSigned}
+use Rattle.std.specs.Str.{bytes_eq}
+use Rattle.krb_der.specs.Octets.{when}
+use Rattle.krb_der.specs.Fields.{signed, counted, Names, names, IsCounted, AreNames, zeros}
+use Rattle.krb_ccache.specs.declared.value.Ccache.{Ccache}
+use Rattle.krb_ccache.specs.declared.value.Credential.{Credential}
+use Rattle.krb_ccache.specs.declared.value.FilePrincipal.{FilePrincipal}
+use Rattle.krb_ccache.specs.declared.value.Header.{Header}
+use Rattle.krb_ccache.specs.declared.value.HeaderField.{HeaderField}
+use Rattle.krb_ccache.specs.declared.value.Typed.{Typed}
+
+-- ---- a principal
+
+abbrev pub names_of : FilePrincipal → Names
+names_of p = record { realm = p.realm; components = p.components }
+
+abbrev pub principal : FilePrincipal → List ℕ
+principal p = signed w32 p.name_type ++ names w32 (names_of p)
+
+pub record PrincipalFits (p : FilePrincipal) : Type 0 where
+  pub name_type : FitsSigned w32 p.name_type
+  pub names : AreNames w32 (names_of p)
+
+-- ---- addresses and authorization data
+
+-- a kind, and octets behind their number
+abbrev pub typed : Typed → List ℕ
+typed t = to_be_bytes w16 t.kind ++ counted w32 t.octets
+
+abbrev pub typed_list : List Typed → List ℕ
+typed_list ts = to_be_bytes w32 (length ts) ++ flat_map typed ts
+
+pub record TypedFits (t : Typed) : Type 0 where
+  pub kind : t.kind < 2 ^ 16
+  pub octets : IsCounted w32 t.octets
+
+pub record TypedListFits (ts : List Typed) : Type 0 where
+  pub few : length ts < 2 ^ 32
+  pub each : AllByRecursion TypedFits ts
+
+-- ---- a credential
+
+-- up to the encryption type
+abbrev pub credential_front : Credential → List ℕ
+credential_front c = principal c.client ++ principal c.server ++ to_be_bytes w16 c.enctype
+
+-- from the key on
+abbrev pub credential_back : Credential → List ℕ
+credential_back c =
+    counted w32 c.key
+    ++ to_be_bytes w32 c.authtime
+    ++ to_be_bytes w32 c.starttime
+    ++ to_be_bytes w32 c.endtime
+    ++ to_be_bytes w32 c.renew_till
+    ++ to_be_bytes w8 c.is_skey
+    ++ to_be_bytes w32 c.flags
+    ++ typed_list c.addresses
+    ++ typed_list c.authdata
+    ++ counted w32 c.ticket
+    ++ counted w32 c.second_ticket
+
+abbrev pub credential : Credential → List ℕ
+credential c = credential_front c ++ credential_back c
+
+pub record CredentialFits (c : Credential) : Type 0 where
+  pub client : PrincipalFits c.client
+  pub server : PrincipalFits c.server
+  pub enctype : c.enctype < 2 ^ 16
+  pub key : IsCounted w32 c.key
+  pub authtime : c.authtime < 2 ^ 32
+  pub starttime : c.starttime < 2 ^ 32
+  pub endtime : c.endtime < 2 ^ 32
+  pub renew_till : c.renew_till < 2 ^ 32
+  pub is_skey : c.is_skey < 2 ^ 8
+  pub flags : c.flags < 2 ^ 32
+  pub addresses : TypedListFits c.addresses
+  pub authdata : TypedListFits c.authdata
+  pub ticket : IsCounted w32 c.ticket
+  pub second_ticket : IsCounted w32 c.second_ticket
+
+-- ---- the header
+
+abbrev pub header_field : HeaderField → List ℕ
+header_field f = to_be_bytes w16 f.tag ++ counted w16 f.value
+
+abbrev pub header_fields : List HeaderField → List ℕ
+header_fields fields = flat_map header_field fields
+
+-- the fields, behind the number of their octets
+abbrev pub header : Header → List ℕ
+header h = counted w16 (header_fields h.fields)
+
+pub record HeaderFieldFits (f : HeaderField) : Type 0 where
+  pub tag : f.tag < 2 ^ 16
+  pub value : IsCounted w16 f.value
+
+pub record HeaderFits (h : Header) : Type 0 where
+  pub each : AllByRecursion HeaderFieldFits h.fields
+  pub short : length (header_fields h.fields) < 2 ^ 16
+
+-- ---- a cache
+
+-- the version, the header, the default principal, and the credentials up to the end
+abbrev pub ccache : Ccache → List ℕ
+ccache v = 5 ∷ 4 ∷ header v.header ++ principal v.principal ++ flat_map credential v.credentials
+
+-- each number and each length can be spelled
+pub record CcacheFits (v : Ccache) : Type 0 where
+  pub header : HeaderFits v.header
+  pub principal : PrincipalFits v.principal
+  pub credentials : AllByRecursion CredentialFits v.credentials
+
+pub record CcacheSpells (v : Ccache) (b : List ℕ) : Type 0 where
+  pub fits : CcacheFits v
+  pub octets : b ≡ ccache v
+
+-- ---- what is read out of a cache
+
+-- the two numbers of the first field with tag 1 and eight octets
+abbrev pub offset_of : List HeaderField → Option (ℤ × ℤ)
+offset_of [] = None
+offset_of (f ∷ fields) =
+    when ((f.tag == 1) && (length f.value == 8))
+    (λ _. Some (cast_signed w32 (from_be_bytes w32 (take 4 f.value)), cast_signed w32 (from_be_bytes w32 (drop 4 f.value))))
+    (λ _. offset_of fields)
+
+abbrev pub offset : Header → Option (ℤ × ℤ)
+offset h = offset_of h.fields
+
+abbrev pub first_is : List (List ℕ) → List ℕ → Bool
+first_is [] octets = false
+first_is (first ∷ others) octets = bytes_eq first octets
+
+-- A configuration entry, by the realm and the first component of its server.
+abbrev pub is_config : Credential → Bool
+is_config c = bytes_eq c.server.realm (codes "X-CACHECONF:") && first_is c.server.components (codes "krb5_ccache_conf_data")
+
+-- ---- without what the keys are
+
+abbrev pub masked_credential : Credential → Credential
+masked_credential c = record c { key = zeros (length c.key) }
+
+-- every octet of each key 00
+abbrev pub masked : Ccache → Ccache
+masked v = record v { credentials = map masked_credential v.credentials }

@@ -1,0 +1,365 @@
+//! How the octets of a cache are made of those of its parts. A part says what it is made of by a
+//! value like `Then(self.kind, &self.octets)`, and so its size and its octets need no word more.
+
+ghost use Rattle.std.specs.Prelude.{◌≡◌, ◌+◌, ◌<◌, ◌≤◌, ◌^◌, ◌++◌, ◌↔◌, ◌||◌, ℕ, Bool, true, false, List, length, IsNone, IfSome};
+ghost use Rattle.std.specs.Int.{w8, w16, w32, to_be_bytes};
+ghost use Rattle.std.specs.Int.RustNames.{FitsSigned};
+ghost use Rattle.std.specs.List.{flat_map, list_any, AllByRecursion};
+ghost use Rattle.std.specs.Vec.{vec_len, vec_capacity};
+ghost use Rattle.krb_der.specs.Octets.{AreOctets};
+ghost use Rattle.krb_der.specs.Fields.{signed, counted, IsCounted};
+ghost use Rattle.krb_ccache.specs.Writing.{is_long16, is_long32, held};
+
+use krb_der::{KString, Octets, put_octets};
+
+/// The greatest number of octets of a file, 2^40.
+pub(crate) const GREATEST: u64 = 1 << 40;
+
+/// What stands in a cache.
+pub(crate) trait Part {
+    /// Its octets.
+    ghost octets: { Self → List ℕ };
+
+    /// Whether a number cannot say how long it or a part of it is.
+    ghost is_long: { Self → Bool };
+
+    /// Its numbers and lengths are in their ranges.
+    ghost Fits: { Self → Type 0 };
+
+    /// The number of octets, or `GREATEST + 1` where there are more than `GREATEST`; `None` where a
+    /// number cannot say how long a part is.
+    fn size(&self) -> Option<u64>
+        ensures none { IsNone result ↔ (is_long self.now ≡ true) }
+        ensures some { IfSome result (λ size. size ≡ held (length (octets self.now))) }
+        ensures fits { IfSome result (λ _. Fits self.now) };
+
+    /// Appends the octets, into room that is there.
+    fn put(&self, out: &mut Vec<u8>)
+        requires short { is_long self.now ≡ false }
+        requires room { vec_len out.old + length (octets self.now) ≤ vec_capacity out.old }
+        ensures items { out.new.items ≡ out.old.items ++ octets self.now }
+        ensures len { vec_len out.new ≡ vec_len out.old + length (octets self.now) }
+        ensures capacity { vec_capacity out.new ≡ vec_capacity out.old };
+}
+
+/// Two numbers of octets together, held at `GREATEST + 1`.
+fn add_sizes(size: u64, more: u64) -> u64
+    ensures { result ≡ held (size + more) }
+{
+    size.saturating_add(more).min(GREATEST + 1)
+}
+
+/// The number of octets.
+fn size_of(octets: &[u8]) -> u64
+    ensures value { result ≡ length octets.now }
+    ensures octets { AreOctets octets.now }
+{
+    octets.len() as u64
+}
+
+/// A number of 8 bits.
+impl Part for u8 {
+    ghost octets = { to_be_bytes w8 };
+
+    ghost is_long = { λ _. false };
+
+    ghost Fits = { λ number. number < 2 ^ 8 };
+
+    fn size(&self) -> Option<u64> {
+        let _number = *self;
+        Some(1)
+    }
+
+    fn put(&self, out: &mut Vec<u8>) {
+        put_octets(out, &self.to_be_bytes());
+    }
+}
+
+/// A number of 16 bits.
+impl Part for u16 {
+    ghost octets = { to_be_bytes w16 };
+
+    ghost is_long = { λ _. false };
+
+    ghost Fits = { λ number. number < 2 ^ 16 };
+
+    fn size(&self) -> Option<u64> {
+        let _number = *self;
+        Some(2)
+    }
+
+    fn put(&self, out: &mut Vec<u8>) {
+        put_octets(out, &self.to_be_bytes());
+    }
+}
+
+/// A number of 32 bits.
+impl Part for u32 {
+    ghost octets = { to_be_bytes w32 };
+
+    ghost is_long = { λ _. false };
+
+    ghost Fits = { λ number. number < 2 ^ 32 };
+
+    fn size(&self) -> Option<u64> {
+        let _number = *self;
+        Some(4)
+    }
+
+    fn put(&self, out: &mut Vec<u8>) {
+        put_octets(out, &self.to_be_bytes());
+    }
+}
+
+/// A number of 32 bits with a sign.
+impl Part for i32 {
+    ghost octets = { signed w32 };
+
+    ghost is_long = { λ _. false };
+
+    ghost Fits = { FitsSigned w32 };
+
+    fn size(&self) -> Option<u64> {
+        let _number = *self;
+        Some(4)
+    }
+
+    fn put(&self, out: &mut Vec<u8>) {
+        put_octets(out, &self.to_be_bytes());
+    }
+}
+
+/// Octets behind their number of 32 bits.
+#[derive(Drop)]
+pub(crate) struct Data<'a>(pub(crate) &'a [u8]);
+
+impl<'a> Part for Data<'a> {
+    ghost octets = { λ part. counted w32 part.0.now };
+
+    ghost is_long = { λ part. is_long32 part.0.now };
+
+    ghost Fits = { λ part. IsCounted w32 part.0.now };
+
+    fn size(&self) -> Option<u64> {
+        let size = size_of(self.0);
+        if size <= 4294967295 {
+            Some(4 + size)
+        } else {
+            None
+        }
+    }
+
+    fn put(&self, out: &mut Vec<u8>) {
+        put_octets(out, &(self.0.len() as u32).to_be_bytes());
+        put_octets(out, self.0);
+    }
+}
+
+impl Part for Octets {
+    ghost octets = { counted w32 };
+
+    ghost is_long = { λ octets. is_long32 octets };
+
+    ghost Fits = { IsCounted w32 };
+
+    fn size(&self) -> Option<u64> {
+        Data(self.as_slice()).size()
+    }
+
+    fn put(&self, out: &mut Vec<u8>) {
+        Data(self.as_slice()).put(out);
+    }
+}
+
+impl Part for KString {
+    ghost octets = { counted w32 };
+
+    ghost is_long = { λ octets. is_long32 octets };
+
+    ghost Fits = { IsCounted w32 };
+
+    fn size(&self) -> Option<u64> {
+        Data(self.octets()).size()
+    }
+
+    fn put(&self, out: &mut Vec<u8>) {
+        Data(self.octets()).put(out);
+    }
+}
+
+/// Octets behind their number of 16 bits.
+#[derive(Drop)]
+pub(crate) struct Short<'a>(pub(crate) &'a [u8]);
+
+impl<'a> Part for Short<'a> {
+    ghost octets = { λ short. counted w16 short.0.now };
+
+    ghost is_long = { λ short. is_long16 short.0.now };
+
+    ghost Fits = { λ short. IsCounted w16 short.0.now };
+
+    fn size(&self) -> Option<u64> {
+        let size = size_of(self.0);
+        if size <= 65535 { Some(2 + size) } else { None }
+    }
+
+    fn put(&self, out: &mut Vec<u8>) {
+        put_octets(out, &(self.0.len() as u16).to_be_bytes());
+        put_octets(out, self.0);
+    }
+}
+
+/// A part that is lent.
+impl<'a, P: Part> Part for &'a P {
+    ghost octets = { λ part. P.octets part.now };
+
+    ghost is_long = { λ part. P.is_long part.now };
+
+    ghost Fits = { λ part. P.Fits part.now };
+
+    fn size(&self) -> Option<u64> {
+        (**self).size()
+    }
+
+    fn put(&self, out: &mut Vec<u8>) {
+        (**self).put(out);
+    }
+}
+
+/// A part, and another behind it.
+#[derive(Drop)]
+pub(crate) struct Then<A, B>(pub(crate) A, pub(crate) B);
+
+impl<A: Part, B: Part> Part for Then<A, B> {
+    ghost octets = { λ both. A.octets both.0 ++ B.octets both.1 };
+
+    ghost is_long = { λ both. A.is_long both.0 || B.is_long both.1 };
+
+    ghost Fits = { λ both. A.Fits both.0 × B.Fits both.1 };
+
+    fn size(&self) -> Option<u64> {
+        let first = self.0.size()?;
+        let second = self.1.size()?;
+        Some(add_sizes(first, second))
+    }
+
+    fn put(&self, out: &mut Vec<u8>) {
+        self.0.put(out);
+        self.1.put(out);
+    }
+}
+
+/// The number, of 32 bits, of items.
+#[derive(Drop)]
+pub(crate) struct Count<'a, T>(pub(crate) &'a [T]);
+
+impl<'a, T> Part for Count<'a, T> {
+    ghost octets = { λ count. to_be_bytes w32 (length count.0.now) };
+
+    ghost is_long = { λ count. is_long32 count.0.now };
+
+    ghost Fits = { λ count. length count.0.now < 2 ^ 32 };
+
+    fn size(&self) -> Option<u64> {
+        if self.0.len() <= 4294967295 {
+            Some(4)
+        } else {
+            None
+        }
+    }
+
+    fn put(&self, out: &mut Vec<u8>) {
+        put_octets(out, &(self.0.len() as u32).to_be_bytes());
+    }
+}
+
+/// Items one after another.
+#[derive(Drop)]
+pub(crate) struct Each<'a, P>(pub(crate) &'a [P]);
+
+impl<'a, P: Part> Part for Each<'a, P> {
+    ghost octets = { λ each. flat_map P.octets each.0.now };
+
+    ghost is_long = { λ each. list_any P.is_long each.0.now };
+
+    ghost Fits = { λ each. AllByRecursion P.Fits each.0.now };
+
+    fn size(&self) -> Option<u64> {
+        size_of_each(self.0)
+    }
+
+    fn put(&self, out: &mut Vec<u8>) {
+        put_each(out, self.0);
+    }
+}
+
+/// Items behind their number of 32 bits.
+#[derive(Drop)]
+pub(crate) struct Listed<'a, P>(pub(crate) &'a [P]);
+
+impl<'a, P: Part> Part for Listed<'a, P> {
+    ghost octets = { λ listed. to_be_bytes w32 (length listed.0.now) ++ flat_map P.octets listed.0.now };
+
+    ghost is_long = { λ listed. is_long32 listed.0.now || list_any P.is_long listed.0.now };
+
+    ghost Fits = { λ listed. (length listed.0.now < 2 ^ 32) × AllByRecursion P.Fits listed.0.now };
+
+    fn size(&self) -> Option<u64> {
+        Then(Count(self.0), Each(self.0)).size()
+    }
+
+    fn put(&self, out: &mut Vec<u8>) {
+        Then(Count(self.0), Each(self.0)).put(out);
+    }
+}
+
+/// A part behind the number, of 16 bits, of its octets.
+#[derive(Drop)]
+pub(crate) struct Measured<P>(pub(crate) P);
+
+impl<P: Part> Part for Measured<P> {
+    ghost octets = { λ measured. counted w16 (P.octets measured.0) };
+
+    ghost is_long = { λ measured. P.is_long measured.0 || is_long16 (P.octets measured.0) };
+
+    ghost Fits = { λ measured. P.Fits measured.0 × (length (P.octets measured.0) < 2 ^ 16) };
+
+    fn size(&self) -> Option<u64> {
+        let size = self.0.size()?;
+        if size <= 65535 { Some(2 + size) } else { None }
+    }
+
+    fn put(&self, out: &mut Vec<u8>) {
+        // A part that is not too long has a size.
+        if let Some(size) = self.0.size() {
+            put_octets(out, &(size as u16).to_be_bytes());
+            self.0.put(out);
+        }
+    }
+}
+
+/// The number of octets of items, held at `GREATEST + 1`.
+fn size_of_each<P: Part>(items: &[P]) -> Option<u64>
+    ensures none { IsNone result ↔ (list_any P.is_long items.now ≡ true) }
+    ensures some { IfSome result (λ size. size ≡ held (length (flat_map P.octets items.now))) }
+    ensures fits { IfSome result (λ _. AllByRecursion P.Fits items.now) }
+{
+    let mut size = 0;
+    for item in items {
+        size = add_sizes(size, item.size()?);
+    }
+    Some(size)
+}
+
+/// Appends the octets of items in order, into room that is there.
+fn put_each<P: Part>(out: &mut Vec<u8>, items: &[P])
+    requires short { list_any P.is_long items.now ≡ false }
+    requires room { vec_len out.old + length (flat_map P.octets items.now) ≤ vec_capacity out.old }
+    ensures items { out.new.items ≡ out.old.items ++ flat_map P.octets items.now }
+    ensures len { vec_len out.new ≡ vec_len out.old + length (flat_map P.octets items.now) }
+    ensures capacity { vec_capacity out.new ≡ vec_capacity out.old }
+{
+    for item in items {
+        item.put(out);
+    }
+}

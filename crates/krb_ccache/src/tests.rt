@@ -1,0 +1,291 @@
+//! Caches worked out by hand from the file format.
+
+use crate::{
+    Ccache, CcacheFault, Credential, FilePrincipal, Header, HeaderField, TicketState, Typed, law,
+    read, ticket_of, write,
+};
+use krb_der::{FileFault, FileWhy, KString, Many, Octets, Refusal, Why};
+use std::alloc::Global;
+use std::test::Fail;
+
+/// A cache of u@A of 239 octets: an offset of 0, a configuration entry, and a credential for h@A
+/// whose ticket is cut.
+const CACHE: &str =
+    "0504000C00010008000000000000000000000001000000010000000141000000017500000001000000010000000141000000017500000000000000020000000C582D4341434845434F4E463A000000156B7262355F6363616368655F636F6E665F646174610000000770615F747970650000000000000000000000000000000000000000000000000000000000000000000000000000013200000000000000010000000100000001410000000175000000020000000100000001410000000168001200000002ABCD386D4380386D4380386D5190000000000040E10000000000000000000000000002618000000000";
+
+/// A Ticket for h@A (RFC 4120, 5.3).
+const TICKET: &str =
+    "612B3029A003020105A1031B0141A20E300CA003020102A10530031B0168A30D300BA003020112A2040402BEEF";
+
+/// The cache that octets are.
+fn cache(alloc: Global, octets: &[u8]) -> Result<Ccache, Fail> {
+    Ok(read(alloc, octets).ok().ok_or("a cache")?)
+}
+
+/// The place and the reason of a refusal.
+fn refused(alloc: Global, octets: &[u8]) -> Option<(u64, FileWhy)> {
+    match read(alloc, octets) {
+        Err(FileFault::Refused { place, why }) => Some((place, why)),
+        _ => None,
+    }
+}
+
+/// The configuration entry and the credential of the cache above.
+fn two(cache: &Ccache) -> Result<(&Credential, &Credential), Fail> {
+    match cache.credentials.as_slice() {
+        [config, credential] => Ok((config, credential)),
+        _ => Err(Fail::from("two credentials")),
+    }
+}
+
+/// Whether a principal has this type, this realm and this first component.
+fn is_named(principal: &FilePrincipal, name_type: i32, realm: &[u8], first: &[u8]) -> bool {
+    principal.name_type == name_type
+        && principal.realm.octets() == realm
+        && principal
+            .components
+            .as_slice()
+            .first()
+            .is_some_and(|component| component.octets() == first)
+}
+
+#[test]
+fn reads_a_cache(rt: HostRuntime) -> Result<(), Fail> {
+    let alloc = rt.alloc();
+    let octets = hex::decode(alloc, CACHE)?;
+    let cache = cache(alloc, octets.as_slice())?;
+    assert_eq!(rt; cache.header.fields.as_slice().len(), 1);
+    assert_eq!(rt; cache.header.offset(), Some((0, 0)));
+    assert!(rt; is_named(&cache.principal, 1, b"A", b"u"));
+    let (config, credential) = two(&cache)?;
+    assert!(rt; is_named(&config.server, 0, b"X-CACHECONF:", b"krb5_ccache_conf_data"));
+    assert_eq!(rt; (config.is_config(), credential.is_config()), (true, false));
+    assert!(rt; is_named(&credential.client, 1, b"A", b"u"));
+    assert!(rt; is_named(&credential.server, 2, b"A", b"h"));
+    assert_eq!(rt; credential.enctype, 18);
+    assert_eq!(rt; credential.key.as_slice(), [0xAB, 0xCD].as_slice());
+    assert_eq!(rt;
+        (credential.authtime, credential.starttime),
+        (946684800, 946684800)
+    );
+    assert_eq!(rt; (credential.endtime, credential.renew_till), (946688400, 0));
+    assert_eq!(rt; (credential.is_skey, credential.flags), (0, 0x40E10000));
+    assert_eq!(rt; credential.ticket.as_slice(), [0x61, 0x80].as_slice());
+    assert!(rt; credential.second_ticket.as_slice().is_empty());
+    Ok(())
+}
+
+#[test]
+fn reads_the_fronts_that_end_between_credentials(rt: HostRuntime) -> Result<(), Fail> {
+    let alloc = rt.alloc();
+    let octets = hex::decode(alloc, CACHE)?;
+    for size in 0..=octets.len() {
+        let whole = matches!(size, 34 | 156 | 239);
+        assert_eq!(rt; read(alloc, &octets.as_slice()[..size]).is_ok(), whole);
+    }
+    Ok(())
+}
+
+/// Files that are refused, with the place of the first field at fault and its reason.
+const FAULTS: [(&[u8], u64, FileWhy); 9] = [
+    (b"", 0, FileWhy::Truncated),
+    (b"\x05", 1, FileWhy::Truncated),
+    (b"\x06\x01", 0, FileWhy::Magic),
+    (b"\x05\x03", 1, FileWhy::Version),
+    (b"\x05\x04\0", 2, FileWhy::Truncated),
+    (b"\x05\x04\0\x03\0\x01\0", 6, FileWhy::Overrun),
+    (b"\x05\x04\0\x05\0\x01\0\x02\0", 8, FileWhy::Overrun),
+    (b"\x05\x04\0\x0C\0\x01", 6, FileWhy::Truncated),
+    (
+        b"\x05\x04\0\0\0\0\0\x01\xFF\xFF\xFF\xFF\0\0\0\0",
+        16,
+        FileWhy::Truncated,
+    ),
+];
+
+#[test]
+fn refuses_at_the_first_field_at_fault(rt: HostRuntime) {
+    let alloc = rt.alloc();
+    for (octets, place, why) in FAULTS {
+        assert_eq!(rt; refused(alloc, octets), Some((place, why)));
+    }
+}
+
+/// A number of addresses of which none is there takes no memory.
+#[test]
+fn refuses_addresses_that_are_only_announced(rt: HostRuntime) -> Result<(), Fail> {
+    let alloc = rt.alloc();
+    let mut octets = hex::decode(alloc, CACHE)?;
+    octets.truncate(221);
+    octets.extend_from_slice(&[0xFF; 4])?;
+    assert_eq!(rt;
+        refused(alloc, octets.as_slice()),
+        Some((225, FileWhy::Truncated))
+    );
+    Ok(())
+}
+
+/// A field of a header.
+fn field(alloc: Global, tag: u16, value: &[u8]) -> Result<HeaderField, Fail> {
+    let value = Octets::new(Vec::from_slice(alloc, value)?);
+    Ok(HeaderField { tag, value })
+}
+
+#[test]
+fn takes_the_first_offset_of_eight_octets(rt: HostRuntime) -> Result<(), Fail> {
+    let alloc = rt.alloc();
+    let short = field(alloc, 1, b"\x07")?;
+    let other = field(alloc, 2, b"\0\0\0\0\0\0\0\0")?;
+    let offset = field(alloc, 1, b"\xFF\xFF\xFF\xFF\0\0\0\x02")?;
+    let header = Header {
+        fields: Many::new(vec![in alloc; short, other, offset]?),
+    };
+    assert_eq!(rt; header.offset(), Some((-1, 2)));
+    let none = Header {
+        fields: Many::new(vec![in alloc; field(alloc, 1, b"\x07")?]?),
+    };
+    assert_eq!(rt; none.offset(), None);
+    Ok(())
+}
+
+/// The refusal of a ticket.
+fn refusal_of(alloc: Global, credential: &Credential) -> Option<Refusal> {
+    match ticket_of(alloc, credential) {
+        Ok(TicketState::Refused(refusal)) => Some(refusal),
+        _ => None,
+    }
+}
+
+#[test]
+fn tells_what_a_ticket_field_holds(rt: HostRuntime) -> Result<(), Fail> {
+    let alloc = rt.alloc();
+    let octets = hex::decode(alloc, CACHE)?;
+    let cache = cache(alloc, octets.as_slice())?;
+    let (config, cut) = two(&cache)?;
+    assert!(rt; matches!(ticket_of(alloc, config), Ok(TicketState::Config)));
+    let (place, why) = (1, Why::Indefinite);
+    assert_eq!(rt; refusal_of(alloc, cut), Some(Refusal { place, why }));
+    let absent = credential(alloc, &[])?;
+    assert!(rt; matches!(ticket_of(alloc, &absent), Ok(TicketState::Absent)));
+    let whole = credential(alloc, hex::decode(alloc, TICKET)?.as_slice())?;
+    let realm = match ticket_of(alloc, &whole) {
+        Ok(TicketState::Ticket(ticket)) => ticket.realm,
+        _ => return Err(Fail::from("a ticket")),
+    };
+    assert_eq!(rt; realm.octets(), b"A".as_slice());
+    Ok(())
+}
+
+#[test]
+fn writes_what_was_read(rt: HostRuntime) -> Result<(), Fail> {
+    let alloc = rt.alloc();
+    let octets = hex::decode(alloc, CACHE)?;
+    let cache = cache(alloc, octets.as_slice())?;
+    let written = write(alloc, &cache).ok().ok_or("octets")?;
+    assert_eq!(rt; written.as_slice(), octets.as_slice());
+    assert_eq!(rt; written.capacity(), 239);
+    Ok(())
+}
+
+/// u@A.
+fn user(alloc: Global) -> Result<FilePrincipal, Fail> {
+    let component = KString::new(b"u".to_vec(alloc)?);
+    Ok(FilePrincipal {
+        name_type: 1,
+        realm: KString::new(b"A".to_vec(alloc)?),
+        components: Many::new(vec![in alloc; component]?),
+    })
+}
+
+/// A credential of u@A with this ticket, an address and an element of authorization data.
+fn credential(alloc: Global, ticket: &[u8]) -> Result<Credential, Fail> {
+    let typed = |kind: u16| -> Result<Many<Typed>, Fail> {
+        let octets = Octets::new(b"\x7F\0\0\x01".to_vec(alloc)?);
+        Ok(Many::new(vec![in alloc; Typed { kind, octets }]?))
+    };
+    Ok(Credential {
+        client: user(alloc)?,
+        server: user(alloc)?,
+        enctype: 18,
+        key: Octets::new(b"\xAB\xCD".to_vec(alloc)?),
+        authtime: 1,
+        starttime: 2,
+        endtime: 3,
+        renew_till: 4,
+        is_skey: 1,
+        flags: 0x80000001,
+        addresses: typed(2)?,
+        authdata: typed(1)?,
+        ticket: Octets::new(Vec::from_slice(alloc, ticket)?),
+        second_ticket: Octets::new(b"\x05".to_vec(alloc)?),
+    })
+}
+
+#[test]
+fn writes_each_field_in_its_place(rt: HostRuntime) -> Result<(), Fail> {
+    let alloc = rt.alloc();
+    let cache = Ccache {
+        header: Header {
+            fields: Many::new(Vec::new(alloc)),
+        },
+        principal: user(alloc)?,
+        credentials: Many::new(vec![in alloc; credential(alloc, b"\x61")?]?),
+    };
+    let written = write(alloc, &cache).ok().ok_or("octets")?;
+    let expected = hex::decode(
+        alloc,
+        "05040000000000010000000100000001410000000175000000010000000100000001410000000175000000010000000100000001410000000175001200000002ABCD000000010000000200000003000000040180000001000000010002000000047F000001000000010001000000047F00000100000001610000000105",
+    )?;
+    assert_eq!(rt; written.as_slice(), expected.as_slice());
+    Ok(())
+}
+
+/// What a cache with this header is refused for.
+fn fault(alloc: Global, fields: Vec<HeaderField>) -> Result<Option<CcacheFault>, Fail> {
+    let cache = Ccache {
+        header: Header {
+            fields: Many::new(fields),
+        },
+        principal: user(alloc)?,
+        credentials: Many::new(Vec::new(alloc)),
+    };
+    Ok(write(alloc, &cache).err())
+}
+
+#[test]
+fn refuses_to_write_a_header_that_is_too_long(rt: HostRuntime) -> Result<(), Fail> {
+    let alloc = rt.alloc();
+    let of_size = |size: usize| -> Result<HeaderField, Fail> {
+        let value = Octets::new(vec![in alloc; 0u8; size]?);
+        Ok(HeaderField { tag: 3, value })
+    };
+    let longest = vec![in alloc; of_size(65531)?]?;
+    assert_eq!(rt; fault(alloc, longest)?, None);
+    let long = vec![in alloc; of_size(65532)?]?;
+    assert_eq!(rt; fault(alloc, long)?, Some(CcacheFault::TooLong));
+    let long_value = vec![in alloc; of_size(65536)?]?;
+    assert_eq!(rt; fault(alloc, long_value)?, Some(CcacheFault::TooLong));
+    Ok(())
+}
+
+/// Whether a cache was read or written as ever, or memory was refused.
+#[test]
+fn answers_the_same_or_memory(rt: HostRuntime) {
+    let alloc = rt.alloc();
+    let Ok(octets) = hex::decode(alloc, CACHE) else {
+        return;
+    };
+    match read(alloc, octets.as_slice()) {
+        Ok(cache) => match write(alloc, &cache) {
+            Ok(written) => assert_eq!(rt; written.as_slice(), octets.as_slice()),
+            Err(fault) => assert_eq!(rt; fault, CcacheFault::Memory),
+        },
+        Err(fault) => assert_eq!(rt; fault, FileFault::Memory),
+    }
+}
+
+#[test]
+fn has_its_laws(_rt: HostRuntime) {
+    law::one_state();
+    law::spells_one();
+}

@@ -1,0 +1,46 @@
+//! The ticket of a credential.
+
+ghost use Rattle.std.specs.Prelude.{◌≡◌, IfOk, IfErr};
+ghost use Rattle.krb_ccache.specs.declared.ticket.TicketState.{TicketState as State};
+ghost use Rattle.krb_ccache.specs.Tickets.{CanBeTicket, IsStateOf};
+
+use crate::value::Credential;
+use krb_der::{Memory, Refusal};
+use krb_judge::{ParseFault, parse_ticket};
+use krb_msg::Ticket;
+use std::alloc::Global;
+
+/// What stands in the ticket field of a credential.
+#[derive(Drop)]
+pub enum TicketState {
+    /// Nothing.
+    Absent,
+    /// What a configuration entry says.
+    Config,
+    /// A Ticket (RFC 4120, 5.3).
+    Ticket(Ticket),
+    /// Octets that are no Ticket: the first place where they cannot be one, counted in the field,
+    /// and why.
+    Refused(Refusal),
+}
+
+/// What stands in the ticket field of a credential. A configuration entry is told first, and an
+/// empty field then. Memory is asked for only where there is a Ticket.
+pub fn ticket_of(alloc: Global, credential: &Credential) -> Result<TicketState, Memory>
+    ensures state { IfOk result (IsStateOf credential.now) }
+    ensures only { (state : State) → IsStateOf credential.now state → IfOk result (λ those. those ≡ state) }
+    ensures memory { IfErr result (λ _. CanBeTicket credential.now) }
+{
+    if credential.is_config() {
+        return Ok(TicketState::Config);
+    }
+    let octets = credential.ticket.as_slice();
+    if octets.is_empty() {
+        return Ok(TicketState::Absent);
+    }
+    match parse_ticket(alloc, octets) {
+        Ok(ticket) => Ok(TicketState::Ticket(ticket)),
+        Err(ParseFault::Refused(refusal)) => Ok(TicketState::Refused(refusal)),
+        Err(ParseFault::Memory) => Err(Memory),
+    }
+}

@@ -1,0 +1,135 @@
+//! What a credential cache holds.
+
+use krb_der::{KString, Many, Octets};
+
+/// A credential cache: its header, the principal whose credentials it holds, and these in order.
+#[derive(Drop)]
+pub struct Ccache {
+    /// What is said of the cache as a whole.
+    pub header: Header,
+    /// The default principal, whose credentials these are.
+    pub principal: FilePrincipal,
+    /// The credentials, configuration entries among them.
+    pub credentials: Many<Credential>,
+}
+
+/// The header of a cache.
+#[derive(Drop)]
+pub struct Header {
+    /// Its fields, in order.
+    pub fields: Many<HeaderField>,
+}
+
+/// A field of the header. Those with tags that are not known are kept and not looked into.
+#[derive(Drop)]
+pub struct HeaderField {
+    /// What the field is: 1 is the offset of the KDC's clock.
+    pub tag: u16,
+    /// What it says.
+    pub value: Octets,
+}
+
+/// A principal, as a cache spells it.
+#[derive(Drop)]
+pub struct FilePrincipal {
+    /// How the name is meant (RFC 4120, 6.2).
+    pub name_type: i32,
+    /// The realm.
+    pub realm: KString,
+    /// The components of the name, in order.
+    pub components: Many<KString>,
+}
+
+/// Octets of a kind: an address (RFC 4120, 5.2.5), or an element of authorization data (5.2.6).
+#[derive(Drop)]
+pub struct Typed {
+    /// The kind.
+    pub kind: u16,
+    /// The octets.
+    pub octets: Octets,
+}
+
+/// A ticket and its session key, or a configuration entry. None of its texts shows the octets of
+/// the key, and so it has no `Debug`. Times are in seconds since 1970-01-01T00:00:00Z.
+#[derive(Drop)]
+pub struct Credential {
+    /// Whose credential it is.
+    pub client: FilePrincipal,
+    /// For which service.
+    pub server: FilePrincipal,
+    /// The encryption type of the key (RFC 3961), of which none is refused.
+    pub enctype: u16,
+    /// The session key.
+    pub key: Octets,
+    /// When the client was authenticated.
+    pub authtime: u32,
+    /// From when on the ticket holds.
+    pub starttime: u32,
+    /// When it expires.
+    pub endtime: u32,
+    /// Until when it can be renewed.
+    pub renew_till: u32,
+    /// Whether the ticket is for user-to-user authentication, encrypted in a session key: 0 where it
+    /// is not.
+    pub is_skey: u8,
+    /// The flags of the ticket (RFC 4120, 5.3), bit 0 the highest.
+    pub flags: u32,
+    /// From where the ticket can be used; none where it can be from everywhere.
+    pub addresses: Many<Typed>,
+    /// The authorization data that were asked for.
+    pub authdata: Many<Typed>,
+    /// The ticket as DER, or what a configuration entry says. [`ticket_of`](crate::ticket_of) tells
+    /// which.
+    pub ticket: Octets,
+    /// Another ticket, for user-to-user authentication.
+    pub second_ticket: Octets,
+}
+
+ghost use Rattle.std.specs.Prelude.{◌≡◌};
+ghost use Rattle.krb_ccache.specs.Spelling.{first_is, is_config, offset};
+
+/// The realm of a configuration entry's server.
+const CONFIG_REALM: &[u8] = b"X-CACHECONF:";
+
+/// The first component of a configuration entry's server.
+const CONFIG_NAME: &[u8] = b"krb5_ccache_conf_data";
+
+impl Header {
+    /// How far the KDC's clock was ahead: seconds, and microseconds. It stands in the first field
+    /// that has both tag 1 and eight octets.
+    pub fn offset(&self) -> Option<(i32, i32)>
+        ensures { result ≡ offset self.now }
+    {
+        for field in self.fields.as_slice() {
+            if field.tag == 1 {
+                if let [a, b, c, d, e, f, g, h] = field.value.as_slice() {
+                    let seconds = i32::from_be_bytes([*a, *b, *c, *d]);
+                    let microseconds = i32::from_be_bytes([*e, *f, *g, *h]);
+                    return Some((seconds, microseconds));
+                }
+            }
+        }
+        None
+    }
+}
+
+/// Whether the first of some strings has these octets.
+fn first_is(strings: &[KString], octets: &[u8]) -> bool
+    ensures { result ≡ first_is strings.now octets.now }
+{
+    match strings.first() {
+        Some(first) => first.octets() == octets,
+        None => false,
+    }
+}
+
+impl Credential {
+    /// Whether this is a configuration entry and no credential: the realm of its server is
+    /// `X-CACHECONF:` and the first component of the server's name is `krb5_ccache_conf_data`.
+    pub fn is_config(&self) -> bool
+        ensures { result ≡ is_config self.now }
+    {
+        self.server.realm.octets() == CONFIG_REALM
+            && first_is(self.server.components.as_slice(), CONFIG_NAME)
+    }
+}

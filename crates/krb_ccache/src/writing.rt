@@ -1,0 +1,267 @@
+//! Caches, written as octets.
+
+ghost use Rattle.std.specs.Prelude.{◌≡◌, ◌≤◌, ◌^◌, ◌↔◌, true, false, length, Ok, IfOk, IsErrOf, IsNone, IfSome};
+ghost use Rattle.krb_ccache.specs.declared.writing.CcacheFault.TheVariants.{Memory};
+ghost use Rattle.krb_ccache.specs.Spelling.{principal, PrincipalFits, typed, TypedFits, credential, CredentialFits, header_field, HeaderFieldFits, header, HeaderFits, ccache as spelled, CcacheFits, CcacheSpells};
+ghost use Rattle.krb_ccache.specs.Reading.{read};
+ghost use Rattle.krb_ccache.specs.Writing.{is_long_principal, is_long_typed, is_long_credential, is_long_field, is_long_header, is_long_ccache, is_too_long};
+
+use crate::part::{Count, Each, GREATEST, Listed, Measured, Part, Short, Then};
+use crate::value::{Ccache, Credential, FilePrincipal, Header, HeaderField, Typed};
+use krb_der::{KString, Octets};
+use std::alloc::{AllocError, Global};
+use thiserror::Error;
+
+/// Why a cache could not be written.
+#[derive(Clone, Copy, PartialEq, Eq, Debug, Error)]
+pub enum CcacheFault {
+    /// A number of 16 or 32 bits cannot say how many octets or items there are, or the file would
+    /// have more than 2^40 octets.
+    #[error("too long")]
+    TooLong,
+    /// The growth was refused.
+    #[error("memory")]
+    Memory,
+}
+
+impl From<AllocError> for CcacheFault {
+    ghost from_gives = { λ _ e. e ≡ Memory };
+
+    fn from(_error: AllocError) -> CcacheFault {
+        CcacheFault::Memory
+    }
+}
+
+type PrincipalLayout<'a> = Then<
+    i32,
+    Then<Count<'a, KString>, Then<&'a KString, Each<'a, KString>>>,
+>;
+
+impl FilePrincipal {
+    /// What its octets are made of.
+    fn layout(&self) -> PrincipalLayout<'_>
+        ensures octets { ⟦<PrincipalLayout<'static> as Part>⟧.octets result ≡ principal self.now }
+        ensures is_long { ⟦<PrincipalLayout<'static> as Part>⟧.is_long result ≡ is_long_principal self.now }
+        ensures fits { ⟦<PrincipalLayout<'static> as Part>⟧.Fits result → PrincipalFits self.now }
+    {
+        let components = self.components.as_slice();
+        let names = Then(&self.realm, Each(components));
+        Then(self.name_type, Then(Count(components), names))
+    }
+}
+
+impl Part for FilePrincipal {
+    ghost octets = { principal };
+
+    ghost is_long = { is_long_principal };
+
+    ghost Fits = { PrincipalFits };
+
+    fn size(&self) -> Option<u64> {
+        self.layout().size()
+    }
+
+    fn put(&self, out: &mut Vec<u8>) {
+        self.layout().put(out);
+    }
+}
+
+type TypedLayout<'a> = Then<u16, &'a Octets>;
+
+impl Typed {
+    /// What its octets are made of.
+    fn layout(&self) -> TypedLayout<'_>
+        ensures octets { ⟦<TypedLayout<'static> as Part>⟧.octets result ≡ typed self.now }
+        ensures is_long { ⟦<TypedLayout<'static> as Part>⟧.is_long result ≡ is_long_typed self.now }
+        ensures fits { ⟦<TypedLayout<'static> as Part>⟧.Fits result → TypedFits self.now }
+    {
+        Then(self.kind, &self.octets)
+    }
+}
+
+impl Part for Typed {
+    ghost octets = { typed };
+
+    ghost is_long = { is_long_typed };
+
+    ghost Fits = { TypedFits };
+
+    fn size(&self) -> Option<u64> {
+        self.layout().size()
+    }
+
+    fn put(&self, out: &mut Vec<u8>) {
+        self.layout().put(out);
+    }
+}
+
+type CredentialBack<'a> = Then<
+    &'a Octets,
+    Then<
+        u32,
+        Then<
+            u32,
+            Then<
+                u32,
+                Then<
+                    u32,
+                    Then<
+                        u8,
+                        Then<
+                            u32,
+                            Then<
+                                Listed<'a, Typed>,
+                                Then<Listed<'a, Typed>, Then<&'a Octets, &'a Octets>>,
+                            >,
+                        >,
+                    >,
+                >,
+            >,
+        >,
+    >,
+>;
+
+type CredentialLayout<'a> = Then<
+    &'a FilePrincipal,
+    Then<&'a FilePrincipal, Then<u16, CredentialBack<'a>>>,
+>;
+
+impl Credential {
+    /// What its octets are made of.
+    fn layout(&self) -> CredentialLayout<'_>
+        ensures octets { ⟦<CredentialLayout<'static> as Part>⟧.octets result ≡ credential self.now }
+        ensures is_long { ⟦<CredentialLayout<'static> as Part>⟧.is_long result ≡ is_long_credential self.now }
+        ensures fits { ⟦<CredentialLayout<'static> as Part>⟧.Fits result → CredentialFits self.now }
+    {
+        let tickets = Then(&self.ticket, &self.second_ticket);
+        let authdata = Then(Listed(self.authdata.as_slice()), tickets);
+        let lists = Then(Listed(self.addresses.as_slice()), authdata);
+        let flags = Then(self.is_skey, Then(self.flags, lists));
+        let ends = Then(self.endtime, Then(self.renew_till, flags));
+        let times = Then(self.authtime, Then(self.starttime, ends));
+        let back = Then(&self.key, times);
+        Then(&self.client, Then(&self.server, Then(self.enctype, back)))
+    }
+}
+
+impl Part for Credential {
+    ghost octets = { credential };
+
+    ghost is_long = { is_long_credential };
+
+    ghost Fits = { CredentialFits };
+
+    fn size(&self) -> Option<u64> {
+        self.layout().size()
+    }
+
+    fn put(&self, out: &mut Vec<u8>) {
+        self.layout().put(out);
+    }
+}
+
+type HeaderFieldLayout<'a> = Then<u16, Short<'a>>;
+
+impl HeaderField {
+    /// What its octets are made of.
+    fn layout(&self) -> HeaderFieldLayout<'_>
+        ensures octets { ⟦<HeaderFieldLayout<'static> as Part>⟧.octets result ≡ header_field self.now }
+        ensures is_long { ⟦<HeaderFieldLayout<'static> as Part>⟧.is_long result ≡ is_long_field self.now }
+        ensures fits { ⟦<HeaderFieldLayout<'static> as Part>⟧.Fits result → HeaderFieldFits self.now }
+    {
+        Then(self.tag, Short(self.value.as_slice()))
+    }
+}
+
+impl Part for HeaderField {
+    ghost octets = { header_field };
+
+    ghost is_long = { is_long_field };
+
+    ghost Fits = { HeaderFieldFits };
+
+    fn size(&self) -> Option<u64> {
+        self.layout().size()
+    }
+
+    fn put(&self, out: &mut Vec<u8>) {
+        self.layout().put(out);
+    }
+}
+
+impl Part for Header {
+    ghost octets = { header };
+
+    ghost is_long = { is_long_header };
+
+    ghost Fits = { HeaderFits };
+
+    fn size(&self) -> Option<u64> {
+        Measured(Each(self.fields.as_slice())).size()
+    }
+
+    fn put(&self, out: &mut Vec<u8>) {
+        Measured(Each(self.fields.as_slice())).put(out);
+    }
+}
+
+type CcacheLayout<'a> = Then<
+    u8,
+    Then<u8, Then<&'a Header, Then<&'a FilePrincipal, Each<'a, Credential>>>>,
+>;
+
+impl Ccache {
+    /// What its octets are made of.
+    fn layout(&self) -> CcacheLayout<'_>
+        ensures octets { ⟦<CcacheLayout<'static> as Part>⟧.octets result ≡ spelled self.now }
+        ensures is_long { ⟦<CcacheLayout<'static> as Part>⟧.is_long result ≡ is_long_ccache self.now }
+        ensures fits { ⟦<CcacheLayout<'static> as Part>⟧.Fits result → CcacheFits self.now }
+    {
+        let credentials = Each(self.credentials.as_slice());
+        let behind_version = Then(&self.header, Then(&self.principal, credentials));
+        Then(5, Then(4, behind_version))
+    }
+}
+
+impl Part for Ccache {
+    ghost octets = { spelled };
+
+    ghost is_long = { is_long_ccache };
+
+    ghost Fits = { CcacheFits };
+
+    fn size(&self) -> Option<u64> {
+        self.layout().size()
+    }
+
+    fn put(&self, out: &mut Vec<u8>) {
+        self.layout().put(out);
+    }
+}
+
+/// The number of octets of a cache that can be written.
+fn file_size(ccache: &Ccache) -> Option<u64>
+    ensures none { IsNone result ↔ (is_too_long ccache.now ≡ true) }
+    ensures size { IfSome result (λ size. size ≡ length (spelled ccache.now)) }
+    ensures small { IfSome result (λ size. size ≤ 2 ^ 40) }
+    ensures short { IfSome result (λ _. is_long_ccache ccache.now ≡ false) }
+    ensures fits { IfSome result (λ _. CcacheFits ccache.now) }
+{
+    ccache.size().filter(|size| *size <= GREATEST)
+}
+
+/// The octets of a cache. TooLong is decided first: for a header or a value in it of more than 65535
+/// octets, for more than 4294967295 components, addresses or elements of authorization data, for a
+/// realm, a component or another field of more than 4294967295 octets, and for a file of more than
+/// 2^40. Memory is taken last and once, for just so many octets.
+pub fn write(alloc: Global, ccache: &Ccache) -> Result<Vec<u8>, CcacheFault>
+    // What is written spells the cache, and is read back.
+    ensures spells { IfOk result (λ octets. CcacheSpells ccache.now octets.items) }
+    ensures again { IfOk result (λ octets. read octets.items ≡ Ok ccache.now) }
+    ensures too_long { IsErrOf result CcacheFault.TooLong ↔ (is_too_long ccache.now ≡ true) }
+{
+    let size = file_size(ccache).ok_or(CcacheFault::TooLong)?;
+    let mut octets = Vec::with_capacity(alloc, size as usize)?;
+    ccache.put(&mut octets);
+    Ok(octets)
+}

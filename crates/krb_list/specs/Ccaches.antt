@@ -1,0 +1,137 @@
+-- The lines of a credential cache. Each ends with a line feed.
+use Rattle.std.specs.Prelude.{ℕ, ℤ, ◌≡◌, nat_lt, Option, Some, None, List, [], ◌∷◌, ◌++◌, length, codes, if◌then◌else◌}
+use Rattle.std.specs.Fmt.{decimal, signed_decimal}
+use Rattle.krb_der.specs.Reasons.{reason_number}
+use Rattle.krb_der.specs.declared.verdict.Refusal.{Refusal}
+use Rattle.krb_msg.specs.declared.ticket.Ticket.{Ticket}
+use Rattle.krb_ccache.specs.declared.value.Ccache.{Ccache}
+use Rattle.krb_ccache.specs.declared.value.Credential.{Credential}
+use Rattle.krb_ccache.specs.declared.value.FilePrincipal.{FilePrincipal}
+use Rattle.krb_ccache.specs.declared.ticket.TicketState.{TicketState}
+use Rattle.krb_ccache.specs.declared.ticket.TicketState.TheVariants as states
+use Rattle.krb_ccache.specs.Spelling.{offset}
+use Rattle.krb_ccache.specs.Tickets.{IsStateOf}
+use Rattle.krb_list.specs.Text.{line_feed, field, or_dash, principal_text, sealed_text}
+use Rattle.krb_list.specs.Time.{time_text}
+use Rattle.krb_list.specs.TicketFlags.{ticket_flags_text}
+
+abbrev pub file_principal_text : FilePrincipal → List ℕ
+file_principal_text p = principal_text p.components p.realm
+
+-- ---- the line of the cache
+
+-- seconds and microseconds
+abbrev pub offset_text : ℤ × ℤ → List ℕ
+offset_text numbers = signed_decimal numbers.0 ++ codes ":" ++ signed_decimal numbers.1
+
+unfoldable pub cache_text : Ccache → List ℕ
+cache_text v =
+    codes "cache"
+    ++ field (codes "principal") (file_principal_text v.principal)
+    ++ field (codes "type") (signed_decimal v.principal.name_type)
+    ++ field (codes "offset") (or_dash offset_text (offset v.header))
+    ++ field (codes "fields") (decimal (length v.header.fields))
+
+-- ---- the line of a credential
+
+unfoldable pub who_text : Credential → List ℕ
+who_text c = field (codes "client") (file_principal_text c.client) ++ field (codes "server") (file_principal_text c.server)
+
+-- of the key how many octets there are, and nothing else
+unfoldable pub key_text : Credential → List ℕ
+key_text c = field (codes "enctype") (decimal c.enctype) ++ field (codes "key") (decimal (length c.key))
+
+unfoldable pub times_text : Credential → List ℕ
+times_text c =
+    field (codes "auth") (time_text c.authtime)
+    ++ field (codes "start") (time_text c.starttime)
+    ++ field (codes "end") (time_text c.endtime)
+    ++ field (codes "renew") (time_text c.renew_till)
+
+-- whether a credential that ends then has ended now, where a now is given
+abbrev pub state_text : Option ℕ → ℕ → List ℕ
+state_text None endtime = codes "-"
+state_text (Some now) endtime = if nat_lt now endtime then codes "live" else codes "expired"
+
+unfoldable pub flags_text : Option ℕ → Credential → List ℕ
+flags_text now c =
+    field (codes "skey") (decimal c.is_skey)
+    ++ field (codes "flags") (ticket_flags_text c.flags)
+    ++ field (codes "state") (state_text now c.endtime)
+
+unfoldable pub counts_text : Credential → List ℕ
+counts_text c = field (codes "addresses") (decimal (length c.addresses)) ++ field (codes "authdata") (decimal (length c.authdata))
+
+-- the ticket and its server, as texts, and the size of the second ticket
+unfoldable pub tickets_text : Credential → List ℕ → List ℕ → List ℕ
+tickets_text c ticket server =
+    field (codes "ticket") ticket
+    ++ field (codes "tserver") server
+    ++ field (codes "second") (decimal (length c.second_ticket))
+
+-- up to its ticket
+unfoldable pub credential_front : Option ℕ → Credential → List ℕ
+credential_front now c = codes "cred" ++ who_text c ++ key_text c ++ times_text c ++ flags_text now c
+
+unfoldable pub credential_text : Option ℕ → Credential → List ℕ → List ℕ → List ℕ
+credential_text now c ticket server = credential_front now c ++ counts_text c ++ tickets_text c ticket server
+
+unfoldable pub config_text : Credential → List ℕ
+config_text c = codes "config" ++ who_text c ++ field (codes "size") (decimal (length c.ticket))
+
+-- why and where octets are no ticket
+unfoldable pub refused_ticket_text : Refusal → List ℕ
+refused_ticket_text refusal = codes "refused:" ++ decimal refusal.place ++ codes ":" ++ decimal (reason_number refusal.why)
+
+abbrev pub ticket_server_text : Ticket → List ℕ
+ticket_server_text t = principal_text t.sname.name t.realm
+
+-- by what the ticket field holds
+abbrev pub credential_line : Option ℕ → Credential → TicketState → List ℕ
+credential_line now c states.Config = config_text c
+credential_line now c states.Absent = credential_text now c (codes "absent") (codes "-")
+credential_line now c (states.Ticket t) = credential_text now c (sealed_text t.enc_part) (ticket_server_text t)
+credential_line now c (states.Refused r) = credential_text now c (refused_ticket_text r) (codes "-")
+
+-- ---- the lines in order
+
+abbrev pub credential_lines : Option ℕ → List Credential → List TicketState → List ℕ
+credential_lines now [] held = []
+credential_lines now (c ∷ cs) [] = []
+credential_lines now (c ∷ cs) (state ∷ held) = credential_line now c state ++ line_feed ++ credential_lines now cs held
+
+-- what the ticket field of each holds, in order
+abbrev pub AreStatesOf : List Credential → List TicketState → Type 0
+AreStatesOf [] [] = Unit {0}
+AreStatesOf [] (state ∷ held) = ⊥
+AreStatesOf (c ∷ cs) [] = ⊥
+AreStatesOf (c ∷ cs) (state ∷ held) = IsStateOf c state × AreStatesOf cs held
+
+unfoldable pub cache_end_text : ℕ → List ℕ
+cache_end_text count = codes "end" ++ field (codes "credentials") (decimal count)
+
+abbrev pub ccache_lines : Option ℕ → Ccache → List TicketState → List ℕ
+ccache_lines now v held = cache_text v ++ line_feed ++ credential_lines now v.credentials held ++ cache_end_text (length v.credentials) ++ line_feed
+
+-- The text is the lines of the cache.
+pub record ListsCcache (now : Option ℕ) (v : Ccache) (text : List ℕ) : Type 0 where
+  pub held : List TicketState
+  pub told : AreStatesOf v.credentials held
+  pub is : text ≡ ccache_lines now v held
+
+-- ---- what is added to a text
+
+pub record AddsLine (now : Option ℕ) (c : Credential) (before after : List ℕ) : Type 0 where
+  pub state : TicketState
+  pub told : IsStateOf c state
+  pub added : after ≡ before ++ credential_line now c state
+
+pub record AddsLines (now : Option ℕ) (cs : List Credential) (before after : List ℕ) : Type 0 where
+  pub held : List TicketState
+  pub told : AreStatesOf cs held
+  pub added : after ≡ before ++ credential_lines now cs held
+
+pub record AddsCcache (now : Option ℕ) (v : Ccache) (before after : List ℕ) : Type 0 where
+  pub lines : List ℕ
+  pub listed : ListsCcache now v lines
+  pub added : after ≡ before ++ lines

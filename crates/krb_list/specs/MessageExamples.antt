@@ -1,0 +1,66 @@
+-- Lines of messages, computed: octets in hexadecimal, and what is listed of them. The notes are computed of the same values.
+use Rattle.std.specs.Prelude.{ℕ, ◌≡◌, List, ◌++◌, refl, codes}
+use Rattle.std.specs.Fmt.{digits}
+use Rattle.hex.specs.Hex.{encode_with}
+use Rattle.krb_der.specs.Hex.{hex}
+use Rattle.krb_msg.specs.Reading.{message_read}
+use Rattle.krb_list.specs.Text.{field, principal_text}
+use Rattle.krb_list.specs.Messages.{message_text, kdc_req_text, kdc_rep_text, ap_req_text, ap_rep_text, krb_error_text, code_name, code_suffix, code_text, methods_text}
+
+-- the line of the message that octets are
+abbrev line_of : List ℕ → List ℕ
+line_of octets = message_text (message_read octets)
+
+abbrev ticket : List ℕ
+ticket = hex (codes "612B3029 A003020105 A1031B0141 A20E300CA003020102A10530031B0168 A30D300BA003020112A2040402BEEF")
+
+abbrev sealed : List ℕ
+sealed = hex (codes "300BA003020112A2040402BEEF")
+
+ap_rep : line_of (hex (codes "6F1D301B A003020105 A10302010F A20F300D A003020112 A2060404DEADBEEF")) ≡ codes "AP-REP enc=18:-:4 notes=[]"
+unfolding digits field ap_rep_text
+ap_rep = refl
+
+negative_kvno : line_of (hex (codes "6F223020 A003020105 A10302010F A2143012 A003020112 A1030201FF A2060404DEADBEEF")) ≡ codes "AP-REP enc=18:-1:4 notes=[3]"
+unfolding digits field ap_rep_text
+negative_kvno = refl
+
+ap_req : line_of (hex (codes "6E533051 A003020105 A10302010E A20703050000000000 A32D") ++ ticket ++ hex (codes "A40D") ++ sealed) ≡ codes "AP-REQ server=h@A options=32:00000000 ticket=18:-:2 auth=18:-:2 notes=[]"
+unfolding digits encode_with principal_text field ap_req_text
+ap_req = refl
+
+as_rep : line_of (hex (codes "6B5F305D A003020105 A10302010B A3031B0141 A40E300CA003020101A10530031B0175 A52D") ++ ticket ++ hex (codes "A60D") ++ sealed) ≡ codes "AS-REP client=u@A server=h@A padata=- ticket=18:-:2 enc=18:-:2 notes=[]"
+unfolding digits principal_text field kdc_rep_text
+as_rep = refl
+
+tgs_rep : line_of (hex (codes "6D5F305D A003020105 A10302010D A3031B0141 A40E300CA003020101A10530031B0175 A52D") ++ ticket ++ hex (codes "A60D") ++ sealed) ≡ codes "TGS-REP client=u@A server=h@A padata=- ticket=18:-:2 enc=18:-:2 notes=[]"
+unfolding digits principal_text field kdc_rep_text
+tgs_rep = refl
+
+empty_padata : line_of (hex (codes "6B633061 A003020105 A10302010B A2023000 A3031B0141 A40E300CA003020101A10530031B0175 A52D") ++ ticket ++ hex (codes "A60D") ++ sealed) ≡ codes "AS-REP client=u@A server=h@A padata=[] ticket=18:-:2 enc=18:-:2 notes=[4]"
+unfolding digits principal_text field kdc_rep_text
+empty_padata = refl
+
+high_octet : line_of (hex (codes "6B5F305D A003020105 A10302010B A3031B01E9 A40E300CA003020101A10530031B0175 A52D") ++ ticket ++ hex (codes "A60D") ++ sealed) ≡ codes "AS-REP client=u@\\xe9 server=h@A padata=- ticket=18:-:2 enc=18:-:2 notes=[1]"
+unfolding digits principal_text field kdc_rep_text
+high_octet = refl
+
+as_req : line_of (hex (codes "6A3A3038 A103020105 A20302010A A42C302A A00403020140 A2031B0141 A511180F31393730303130313030303030305A A7030201FF A8053003020112")) ≡ codes "AS-REQ realm=A client=- server=- options=7:40 from=- till=19700101000000Z rtime=- nonce=-1 etypes=[18] padata=- addresses=- authdata=- tickets=- notes=[2,3]"
+unfolding digits encode_with principal_text field kdc_req_text
+as_req = refl
+
+tgs_req : line_of (hex (codes "6C6B3069 A103020105 A20302010C A45D305B A00703050000000000 A2031B0141 A511180F31393730303130313030303030305A A703020101 A8023000 AB2F302D") ++ ticket) ≡ codes "TGS-REQ realm=A client=- server=- options=32:00000000 from=- till=19700101000000Z rtime=- nonce=1 etypes=[] padata=- addresses=- authdata=- tickets=1 notes=[]"
+unfolding digits encode_with principal_text field kdc_req_text
+tgs_req = refl
+
+-- a KRB-ERROR with this data
+abbrev error_with : List ℕ → List ℕ
+error_with data_octets = line_of (hex (codes "7E4F304D A003020105 A10302011E A411180F32303030303130313030303030305A A503020100 A603020119 A9031B0141 AA0E300CA003020102A10530031B0168 AC0F040D") ++ data_octets)
+
+krb_error : error_with (hex (codes "300B3009A103020102A2020400")) ≡ codes "KRB-ERROR code=25:KDC_ERR_PREAUTH_REQUIRED client=- server=h@A ctime=- cusec=- stime=20000101000000Z susec=0 text=- data=13 methods=[2] notes=[]"
+unfolding digits principal_text field krb_error_text code_name code_suffix code_text methods_text
+krb_error = refl
+
+no_method_data : error_with (hex (codes "310B3009A103020102A2020400")) ≡ codes "KRB-ERROR code=25:KDC_ERR_PREAUTH_REQUIRED client=- server=h@A ctime=- cusec=- stime=20000101000000Z susec=0 text=- data=13 methods=- notes=[]"
+unfolding digits principal_text field krb_error_text code_name code_suffix code_text methods_text
+no_method_data = refl

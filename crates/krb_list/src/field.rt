@@ -1,0 +1,130 @@
+//! Fields of lines: a blank, the name of the field, `=`, and what it shows.
+
+ghost use Rattle.std.specs.Prelude.{◌≡◌, ◌++◌, OnOk, string_bytes, codes};
+ghost use Rattle.krb_list.specs.Text.{field, or_dash};
+ghost use Rattle.krb_list.specs.Messages.{in_realm, client_text, count_text, quoted_text};
+
+use crate::escape::put_escaped;
+use crate::piece::Piece;
+use crate::principal::put_principal;
+use krb_der::{KString, Many, Octets};
+use krb_msg::PrincipalName;
+use std::alloc::AllocError;
+
+/// Appends what stands before a field's text.
+fn put_name(line: &mut String, name: &str) -> Result<(), AllocError>
+    ensures { OnOk result (string_bytes line.new ≡ string_bytes line.old ++ codes " " ++ name.now ++ codes "=") }
+{
+    line.push(' ')?;
+    line.push_str(name)?;
+    line.push('=')
+}
+
+/// Appends a field.
+#[tactic(auto, unfolding(crate::specs::Text::field))]
+pub fn put_field<T: Piece>(line: &mut String, name: &str, value: &T) -> Result<(), AllocError>
+    ensures { OnOk result (string_bytes line.new ≡ string_bytes line.old ++ field name.now (T.text value.now)) }
+{
+    put_name(line, name)?;
+    value.put(line)
+}
+
+/// Appends a field that shows a principal.
+#[tactic(auto, unfolding(crate::specs::Text::field))]
+pub(crate) fn put_principal_field(
+    line: &mut String,
+    name: &str,
+    principal: &PrincipalName,
+    realm: &KString,
+) -> Result<(), AllocError>
+    ensures { OnOk result (string_bytes line.new ≡ string_bytes line.old ++ field name.now (in_realm realm.now principal.now)) }
+{
+    put_name(line, name)?;
+    put_principal(line, principal.name.as_slice(), realm)
+}
+
+/// Appends a field that shows a principal of a realm, or `-`.
+#[tactic(auto, unfolding(crate::specs::Text::field))]
+pub(crate) fn put_optional_principal_field(
+    line: &mut String,
+    name: &str,
+    principal: &Option<PrincipalName>,
+    realm: &KString,
+) -> Result<(), AllocError>
+    ensures { OnOk result (string_bytes line.new ≡ string_bytes line.old ++ field name.now (or_dash (in_realm realm.now) principal.now)) }
+{
+    put_name(line, name)?;
+    match principal {
+        None => line.push('-'),
+        Some(principal) => put_principal(line, principal.name.as_slice(), realm),
+    }
+}
+
+/// Appends a field that shows a principal, or `-` unless its name and its realm are both there.
+#[tactic(auto, unfolding(crate::specs::Text::field))]
+pub(crate) fn put_client_field(
+    line: &mut String,
+    name: &str,
+    client: &Option<PrincipalName>,
+    realm: &Option<KString>,
+) -> Result<(), AllocError>
+    ensures { OnOk result (string_bytes line.new ≡ string_bytes line.old ++ field name.now (client_text client.now realm.now)) }
+{
+    put_name(line, name)?;
+    match (client, realm) {
+        (Some(client), Some(realm)) => put_principal(line, client.name.as_slice(), realm),
+        _ => line.push('-'),
+    }
+}
+
+/// Appends a field that shows how many values there are, or `-`.
+#[tactic(auto, unfolding(crate::specs::Text::field))]
+pub(crate) fn put_count_field<T>(
+    line: &mut String,
+    name: &str,
+    values: &Option<Many<T>>,
+) -> Result<(), AllocError>
+    ensures { OnOk result (string_bytes line.new ≡ string_bytes line.old ++ field name.now (or_dash count_text values.now)) }
+{
+    put_name(line, name)?;
+    match values {
+        None => line.push('-'),
+        Some(values) => write!(line, "{}", values.as_slice().len()),
+    }
+}
+
+/// Appends a field that shows how many octets there are, or `-`.
+#[tactic(auto, unfolding(crate::specs::Text::field))]
+pub(crate) fn put_size_field(
+    line: &mut String,
+    name: &str,
+    octets: &Option<Octets>,
+) -> Result<(), AllocError>
+    ensures { OnOk result (string_bytes line.new ≡ string_bytes line.old ++ field name.now (or_dash count_text octets.now)) }
+{
+    put_name(line, name)?;
+    match octets {
+        None => line.push('-'),
+        Some(octets) => write!(line, "{}", octets.as_slice().len()),
+    }
+}
+
+/// Appends a field that shows a string, escaped and between quotes, or `-`.
+#[tactic(auto, unfolding(crate::specs::Text::field))]
+pub(crate) fn put_string_field(
+    line: &mut String,
+    name: &str,
+    string: &Option<KString>,
+) -> Result<(), AllocError>
+    ensures { OnOk result (string_bytes line.new ≡ string_bytes line.old ++ field name.now (or_dash quoted_text string.now)) }
+{
+    put_name(line, name)?;
+    match string {
+        None => line.push('-'),
+        Some(string) => {
+            line.push('"')?;
+            put_escaped(line, string.octets())?;
+            line.push('"')
+        }
+    }
+}

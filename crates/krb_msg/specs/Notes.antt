@@ -1,0 +1,58 @@
+-- What of a message deserves a note. A note holds of a value where it holds of any part of it, Tickets inside included; the octets of an OCTET STRING are no part.
+use Rattle.std.specs.Prelude.{ℕ, ℤ, negsuc, ◌-◌, ◌*◌, Bool, true, false, ◌&&◌, ◌||◌, ◌==◌, nat_lt, List, [], length, Option, Some, None}
+use Rattle.std.specs.List.{list_any}
+use Rattle.krb_msg.specs.Term.{Term, Fields, Integer, Text, Octets, Time, Bits, Sequence, SequenceOf, Tagged, Application, End, Required, Optional, Value, Values}
+use Rattle.krb_msg.specs.Views.{kind_of, kind_term, message_value}
+use Rattle.krb_msg.specs.declared.message.Message.{Message}
+use Rattle.krb_msg.specs.declared.notes.Note.{Note}
+use Rattle.krb_msg.specs.declared.notes.Note.TheVariants as note
+
+-- a string has an octet above 7F
+abbrev pub text_has : Note → List ℕ → Bool
+text_has note.HighOctet octets = list_any (λ octet. nat_lt 0x7F octet) octets
+text_has other octets = false
+
+-- there are fewer than 32 flags
+abbrev pub flags_have : Note → ℕ × List ℕ → Bool
+flags_have note.FewFlags bits = nat_lt (8 * length bits.1 - bits.0) 32
+flags_have other bits = false
+
+-- a number of the node of kvno and nonce is negative
+abbrev pub number_has : Note → ℤ → Bool
+number_has note.Negative (negsuc number) = true
+number_has other number = false
+
+-- a list is empty
+abbrev pub list_has : {A : Type 0} → Note → List A → Bool
+list_has note.EmptyList [] = true
+list_has other values = false
+
+-- the nodes of addresses, additional-tickets and the two padata
+abbrev pub is_of_optional_list : ℕ → Bool
+is_of_optional_list node = node == 64 || node == 65 || node == 109 || node == 110
+
+abbrev pub option_any : {A : Type 0} → (A → Bool) → Option A → Bool
+option_any test None = false
+option_any test (Some value) = test value
+
+abbrev mutual
+  -- whether a note holds of a value
+  pub has : Note → (term : Term) → Value term → Bool
+  has note (Integer node low high) number = node == 1 && number_has note number
+  has note (Text node) octets = text_has note octets
+  has note (Octets node) octets = false
+  has note (Time node) octets = false
+  has note (Bits node) bits = flags_have note bits
+  has note (Sequence node fields) values = any_has note fields values
+  has note (SequenceOf node term) values = is_of_optional_list node && list_has note values || list_any (has note term) values
+  has note (Tagged node index term) value = has note term value
+  has note (Application node number term) value = has note term value
+
+  pub any_has : Note → (fields : Fields) → Values fields → Bool
+  any_has note End values = false
+  any_has note (Required term fields) values = has note term values.0 || any_has note fields values.1
+  any_has note (Optional term fields) values = option_any (has note term) values.0 || any_has note fields values.1
+
+-- whether a note holds of a message
+abbrev pub message_has : Note → Message → Bool
+message_has note m = has note (kind_term (kind_of m)) (message_value m)

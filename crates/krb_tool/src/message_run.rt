@@ -1,0 +1,120 @@
+//! A run over one message, which is given in hexadecimal.
+
+ghost use Rattle.std.specs.Prelude.{◌≡◌, IfErr, IfOk};
+ghost use Rattle.krb_list.specs.Messages.{message_line};
+ghost use Rattle.krb_list.specs.Refusals.{message_refused_line};
+ghost use Rattle.krb_tool.specs.Files.{shown, ListsFile, FailsFile};
+ghost use Rattle.krb_tool.specs.Messages.{is_blank, without_blanks, clean_with, refused_with, octets_listing, IsHexListing};
+
+use crate::file_run::{FileFormat, FileText, run_file};
+use crate::run::{RunEnd, RunFault};
+use hex::FromHexError;
+use krb_der::Refusal;
+use krb_judge::{ParseFault, parse};
+use krb_list::{put_message, put_message_refusal};
+use krb_msg::Message;
+use std::alloc::{AllocError, Global};
+use std::io::{Read, Write};
+
+/// How many octets of text a message is read from at most, blanks included.
+const MOST_TEXT: usize = 16777216;
+
+/// Whether an octet of text is passed over: a space, a tab, CR or LF.
+fn is_blank(octet: u8) -> bool
+    ensures { result ≡ is_blank octet }
+{
+    matches!(octet, b' ' | b'\t' | b'\r' | b'\n')
+}
+
+/// The octets of a text that are no blanks.
+fn without_blanks(alloc: Global, text: &[u8]) -> Result<Vec<u8>, AllocError>
+    ensures { IfOk result (λ digits. digits.items ≡ without_blanks text.now) }
+{
+    let mut digits = Vec::with_capacity(alloc, text.len())?;
+    for octet in text {
+        if !is_blank(*octet) {
+            digits.push(*octet)?;
+        }
+    }
+    Ok(digits)
+}
+
+/// The line that refuses a text.
+fn refused_with(alloc: Global, line: &str) -> Result<FileText, RunFault>
+    ensures listed { IfOk result (λ made. shown made ≡ refused_with line.now) }
+    ensures fault { IfErr result (λ e. e ≡ RunFault.Memory) }
+{
+    let text = String::from_str(alloc, line)?;
+    let end = RunEnd::Refused;
+    Ok(FileText { text, end })
+}
+
+/// The line of a message.
+fn list_message(alloc: Global, message: &Message) -> Result<FileText, RunFault>
+    ensures listed { IfOk result (λ made. shown made ≡ clean_with (message_line message.now)) }
+    ensures fault { IfErr result (λ e. e ≡ RunFault.Memory) }
+{
+    let mut text = String::new(alloc);
+    put_message(&mut text, message)?;
+    let end = RunEnd::Clean;
+    Ok(FileText { text, end })
+}
+
+/// The line of octets that are no message.
+fn list_refusal(alloc: Global, refusal: Refusal) -> Result<FileText, RunFault>
+    ensures listed { IfOk result (λ made. shown made ≡ refused_with (message_refused_line refusal)) }
+    ensures fault { IfErr result (λ e. e ≡ RunFault.Memory) }
+{
+    let mut text = String::new(alloc);
+    put_message_refusal(&mut text, refusal)?;
+    let end = RunEnd::Refused;
+    Ok(FileText { text, end })
+}
+
+/// The line of the message that octets are, or the line of their refusal.
+fn list_octets(alloc: Global, octets: &[u8]) -> Result<FileText, RunFault>
+    ensures listed { IfOk result (λ made. shown made ≡ octets_listing octets.now) }
+    ensures fault { IfErr result (λ e. e ≡ RunFault.Memory) }
+{
+    match parse(alloc, octets) {
+        Ok(message) => list_message(alloc, &message),
+        Err(ParseFault::Refused(refusal)) => list_refusal(alloc, refusal),
+        Err(ParseFault::Memory) => Err(RunFault::Memory),
+    }
+}
+
+/// A message in hexadecimal.
+#[derive(Drop)]
+struct HexFormat;
+
+impl FileFormat for HexFormat {
+    ghost Lists = { λ _ text listing. IsHexListing text listing };
+
+    #[tactic(auto, unfolding(crate::specs::Messages::hex_listing))]
+    fn list(&self, alloc: Global, text: &[u8]) -> Result<FileText, RunFault> {
+        if text.len() > MOST_TEXT {
+            return refused_with(alloc, "refused length\n");
+        }
+        let digits = without_blanks(alloc, text)?;
+        match hex::decode(alloc, digits.as_slice()) {
+            Ok(octets) => list_octets(alloc, octets.as_slice()),
+            Err(FromHexError::OutOfMemory) => Err(RunFault::Memory),
+            Err(_) => refused_with(alloc, "refused hex\n"),
+        }
+    }
+}
+
+/// Lists one message that is given in hexadecimal, of either case and with blanks anywhere: its line,
+/// or the line of its refusal, or `refused hex` of what is no hexadecimal, or `refused length` of
+/// more than 16777216 octets of text. All that the reader holds is read first, by at most 2^40 asks
+/// for 64 KiB each.
+pub fn run_message<R: Read, W: Write>(
+    alloc: Global,
+    reader: &mut R,
+    writer: &mut W,
+) -> Result<RunEnd, RunFault>
+    ensures listed { IfOk result (ListsFile IsHexListing (R.remaining reader.old) (R.remaining reader.new) (W.contents writer.old) (W.contents writer.new)) }
+    ensures fault { IfErr result (FailsFile IsHexListing (R.remaining reader.old) (R.remaining reader.new) (W.contents writer.old) (W.contents writer.new)) }
+{
+    run_file(alloc, reader, writer, &HexFormat)
+}
