@@ -9,9 +9,9 @@ ghost use Rattle.krb_der.specs.Reasons.{reason_number, reason_name};
 pub enum Why {
     /// The high bit of a frame's length is set (RFC 4120, 7.2.2: it is reserved).
     HighBit,
-    /// The frame is longer than the limit.
+    /// The frame is longer than the limit, or a slice is longer than 2147483647 octets.
     TooLong,
-    /// The frame's length, or a slice, is of 0 octets.
+    /// The frame's length is 0, or a slice has no octets.
     Empty,
     /// This octet is no tag that may stand here (X.690, 8.1.2).
     Tag,
