@@ -1,17 +1,22 @@
 -- What parsing a ticket field tells of the credential.
-use Rattle.std.proofs.Common.{◌≡◌, ◌↔◌, ℕ, Option, Some, None, Result, Err, List, [], ◌++◌, refl, sym, ◌∙◌, ap, true≢false}
+use Rattle.std.proofs.Common.{◌≡◌, ◌≢◌, ◌↔◌, ℕ, ◌^◌, ◌<◌, false, Option, Some, None, Result, Err, List, [], ◌∷◌, length, refl, sym, ◌∙◌, ap, subst, arith}
 use Rattle.std.specs.Prelude.{IsErrOf}
+use Rattle.krb_der.specs.Octets.{when}
 use Rattle.krb_der.specs.declared.verdict.Refusal.{Refusal}
+use Rattle.krb_msg.specs.Grammar.{ticket}
+use Rattle.krb_msg.specs.Reading.{value_read}
+use Rattle.krb_msg.specs.Views.{ticket_of, ticket_value}
 use Rattle.krb_msg.specs.declared.ticket.Ticket.{Ticket}
+use Rattle.krb_msg.proofs.Read.{value_is_read}
 use Rattle.krb_judge.specs.declared.parsing.ParseFault.{ParseFault}
 use Rattle.krb_judge.specs.declared.parsing.ParseFault.TheVariants as faults
 use Rattle.krb_judge.specs.Parses.{ticket_refusal, AreOfTicket}
 use Rattle.krb_judge.proofs.Values.{ticket_not_refused}
-use Rattle.krb_msg.specs.Told.{ticket_told}
 use Rattle.krb_ccache.specs.declared.value.Credential.{Credential}
 use Rattle.krb_ccache.specs.declared.ticket.TicketState.{TicketState}
 use Rattle.krb_ccache.specs.declared.ticket.TicketState.TheVariants as states
-use Rattle.krb_ccache.specs.Tickets.{IsStateOf}
+use Rattle.krb_ccache.specs.Spelling.{is_config}
+use Rattle.krb_ccache.specs.Tickets.{ticket_read, judged_state, field_state, state_of, IsTicket}
 
 -- the clause `refused` of `parse_ticket`
 abbrev Refuses : List ℕ → Result Ticket ParseFault → Type 0
@@ -27,30 +32,31 @@ whole-by octets refuses = go (ticket_refusal octets) refl
     go None e = e
     go (Some r) e = let no : ◌≡◌ {A = Result Ticket ParseFault} (Err faults.Memory) (Err (faults.Refused r)) = (refuses r).1 e in absurd cc
 
--- ---- a credential has one state
-one_refusal : (r q : Refusal) (found : Option Refusal) → found ≡ Some r → found ≡ Some q → r ≡ q
-one_refusal r q found e f = cc
+-- ---- a Ticket is read of its DER
+small : (octets form : List ℕ) → form ≡ octets → length octets < 2 ^ 31 → length form < 2 ^ 32
+small octets form e short = omega (arith, ap length e)
 
-not_both : (r : Refusal) (found : Option Refusal) → found ≡ Some r → found ≡ None → ⊥
-not_both r found e f = cc
+ticket_is_read : (octets : List ℕ) (t : Ticket) → AreOfTicket octets t → ticket_read octets ≡ t
+ticket_is_read octets t are = ap (λ (o : List ℕ). ticket_of (value_read ticket o)) (sym are.form) ∙ ap ticket_of (value_is_read ticket (ticket_value t) refl (small octets _ are.form are.short))
 
-one_ticket : (octets : List ℕ) (t u : Ticket) → AreOfTicket octets t → AreOfTicket octets u → t ≡ u
-one_ticket octets t u p q = (ticket_told t u [] [] (ap (λ (l : List ℕ). l ++ []) (p.form ∙ sym q.form))).0
+-- ---- the state, where there is no configuration entry and the field is not empty
+judged-some : (octets : List ℕ) → octets ≢ [] → field_state octets ≡ judged_state (ticket_refusal octets) octets
+judged-some [] some = absurd (some refl)
+judged-some (octet ∷ octets) some = refl
 
-pub one_state : (c : Credential) (state other : TicketState) → IsStateOf c state → IsStateOf c other → state ≡ other
-one_state c states.Config states.Config p q = refl
-one_state c states.Config states.Absent p q = absurd (true≢false (sym p ∙ q.0))
-one_state c states.Config (states.Ticket t) p q = absurd (true≢false (sym p ∙ q.0.no_config))
-one_state c states.Config (states.Refused r) p q = absurd (true≢false (sym p ∙ q.0.no_config))
-one_state c states.Absent states.Config p q = absurd (true≢false (sym q ∙ p.0))
-one_state c states.Absent states.Absent p q = refl
-one_state c states.Absent (states.Ticket t) p q = absurd (q.0.some p.1)
-one_state c states.Absent (states.Refused r) p q = absurd (q.0.some p.1)
-one_state c (states.Ticket t) states.Config p q = absurd (true≢false (sym q ∙ p.0.no_config))
-one_state c (states.Ticket t) states.Absent p q = absurd (p.0.some q.1)
-one_state c (states.Ticket t) (states.Ticket u) p q = ap (λ (x : Ticket). states.Ticket x) (one_ticket c.ticket t u p.1 q.1)
-one_state c (states.Ticket t) (states.Refused r) p q = absurd (not_both r (ticket_refusal c.ticket) q.1 (ticket_not_refused t p.1))
-one_state c (states.Refused r) states.Config p q = absurd (true≢false (sym q ∙ p.0.no_config))
-one_state c (states.Refused r) states.Absent p q = absurd (p.0.some q.1)
-one_state c (states.Refused r) (states.Ticket t) p q = absurd (not_both r (ticket_refusal c.ticket) p.1 (ticket_not_refused t q.1))
-one_state c (states.Refused r) (states.Refused q) p h = ap (λ (x : Refusal). states.Refused x) (one_refusal r q (ticket_refusal c.ticket) p.1 h.1)
+pub state-judged : (c : Credential) (found : Option Refusal) → is_config c ≡ false → c.ticket ≢ [] → ticket_refusal c.ticket ≡ found → state_of c ≡ judged_state found c.ticket
+unfolding state_of
+state-judged c found no_config some e =
+    ap (λ is. when is (λ _. states.Config) (λ _. field_state c.ticket)) no_config
+    ∙ judged-some c.ticket some
+    ∙ ap (λ f. judged_state f c.ticket) e
+
+pub state-ticket : (c : Credential) (t : Ticket) → is_config c ≡ false → c.ticket ≢ [] → AreOfTicket c.ticket t → states.Ticket t ≡ state_of c
+state-ticket c t no_config some are =
+    sym (state-judged c None no_config some (ticket_not_refused t are) ∙ ap (λ u. states.Ticket u) (ticket_is_read c.ticket t are))
+
+pub state-refused : (c : Credential) (r : Refusal) → is_config c ≡ false → c.ticket ≢ [] → ticket_refusal c.ticket ≡ Some r → states.Refused r ≡ state_of c
+state-refused c r no_config some e = sym (state-judged c (Some r) no_config some e)
+
+pub state-whole : (c : Credential) → is_config c ≡ false → c.ticket ≢ [] → ticket_refusal c.ticket ≡ None → IsTicket (state_of c)
+state-whole c no_config some e = subst IsTicket (sym (state-judged c None no_config some e)) tt

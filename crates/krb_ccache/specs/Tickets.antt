@@ -1,24 +1,44 @@
 -- What stands in the ticket field of a credential.
-use Rattle.std.specs.Prelude.{◌≡◌, ◌≢◌, true, false, Some, None, []}
+use Rattle.std.specs.Prelude.{ℕ, List, [], ◌∷◌, Option, Some, None}
+use Rattle.krb_der.specs.Octets.{when}
+use Rattle.krb_der.specs.declared.verdict.Refusal.{Refusal}
+use Rattle.krb_msg.specs.Grammar.{ticket}
+use Rattle.krb_msg.specs.Reading.{value_read}
+use Rattle.krb_msg.specs.Views.{ticket_of}
+use Rattle.krb_msg.specs.declared.ticket.Ticket.{Ticket}
 use Rattle.krb_judge.specs.Parses.{ticket_refusal, AreOfTicket}
 use Rattle.krb_ccache.specs.declared.value.Credential.{Credential}
 use Rattle.krb_ccache.specs.declared.ticket.TicketState.{TicketState}
 use Rattle.krb_ccache.specs.declared.ticket.TicketState.TheVariants as states
 use Rattle.krb_ccache.specs.Spelling.{is_config}
 
--- no configuration entry, and not empty
-pub record HasTicket (c : Credential) : Type 0 where
-  pub no_config : is_config c ≡ false
-  pub some : c.ticket ≢ []
+-- the Ticket whose DER octets are
+abbrev pub ticket_read : List ℕ → Ticket
+ticket_read octets = ticket_of (value_read ticket octets)
+
+-- octets that are not refused as a Ticket are one
+abbrev pub judged_state : Option Refusal → List ℕ → TicketState
+judged_state None octets = states.Ticket (ticket_read octets)
+judged_state (Some refusal) octets = states.Refused refusal
+
+abbrev pub field_state : List ℕ → TicketState
+field_state [] = states.Absent
+field_state (octet ∷ octets) = judged_state (ticket_refusal (octet ∷ octets)) (octet ∷ octets)
 
 -- A configuration entry is told first, then an empty field, and then whether the octets are a Ticket.
-abbrev pub IsStateOf : Credential → TicketState → Type 0
-IsStateOf c states.Config = is_config c ≡ true
-IsStateOf c states.Absent = (is_config c ≡ false) × (c.ticket ≡ [])
-IsStateOf c (states.Ticket ticket) = HasTicket c × AreOfTicket c.ticket ticket
-IsStateOf c (states.Refused refusal) = HasTicket c × (ticket_refusal c.ticket ≡ Some refusal)
+unfoldable pub state_of : Credential → TicketState
+state_of c = when (is_config c) (λ _. states.Config) (λ _. field_state c.ticket)
 
--- where memory is asked for
-pub record CanBeTicket (c : Credential) : Type 0 where
-  pub has : HasTicket c
-  pub whole : ticket_refusal c.ticket ≡ None
+-- a Ticket is told only of its DER
+abbrev pub IsOfDer : List ℕ → TicketState → Type 0
+IsOfDer octets states.Absent = Unit {0}
+IsOfDer octets states.Config = Unit {0}
+IsOfDer octets (states.Ticket t) = AreOfTicket octets t
+IsOfDer octets (states.Refused refusal) = Unit {0}
+
+-- memory is taken for a Ticket alone
+abbrev pub IsTicket : TicketState → Type 0
+IsTicket states.Absent = ⊥
+IsTicket states.Config = ⊥
+IsTicket (states.Ticket t) = Unit {0}
+IsTicket (states.Refused refusal) = ⊥

@@ -1,12 +1,7 @@
-//! Laws of caches, their octets and their tickets. Each is the contract of a function that does nothing.
-ghost use Rattle.krb_ccache.specs.Laws.{OneState, SpellsOne};
+//! Laws of caches and their octets. Each is the contract of a function that does nothing.
+ghost use Rattle.krb_ccache.specs.Laws.{SpellsOne};
 
 /// The octets settle the cache.
 pub fn spells_one()
     ensures { SpellsOne }
-{}
-
-/// The ticket field of a credential holds one thing.
-pub fn one_state()
-    ensures { OneState }
 {}

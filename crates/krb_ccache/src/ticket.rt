@@ -1,8 +1,7 @@
 //! The ticket of a credential.
 
 ghost use Rattle.std.specs.Prelude.{◌≡◌, IfOk, IfErr};
-ghost use Rattle.krb_ccache.specs.declared.ticket.TicketState.{TicketState as State};
-ghost use Rattle.krb_ccache.specs.Tickets.{CanBeTicket, IsStateOf};
+ghost use Rattle.krb_ccache.specs.Tickets.{IsOfDer, IsTicket, state_of};
 
 use crate::value::Credential;
 use krb_der::{Memory, Refusal};
@@ -25,11 +24,12 @@ pub enum TicketState {
 }
 
 /// What stands in the ticket field of a credential. A configuration entry is told first, and an
-/// empty field then. Memory is asked for only where there is a Ticket.
+/// empty field then. Memory is taken for a Ticket alone.
+#[tactic(auto, unfolding(crate::specs::Tickets::state_of))]
 pub fn ticket_of(alloc: Global, credential: &Credential) -> Result<TicketState, Memory>
-    ensures state { IfOk result (IsStateOf credential.now) }
-    ensures only { (state : State) → IsStateOf credential.now state → IfOk result (λ those. those ≡ state) }
-    ensures memory { IfErr result (λ _. CanBeTicket credential.now) }
+    ensures state { IfOk result (λ state. state ≡ state_of credential.now) }
+    ensures der { IfOk result (IsOfDer credential.now.ticket) }
+    ensures memory { IfErr result (λ _. IsTicket (state_of credential.now)) }
 {
     if credential.is_config() {
         return Ok(TicketState::Config);
