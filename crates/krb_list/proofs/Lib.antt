@@ -4,4 +4,4 @@ pub mod Methods
 pub mod Dates
 pub mod Escapes
 pub mod Masks
-pub mod CcacheLines
+pub mod CcacheMasks

@@ -1,5 +1,6 @@
 -- The lines of a credential cache. Each ends with a line feed.
-use Rattle.std.specs.Prelude.{ℕ, ℤ, ◌≡◌, nat_lt, Option, Some, None, List, [], ◌∷◌, ◌++◌, length, codes, if◌then◌else◌}
+use Rattle.std.specs.Prelude.{ℕ, ℤ, nat_lt, Option, Some, None, List, ◌++◌, length, codes, if◌then◌else◌}
+use Rattle.std.specs.List.{flat_map}
 use Rattle.std.specs.Fmt.{decimal, signed_decimal}
 use Rattle.krb_der.specs.Reasons.{reason_number}
 use Rattle.krb_der.specs.declared.verdict.Refusal.{Refusal}
@@ -10,7 +11,7 @@ use Rattle.krb_ccache.specs.declared.value.FilePrincipal.{FilePrincipal}
 use Rattle.krb_ccache.specs.declared.ticket.TicketState.{TicketState}
 use Rattle.krb_ccache.specs.declared.ticket.TicketState.TheVariants as states
 use Rattle.krb_ccache.specs.Spelling.{offset}
-use Rattle.krb_ccache.specs.Tickets.{IsStateOf}
+use Rattle.krb_ccache.specs.Tickets.{state_of}
 use Rattle.krb_list.specs.Text.{line_feed, field, or_dash, principal_text, sealed_text}
 use Rattle.krb_list.specs.Time.{time_text}
 use Rattle.krb_list.specs.TicketFlags.{ticket_flags_text}
@@ -87,51 +88,22 @@ abbrev pub ticket_server_text : Ticket → List ℕ
 ticket_server_text t = principal_text t.sname.name t.realm
 
 -- by what the ticket field holds
-abbrev pub credential_line : Option ℕ → Credential → TicketState → List ℕ
-credential_line now c states.Config = config_text c
-credential_line now c states.Absent = credential_text now c (codes "absent") (codes "-")
-credential_line now c (states.Ticket t) = credential_text now c (sealed_text t.enc_part) (ticket_server_text t)
-credential_line now c (states.Refused r) = credential_text now c (refused_ticket_text r) (codes "-")
+abbrev pub state_line : Option ℕ → Credential → TicketState → List ℕ
+state_line now c states.Config = config_text c
+state_line now c states.Absent = credential_text now c (codes "absent") (codes "-")
+state_line now c (states.Ticket t) = credential_text now c (sealed_text t.enc_part) (ticket_server_text t)
+state_line now c (states.Refused r) = credential_text now c (refused_ticket_text r) (codes "-")
+
+unfoldable pub credential_line : Option ℕ → Credential → List ℕ
+credential_line now c = state_line now c (state_of c)
 
 -- ---- the lines in order
-
-abbrev pub credential_lines : Option ℕ → List Credential → List TicketState → List ℕ
-credential_lines now [] held = []
-credential_lines now (c ∷ cs) [] = []
-credential_lines now (c ∷ cs) (state ∷ held) = credential_line now c state ++ line_feed ++ credential_lines now cs held
-
--- what the ticket field of each holds, in order
-abbrev pub AreStatesOf : List Credential → List TicketState → Type 0
-AreStatesOf [] [] = Unit {0}
-AreStatesOf [] (state ∷ held) = ⊥
-AreStatesOf (c ∷ cs) [] = ⊥
-AreStatesOf (c ∷ cs) (state ∷ held) = IsStateOf c state × AreStatesOf cs held
 
 unfoldable pub cache_end_text : ℕ → List ℕ
 cache_end_text count = codes "end" ++ field (codes "credentials") (decimal count)
 
-abbrev pub ccache_lines : Option ℕ → Ccache → List TicketState → List ℕ
-ccache_lines now v held = cache_text v ++ line_feed ++ credential_lines now v.credentials held ++ cache_end_text (length v.credentials) ++ line_feed
+abbrev pub credential_lines : Option ℕ → List Credential → List ℕ
+credential_lines now cs = flat_map (λ c. credential_line now c ++ line_feed) cs
 
--- The text is the lines of the cache.
-pub record ListsCcache (now : Option ℕ) (v : Ccache) (text : List ℕ) : Type 0 where
-  pub held : List TicketState
-  pub told : AreStatesOf v.credentials held
-  pub is : text ≡ ccache_lines now v held
-
--- ---- what is added to a text
-
-pub record AddsLine (now : Option ℕ) (c : Credential) (before after : List ℕ) : Type 0 where
-  pub state : TicketState
-  pub told : IsStateOf c state
-  pub added : after ≡ before ++ credential_line now c state
-
-pub record AddsLines (now : Option ℕ) (cs : List Credential) (before after : List ℕ) : Type 0 where
-  pub held : List TicketState
-  pub told : AreStatesOf cs held
-  pub added : after ≡ before ++ credential_lines now cs held
-
-pub record AddsCcache (now : Option ℕ) (v : Ccache) (before after : List ℕ) : Type 0 where
-  pub lines : List ℕ
-  pub listed : ListsCcache now v lines
-  pub added : after ≡ before ++ lines
+unfoldable pub ccache_lines : Option ℕ → Ccache → List ℕ
+ccache_lines now v = cache_text v ++ line_feed ++ credential_lines now v.credentials ++ cache_end_text (length v.credentials) ++ line_feed

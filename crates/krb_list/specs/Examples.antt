@@ -7,10 +7,9 @@ use Rattle.krb_keytab.specs.declared.value.Record.TheVariants as records
 use Rattle.krb_keytab.specs.declared.value.Stop.TheVariants as stops
 use Rattle.krb_list.specs.Keytabs.{name_text, version_text, sizes_text, entry_text, hole_text, stop_text, keytab_end_text, keytab_lines}
 use Rattle.krb_list.specs.Refusals.{fault_text, file_refused_line}
-use Rattle.krb_der.specs.declared.why.Why.TheVariants as reasons
 use Rattle.krb_ccache.specs.declared.value.Credential.{Credential}
 use Rattle.krb_ccache.specs.declared.value.FilePrincipal.{FilePrincipal}
-use Rattle.krb_ccache.specs.declared.ticket.TicketState.TheVariants as states
+use Rattle.krb_ccache.specs.Tickets.{state_of}
 use Rattle.krb_list.specs.Ccaches.{cache_text, who_text, key_text, times_text, state_text, flags_text, counts_text, tickets_text, credential_front, credential_text, config_text, refused_ticket_text, credential_line, cache_end_text}
 use Rattle.krb_list.specs.TicketFlags.{ticket_flags_text, first_names, last_names, name_if_set, eight_hex}
 use Rattle.krb_list.specs.Text.{principal_text, field}
@@ -138,8 +137,8 @@ config_line : config_text config ≡ codes "config client=u@A server=krb5_ccache
 unfolding config_text who_text field principal_text digits
 config_line = refl
 
-refused_line : credential_line None no_ticket (states.Refused (record { place = 1; why = reasons.Indefinite })) ≡ codes "cred client=u@A server=h@A enctype=18 key=2 auth=2000-01-01T00:00:00Z start=2000-01-01T00:00:00Z end=2000-01-01T01:00:00Z renew=- skey=0 flags=forwardable,renewable,initial,pre-authent+00010000 state=- addresses=0 authdata=0 ticket=refused:1:6 tserver=- second=0"
-unfolding credential_text credential_front who_text key_text times_text flags_text counts_text tickets_text refused_ticket_text field principal_text ticket_flags_text first_names last_names name_if_set eight_hex civil_date date_from date_in_year two_digits date_text clock_text digits
+refused_line : credential_line None no_ticket ≡ codes "cred client=u@A server=h@A enctype=18 key=2 auth=2000-01-01T00:00:00Z start=2000-01-01T00:00:00Z end=2000-01-01T01:00:00Z renew=- skey=0 flags=forwardable,renewable,initial,pre-authent+00010000 state=- addresses=0 authdata=0 ticket=refused:1:6 tserver=- second=0"
+unfolding credential_line state_of credential_text credential_front who_text key_text times_text flags_text counts_text tickets_text refused_ticket_text field principal_text ticket_flags_text first_names last_names name_if_set eight_hex civil_date date_from date_in_year two_digits date_text clock_text digits
 refused_line = refl
 
 still_live : state_text (Some 946688399) 946688400 ≡ codes "live"

@@ -3,7 +3,7 @@
 ghost use Rattle.std.specs.Prelude.{◌≡◌, ◌++◌, IfOk, OnOk, string_bytes};
 ghost use Rattle.std.specs.Fmt.{decimal};
 ghost use Rattle.krb_list.specs.Time.{time_text};
-ghost use Rattle.krb_list.specs.Ccaches.{file_principal_text, offset_text, cache_text, who_text, key_text, times_text, state_text, flags_text, counts_text, tickets_text, credential_front, credential_text, config_text, refused_ticket_text, ticket_server_text, cache_end_text, AddsLine, AddsLines, AddsCcache, ListsCcache};
+ghost use Rattle.krb_list.specs.Ccaches.{file_principal_text, offset_text, cache_text, who_text, key_text, times_text, state_text, flags_text, counts_text, tickets_text, credential_front, credential_text, config_text, refused_ticket_text, ticket_server_text, credential_line, credential_lines, cache_end_text, ccache_lines};
 
 use crate::field::put_field;
 use crate::piece::{Name, Piece};
@@ -181,13 +181,14 @@ impl Piece for Ticket {
 }
 
 /// Appends the line of a credential, without its line feed. Its ticket is parsed for that.
+#[tactic(auto, unfolding(crate::specs::Ccaches::credential_line))]
 fn put_line(
     alloc: Global,
     line: &mut String,
     now: Option<u32>,
     credential: &Credential,
 ) -> Result<(), Memory>
-    ensures { OnOk result (AddsLine now credential.now (string_bytes line.old) (string_bytes line.new)) }
+    ensures { OnOk result (string_bytes line.new ≡ string_bytes line.old ++ credential_line now credential.now) }
 {
     match ticket_of(alloc, credential)? {
         TicketState::Config => put_config(line, credential)?,
@@ -210,7 +211,7 @@ fn put_lines(
     now: Option<u32>,
     credentials: &[Credential],
 ) -> Result<(), Memory>
-    ensures { OnOk result (AddsLines now credentials.now (string_bytes lines.old) (string_bytes lines.new)) }
+    ensures { OnOk result (string_bytes lines.new ≡ string_bytes lines.old ++ credential_lines now credentials.now) }
 {
     for credential in credentials {
         put_line(alloc, lines, now, credential)?;
@@ -228,13 +229,14 @@ fn put_cache_end(line: &mut String, count: usize) -> Result<(), AllocError>
 }
 
 /// Appends the lines of a cache, which are [`ccache_lines`]'s.
+#[tactic(auto, unfolding(crate::specs::Ccaches::ccache_lines))]
 pub fn put_ccache(
     alloc: Global,
     lines: &mut String,
     ccache: &Ccache,
     now: Option<u32>,
 ) -> Result<(), Memory>
-    ensures { OnOk result (AddsCcache now ccache.now (string_bytes lines.old) (string_bytes lines.new)) }
+    ensures { OnOk result (string_bytes lines.new ≡ string_bytes lines.old ++ ccache_lines now ccache.now) }
 {
     let credentials = ccache.credentials.as_slice();
     put_cache(lines, ccache)?;
@@ -250,7 +252,7 @@ pub fn put_ccache(
 /// it ends later, and else `expired`. The lines show no octet of a key, which is a law:
 /// [`session_keys_are_not_shown`](crate::session_keys_are_not_shown).
 pub fn ccache_lines(alloc: Global, ccache: &Ccache, now: Option<u32>) -> Result<String, Memory>
-    ensures { IfOk result (λ text. ListsCcache now ccache.now (string_bytes text)) }
+    ensures { IfOk result (λ text. string_bytes text ≡ ccache_lines now ccache.now) }
 {
     let mut text = String::new(alloc);
     put_ccache(alloc, &mut text, ccache, now)?;

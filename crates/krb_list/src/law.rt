@@ -1,5 +1,5 @@
 //! Laws of the texts. Each is the contract of a function that does nothing.
-ghost use Rattle.krb_list.specs.Laws.{DatesAreTheCalendars, EscapeIsGraphic, KeysAreNotShown, OneListing, PrincipalTextTells, SessionKeysAreNotShown};
+ghost use Rattle.krb_list.specs.Laws.{DatesAreTheCalendars, EscapeIsGraphic, KeysAreNotShown, PrincipalTextTells, SessionKeysAreNotShown};
 
 /// Different components or realms have different texts.
 pub fn principal_text_tells()
@@ -19,11 +19,6 @@ pub fn dates_are_the_calendars()
 /// The lines of a keytab and of the same with every octet of each key 00 are equal.
 pub fn keys_are_not_shown()
     ensures { KeysAreNotShown }
-{}
-
-/// A cache has one listing.
-pub fn one_listing()
-    ensures { OneListing }
 {}
 
 /// The lines of a cache and of the same with every octet of each key 00 are equal.

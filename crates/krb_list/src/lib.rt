@@ -22,8 +22,8 @@ pub use escape::put_escaped;
 pub use field::put_field;
 pub use keytab::{keytab_lines, put_keytab};
 pub use law::{
-    dates_are_the_calendars, escape_is_graphic, keys_are_not_shown, one_listing,
-    principal_text_tells, session_keys_are_not_shown,
+    dates_are_the_calendars, escape_is_graphic, keys_are_not_shown, principal_text_tells,
+    session_keys_are_not_shown,
 };
 pub use message::{message_line, put_message};
 pub use notes::{Notes, notes_of};
