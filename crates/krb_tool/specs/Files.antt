@@ -7,7 +7,7 @@ use Rattle.krb_keytab.specs.Reading.{read}
 use Rattle.krb_ccache.specs.declared.value.Ccache.{Ccache}
 use Rattle.krb_ccache.specs.Reading.{read as read_ccache}
 use Rattle.krb_list.specs.Keytabs.{keytab_lines}
-use Rattle.krb_list.specs.Ccaches.{ListsCcache}
+use Rattle.krb_list.specs.Ccaches.{ccache_lines}
 use Rattle.krb_list.specs.Refusals.{file_refused_line}
 use Rattle.krb_tool.specs.declared.run.RunEnd.{RunEnd}
 use Rattle.krb_tool.specs.declared.run.RunEnd.TheVariants as run
@@ -46,13 +46,16 @@ keytab_listing file = keytab_outcome (read file)
 abbrev pub IsKeytabListing : List ℕ → FileListing → Type 0
 IsKeytabListing file listing = listing ≡ keytab_listing file
 
--- the lines of a cache, or the one line of a refusal
-abbrev pub IsCcacheOutcome : Option ℕ → Result Ccache Fault → FileListing → Type 0
-IsCcacheOutcome now (Ok found) listing = ListsCcache now found listing.text × (listing.end ≡ run.Clean)
-IsCcacheOutcome now (Err refusal) listing = listing ≡ refused_listing refusal
+-- the lines of a cache and of its end, or the one line of a refusal
+abbrev pub ccache_outcome : Option ℕ → Result Ccache Fault → FileListing
+ccache_outcome now (Ok found) = record { text = ccache_lines now found; end = run.Clean }
+ccache_outcome now (Err refusal) = refused_listing refusal
 
-unfoldable pub IsCcacheListing : Option ℕ → List ℕ → FileListing → Type 0
-IsCcacheListing now file listing = IsCcacheOutcome now (read_ccache file) listing
+unfoldable pub ccache_listing : Option ℕ → List ℕ → FileListing
+ccache_listing now file = ccache_outcome now (read_ccache file)
+
+abbrev pub IsCcacheListing : Option ℕ → List ℕ → FileListing → Type 0
+IsCcacheListing now file listing = listing ≡ ccache_listing now file
 
 -- ---- what a run does
 

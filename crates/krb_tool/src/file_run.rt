@@ -88,7 +88,7 @@ struct CcacheFormat {
 impl FileFormat for CcacheFormat {
     ghost Lists = { λ format. IsCcacheListing format.now };
 
-    #[tactic(auto, unfolding(crate::specs::Files::IsCcacheListing))]
+    #[tactic(auto, unfolding(crate::specs::Files::ccache_listing))]
     fn list(&self, alloc: Global, file: &[u8]) -> Result<FileText, RunFault> {
         match krb_ccache::read(alloc, file) {
             Ok(ccache) => {
