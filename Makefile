@@ -7,9 +7,9 @@ run: build
 
 # Proves all that the program stands on, compiles it, and leaves it at bin/krbls.
 build:
-	cd crates/krb_tool && rt run -- stream < /dev/null > /dev/null
+	cd crates/krbls && rt run -- stream < /dev/null > /dev/null
 	mkdir -p bin
-	cp crates/krb_tool/out/krb_tool bin/krbls
+	cp crates/krbls/out/krbls bin/krbls
 
 # All that is tested: the merge gate, and the built program on tests/.
 test:

@@ -8,21 +8,17 @@
 //! a write or memory failed.
 #![tactic(auto)]
 
-mod file_run;
-mod listing;
-mod message_run;
-mod run;
-mod transfer;
-mod words;
+ghost use Rattle.std.specs.Prelude.{◌≡◌};
+ghost use Rattle.std.specs.Process.{exit_status};
+ghost use Rattle.krb_tool.specs.Listing.{status_of};
 
-pub use file_run::{run_ccache, run_keytab};
-pub use krb_frame::Limit;
-pub use message_run::run_message;
-pub use run::{RunEnd, RunFault, run_stream, status};
+use krb_tool::{
+    Job, Order, RunEnd, RunFault, WordsFault, read_words, run_ccache, run_keytab, run_message,
+    run_stream, status,
+};
 use std::io::Read;
 use std::process::ExitCode;
 use std::{env, fs, io};
-pub use words::{Job, Order, WordsFault, read_words};
 
 /// The status of a wrong command line.
 const WRONG_COMMAND_LINE: u8 = 2;
@@ -76,18 +72,19 @@ fn help(rt: &HostRuntime, text: &str) -> ExitCode {
     }
 }
 
-fn wrong(rt: &HostRuntime) -> ExitCode {
+fn wrong(rt: &HostRuntime) -> ExitCode
+    ensures { exit_status result ≡ 2 }
+{
     let _ = eprintln!(rt; "krbls: command line");
     ExitCode::from(WRONG_COMMAND_LINE)
 }
 
 /// The status of an outcome. Of a fault, the standard error gets a line.
-fn report(rt: &HostRuntime, outcome: &Result<RunEnd, RunFault>) -> ExitCode {
+fn report(rt: &HostRuntime, outcome: &Result<RunEnd, RunFault>) -> ExitCode
+    ensures { exit_status result ≡ status_of outcome.now }
+{
     if let Err(fault) = outcome {
         let _ = eprintln!(rt; "krbls: {fault}");
     }
     ExitCode::from(status(outcome))
 }
-
-#[cfg(test)]
-mod tests;
