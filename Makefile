@@ -1,15 +1,35 @@
 # krbls: build, run, test and measure. Needs the Rattle toolchain's `rt`; `make test` and `make bench` also need python3.
-.PHONY: run build test fuzz bench clean
+.PHONY: run build gate test fuzz bench clean
+
+# The crates of crates.txt, and those of them that one uses.
+CRATES := $(shell sed -n 's/^\([a-z_0-9]*\):.*/\1/p' crates.txt)
+uses = $(filter $(CRATES),$(shell sed -n 's/^$(1):\(.*\)/\1/p' crates.txt))
 
 # Lists a real stream.
 run: build
 	bin/krbls stream < examples/ap-rep.stream
 
-# Proves all that the program stands on, compiles it, and leaves it at bin/krbls.
+# Proves all that the program stands on, compiles it, and leaves it at bin/krbls. Crates that do not use each other are
+# proved side by side.
 build:
+	+$(MAKE) --no-print-directory -j $$(nproc) $(addprefix library-,$(call uses,krbls))
 	cd crates/krbls && rt run -- stream < /dev/null > /dev/null
 	mkdir -p bin
 	cp crates/krbls/out/krbls bin/krbls
+
+# A library, after those that it uses.
+define LIBRARY
+.PHONY: library-$(1)
+library-$(1): $(addprefix library-,$(call uses,$(1)))
+	cd crates/$(1) && rt lib
+endef
+$(foreach crate,$(CRATES),$(eval $(call LIBRARY,$(crate))))
+
+# The merge gate alone, and the processor minutes of each of its parts.
+gate:
+	mkdir -p bin
+	tests/minutes bin/minutes rt ci
+	cat bin/minutes
 
 # All that is tested: the merge gate, and the built program on tests/.
 test:
