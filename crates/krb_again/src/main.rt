@@ -66,7 +66,7 @@ fn encoded(alloc: Global, message: &Message, octets: &[u8], work: Work) -> Found
     }
 }
 
-/// The contents of the first frame, and what stands behind it; `None` where there is no whole one.
+/// The contents of the first frame, and what stands after it; `None` where there is no whole one.
 fn first_frame(octets: &[u8]) -> Option<(&[u8], &[u8])> {
     let (length, rest) = octets.split_first_chunk::<4>()?;
     let size = u32::from_be_bytes(*length) as usize;

@@ -129,7 +129,7 @@ impl Part for i32 {
     }
 }
 
-/// Octets behind their number of 32 bits.
+/// Octets after their number of 32 bits.
 #[derive(Drop)]
 pub(crate) struct Data<'a>(pub(crate) &'a [u8]);
 
@@ -187,7 +187,7 @@ impl Part for KString {
     }
 }
 
-/// Octets behind their number of 16 bits.
+/// Octets after their number of 16 bits.
 #[derive(Drop)]
 pub(crate) struct Short<'a>(pub(crate) &'a [u8]);
 
@@ -209,7 +209,7 @@ impl<'a> Part for Short<'a> {
     }
 }
 
-/// A part that is lent.
+/// A part that is borrowed.
 impl<'a, P: Part> Part for &'a P {
     ghost octets = { λ part. P.octets part.now };
 
@@ -226,7 +226,7 @@ impl<'a, P: Part> Part for &'a P {
     }
 }
 
-/// A part, and another behind it.
+/// A part, and another after it.
 #[derive(Drop)]
 pub(crate) struct Then<A, B>(pub(crate) A, pub(crate) B);
 
@@ -293,7 +293,7 @@ impl<'a, P: Part> Part for Each<'a, P> {
     }
 }
 
-/// Items behind their number of 32 bits.
+/// Items after their number of 32 bits.
 #[derive(Drop)]
 pub(crate) struct Listed<'a, P>(pub(crate) &'a [P]);
 
@@ -313,7 +313,7 @@ impl<'a, P: Part> Part for Listed<'a, P> {
     }
 }
 
-/// A part behind the number, of 16 bits, of its octets.
+/// A part after the number, of 16 bits, of its octets.
 #[derive(Drop)]
 pub(crate) struct Measured<P>(pub(crate) P);
 

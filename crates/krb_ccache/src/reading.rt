@@ -11,7 +11,7 @@ use crate::value::{Ccache, Credential, FilePrincipal, Header, HeaderField, Typed
 use krb_der::{FileFault, KString, Many, Octets, Source};
 use std::alloc::Global;
 
-/// Octets behind their number, copied once.
+/// Octets after their number, copied once.
 fn data<'a>(alloc: Global, source: Source<'a>) -> Result<(Octets, Source<'a>), FileFault>
     ensures { Gives (λ taken. taken) result (counted_at w32 (limited None) source.entry) }
 {
@@ -91,7 +91,7 @@ fn typed_items<'a>(
     Ok((Many::new(items), rest))
 }
 
-/// Addresses, or authorization data, behind their number.
+/// Addresses, or authorization data, after their number.
 fn typed_list<'a>(alloc: Global, source: Source<'a>) -> Result<(Many<Typed>, Source<'a>), FileFault>
     ensures { Gives (λ taken. taken) result (typed_list_at (limited None) source.entry) }
 {
@@ -177,7 +177,7 @@ fn header_field<'a>(
     Ok((HeaderField { tag, value }, rest))
 }
 
-/// The fields of a header of so many octets.
+/// The fields of a header of `size` octets.
 fn header_fields<'a>(
     alloc: Global,
     size: u16,
@@ -227,7 +227,7 @@ fn whole(alloc: Global, octets: &[u8]) -> Result<Ccache, FileFault>
 pub fn read(alloc: Global, octets: &[u8]) -> Result<Ccache, FileFault>
     // What is read is spelled so.
     ensures found { IfOk result (λ ccache. CcacheSpells ccache octets.now) }
-    // What is spelled so is read, unless a growth was refused.
+    // What is spelled so is read, unless memory ran out.
     ensures only { (ccache : CcacheValue) → CcacheSpells ccache octets.now → Gives (λ ccache. ccache) result (Ok ccache) }
     // Which fault it is.
     ensures exact { Gives (λ ccache. ccache) result (read octets.now) }

@@ -19,7 +19,7 @@ pub enum CcacheFault {
     /// have more than 2^40 octets.
     #[error("too long")]
     TooLong,
-    /// The growth was refused.
+    /// Out of memory.
     #[error("memory")]
     Memory,
 }
@@ -253,7 +253,7 @@ fn file_size(ccache: &Ccache) -> Option<u64>
 /// The octets of a cache. TooLong is decided first: for a header or a value in it of more than 65535
 /// octets, for more than 4294967295 components, addresses or elements of authorization data, for a
 /// realm, a component or another field of more than 4294967295 octets, and for a file of more than
-/// 2^40. Memory is taken last and once, for just so many octets.
+/// 2^40. Memory is taken last and once, for just as many octets as are written.
 pub fn write(alloc: Global, ccache: &Ccache) -> Result<Vec<u8>, CcacheFault>
     // What is written spells the cache, and is read back.
     ensures spells { IfOk result (λ octets. CcacheSpells ccache.now octets.items) }

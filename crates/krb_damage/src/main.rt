@@ -1,7 +1,7 @@
 //! Reads messages, a line for each with its name and its octets in hexadecimal, and changes each octet
 //! to each other value. It is a test of `krb_judge` on what is nearly a message: `judge` of each front
 //! of such octets and `parse` of all of them have to give one answer. The line of a message counts
-//! the changes, and those behind which the octets are a message still. With the word `answers` there
+//! the changes, and those after which the octets are still a message. With the word `answers` there
 //! is a line for each change instead: its place, the new octet, and the answer.
 #![tactic(auto)]
 
@@ -71,7 +71,7 @@ fn one_answer(alloc: Global, octets: &[u8], open: usize) -> Option<Answer> {
 enum Output {
     /// The counts of each message.
     Counts,
-    /// The answer behind each change.
+    /// The answer after each change.
     Answers,
 }
 

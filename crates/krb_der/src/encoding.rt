@@ -34,15 +34,15 @@ pub trait Encoding {
 #[derive(Drop)]
 pub struct End;
 
-/// The tag octet of a field, its value, and the fields behind it.
+/// The tag octet of a field, its value, and the fields after it.
 #[derive(Drop)]
 pub struct Required<'a, T, F>(pub u8, pub &'a T, pub F);
 
-/// The tag octet of a field, its value if it is there, and the fields behind it.
+/// The tag octet of a field, its value if it is there, and the fields after it.
 #[derive(Drop)]
 pub struct Optional<'a, T, F>(pub u8, pub &'a Option<T>, pub F);
 
-/// The tag octet of a field, the number that it always has, and the fields behind it.
+/// The tag octet of a field, the number that it always has, and the fields after it.
 #[derive(Drop)]
 pub struct Fixed<F>(pub u8, pub u8, pub F);
 

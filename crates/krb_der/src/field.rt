@@ -1,4 +1,4 @@
-//! The fields of files, read one behind another.
+//! The fields of files, read one after another.
 
 use crate::file::{FileFault, FileWhy};
 use std::marker::Model;
@@ -70,7 +70,7 @@ impl<'a> Source<'a> {
         rest.expect(versions, FileWhy::Version)
     }
 
-    /// The next octets, so many. Overrun where they pass the end of what they stand in, and else
+    /// The next `size` octets. Overrun where they pass the end of what they stand in, and else
     /// Truncated where they are not there.
     fn piece(self, end: Option<u64>, size: u64) -> Result<(&'a [u8], Source<'a>), FileFault>
         requires { self.place + size < 2 ^ 64 }
@@ -94,9 +94,9 @@ impl<'a> Source<'a> {
         Ok((front, Source { place, octets }))
     }
 
-    /// The next octets, so many, lent, and what follows them. A field of octets that passes `end`,
-    /// where the entry or the header that it stands in ends, is Overrun, and else one that passes
-    /// the end of the file Truncated. So are the other fields.
+    /// The next `size` octets, borrowed, and what follows them. A field of octets that passes
+    /// `end`, where the entry or the header that it stands in ends, is Overrun, and else one that
+    /// passes the end of the file Truncated. So are the other fields.
     pub fn octets(self, end: Option<u64>, size: u32) -> Result<(&'a [u8], Source<'a>), FileFault>
         ensures { Gives (λ taken. (taken.0.now, taken.1)) result (piece_at None size (ended end) self.entry) }
     {
@@ -146,7 +146,7 @@ impl<'a> Source<'a> {
         Ok((i32::from_be_bytes(octets), rest))
     }
 
-    /// Octets behind their number of 16 bits, lent.
+    /// Octets after their number of 16 bits, borrowed.
     pub fn counted16(self, end: Option<u64>) -> Result<(&'a [u8], Source<'a>), FileFault>
         ensures { Gives (λ taken. (taken.0.now, taken.1)) result (counted_at w16 (ended end) self.entry) }
     {
@@ -154,7 +154,7 @@ impl<'a> Source<'a> {
         rest.octets(end, u32::from(size))
     }
 
-    /// Octets behind their number of 32 bits, lent.
+    /// Octets after their number of 32 bits, borrowed.
     pub fn counted32(self, end: Option<u64>) -> Result<(&'a [u8], Source<'a>), FileFault>
         ensures { Gives (λ taken. (taken.0.now, taken.1)) result (counted_at w32 (ended end) self.entry) }
     {

@@ -35,7 +35,7 @@ pub enum FileFault {
     },
     /// Octets could not be had from where the file comes.
     Read,
-    /// A growth was refused.
+    /// Out of memory.
     Memory,
 }
 

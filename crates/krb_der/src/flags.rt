@@ -53,7 +53,7 @@ impl Flags {
         self.unused
     }
 
-    /// The octets, lent.
+    /// The octets, borrowed.
     pub fn octets(&self) -> &[u8]
         ensures { result.now ≡ self.now.1 }
     {

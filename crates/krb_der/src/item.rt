@@ -10,8 +10,8 @@ use crate::number::{number_size, put_number};
 /// The least number of octets that no message has.
 pub const TOO_LONG: u64 = 2147483648;
 
-/// The number of octets of an item with so many octets of contents; 2147483648 where there are
-/// more.
+/// The number of octets of an item with `contents` octets of contents; 2147483648 where there
+/// are more.
 pub fn item_size(contents: u64) -> u64
     ensures { result ≡ saturated (item_length contents) }
 {
@@ -31,8 +31,8 @@ pub(crate) fn add_sizes(size: u64, more: u64) -> u64
     size.saturating_add(more).min(TOO_LONG)
 }
 
-/// Appends the tag and the length of an item, into room that is there. Its contents, of so many
-/// octets, are to follow.
+/// Appends the tag and the length of an item, into room that is there. Its `contents` octets
+/// of contents are to follow.
 pub fn put_header(out: &mut Vec<u8>, tag: u8, contents: u32)
     requires { vec_len out.old + (1 + length (length_octets contents)) ≤ vec_capacity out.old }
     ensures items { out.new.items ≡ out.old.items ++ tag ∷ length_octets contents }

@@ -46,7 +46,7 @@ impl KerberosTime {
         }
     }
 
-    /// The octets, lent.
+    /// The octets, borrowed.
     pub fn octets(&self) -> &[u8; 15]
         ensures value { result.now ≡ self.now }
         ensures shape { IsTimeFrom 14 result.now }

@@ -31,7 +31,7 @@ impl KString {
         KString { octets }
     }
 
-    /// The octets, lent.
+    /// The octets, borrowed.
     pub fn octets(&self) -> &[u8]
         ensures { result.now ≡ self.now }
     {

@@ -33,7 +33,7 @@ impl<T> Many<T> {
         Many { values }
     }
 
-    /// The values, lent.
+    /// The values, borrowed.
     pub fn as_slice(&self) -> &[T]
         ensures { result.now ≡ self.now }
     {

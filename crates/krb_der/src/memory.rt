@@ -2,7 +2,7 @@
 
 use std::alloc::{AllocError, AllocFailed};
 
-/// A growth was refused. Nothing else answers it.
+/// Out of memory: the allocator gave no room. Nothing else answers it.
 #[derive(Clone, Copy, PartialEq, Eq, Debug)]
 pub struct Memory;
 

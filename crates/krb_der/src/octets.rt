@@ -30,7 +30,7 @@ impl Octets {
         Octets { octets }
     }
 
-    /// The octets, lent.
+    /// The octets, borrowed.
     pub fn as_slice(&self) -> &[u8]
         ensures { result.now ≡ self.now }
     {

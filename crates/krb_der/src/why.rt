@@ -25,7 +25,7 @@ pub enum Why {
     LengthNotMinimal,
     /// The one item that its container holds does not fill it.
     Loose,
-    /// The type has no contents of so many octets.
+    /// The type has no contents of this length.
     Size,
     /// The first nine bits of an integer are equal (X.690, 8.3.2).
     IntegerNotMinimal,

@@ -15,7 +15,7 @@ pub(crate) const LENGTH_OCTETS: usize = 4;
 enum Phase {
     /// So many octets of its length, and not all four.
     Length(usize),
-    /// Its length, which announces so many octets, and a part of these.
+    /// Its length, which announces a number of octets, and a part of these.
     Contents(u32),
     /// The whole frame.
     Ready,
@@ -41,13 +41,13 @@ pub enum Status {
     Ready,
     /// The last octet used is refused.
     Refused(Refusal),
-    /// A growth was refused. The octets behind those that were used may be fed again.
+    /// Out of memory. The octets after those that were used may be fed again.
     Memory,
 }
 
 /// Decodes a stream of framed messages (RFC 4120, 7.2.2) that comes in pieces: four octets of
-/// length, the highest first, and so many of a message. What is refused is so with the octet that
-/// shows it.
+/// length, the highest first, and then a message of that length. What is refused is so with the
+/// octet that shows it.
 #[derive(Drop)]
 pub struct Decoder {
     limit: Limit,
@@ -94,8 +94,8 @@ impl Decoder {
     /// are one with its high bit set (`HighBit`), one greater than the limit (`TooLong`) and 0
     /// (`Empty`), in this order; then the contents are refused as messages are, at places counted
     /// from the frame's first octet. A decoder that is ready, or refused, uses nothing and answers
-    /// so again. Where a growth is refused, the octets behind those that were used may be fed
-    /// again; the octets of a length take no memory.
+    /// so again. Out of memory, the octets after those that were used may be fed again; the octets
+    /// of a length take no memory.
     pub fn feed(&mut self, piece: &[u8]) -> Fed
         ensures { Feeds self.old piece.now self.new result }
     {
@@ -123,7 +123,7 @@ impl Decoder {
         used
     }
 
-    /// Uses octets of the contents, behind a length.
+    /// Uses octets of the contents, after a length.
     fn feed_contents(&mut self, piece: &[u8]) -> Fed
         requires { (piece.now ≡ []) ⊎ (4 ≤ length self.old.octets) }
         ensures { Feeds self.old piece.now self.new result }
@@ -139,7 +139,7 @@ impl Decoder {
         fed
     }
 
-    /// The frame that is ready, lent.
+    /// The frame that is ready, borrowed.
     pub fn ready(&self) -> Option<Framed<'_>>
         ensures { result ≡ lent self.now }
     {
@@ -192,7 +192,7 @@ fn answer(status: Status) -> Fed
     Fed { used: 0, status }
 }
 
-/// What is refused of a stream that ends behind so many octets of a frame.
+/// What is refused of a stream that ends after `seen` octets of a frame.
 fn ended(seen: usize) -> Result<(), Refusal>
     requires { seen < 2 ^ 32 }
     ensures { result ≡ finish_at (end_behind seen) }
@@ -206,7 +206,7 @@ fn ended(seen: usize) -> Result<(), Refusal>
     })
 }
 
-/// The phase after contents of a frame of so many octets were taken.
+/// The phase after contents of a frame of `size` octets were taken.
 fn phase_after(size: u32, status: Status) -> Phase
     ensures { result ≡ phase_of size status }
 {
@@ -217,7 +217,7 @@ fn phase_after(size: u32, status: Status) -> Phase
     }
 }
 
-/// Puts octets of a piece behind those of a length that are present, as many as are missing and
+/// Puts octets of a piece after those of a length that are present, as many as are missing and
 /// come, and answers how many.
 fn put_octets(length: &mut [u8; LENGTH_OCTETS], present: usize, piece: &[u8]) -> usize
     requires { present < 4 }

@@ -1,4 +1,4 @@
-//! A frame that is lent.
+//! A frame that is ready, borrowed from its decoder.
 
 use krb_der::Memory;
 use krb_judge::{parse_whole, whole_kind};

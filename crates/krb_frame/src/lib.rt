@@ -1,6 +1,6 @@
 //! Streams of framed Kerberos V5 messages (RFC 4120, 7.2.2), in any pieces: a [`Decoder`] is fed
-//! octets as they come, and lends each frame whose contents are one message. [`frame`] is the way
-//! back.
+//! octets as they come, and gives each frame whose contents are one message, borrowed. [`frame`]
+//! is the way back.
 //!
 //! In contracts a decoder is what it stands for: its limit, and the octets of the current frame
 //! that it used (`specs/Decoding`). What that has to do with the stream is `specs/Stands`.

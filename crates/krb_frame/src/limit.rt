@@ -26,7 +26,7 @@ impl Limit {
     /// What the program uses where nothing else is said: 16777216.
     pub const DEFAULT: Limit = Limit { octets: 16777216 };
 
-    /// The limit of so many octets, and `None` of 0 and of more than 2147483647.
+    /// The limit of `octets` octets, and `None` of 0 and of more than 2147483647.
     pub fn new(octets: u32) -> Option<Limit>
         ensures range { IsSome result ↔ ((0 < octets) × (octets < 2 ^ 31)) }
         ensures value { IfSome result (λ limit. limit ≡ octets) }

@@ -111,7 +111,7 @@ fn item(node: u16, room: u32, sole: bool, octets: &[u8]) -> Outcome
     }
 }
 
-/// The contents of an item, behind its tag and length octets.
+/// The contents of an item, after its tag and length octets.
 #[cycle(judge)]
 #[inline(always)]
 fn contents(node: u16, before: u32, size: u32, octets: &[u8]) -> Outcome

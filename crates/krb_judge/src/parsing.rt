@@ -26,7 +26,7 @@ use std::alloc::{AllocError, AllocFailed, Global};
 pub enum ParseFault {
     /// They are none.
     Refused(Refusal),
-    /// A growth was refused.
+    /// Out of memory.
     Memory,
 }
 

@@ -107,7 +107,7 @@ fn record<'a>(alloc: Global, source: Source<'a>) -> Result<(Next, Source<'a>), F
     record_behind(alloc, length, rest)
 }
 
-/// The records up to the stop, and the place behind it.
+/// The records up to the stop, and the place after it.
 fn keytab(alloc: Global, source: Source<'_>) -> Result<(Keytab, usize), FileFault>
     ensures { Gives (λ taken. taken) result (keytab_of_items (items_behind None source.entry)) }
 {
@@ -141,7 +141,7 @@ fn whole(alloc: Global, octets: &[u8]) -> Result<(Keytab, usize), FileFault>
 pub fn read(alloc: Global, octets: &[u8]) -> Result<(Keytab, usize), FileFault>
     // What is read is spelled so.
     ensures found { IfOk result (λ taken. ReadAs octets.now taken.0 taken.1) }
-    // What is spelled so is read, unless a growth was refused.
+    // What is spelled so is read, unless memory ran out.
     ensures only { (keytab : KeytabValue) (size : ℕ) → ReadAs octets.now keytab size → Gives (λ taken. taken) result (Ok (keytab, size)) }
     // Which fault it is.
     ensures exact { Gives (λ taken. taken) result (read octets.now) }

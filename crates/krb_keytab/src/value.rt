@@ -26,7 +26,7 @@ pub enum Record {
 pub enum Stop {
     /// Where the file ends.
     File,
-    /// By a record of length 0, behind which nothing is read.
+    /// By a record of length 0, after which nothing is read.
     Zero,
 }
 
@@ -47,8 +47,8 @@ pub struct Entry {
     pub enctype: u16,
     /// The key.
     pub key: Octets,
-    /// What stands behind the key: where there are four octets, the first four are the version of
-    /// the key in 32 bits. Octets behind these are kept and not looked into.
+    /// What stands after the key: where there are four octets, the first four are the version of
+    /// the key in 32 bits. Octets after these are kept and not looked into.
     pub rest: Octets,
 }
 
@@ -92,7 +92,7 @@ impl Entry {
 }
 
 impl Hole {
-    /// The hole of so many octets, and `None` of 0 and of more than 2147483648. It is clean where
+    /// The hole of `size` octets, and `None` of 0 and of more than 2147483648. It is clean where
     /// all of them are 00.
     pub fn new(size: u32, clean: bool) -> Option<Hole>
         ensures range { IsSome result ↔ IsRoom size }
@@ -105,7 +105,7 @@ impl Hole {
         }
     }
 
-    /// The hole of so many octets, which are few enough.
+    /// The hole of `size` octets, which are few enough.
     pub(crate) fn of(size: u32, clean: bool) -> Hole
         requires { IsRoom size }
         ensures { result ≡ record { size = size; clean = clean } }

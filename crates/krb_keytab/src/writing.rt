@@ -27,7 +27,7 @@ pub enum KeytabFault {
     /// would have more than 2^40 octets.
     #[error("too long")]
     TooLong,
-    /// The growth was refused.
+    /// Out of memory.
     #[error("memory")]
     Memory,
 }
@@ -58,7 +58,7 @@ fn short_size(octets: &[u8]) -> Option<u64>
     if size <= 65535 { Some(size) } else { None }
 }
 
-/// The number of octets of components, each behind its number; `None` where one of them is too
+/// The number of octets of components, each after its number; `None` where one of them is too
 /// long.
 fn components_size(components: &[KString]) -> Option<u64>
     requires { length components.now ≤ 65535 }
@@ -164,7 +164,7 @@ fn file_size(keytab: &Keytab) -> Result<u64, KeytabFault>
     }
 }
 
-/// Appends octets behind their number of 16 bits, into room that is there.
+/// Appends octets after their number of 16 bits, into room that is there.
 fn put_counted(out: &mut Vec<u8>, octets: &[u8])
     requires short { length octets.now < 2 ^ 16 }
     requires room { vec_len out.old + length (counted w16 octets.now) ≤ vec_capacity out.old }
@@ -176,7 +176,7 @@ fn put_counted(out: &mut Vec<u8>, octets: &[u8])
     put_octets(out, octets);
 }
 
-/// Appends components, each behind its number of octets, into room that is there.
+/// Appends components, each after its number of octets, into room that is there.
 fn put_components(out: &mut Vec<u8>, components: &[KString])
     requires short { any_long components.now ≡ false }
     requires room { vec_len out.old + length (flat_map (counted w16) components.now) ≤ vec_capacity out.old }
@@ -189,7 +189,7 @@ fn put_components(out: &mut Vec<u8>, components: &[KString])
     }
 }
 
-/// Appends so many octets 00, into room that is there.
+/// Appends `count` octets 00, into room that is there.
 fn put_zeros(out: &mut Vec<u8>, count: u32)
     requires { vec_len out.old + count ≤ vec_capacity out.old }
     ensures items { out.new.items ≡ out.old.items ++ zeros count }
@@ -235,7 +235,7 @@ fn put_record(out: &mut Vec<u8>, record: &Record)
     }
 }
 
-/// Appends an entry: its content behind the number of its octets.
+/// Appends an entry: its content after the number of its octets.
 fn put_entry(out: &mut Vec<u8>, entry: &Entry)
     requires short { is_long_entry entry.now ≡ false }
     requires room { vec_len out.old + (4 + length (content_of entry.now)) ≤ vec_capacity out.old }
@@ -251,7 +251,7 @@ fn put_entry(out: &mut Vec<u8>, entry: &Entry)
     put_content(out, entry);
 }
 
-/// Appends a clean hole: so many octets 00 behind their negated number.
+/// Appends a clean hole: its octets, all 00, after their negated number.
 fn put_hole(out: &mut Vec<u8>, hole: Hole)
     requires { vec_len out.old + (4 + hole.size) ≤ vec_capacity out.old }
     ensures items { out.new.items ≡ out.old.items ++ (signed w32 (negated hole.size) ++ zeros hole.size) }
@@ -280,7 +280,7 @@ fn put_records(out: &mut Vec<u8>, records: &[Record])
 /// through in order, and the first that has a fault decides: Dirty for a hole that is not clean,
 /// TooLong for more than 65535 components, for a realm, a component or a key of more than 65535
 /// octets, and for an entry of more than 2147483647. Then TooLong for a file of more than 2^40
-/// octets. Memory is taken last and once, for just so many octets.
+/// octets. Memory is taken last and once, for just as many octets as are written.
 pub fn write(alloc: Global, keytab: &Keytab) -> Result<Vec<u8>, KeytabFault>
     ensures octets { IfOk result (λ octets. octets.items ≡ written keytab.now) }
     // What is written spells the keytab, and is read back.

@@ -17,7 +17,7 @@ pub enum EncodeFault {
     /// It has more octets than a message may have, 2147483647, or than the limit of its frame.
     #[error("too long")]
     TooLong,
-    /// The growth was refused.
+    /// Out of memory.
     #[error("memory")]
     Memory,
 }

@@ -13,7 +13,7 @@ use std::alloc::{AllocError, Global};
 /// What is to be listed.
 #[derive(Drop)]
 pub enum Job {
-    /// Framed messages, with frames of at most so many octets.
+    /// Framed messages, with frames of at most the limit's octets.
     Stream(Limit),
     /// A message in hexadecimal.
     Message,
@@ -39,7 +39,7 @@ pub struct Order {
 pub enum WordsFault {
     /// They are no command line of the program.
     Wrong,
-    /// A growth was refused.
+    /// Out of memory.
     Memory,
 }
 
@@ -198,7 +198,7 @@ fn help_of(alloc: Global, error: &Error) -> Result<Order, WordsFault>
     }
 }
 
-/// The order that the words behind the program's name give: a command and its options, as `clap`
+/// The order that the words after the program's name give: a command and its options, as `clap`
 /// reads them. A bare `--` is none of them.
 pub fn read_words(alloc: Global, words: &[String]) -> Result<Order, WordsFault>
     ensures { IfOk result (IsOrderIn (map string_bytes words.now)) }

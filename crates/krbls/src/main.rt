@@ -31,7 +31,7 @@ fn main(rt: HostRuntime) -> ExitCode {
     }
 }
 
-/// The order that the words behind the program's name give.
+/// The order that the words after the program's name give.
 fn order(rt: &HostRuntime) -> Result<Order, WordsFault> {
     let mut words = match env::args(rt) {
         Ok(words) => words,

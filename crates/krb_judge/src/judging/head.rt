@@ -14,7 +14,7 @@ pub(crate) enum Head {
     Partial,
     /// The octet at an offset is refused.
     Refused { offset: u32, why: Why },
-    /// So many octets of tag and length, and so many of contents.
+    /// How many octets of tag and length there are, and how many of contents.
     Got { header: u32, size: u32 },
 }
 
@@ -28,7 +28,7 @@ pub(crate) fn read_head(room: u32, octets: &[u8]) -> Head
     }
 }
 
-/// A length by its first octet and those behind it.
+/// A length by its first octet and those after it.
 fn first_length_octet(room: u32, octet: u8, rest: &[u8]) -> Head
     ensures { head_of result ≡ short_head room octet rest.now }
 {
@@ -54,7 +54,7 @@ fn first_length_octet(room: u32, octet: u8, rest: &[u8]) -> Head
     }
 }
 
-/// A length of `count` octets behind the first.
+/// A length of `count` octets after the first.
 fn long_head(room: u32, count: u8, octets: &[u8]) -> Head
     requires some { 0 < count }
     requires narrow { count ≤ 4 }
@@ -79,7 +79,7 @@ fn long_head(room: u32, count: u8, octets: &[u8]) -> Head
     }
 }
 
-/// Whether contents of a size fit behind the header in the room.
+/// Whether contents of a size fit after the header in the room.
 fn fitting(room: u32, header: u32, size: u64) -> Head
     requires { 0 < header }
     ensures { head_of result ≡ fits room header size }

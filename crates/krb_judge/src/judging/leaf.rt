@@ -1,4 +1,4 @@
-//! The contents of the items that hold no others, behind their tag and length octets.
+//! The contents of the items that hold no others, after their tag and length octets.
 
 ghost use Rattle.std.specs.Prelude.{◌≡◌, ◌+◌, ◌^◌, ◌<◌, ◌≤◌, length, ℤ, ◌&&◌};
 ghost use Rattle.krb_der.specs.Octets.{last_or_zero as last_of};

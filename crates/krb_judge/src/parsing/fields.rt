@@ -17,7 +17,7 @@ pub(crate) trait Decode: Drop {
     /// The octets of a value.
     ghost octets: { Self → List ℕ };
 
-    /// The value whose octets stand first, and what stands behind them. Nothing is judged again, and
+    /// The value whose octets stand first, and what stands after them. Nothing is judged again, and
     /// each string of octets is copied once.
     fn decode(alloc: Global, front: &[u8]) -> Result<(Self, &[u8]), AllocError>
         requires short { length front.now < 2 ^ 31 }
@@ -43,13 +43,13 @@ pub(crate) trait Fields {
 /// No field more.
 pub(crate) struct End;
 
-/// A field under its tag, and the fields behind it.
+/// A field under its tag, and the fields after it.
 pub(crate) struct Required<const TAG: u8, T, F>(pub(crate) T, pub(crate) F);
 
-/// A field under its tag that may be left out, and the fields behind it.
+/// A field under its tag that may be left out, and the fields after it.
 pub(crate) struct Optional<const TAG: u8, T, F>(pub(crate) Option<T>, pub(crate) F);
 
-/// A field that is always this number, under its tag, and the fields behind it.
+/// A field that is always this number, under its tag, and the fields after it.
 pub(crate) struct Fixed<const TAG: u8, const NUMBER: u8, F>(pub(crate) F);
 
 impl Fields for End {

@@ -6,7 +6,7 @@ ghost use Rattle.krb_judge.specs.Reads.{HasItem, HasInner, HasNumber, IsSplit, I
 use crate::judging::head::{Head, read_head};
 use crate::judging::number::integer_value;
 
-/// The contents of the first item, and what stands behind it (X.690, 8.1).
+/// The contents of the first item, and what stands after it (X.690, 8.1).
 pub(crate) fn split_item(octets: &[u8]) -> (&[u8], &[u8])
     requires short { length octets.now < 2 ^ 31 }
     requires form { HasItem octets.now }
@@ -18,7 +18,7 @@ pub(crate) fn split_item(octets: &[u8]) -> (&[u8], &[u8])
     }
 }
 
-/// The contents of the item in a tag, and what stands behind the tag's item.
+/// The contents of the item in a tag, and what stands after the tag's item.
 pub(crate) fn split_inner(octets: &[u8]) -> (&[u8], &[u8])
     requires short { length octets.now < 2 ^ 31 }
     requires form { HasInner octets.now }
@@ -29,7 +29,7 @@ pub(crate) fn split_inner(octets: &[u8]) -> (&[u8], &[u8])
     (contents, rest)
 }
 
-/// The number of the INTEGER that stands first, and what stands behind it.
+/// The number of the INTEGER that stands first, and what stands after it.
 pub(crate) fn split_integer(octets: &[u8]) -> (i64, &[u8])
     requires short { length octets.now < 2 ^ 31 }
     requires form { HasNumber octets.now }

@@ -48,14 +48,14 @@ type KdcReqBodyFields = Required<
     >,
 >;
 
-/// The times of a KDC-REQ-BODY, and what stands behind them.
+/// The times of a KDC-REQ-BODY, and what stands after them.
 type BodyTimesFields = Optional<
     0xA4,
     KerberosTime,
     Required<0xA5, KerberosTime, Optional<0xA6, KerberosTime, BodyRest>>,
 >;
 
-/// What stands behind the times of a KDC-REQ-BODY.
+/// What stands after the times of a KDC-REQ-BODY.
 type BodyRestFields = Required<
     0xA7,
     Wide32,
@@ -121,14 +121,14 @@ type KrbErrorFields = Fixed<
     Fixed<0xA1, 30, Optional<0xA2, KerberosTime, Optional<0xA3, Micros, ErrorTime>>>,
 >;
 
-/// The time of the server of a KRB-ERROR, and what stands behind it.
+/// The time of the server of a KRB-ERROR, and what stands after it.
 type ErrorTimeFields = Required<
     0xA4,
     KerberosTime,
     Required<0xA5, Micros, Required<0xA6, Int32, ErrorNames>>,
 >;
 
-/// The client and the service of a KRB-ERROR, and what stands behind them.
+/// The client and the service of a KRB-ERROR, and what stands after them.
 type ErrorNamesFields = Optional<
     0xA7,
     KString,
