@@ -16,6 +16,3 @@ pub use reading::read;
 pub use ticket::{TicketState, ticket_of};
 pub use value::{Ccache, Credential, FilePrincipal, Header, HeaderField, Typed};
 pub use writing::{CcacheFault, write};
-
-#[cfg(test)]
-mod tests;

@@ -45,6 +45,3 @@ pub use octets::Octets;
 pub use verdict::{Refusal, Verdict};
 pub use why::{Why, why_number, why_text};
 pub use wide32::Wide32;
-
-#[cfg(test)]
-mod tests;

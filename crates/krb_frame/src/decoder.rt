@@ -258,22 +258,3 @@ fn refused_length(why: Why) -> Phase
 {
     Phase::Refused(Refusal { place: 3, why })
 }
-
-#[cfg(test)]
-mod tests {
-    use crate::{Decoder, Fed, Limit, Status};
-    use std::test::Fail;
-
-    // No call says how much room there is, so this looks at the field.
-    #[test]
-    fn room_follows_the_octets_that_came(rt: HostRuntime) -> Result<(), Fail> {
-        let greatest = Limit::new(2147483647).ok_or("a limit")?;
-        let mut decoder = Decoder::new(rt.alloc(), greatest);
-        let status = Status::More;
-        assert_eq!(rt; decoder.feed(b"\x7F\xFF\xFF\xFF"), Fed { used: 4, status });
-        assert_eq!(rt; decoder.contents.capacity(), 0);
-        assert_eq!(rt; decoder.feed(b"\x6F"), Fed { used: 1, status });
-        assert!(rt; decoder.contents.capacity() < 64, "room for one octet");
-        Ok(())
-    }
-}

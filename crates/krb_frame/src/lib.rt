@@ -17,6 +17,3 @@ pub use decoder::{Decoder, Fed, Status};
 pub use framed::Framed;
 pub use framing::frame;
 pub use limit::Limit;
-
-#[cfg(test)]
-mod tests;

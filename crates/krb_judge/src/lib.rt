@@ -7,6 +7,3 @@ mod parsing;
 
 pub use judging::judge;
 pub use parsing::{ParseFault, parse, parse_method_data, parse_ticket, parse_whole, whole_kind};
-
-#[cfg(test)]
-mod tests;

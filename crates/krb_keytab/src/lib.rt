@@ -13,6 +13,3 @@ mod writing;
 pub use reading::read;
 pub use value::{Entry, Hole, Keytab, Record, Stop};
 pub use writing::{KeytabFault, write};
-
-#[cfg(test)]
-mod tests;

@@ -33,6 +33,3 @@ pub use refusal::{put_fault, put_file_refusal, put_message_refusal};
 pub use stream::{put_stream_end, put_stream_refusal};
 pub use ticket_flags::TicketFlags;
 pub use time::{put_time, time_text};
-
-#[cfg(test)]
-mod tests;

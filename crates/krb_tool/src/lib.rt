@@ -18,6 +18,3 @@ pub use krb_frame::Limit;
 pub use message_run::run_message;
 pub use run::{RunEnd, RunFault, run_stream, status};
 pub use words::{Job, Order, WordsFault, read_words};
-
-#[cfg(test)]
-mod tests;

@@ -1,6 +1,6 @@
 //! Command lines.
 
-use crate::{Job, Order, WordsFault, read_words};
+use krb_tool::{Job, Order, WordsFault, read_words};
 use std::alloc::Global;
 use std::test::Fail;
 

@@ -1,6 +1,7 @@
 //! Caches worked out by hand from the file format.
 
-use crate::{
+use crate::examples::{TICKET, octets_of};
+use krb_ccache::{
     Ccache, CcacheFault, Credential, FilePrincipal, Header, HeaderField, TicketState, Typed, law,
     read, ticket_of, write,
 };
@@ -12,10 +13,6 @@ use std::test::Fail;
 /// whose ticket is cut.
 const CACHE: &str =
     "0504000C00010008000000000000000000000001000000010000000141000000017500000001000000010000000141000000017500000000000000020000000C582D4341434845434F4E463A000000156B7262355F6363616368655F636F6E665F646174610000000770615F747970650000000000000000000000000000000000000000000000000000000000000000000000000000013200000000000000010000000100000001410000000175000000020000000100000001410000000168001200000002ABCD386D4380386D4380386D5190000000000040E10000000000000000000000000002618000000000";
-
-/// A Ticket for h@A (RFC 4120, 5.3).
-const TICKET: &str =
-    "612B3029A003020105A1031B0141A20E300CA003020102A10530031B0168A30D300BA003020112A2040402BEEF";
 
 /// The cache that octets are.
 fn cache(alloc: Global, octets: &[u8]) -> Result<Ccache, Fail> {
@@ -52,7 +49,7 @@ fn is_named(principal: &FilePrincipal, name_type: i32, realm: &[u8], first: &[u8
 #[test]
 fn reads_a_cache(rt: HostRuntime) -> Result<(), Fail> {
     let alloc = rt.alloc();
-    let octets = hex::decode(alloc, CACHE)?;
+    let octets = octets_of(alloc, CACHE)?;
     let cache = cache(alloc, octets.as_slice())?;
     assert_eq!(rt; cache.header.fields.as_slice().len(), 1);
     assert_eq!(rt; cache.header.offset(), Some((0, 0)));
@@ -78,7 +75,7 @@ fn reads_a_cache(rt: HostRuntime) -> Result<(), Fail> {
 #[test]
 fn reads_the_fronts_that_end_between_credentials(rt: HostRuntime) -> Result<(), Fail> {
     let alloc = rt.alloc();
-    let octets = hex::decode(alloc, CACHE)?;
+    let octets = octets_of(alloc, CACHE)?;
     for size in 0..=octets.len() {
         let whole = matches!(size, 34 | 156 | 239);
         assert_eq!(rt; read(alloc, &octets.as_slice()[..size]).is_ok(), whole);
@@ -115,7 +112,7 @@ fn refuses_at_the_first_field_at_fault(rt: HostRuntime) {
 #[test]
 fn refuses_addresses_that_are_only_announced(rt: HostRuntime) -> Result<(), Fail> {
     let alloc = rt.alloc();
-    let mut octets = hex::decode(alloc, CACHE)?;
+    let mut octets = octets_of(alloc, CACHE)?;
     octets.truncate(221);
     octets.extend_from_slice(&[0xFF; 4])?;
     assert_eq!(rt;
@@ -159,7 +156,7 @@ fn refusal_of(alloc: Global, credential: &Credential) -> Option<Refusal> {
 #[test]
 fn tells_what_a_ticket_field_holds(rt: HostRuntime) -> Result<(), Fail> {
     let alloc = rt.alloc();
-    let octets = hex::decode(alloc, CACHE)?;
+    let octets = octets_of(alloc, CACHE)?;
     let cache = cache(alloc, octets.as_slice())?;
     let (config, cut) = two(&cache)?;
     assert!(rt; matches!(ticket_of(alloc, config), Ok(TicketState::Config)));
@@ -167,7 +164,7 @@ fn tells_what_a_ticket_field_holds(rt: HostRuntime) -> Result<(), Fail> {
     assert_eq!(rt; refusal_of(alloc, cut), Some(Refusal { place, why }));
     let absent = credential(alloc, &[])?;
     assert!(rt; matches!(ticket_of(alloc, &absent), Ok(TicketState::Absent)));
-    let whole = credential(alloc, hex::decode(alloc, TICKET)?.as_slice())?;
+    let whole = credential(alloc, octets_of(alloc, TICKET)?.as_slice())?;
     let realm = match ticket_of(alloc, &whole) {
         Ok(TicketState::Ticket(ticket)) => ticket.realm,
         _ => return Err(Fail::from("a ticket")),
@@ -179,7 +176,7 @@ fn tells_what_a_ticket_field_holds(rt: HostRuntime) -> Result<(), Fail> {
 #[test]
 fn writes_what_was_read(rt: HostRuntime) -> Result<(), Fail> {
     let alloc = rt.alloc();
-    let octets = hex::decode(alloc, CACHE)?;
+    let octets = octets_of(alloc, CACHE)?;
     let cache = cache(alloc, octets.as_slice())?;
     let written = write(alloc, &cache).ok().ok_or("octets")?;
     assert_eq!(rt; written.as_slice(), octets.as_slice());
@@ -232,7 +229,7 @@ fn writes_each_field_in_its_place(rt: HostRuntime) -> Result<(), Fail> {
         credentials: Many::new(vec![in alloc; credential(alloc, b"\x61")?]?),
     };
     let written = write(alloc, &cache).ok().ok_or("octets")?;
-    let expected = hex::decode(
+    let expected = octets_of(
         alloc,
         "05040000000000010000000100000001410000000175000000010000000100000001410000000175000000010000000100000001410000000175001200000002ABCD000000010000000200000003000000040180000001000000010002000000047F000001000000010001000000047F00000100000001610000000105",
     )?;

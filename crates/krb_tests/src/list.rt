@@ -1,14 +1,18 @@
-use crate::{
+//! Lines and their pieces. What is expected was worked out by hand from the rules of
+//! `docs/FORMATS.md`.
+
+use crate::examples::{AS_REQ, TICKET, contents, octets_of};
+use krb_ccache::{Ccache, Credential, FilePrincipal, Header, HeaderField, Typed};
+use krb_der::{FileWhy, Int32, KString, Many, Octets, Refusal, Why, Wide32};
+use krb_judge::{ParseFault, parse};
+use krb_keytab::{Entry, Hole, Keytab, Record, Stop};
+use krb_list::{
     Piece, TicketFlags, ccache_lines, dates_are_the_calendars, escape_is_graphic,
     keys_are_not_shown, keytab_lines, message_line, notes_of, one_listing, principal_text,
     principal_text_tells, put_ccache, put_escaped, put_fault, put_field, put_file_refusal,
     put_joined, put_keytab, put_list, put_message, put_message_refusal, put_principal, put_time,
     session_keys_are_not_shown, time_text,
 };
-use krb_ccache::{Ccache, Credential, FilePrincipal, Header, HeaderField, Typed};
-use krb_der::{FileWhy, Int32, KString, Many, Octets, Refusal, Why, Wide32};
-use krb_judge::{ParseFault, parse};
-use krb_keytab::{Entry, Hole, Keytab, Record, Stop};
 use krb_msg::{EncryptedData, Message};
 use std::alloc::{AllocError, Global};
 use std::test::Fail;
@@ -187,10 +191,6 @@ fn credential(alloc: Global, server: FilePrincipal, ticket: &[u8]) -> Result<Cre
     })
 }
 
-/// A Ticket for h@A (RFC 4120, 5.3).
-const TICKET: [u8; 45] =
-    *b"\x61\x2B\x30\x29\xA0\x03\x02\x01\x05\xA1\x03\x1B\x01A\xA2\x0E\x30\x0C\xA0\x03\x02\x01\x02\xA1\x05\x30\x03\x1B\x01h\xA3\x0D\x30\x0B\xA0\x03\x02\x01\x12\xA2\x04\x04\x02\xBE\xEF";
-
 #[test]
 fn lists_caches(rt: HostRuntime) -> Result<(), Fail> {
     let alloc = rt.alloc();
@@ -201,7 +201,11 @@ fn lists_caches(rt: HostRuntime) -> Result<(), Fail> {
     )?;
     let credentials = vec![in alloc;
         credential(alloc, config, b"2")?,
-        credential(alloc, user(alloc, &[b"h"], b"A")?, &TICKET)?,
+        credential(
+            alloc,
+            user(alloc, &[b"h"], b"A")?,
+            octets_of(alloc, TICKET)?.as_slice()
+        )?,
         credential(alloc, user(alloc, &[b"h"], b"A")?, b"\x61\x80")?,
         credential(alloc, user(alloc, &[b"h"], b"A")?, b"")?,
     ]?;
@@ -260,15 +264,12 @@ fn shows_refusals(rt: HostRuntime) -> Result<(), Fail> {
     Ok(())
 }
 
-/// An AS-REQ with seven flags and a nonce of -1.
-const AS_REQ: &str =
-    "6A3A3038A103020105A20302010AA42C302AA00403020140A2031B0141A511180F31393730303130313030303030305AA7030201FFA8053003020112";
-
 const AS_REQ_TEXT: &str =
     "AS-REQ realm=A client=- server=- options=7:40 from=- till=19700101000000Z rtime=- nonce=-1 etypes=[18] padata=- addresses=- authdata=- tickets=- notes=[2,3]";
 
-fn message(alloc: Global, digits: &str) -> Result<Message, Fail> {
-    let octets = hex::decode(alloc, digits)?;
+/// The message of a frame.
+fn message(alloc: Global, frame: &str) -> Result<Message, Fail> {
+    let octets = contents(alloc, frame)?;
     match parse(alloc, octets.as_slice()) {
         Ok(message) => Ok(message),
         Err(ParseFault::Refused(_)) => Err(Fail::from("a message")),

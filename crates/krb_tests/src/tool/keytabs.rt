@@ -1,27 +1,21 @@
 //! Keytabs listed from readers and to writers of every kind. The texts that are expected were worked
 //! out by hand from the rules of `docs/FORMATS.md`.
 
-use super::{Failing, Narrow, Slowly};
-use crate::{RunEnd, RunFault, run_keytab, status};
+use super::fakes::{Failing, Narrow, Slowly};
+use crate::examples::{KEYTAB, is_keytab, octets_of};
+use krb_tool::{RunEnd, RunFault, run_keytab, status};
 use std::alloc::Global;
 use std::io::Read;
 use std::test::Fail;
 
-/// A key of h@A, a hole, a record of length 0, and two octets behind it.
-const EXAMPLE: &str =
-    "05020000001B000100014100016800000001386D43800200120002ABCD00000102FFFFFFF8000000000000000000000000DEAD";
-
-const EXAMPLE_LINES: &str =
+const KEYTAB_LINES: &str =
     "entry principal=h@A type=1 time=2000-01-01T00:00:00Z kvno=258 enctype=18 key=2 rest=4\nhole size=8 clean=yes\nend records=2 zero=yes\n";
-
-/// How many octets of the example are a keytab.
-const EXAMPLE_FRONTS: [usize; 6] = [2, 33, 45, 49, 50, 51];
 
 /// Octets in hexadecimal, and their listing.
 struct Case(&'static str, &'static str);
 
 const CASES: [Case; 16] = [
-    Case(EXAMPLE, EXAMPLE_LINES),
+    Case(KEYTAB, KEYTAB_LINES),
     Case("", "refused place=0 why=3 Truncated\n"),
     Case("05", "refused place=1 why=3 Truncated\n"),
     Case("06", "refused place=0 why=1 Magic\n"),
@@ -59,7 +53,7 @@ fn listing<R: Read>(alloc: Global, reader: &mut R) -> Result<(Vec<u8>, RunEnd), 
 fn lists_at_once_and_octet_by_octet(rt: HostRuntime) -> Result<(), Fail> {
     let alloc = rt.alloc();
     for Case(digits, text) in &CASES {
-        let octets = hex::decode(alloc, *digits)?;
+        let octets = octets_of(alloc, digits)?;
         let (at_once, end) = listing(alloc, &mut octets.as_slice())?;
         assert_eq!(rt; at_once.as_slice(), text.as_bytes(), "{digits} at once");
         assert_eq!(rt;
@@ -81,11 +75,11 @@ fn lists_at_once_and_octet_by_octet(rt: HostRuntime) -> Result<(), Fail> {
 #[test]
 fn lists_cut_in_two(rt: HostRuntime) -> Result<(), Fail> {
     let alloc = rt.alloc();
-    let octets = hex::decode(alloc, EXAMPLE)?;
+    let octets = octets_of(alloc, KEYTAB)?;
     for place in 0..=octets.len() {
         let (front, back) = octets.as_slice().split_at(place);
         let (cut, _) = listing(alloc, &mut front.chain(back))?;
-        assert_eq!(rt; cut.as_slice(), EXAMPLE_LINES.as_bytes(), "cut at {place}");
+        assert_eq!(rt; cut.as_slice(), KEYTAB_LINES.as_bytes(), "cut at {place}");
     }
     Ok(())
 }
@@ -93,10 +87,10 @@ fn lists_cut_in_two(rt: HostRuntime) -> Result<(), Fail> {
 #[test]
 fn takes_the_fronts_that_are_keytabs(rt: HostRuntime) -> Result<(), Fail> {
     let alloc = rt.alloc();
-    let octets = hex::decode(alloc, EXAMPLE)?;
+    let octets = octets_of(alloc, KEYTAB)?;
     for count in 0..=octets.len() {
         let (lines, end) = listing(alloc, &mut &octets.as_slice()[..count])?;
-        let clean = EXAMPLE_FRONTS.contains(&count);
+        let clean = is_keytab(count);
         assert_eq!(rt; end == RunEnd::Clean, clean, "{count} octets");
         assert_eq!(rt;
             lines.as_slice().starts_with(b"refused"),
@@ -110,7 +104,7 @@ fn takes_the_fronts_that_are_keytabs(rt: HostRuntime) -> Result<(), Fail> {
 #[test]
 fn writes_nothing_where_a_read_fails(rt: HostRuntime) -> Result<(), Fail> {
     let alloc = rt.alloc();
-    let octets = hex::decode(alloc, EXAMPLE)?;
+    let octets = octets_of(alloc, KEYTAB)?;
     for count in 0..=octets.len() {
         let mut text = Vec::new(alloc);
         let mut reader = Failing {
@@ -127,8 +121,8 @@ fn writes_nothing_where_a_read_fails(rt: HostRuntime) -> Result<(), Fail> {
 #[test]
 fn reports_a_write_that_fails(rt: HostRuntime) -> Result<(), Fail> {
     let alloc = rt.alloc();
-    let octets = hex::decode(alloc, EXAMPLE)?;
-    let whole = EXAMPLE_LINES.as_bytes();
+    let octets = octets_of(alloc, KEYTAB)?;
+    let whole = KEYTAB_LINES.as_bytes();
     for fails in [true, false] {
         for writes in 0..whole.len() as u32 {
             let mut writer = Narrow::new(alloc, 1, writes, fails);

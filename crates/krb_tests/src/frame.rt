@@ -1,28 +1,14 @@
 //! Streams fed in pieces of every kind. What is expected was worked out by hand from the rules of
 //! `docs/FORMATS.md`; the frames of messages were made so from RFC 4120, appendix A.
 
-use crate::{Decoder, Fed, Limit, Status, frame};
+use crate::examples::{
+    AP_REP, AP_REQ, AS_REP, AS_REQ, KRB_ERROR, TGS_REP, TGS_REQ, TWO_AP_REPS, octets_of,
+};
 use krb_der::{Refusal, Why};
-use krb_msg::{EncodeFault, Kind, Message};
+use krb_frame::{Decoder, Fed, Limit, Status, frame};
+use krb_msg::{EncodeFault, Kind, Message, encode, size};
 use std::alloc::Global;
 use std::test::Fail;
-
-const AP_REP: &str = "0000001F6F1D301BA003020105A10302010FA20F300DA003020112A2060404DEADBEEF";
-
-const AP_REQ: &str =
-    "000000556E533051A003020105A10302010EA20703050000000000A32D612B3029A003020105A1031B0141A20E300CA003020102A10530031B0168A30D300BA003020112A2040402BEEFA40D300BA003020112A2040402BEEF";
-
-const AS_REP: &str =
-    "000000616B5F305DA003020105A10302010BA3031B0141A40E300CA003020101A10530031B0175A52D612B3029A003020105A1031B0141A20E300CA003020102A10530031B0168A30D300BA003020112A2040402BEEFA60D300BA003020112A2040402BEEF";
-
-const TGS_REQ: &str =
-    "0000006D6C6B3069A103020105A20302010CA45D305BA00703050000000000A2031B0141A511180F31393730303130313030303030305AA703020101A8023000AB2F302D612B3029A003020105A1031B0141A20E300CA003020102A10530031B0168A30D300BA003020112A2040402BEEF";
-
-const KRB_ERROR: &str =
-    "000000517E4F304DA003020105A10302011EA411180F32303030303130313030303030305AA503020100A603020119A9031B0141AA0E300CA003020102A10530031B0168AC0F040D300B3009A103020102A2020400";
-
-const AS_REQ: &str =
-    "0000003C6A3A3038A103020105A20302010AA42C302AA00403020140A2031B0141A511180F31393730303130313030303030305AA7030201FFA8053003020112";
 
 const WRONG_VERSION: &str =
     "0000001F6F1D301BA003020104A10302010FA20F300DA003020112A2060404DEADBEEF";
@@ -219,7 +205,7 @@ fn decodes_in_pieces_of_every_kind(rt: HostRuntime) -> Result<(), Fail> {
     let alloc = rt.alloc();
     for row in &ROWS {
         let Row(digits, _, _, _, _) = row;
-        let octets = hex::decode(alloc, *digits)?;
+        let octets = octets_of(alloc, digits)?;
         let octets = octets.as_slice();
         for at_most in [octets.len().max(1), 1, 2, 3, 7] {
             let as_said = comes_to(alloc, row, octets, at_most)?;
@@ -237,7 +223,7 @@ fn decodes_in_pieces_of_every_kind(rt: HostRuntime) -> Result<(), Fail> {
 #[test]
 fn refuses_on_the_octet_itself(rt: HostRuntime) -> Result<(), Fail> {
     let alloc = rt.alloc();
-    let octets = hex::decode(alloc, WRONG_VERSION)?;
+    let octets = octets_of(alloc, WRONG_VERSION)?;
     let (front, _) = octets.as_slice().split_at(13.min(octets.len()));
     let status = Status::Refused(Refusal {
         place: 12,
@@ -251,17 +237,10 @@ fn refuses_on_the_octet_itself(rt: HostRuntime) -> Result<(), Fail> {
     Ok(())
 }
 
-/// The octets of two AP-REPs.
-fn two(alloc: Global) -> Result<Vec<u8>, Fail> {
-    let mut octets = hex::decode(alloc, AP_REP)?;
-    octets.extend_from_slice(hex::decode(alloc, AP_REP)?.as_slice())?;
-    Ok(octets)
-}
-
 #[test]
 fn leaves_what_is_behind_a_frame(rt: HostRuntime) -> Result<(), Fail> {
     let alloc = rt.alloc();
-    let octets = two(alloc)?;
+    let octets = octets_of(alloc, TWO_AP_REPS)?;
     let mut frames = decoder(alloc, USUAL)?;
     let rest = octets.as_slice().get(35..).ok_or("two frames")?;
     let status = Status::Ready;
@@ -299,7 +278,7 @@ fn says_how_a_stream_ends(rt: HostRuntime) -> Result<(), Fail> {
             }),
         ),
     ] {
-        let octets = hex::decode(alloc, digits)?;
+        let octets = octets_of(alloc, digits)?;
         let mut stream = decoder(alloc, USUAL)?;
         let _ = stream.feed(octets.as_slice());
         assert_eq!(rt; stream.finish(), end);
@@ -308,40 +287,51 @@ fn says_how_a_stream_ends(rt: HostRuntime) -> Result<(), Fail> {
     Ok(())
 }
 
-/// The message of one frame in hexadecimal, whose octets and kind were compared.
-fn message(alloc: Global, digits: &str, kind: Kind) -> Result<Message, Fail> {
-    let octets = hex::decode(alloc, digits)?;
+/// Whether a message has the octets of a frame, by `encode` and by `frame`, and is too long for any
+/// smaller limit.
+fn is_framed(alloc: Global, message: &Message, octets: &[u8], count: u32) -> Result<bool, Fail> {
+    let encoded = encode(alloc, message).ok().ok_or("octets")?;
+    let limit = Limit::new(count).ok_or("a limit")?;
+    let framed = frame(alloc, message, limit).ok().ok_or("a frame")?;
+    let less = Limit::new(count.saturating_sub(1)).ok_or("a limit")?;
+    Ok(
+        size(message) == Some(count)
+            && Some(encoded.as_slice()) == octets.get(4..)
+            && framed.as_slice() == octets
+            && frame(alloc, message, less).err() == Some(EncodeFault::TooLong),
+    )
+}
+
+/// Whether a frame in hexadecimal is lent with this kind, and its message has these octets again.
+fn comes_again(alloc: Global, digits: &str, kind: Kind, count: u32) -> Result<bool, Fail> {
+    let octets = octets_of(alloc, digits)?;
+    let octets = octets.as_slice();
     let mut stream = decoder(alloc, USUAL)?;
-    let _ = stream.feed(octets.as_slice());
+    let _ = stream.feed(octets);
     let framed = stream.ready().ok_or("a frame")?;
-    if framed.kind() != kind || Some(framed.octets()) != octets.as_slice().get(4..) {
-        return Err(Fail::from("the kind and the octets of the frame"));
+    if framed.kind() != kind || Some(framed.octets()) != octets.get(4..) {
+        return Ok(false);
     }
-    let message = framed.message(alloc).ok().ok_or("memory")?;
-    Ok(message)
+    match framed.message(alloc) {
+        Ok(message) => is_framed(alloc, &message, octets, count),
+        Err(_) => Err(Fail::from("memory")),
+    }
 }
 
 #[test]
 fn frames_come_again(rt: HostRuntime) -> Result<(), Fail> {
     let alloc = rt.alloc();
-    for (digits, kind, size) in [
+    for (digits, kind, count) in [
         (AP_REP, Kind::ApRep, 31),
         (AP_REQ, Kind::ApReq, 85),
         (AS_REP, Kind::AsRep, 97),
+        (TGS_REP, Kind::TgsRep, 97),
         (TGS_REQ, Kind::TgsReq, 109),
         (KRB_ERROR, Kind::KrbError, 81),
         (AS_REQ, Kind::AsReq, 60),
     ] {
-        let message = message(alloc, digits, kind)?;
-        let limit = Limit::new(size).ok_or("a limit")?;
-        let octets = frame(alloc, &message, limit).ok().ok_or("a frame")?;
-        assert_eq!(rt;
-            hex::encode_upper(alloc, octets.as_slice())?.as_str(),
-            digits
-        );
-        let less = Limit::new(size - 1).ok_or("a limit")?;
-        let too_long = frame(alloc, &message, less).err();
-        assert_eq!(rt; too_long, Some(EncodeFault::TooLong), "{digits}");
+        let again = comes_again(alloc, digits, kind, count)?;
+        assert!(rt; again, "{digits}");
     }
     Ok(())
 }

@@ -1,8 +1,8 @@
 //! Messages in hexadecimal. The texts that are expected were worked out by hand from the rules of
 //! `docs/FORMATS.md`.
 
-use super::{Failing, Narrow};
-use crate::{RunEnd, RunFault, run_message};
+use super::fakes::{Failing, Narrow};
+use krb_tool::{RunEnd, RunFault, run_message};
 use std::alloc::Global;
 use std::io::Read;
 use std::test::Fail;

@@ -1,6 +1,6 @@
 //! Values and their octets, worked out by hand from X.690 and RFC 4120.
 
-use crate::{
+use krb_der::{
     Der, Flags, Int32, KString, KerberosTime, Many, Micros, Octets, Why, Wide32, why_number,
     why_text,
 };

@@ -1,94 +1,14 @@
 //! Streams listed from readers and to writers of every kind. The texts that are expected were
 //! worked out by hand from the rules of `docs/FORMATS.md`.
 
-mod keytabs;
-mod messages;
-mod words;
-
-use crate::{Limit, RunEnd, RunFault, run_stream, status};
+use super::fakes::{Failing, Narrow, Slowly};
+use crate::examples::{
+    AP_REP, AP_REQ, AS_REP, AS_REQ, KRB_ERROR, TGS_REP, TGS_REQ, TWO_AP_REPS, octets_of,
+};
+use krb_tool::{Limit, RunEnd, RunFault, run_stream, status};
 use std::alloc::Global;
-use std::io;
-use std::io::{ErrorKind, Read, Write};
+use std::io::Read;
 use std::test::Fail;
-
-const AP_REP: &str = "0000001F6F1D301BA003020105A10302010FA20F300DA003020112A2060404DEADBEEF";
-
-/// A reader that gives at most so many octets for an ask.
-#[derive(Drop)]
-struct Slowly<'a> {
-    octets: &'a [u8],
-    at_most: usize,
-}
-
-impl Read for Slowly<'_> {
-    fn read(&mut self, buf: &mut [u8]) -> io::Result<usize> {
-        let count = self.at_most.min(buf.len()).min(self.octets.len());
-        buf[..count].copy_from_slice(&self.octets[..count]);
-        self.octets = &self.octets[count..];
-        Ok(count)
-    }
-}
-
-/// A reader that gives some octets, and fails when it is asked again.
-#[derive(Drop)]
-struct Failing<'a> {
-    octets: &'a [u8],
-}
-
-impl Read for Failing<'_> {
-    fn read(&mut self, buf: &mut [u8]) -> io::Result<usize> {
-        let count = buf.len().min(self.octets.len());
-        if count == 0 {
-            return Err(io::Error::from(ErrorKind::Interrupted));
-        }
-        buf[..count].copy_from_slice(&self.octets[..count]);
-        self.octets = &self.octets[count..];
-        Ok(count)
-    }
-}
-
-/// A writer that takes at most so many octets at a write, and fails, or takes nothing, once it was
-/// asked so often.
-#[derive(Drop)]
-struct Narrow {
-    taken: Vec<u8>,
-    at_most: usize,
-    writes: u32,
-    fails_after: u32,
-    fails: bool,
-}
-
-impl Narrow {
-    fn new(alloc: Global, at_most: usize, fails_after: u32, fails: bool) -> Narrow {
-        Narrow {
-            taken: Vec::new(alloc),
-            at_most,
-            writes: 0,
-            fails_after,
-            fails,
-        }
-    }
-}
-
-impl Write for Narrow {
-    fn write(&mut self, buf: &[u8]) -> io::Result<usize> {
-        if self.writes == self.fails_after {
-            return if self.fails {
-                Err(io::Error::from(ErrorKind::BrokenPipe))
-            } else {
-                Ok(0)
-            };
-        }
-        self.writes = self.writes.saturating_add(1);
-        let count = self.at_most.min(buf.len());
-        self.taken.extend_from_slice(&buf[..count])?;
-        Ok(count)
-    }
-
-    fn flush(&mut self) -> io::Result<()> {
-        Ok(())
-    }
-}
 
 /// Octets in hexadecimal, the limit that they are listed with, and their listing.
 struct Case(&'static str, u32, &'static str);
@@ -207,16 +127,8 @@ const CASES: [Case; 38] = [
         USUAL,
         "refused messages=0 place=11 why=10 Size\n",
     ),
-    Case(
-        "0000001F6F1D301BA003020105A10302010FA20F300DA003020112A2060404DEADBEEF",
-        31,
-        "AP-REP enc=18:-:4 notes=[]\nend messages=1\n",
-    ),
-    Case(
-        "0000001F6F1D301BA003020105A10302010FA20F300DA003020112A2060404DEADBEEF",
-        30,
-        "refused messages=0 place=3 why=2 TooLong\n",
-    ),
+    Case(AP_REP, 31, "AP-REP enc=18:-:4 notes=[]\nend messages=1\n"),
+    Case(AP_REP, 30, "refused messages=0 place=3 why=2 TooLong\n"),
     Case(
         "000000246F223020A003020105A10302010FA2143012A003020112A1030201FFA2060404DEADBEEF",
         USUAL,
@@ -233,22 +145,22 @@ const CASES: [Case; 38] = [
         "AP-REP enc=18:-:4 notes=[]\nrefused messages=1 place=3 why=3 Empty\n",
     ),
     Case(
-        "0000001F6F1D301BA003020105A10302010FA20F300DA003020112A2060404DEADBEEF0000001F6F1D301BA003020105A10302010FA20F300DA003020112A2060404DEADBEEF",
+        TWO_AP_REPS,
         USUAL,
         "AP-REP enc=18:-:4 notes=[]\nAP-REP enc=18:-:4 notes=[]\nend messages=2\n",
     ),
     Case(
-        "000000556E533051A003020105A10302010EA20703050000000000A32D612B3029A003020105A1031B0141A20E300CA003020102A10530031B0168A30D300BA003020112A2040402BEEFA40D300BA003020112A2040402BEEF",
+        AP_REQ,
         USUAL,
         "AP-REQ server=h@A options=32:00000000 ticket=18:-:2 auth=18:-:2 notes=[]\nend messages=1\n",
     ),
     Case(
-        "000000616B5F305DA003020105A10302010BA3031B0141A40E300CA003020101A10530031B0175A52D612B3029A003020105A1031B0141A20E300CA003020102A10530031B0168A30D300BA003020112A2040402BEEFA60D300BA003020112A2040402BEEF",
+        AS_REP,
         USUAL,
         "AS-REP client=u@A server=h@A padata=- ticket=18:-:2 enc=18:-:2 notes=[]\nend messages=1\n",
     ),
     Case(
-        "000000616D5F305DA003020105A10302010DA3031B0141A40E300CA003020101A10530031B0175A52D612B3029A003020105A1031B0141A20E300CA003020102A10530031B0168A30D300BA003020112A2040402BEEFA60D300BA003020112A2040402BEEF",
+        TGS_REP,
         USUAL,
         "TGS-REP client=u@A server=h@A padata=- ticket=18:-:2 enc=18:-:2 notes=[]\nend messages=1\n",
     ),
@@ -268,62 +180,43 @@ const CASES: [Case; 38] = [
         "AS-REP client=u@A server=h@A padata=[] ticket=18:-:2 enc=18:-:2 notes=[4]\nend messages=1\n",
     ),
     Case(
-        "0000003C6A3A3038A103020105A20302010AA42C302AA00403020140A2031B0141A511180F31393730303130313030303030305AA7030201FFA8053003020112",
+        AS_REQ,
         USUAL,
         "AS-REQ realm=A client=- server=- options=7:40 from=- till=19700101000000Z rtime=- nonce=-1 etypes=[18] padata=- addresses=- authdata=- tickets=- notes=[2,3]\nend messages=1\n",
     ),
     Case(
-        "0000006D6C6B3069A103020105A20302010CA45D305BA00703050000000000A2031B0141A511180F31393730303130313030303030305AA703020101A8023000AB2F302D612B3029A003020105A1031B0141A20E300CA003020102A10530031B0168A30D300BA003020112A2040402BEEF",
+        TGS_REQ,
         USUAL,
         "TGS-REQ realm=A client=- server=- options=32:00000000 from=- till=19700101000000Z rtime=- nonce=1 etypes=[] padata=- addresses=- authdata=- tickets=1 notes=[]\nend messages=1\n",
     ),
     Case(
-        "000000517E4F304DA003020105A10302011EA411180F32303030303130313030303030305AA503020100A603020119A9031B0141AA0E300CA003020102A10530031B0168AC0F040D300B3009A103020102A2020400",
+        KRB_ERROR,
         USUAL,
         "KRB-ERROR code=25:KDC_ERR_PREAUTH_REQUIRED client=- server=h@A ctime=- cusec=- stime=20000101000000Z susec=0 text=- data=13 methods=[2] notes=[]\nend messages=1\n",
     ),
 ];
 
-/// The listing of what a reader gives, and how the run ended.
-fn listing<R: Read>(alloc: Global, reader: &mut R, limit: u32) -> Result<(Vec<u8>, RunEnd), Fail> {
+/// Whether the listing of what a reader gives is this text, and is refused where the text says so.
+fn is_listed<R: Read>(alloc: Global, reader: &mut R, limit: u32, text: &str) -> Result<bool, Fail> {
     let limit = Limit::new(limit).ok_or("a limit from 1 to 2147483647")?;
-    let mut text = Vec::new(alloc);
-    let end = run_stream(alloc, reader, &mut text, limit)?;
-    Ok((text, end))
+    let mut lines = Vec::new(alloc);
+    let end = run_stream(alloc, reader, &mut lines, limit)?;
+    let refused = text.contains("refused");
+    Ok(lines.as_slice() == text.as_bytes() && (end == RunEnd::Refused) == refused)
 }
 
 #[test]
-fn lists_at_once_and_octet_by_octet(rt: HostRuntime) -> Result<(), Fail> {
+fn lists_pieces_of_every_kind(rt: HostRuntime) -> Result<(), Fail> {
     let alloc = rt.alloc();
     for Case(digits, limit, text) in &CASES {
-        let octets = hex::decode(alloc, *digits)?;
-        let (at_once, end) = listing(alloc, &mut octets.as_slice(), *limit)?;
-        assert_eq!(rt; at_once.as_slice(), text.as_bytes(), "{digits} at once");
-        assert_eq!(rt;
-            end == RunEnd::Refused,
-            text.contains("refused"),
-            "{digits}"
-        );
+        let octets = octets_of(alloc, digits)?;
         let octets = octets.as_slice();
-        let (by_octets, _) = listing(alloc, &mut Slowly { octets, at_most: 1 }, *limit)?;
-        assert_eq!(rt;
-            by_octets.as_slice(),
-            text.as_bytes(),
-            "{digits} octet by octet"
-        );
-    }
-    Ok(())
-}
-
-#[test]
-fn lists_cut_in_two(rt: HostRuntime) -> Result<(), Fail> {
-    let alloc = rt.alloc();
-    for Case(digits, limit, text) in &CASES {
-        let octets = hex::decode(alloc, *digits)?;
+        let by_octets = is_listed(alloc, &mut Slowly { octets, at_most: 1 }, *limit, text)?;
+        assert!(rt; by_octets, "{digits} octet by octet");
         for place in 0..=octets.len() {
-            let (front, back) = octets.as_slice().split_at(place);
-            let (cut, _) = listing(alloc, &mut front.chain(back), *limit)?;
-            assert_eq!(rt; cut.as_slice(), text.as_bytes(), "{digits} cut at {place}");
+            let (front, back) = octets.split_at(place);
+            let cut = is_listed(alloc, &mut front.chain(back), *limit, text)?;
+            assert!(rt; cut, "{digits} cut at {place}");
         }
     }
     Ok(())
@@ -332,8 +225,7 @@ fn lists_cut_in_two(rt: HostRuntime) -> Result<(), Fail> {
 #[test]
 fn writes_each_line_when_its_frame_ends(rt: HostRuntime) -> Result<(), Fail> {
     let alloc = rt.alloc();
-    let mut octets = hex::decode(alloc, AP_REP)?;
-    octets.extend_from_slice(hex::decode(alloc, AP_REP)?.as_slice())?;
+    let octets = octets_of(alloc, TWO_AP_REPS)?;
     let octets = octets.as_slice();
     let mut by_frames = Narrow::new(alloc, 1000, 1000, true);
     let end = run_stream(
@@ -364,7 +256,7 @@ fn writes_each_line_when_its_frame_ends(rt: HostRuntime) -> Result<(), Fail> {
 #[test]
 fn reports_a_read_that_fails(rt: HostRuntime) -> Result<(), Fail> {
     let alloc = rt.alloc();
-    let mut octets = hex::decode(alloc, AP_REP)?;
+    let mut octets = octets_of(alloc, AP_REP)?;
     octets.extend_from_slice(&[0, 0])?;
     let mut text = Vec::new(alloc);
     let mut reader = Failing {
@@ -380,7 +272,7 @@ fn reports_a_read_that_fails(rt: HostRuntime) -> Result<(), Fail> {
 #[test]
 fn reports_a_write_that_fails(rt: HostRuntime) -> Result<(), Fail> {
     let alloc = rt.alloc();
-    let octets = hex::decode(alloc, AP_REP)?;
+    let octets = octets_of(alloc, AP_REP)?;
     let whole = b"AP-REP enc=18:-:4 notes=[]\nend messages=1\n";
     for fails in [true, false] {
         for writes in 0..42u32 {

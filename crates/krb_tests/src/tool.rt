@@ -1,0 +1,7 @@
+//! Runs over readers and writers of every kind, and the words of the command line.
+
+mod fakes;
+mod keytabs;
+mod messages;
+mod streams;
+mod words;
