@@ -1,0 +1,14 @@
+"""What `krbls` has to print, worked out a second time: a reference to test it against.
+
+It was written from the rules alone (docs/FORMATS.md: the grammar of RFC 4120, appendix A, the order of
+judging, frames, keytabs, credential caches and lines), and not from the code of krbls. `grammar` has the
+types and the messages, `judging` looks at one octet after another, and the first rule that one breaks is
+the refusal; `messages` and `files` have the lines.
+
+Each function gives the lines of a listing, and the status of the program.
+"""
+
+from .files import ccache, keytab
+from .messages import message, stream
+
+LISTINGS = {"stream": stream, "message": message, "keytab": keytab, "ccache": ccache}

@@ -1,0 +1,180 @@
+"""The order of judging: octets to the values of the grammar, or the first octet at fault.
+
+The value of a SEQUENCE is a dict of the fields that are there, that of a SEQUENCE OF a list, of an INTEGER
+a number, of flags the number of unused bits and the octets, and of all else the octets.
+"""
+
+from .grammar import MESSAGES, Bits, Integer, ListOf, Sequence, String, Tagged, Time
+
+REASONS = (
+    "HighBit TooLong Empty Tag Overrun Indefinite LengthWide LengthNotMinimal Loose Size "
+    "IntegerNotMinimal Range Time Bits Missing Truncated"
+).split()
+
+
+class Refused(Exception):
+    """An octet at fault, and why."""
+
+    def __init__(self, place, why):
+        super().__init__(place, why)
+        self.place = place
+        self.why = why
+
+
+class Ended(Exception):
+    """The octets ended before anything was refused."""
+
+
+class Judge:
+    """Walks the octets that are present of a message, and refuses at the first that shows a fault."""
+
+    def __init__(self, octets):
+        self.octets = octets
+        self.place = 0
+
+    def next(self):
+        if self.place >= len(self.octets):
+            raise Ended
+        self.place += 1
+        return self.octets[self.place - 1]
+
+    def refuse(self, why):
+        """Refuses the octet that was looked at last."""
+        raise Refused(self.place - 1, why)
+
+    def take(self, count):
+        """Octets that are not looked at."""
+        if self.place + count > len(self.octets):
+            raise Ended
+        self.place += count
+        return self.octets[self.place - count : self.place]
+
+    def item(self, choices, room, sole):
+        """One item of one of some types, in a room: the type that it is of, and its value."""
+        tag = self.next()
+        item = next((choice for choice in choices if choice.tag == tag), None)
+        if item is None:
+            self.refuse("Tag")
+        if room == 1:
+            self.refuse("Overrun")
+        first = self.next()
+        header, size = 2, first
+        if first == 0x80:
+            self.refuse("Indefinite")
+        if first >= 0x85:
+            self.refuse("LengthWide")
+        if first > 0x80:
+            count = first - 0x80
+            header += count
+            if room < header:
+                self.refuse("Overrun")
+            size = 0
+            for k in range(count):
+                octet = self.next()
+                if k == 0 and (octet == 0 or (count == 1 and octet < 0x80)):
+                    self.refuse("LengthNotMinimal")
+                size = size * 256 + octet
+        if header + size > room:
+            self.refuse("Overrun")
+        if sole and header + size < room:
+            self.refuse("Loose")
+        return item, self.contents(item, size)
+
+    def contents(self, item, size):
+        match item:
+            case Integer():
+                return self.integer(item, size)
+            case Bits():
+                return self.bits(size)
+            case Time():
+                return self.time(size)
+            case String():
+                return self.take(size)
+            case Tagged():
+                return self.tagged(item, size)
+            case ListOf():
+                end = self.place + size
+                values = []
+                while self.place < end:
+                    values.append(self.item([item.item], end - self.place, False)[1])
+                return values
+            case Sequence():
+                return self.sequence(item, size)
+
+    def integer(self, item, size):
+        if size == 0 or size > item.widest:
+            self.refuse("Size")
+        octets = b""
+        for k in range(size):
+            octets += bytes([self.next()])
+            if k == 1 and (octets[0], octets[1] >= 0x80) in ((0x00, False), (0xFF, True)):
+                self.refuse("IntegerNotMinimal")
+        number = int.from_bytes(octets, "big", signed=True)
+        if not item.low <= number <= item.high:
+            self.refuse("Range")
+        return number
+
+    def bits(self, size):
+        if size == 0:
+            self.refuse("Size")
+        unused = self.next()
+        if unused > 7 or (size == 1 and unused != 0):
+            self.refuse("Bits")
+        if size == 1:
+            return unused, b""
+        octets = self.take(size - 2) + bytes([self.next()])
+        if octets[-1] % 2**unused != 0:
+            self.refuse("Bits")
+        return unused, octets
+
+    def time(self, size):
+        if size != 15:
+            self.refuse("Size")
+        octets = b""
+        for k in range(15):
+            octets += bytes([self.next()])
+            if octets[k] not in (b"0123456789" if k < 14 else b"Z"):
+                self.refuse("Time")
+        return octets
+
+    def tagged(self, item, size):
+        if size == 0:
+            self.refuse("Missing")
+        return self.item([item.item], size, True)[1]
+
+    def sequence(self, item, size):
+        end = self.place + size
+        fields = list(item.fields)
+        values = {}
+        while self.place < end:
+            # The optional fields next in order, and the first required one after them.
+            may_stand = []
+            for field in fields:
+                may_stand.append(field)
+                if not field.optional:
+                    break
+            found, value = self.item([field.item for field in may_stand], end - self.place, False)
+            index = next(k for k, field in enumerate(may_stand) if field.item is found)
+            values[fields[index].name] = value
+            fields = fields[index + 1 :]
+        if any(not field.optional for field in fields):
+            self.refuse("Missing")
+        return values
+
+
+def judge(octets, n, choices=MESSAGES):
+    """The name of the choice that n octets are, of which these are present, and their value."""
+    found, value = Judge(octets[:n]).item(list(choices.values()), n, True)
+    return next(name for name, item in choices.items() if item is found), value
+
+
+def whole(octets, choices=MESSAGES):
+    """The same for octets that are all present, of which there may be none."""
+    if not octets:
+        raise Refused(0, "Empty")
+    return judge(octets, len(octets), choices)
+
+
+def fault(refusal, reasons=REASONS):
+    """The place and the reason at the end of a line."""
+    return f"place={refusal.place} why={reasons.index(refusal.why) + 1} {refusal.why}"
