@@ -1,9 +1,13 @@
 //! Reads framed messages from the standard input, parses each, encodes it again, and compares the
-//! octets. It is a test of `krb_judge` and `krb_msg` on real messages, and what the benchmark
-//! measures: with the word `parse` it only parses, and with `frames` it only cuts the frames.
+//! octets. A frame may also hold a keytab or a credential cache, which begin with 05: it is read,
+//! written again and compared. It is a test of `krb_judge`, `krb_msg`, `krb_keytab` and `krb_ccache`
+//! on real octets, and what the benchmark measures: with the word `parse` it only parses, and with
+//! `frames` it only cuts the frames.
 #![tactic(auto)]
 
+use krb_ccache::Ccache;
 use krb_judge::parse;
+use krb_keytab::Keytab;
 use krb_msg::{Message, encode};
 use std::alloc::Global;
 use std::io::Read;
@@ -43,14 +47,66 @@ enum Found {
     Nothing,
 }
 
+/// What the contents of a frame are.
+#[derive(Clone, Copy, PartialEq, Eq)]
+enum Kind {
+    /// A message.
+    Message,
+    /// A keytab.
+    Keytab,
+    /// A credential cache.
+    Ccache,
+}
+
+impl Kind {
+    /// What the first octets of the contents say: no message begins with 05.
+    fn of(octets: &[u8]) -> Kind {
+        match octets.first_chunk::<2>() {
+            Some([0x05, 0x02]) => Kind::Keytab,
+            Some([0x05, 0x04]) => Kind::Ccache,
+            _ => Kind::Message,
+        }
+    }
+}
+
+/// How many frames came again.
+#[derive(Clone, Copy)]
+struct Counts {
+    messages: u64,
+    keytabs: u64,
+    caches: u64,
+}
+
+impl Counts {
+    /// One more of a kind.
+    fn count(&mut self, kind: Kind) {
+        let counted = match kind {
+            Kind::Message => &mut self.messages,
+            Kind::Keytab => &mut self.keytabs,
+            Kind::Ccache => &mut self.caches,
+        };
+        *counted = counted.saturating_add(1);
+    }
+}
+
 /// Parses octets, and compares them with those of what they are.
 fn again(alloc: Global, octets: &[u8], work: Work) -> Found {
     if work == Work::Frames {
         return Found::Same;
     }
-    match parse(alloc, octets) {
-        Ok(message) => encoded(alloc, &message, octets, work),
-        Err(_) => Found::Nothing,
+    match Kind::of(octets) {
+        Kind::Message => match parse(alloc, octets) {
+            Ok(message) => encoded(alloc, &message, octets, work),
+            Err(_) => Found::Nothing,
+        },
+        Kind::Keytab => match krb_keytab::read(alloc, octets) {
+            Ok((keytab, _)) => written_keytab(alloc, &keytab, octets, work),
+            Err(_) => Found::Nothing,
+        },
+        Kind::Ccache => match krb_ccache::read(alloc, octets) {
+            Ok(cache) => written_ccache(alloc, &cache, octets, work),
+            Err(_) => Found::Nothing,
+        },
     }
 }
 
@@ -60,9 +116,39 @@ fn encoded(alloc: Global, message: &Message, octets: &[u8], work: Work) -> Found
         return Found::Same;
     }
     match encode(alloc, message) {
-        Ok(same) if same.as_slice() == octets => Found::Same,
-        Ok(_) => Found::Other,
+        Ok(same) => compared(&same, octets),
         Err(_) => Found::Nothing,
+    }
+}
+
+/// The same for a keytab.
+fn written_keytab(alloc: Global, keytab: &Keytab, octets: &[u8], work: Work) -> Found {
+    if work == Work::Parse {
+        return Found::Same;
+    }
+    match krb_keytab::write(alloc, keytab) {
+        Ok(same) => compared(&same, octets),
+        Err(_) => Found::Nothing,
+    }
+}
+
+/// The same for a cache.
+fn written_ccache(alloc: Global, cache: &Ccache, octets: &[u8], work: Work) -> Found {
+    if work == Work::Parse {
+        return Found::Same;
+    }
+    match krb_ccache::write(alloc, cache) {
+        Ok(same) => compared(&same, octets),
+        Err(_) => Found::Nothing,
+    }
+}
+
+/// Whether octets came again.
+fn compared(same: &[u8], octets: &[u8]) -> Found {
+    if same == octets {
+        Found::Same
+    } else {
+        Found::Other
     }
 }
 
@@ -85,19 +171,32 @@ fn main(rt: HostRuntime) -> io::Result<ExitCode> {
     let mut stream = Vec::new(alloc);
     rt.stdin().read_to_end(&mut stream)?;
     let mut rest = stream.as_slice();
-    let mut messages = 0u64;
+    let mut counts = Counts {
+        messages: 0,
+        keytabs: 0,
+        caches: 0,
+    };
+    let mut frames = 0u64;
     for _ in 0..u64::MAX {
         let Some((contents, others)) = first_frame(rest) else {
             break;
         };
         if again(alloc, contents, work) != Found::Same {
-            println!(rt; "message {messages} does not come again")?;
+            println!(rt; "frame {frames} does not come again")?;
             return Ok(ExitCode::FAILURE);
         }
-        messages = messages.saturating_add(1);
+        counts.count(Kind::of(contents));
+        frames = frames.saturating_add(1);
         rest = others;
     }
+    let Counts {
+        messages,
+        keytabs,
+        caches,
+    } = counts;
     let left = rest.len();
-    println!(rt; "{messages} messages came again, {left} octets are left")?;
+    println!(rt;
+        "{messages} messages, {keytabs} keytabs and {caches} caches came again, {left} octets are left"
+    )?;
     Ok(ExitCode::SUCCESS)
 }
