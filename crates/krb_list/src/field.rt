@@ -5,7 +5,7 @@ ghost use Rattle.krb_list.specs.Text.{field, or_dash};
 ghost use Rattle.krb_list.specs.Messages.{in_realm, client_text, count_text, quoted_text};
 
 use crate::escape::put_escaped;
-use crate::piece::Piece;
+use crate::piece::{Piece, put_number};
 use crate::principal::put_principal;
 use krb_der::{KString, Many, Octets};
 use krb_msg::PrincipalName;
@@ -89,7 +89,7 @@ pub(crate) fn put_count_field<T>(
     put_name(line, name)?;
     match values {
         None => line.push('-'),
-        Some(values) => write!(line, "{}", values.as_slice().len()),
+        Some(values) => put_number(line, values.as_slice().len()),
     }
 }
 
@@ -105,7 +105,7 @@ pub(crate) fn put_size_field(
     put_name(line, name)?;
     match octets {
         None => line.push('-'),
-        Some(octets) => write!(line, "{}", octets.as_slice().len()),
+        Some(octets) => put_number(line, octets.as_slice().len()),
     }
 }
 

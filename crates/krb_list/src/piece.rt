@@ -7,6 +7,7 @@ ghost use Rattle.krb_list.specs.Text.{escape, or_dash, list_text, joined, sealed
 ghost use Rattle.krb_list.specs.Messages.{flags_text, padata_text};
 
 use crate::escape::{put_ascii, put_escaped, put_hex};
+use itoa::{Buffer, Integer};
 use krb_der::{Flags, Int32, KString, KerberosTime, Many, Micros, Wide32};
 use krb_msg::{EncryptedData, PaData};
 use std::alloc::AllocError;
@@ -19,6 +20,14 @@ pub trait Piece {
     /// Appends the text of the value. Where a growth is refused, a part of it may stand there.
     fn put(&self, line: &mut String) -> Result<(), AllocError>
         ensures { OnOk result (string_bytes line.new ≡ string_bytes line.old ++ text self.now) };
+}
+
+/// Appends a number in decimal.
+pub(crate) fn put_number<I: Integer>(line: &mut String, number: I) -> Result<(), AllocError>
+    ensures { OnOk result (string_bytes line.new ≡ string_bytes line.old ++ I.text number) }
+{
+    let mut buffer = Buffer::new();
+    line.push_str(buffer.format(number))
 }
 
 /// A word that a line shows as it is. Contracts see it as its octets.
@@ -45,7 +54,7 @@ impl Piece for u8 {
     ghost text = { decimal };
 
     fn put(&self, line: &mut String) -> Result<(), AllocError> {
-        write!(line, "{}", *self)
+        put_number(line, *self)
     }
 }
 
@@ -53,8 +62,7 @@ impl Piece for u16 {
     ghost text = { decimal };
 
     fn put(&self, line: &mut String) -> Result<(), AllocError> {
-        let number = *self;
-        write!(line, "{number}")
+        put_number(line, *self)
     }
 }
 
@@ -62,8 +70,7 @@ impl Piece for usize {
     ghost text = { decimal };
 
     fn put(&self, line: &mut String) -> Result<(), AllocError> {
-        let number = *self;
-        write!(line, "{number}")
+        put_number(line, *self)
     }
 }
 
@@ -71,8 +78,7 @@ impl Piece for i32 {
     ghost text = { signed_decimal };
 
     fn put(&self, line: &mut String) -> Result<(), AllocError> {
-        let number = *self;
-        write!(line, "{number}")
+        put_number(line, *self)
     }
 }
 
@@ -80,7 +86,7 @@ impl Piece for Int32 {
     ghost text = { signed_decimal };
 
     fn put(&self, line: &mut String) -> Result<(), AllocError> {
-        write!(line, "{}", self.get())
+        put_number(line, self.get())
     }
 }
 
@@ -88,7 +94,7 @@ impl Piece for Wide32 {
     ghost text = { signed_decimal };
 
     fn put(&self, line: &mut String) -> Result<(), AllocError> {
-        write!(line, "{}", self.get())
+        put_number(line, self.get())
     }
 }
 
@@ -96,7 +102,7 @@ impl Piece for Micros {
     ghost text = { decimal };
 
     fn put(&self, line: &mut String) -> Result<(), AllocError> {
-        write!(line, "{}", self.get())
+        put_number(line, self.get())
     }
 }
 
@@ -115,7 +121,8 @@ impl Piece for Flags {
 
     fn put(&self, line: &mut String) -> Result<(), AllocError> {
         let bits = 8 * self.octets().len() as u128 - u128::from(self.unused());
-        write!(line, "{bits}:")?;
+        put_number(line, bits)?;
+        line.push(':')?;
         put_hex(line, self.octets())
     }
 }
@@ -167,7 +174,8 @@ impl Piece for EncryptedData {
         self.etype.put(line)?;
         line.push(':')?;
         self.kvno.put(line)?;
-        write!(line, ":{}", self.cipher.as_slice().len())
+        line.push(':')?;
+        put_number(line, self.cipher.as_slice().len())
     }
 }
 
