@@ -1,5 +1,6 @@
 pub mod Pieces
 pub mod Lines
+pub mod Listed
 pub mod Methods
 pub mod Dates
 pub mod Escapes

@@ -6,8 +6,8 @@ use Rattle.hex.specs.Hex.{encode_lower}
 use Rattle.krb_msg.specs.Grammar.{method_data}
 use Rattle.krb_msg.specs.Term.{Value}
 use Rattle.krb_msg.specs.Reading.{value_read}
-use Rattle.krb_msg.specs.Notes.{message_has}
-use Rattle.krb_msg.specs.declared.notes.Note.TheVariants as note
+use Rattle.krb_msg.specs.Notes.{notes_of, notes_have}
+use Rattle.krb_msg.specs.declared.notes.Notes.{Notes}
 use Rattle.krb_msg.specs.declared.principal_name.PrincipalName.{PrincipalName}
 use Rattle.krb_msg.specs.declared.pa_data.PaData.{PaData}
 use Rattle.krb_msg.specs.declared.kdc_req.KdcReq.{KdcReq}
@@ -20,7 +20,6 @@ use Rattle.krb_msg.specs.declared.message.Message.TheVariants as message
 use Rattle.krb_judge.specs.Parses.{method_data_refusal}
 use Rattle.krb_der.specs.declared.verdict.Refusal.{Refusal}
 use Rattle.krb_list.specs.Text.{field, line_feed, escape, or_dash, list_text, principal_text, sealed_text}
-use Rattle.krb_list.specs.declared.notes.Notes.{Notes}
 
 -- ---- fields
 -- the name of a principal in a realm
@@ -48,18 +47,6 @@ abbrev pub padata_text : PaData → List ℕ
 padata_text padata = signed_decimal padata.padata_type
 
 -- ---- notes
-abbrev pub notes_of : Message → Notes
-notes_of m = record { high_octet = message_has note.HighOctet m; few_flags = message_has note.FewFlags m; negative = message_has note.Negative m; empty_list = message_has note.EmptyList m }
-
--- whether the note of this number holds
-abbrev pub notes_have : Notes → ℕ → Bool
-notes_have notes number =
-    if number == 1 then notes.high_octet
-    else if number == 2 then notes.few_flags
-    else if number == 3 then notes.negative
-    else if number == 4 then notes.empty_list
-    else false
-
 -- the numbers of the notes that hold
 abbrev pub notes_text : Notes → List ℕ
 notes_text notes = list_text decimal (filter (notes_have notes) (1 ∷ 2 ∷ 3 ∷ 4 ∷ []))

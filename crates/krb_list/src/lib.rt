@@ -21,12 +21,12 @@ pub use ccache::{ccache_lines, put_ccache};
 pub use escape::put_escaped;
 pub use field::put_field;
 pub use keytab::{keytab_lines, put_keytab};
+pub use krb_msg::{Notes, notes_of};
 pub use law::{
     dates_are_the_calendars, escape_is_graphic, keys_are_not_shown, principal_text_tells,
     session_keys_are_not_shown,
 };
 pub use message::{message_line, put_message};
-pub use notes::{Notes, notes_of};
 pub use piece::{Name, Piece, put_joined, put_list};
 pub use principal::{principal_text, put_principal};
 pub use refusal::{put_fault, put_file_refusal, put_message_refusal};

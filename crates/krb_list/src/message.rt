@@ -5,9 +5,8 @@ ghost use Rattle.krb_list.specs.Messages.{kdc_req_text, kdc_rep_text, ap_req_tex
 
 use crate::error::put_krb_error;
 use crate::field::{put_count_field, put_field, put_optional_principal_field, put_principal_field};
-use crate::notes::notes_of;
 use krb_der::Memory;
-use krb_msg::{ApRep, ApReq, KdcRep, KdcReq, KdcReqBody, Message};
+use krb_msg::{ApRep, ApReq, KdcRep, KdcReq, KdcReqBody, Message, notes_of};
 use std::alloc::{AllocError, Global};
 
 #[tactic(auto, unfolding(crate::specs::Messages::kdc_req_text))]

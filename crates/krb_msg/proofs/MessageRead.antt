@@ -1,5 +1,5 @@
 -- What is read of the DER of a message is the message.
-use Rattle.std.proofs.Common.{◌≡◌, ℕ, ◌^◌, ◌<◌, true, length, refl, ◌∙◌, ap, arith}
+use Rattle.std.proofs.Common.{◌≡◌, ◌^◌, ◌<◌, true, length, refl, ◌∙◌, ap, arith}
 use Rattle.krb_msg.specs.Grammar.{as_req, as_rep, tgs_req, tgs_rep, ap_req, ap_rep, krb_error}
 use Rattle.krb_msg.specs.Reading.{value_read, message_read}
 use Rattle.krb_msg.specs.Shape.{is_unambiguous}

@@ -1,18 +1,21 @@
 -- What notes hold of the parts of messages.
-use Rattle.std.proofs.Common.{◌≡◌, Bool, true, false, ◌||◌, List, [], ◌∷◌, Option, Some, None, map, refl, ap}
+use Rattle.std.proofs.Common.{◌≡◌, pos, Bool, true, false, ◌||◌, List, [], ◌∷◌, Option, Some, None, map, refl, ap}
 use Rattle.std.specs.List.{list_any}
 use Rattle.std.specs.Option.{option_map}
-use Rattle.krb_msg.specs.Grammar.{ticket, pa_data, host_address, principal_name, encrypted_data, req_body, as_req, as_rep}
-use Rattle.krb_msg.specs.Notes.{text_has, flags_have, number_has, list_has, option_any, has}
-use Rattle.krb_msg.specs.Views.{ticket_value, pa_data_value, host_address_value, principal_name_value, encrypted_data_value, kdc_req_body_value, kdc_req_value, kdc_rep_value}
-use Rattle.krb_msg.specs.declared.notes.Note.{Note}
-use Rattle.krb_msg.specs.declared.notes.Note.TheVariants as note
+use Rattle.krb_msg.specs.Grammar.{ticket, pa_data, host_address, principal_name, encrypted_data, req_body, as_req, as_rep, krb_error}
+use Rattle.krb_msg.specs.Notes.{Note, HighOctet, FewFlags, Negative, EmptyList, text_has, flags_have, number_has, list_has, option_any, has, notes_by}
+use Rattle.krb_msg.specs.Views.{ticket_value, pa_data_value, host_address_value, principal_name_value, encrypted_data_value, kdc_req_body_value, kdc_req_value, kdc_rep_value, krb_error_value}
 use Rattle.krb_msg.specs.declared.pa_data.PaData.{PaData}
 use Rattle.krb_msg.specs.declared.ticket.Ticket.{Ticket}
 use Rattle.krb_msg.specs.declared.host_address.HostAddress.{HostAddress}
 use Rattle.krb_msg.specs.declared.kdc_req.KdcReq.{KdcReq}
 use Rattle.krb_msg.specs.declared.kdc_rep.KdcRep.{KdcRep}
 use Rattle.krb_msg.specs.declared.kdc_req_body.KdcReqBody.{KdcReqBody}
+use Rattle.krb_msg.specs.declared.krb_error.KrbError.{KrbError}
+
+-- The notes by two tests are the same where the tests are.
+pub same_notes : {test other : Note → Bool} → ((note : Note) → test note ≡ other note) → notes_by test ≡ notes_by other
+same_notes same = rw (same HighOctet, same FewFlags, same Negative, same EmptyList) refl
 
 pub or-false : (a : Bool) → (a || false) ≡ a
 or-false true = refl
@@ -31,11 +34,11 @@ any_none [] = refl
 any_none (x ∷ xs) = any_none xs
 
 list_has-map : {A B : Type 0} (n : Note) (f : A → B) (xs : List A) → list_has n (map f xs) ≡ list_has n xs
-list_has-map note.EmptyList f [] = refl
-list_has-map note.EmptyList f (x ∷ xs) = refl
-list_has-map note.HighOctet f xs = refl
-list_has-map note.FewFlags f xs = refl
-list_has-map note.Negative f xs = refl
+list_has-map EmptyList f [] = refl
+list_has-map EmptyList f (x ∷ xs) = refl
+list_has-map HighOctet f xs = refl
+list_has-map FewFlags f xs = refl
+list_has-map Negative f xs = refl
 
 pub option_any-map : {A B : Type 0} (test : B → Bool) (f : A → B) (v : Option A) → option_any test (option_map f v) ≡ option_any (λ x. test (f x)) v
 option_any-map test f None = refl
@@ -101,3 +104,14 @@ kdc_rep-has n m = reply _ _ _ _ _ _ (padata-has n m.padata)
   where
     reply : (padata padata₂ realm name ticket sealed : Bool) → padata ≡ padata₂ → (padata || (realm || (name || (ticket || (sealed || false))))) ≡ ((((padata₂ || realm) || name) || ticket) || sealed)
     reply padata padata₂ realm name ticket sealed e = rw e (simp (or-false, or_assoc))
+
+pub krb_error-has : (n : Note) (m : KrbError) →
+    has n krb_error (krb_error_value m)
+    ≡ ((((option_any (text_has n) m.crealm || option_any (λ x. has n principal_name (principal_name_value x)) m.cname) || text_has n m.realm) || has n principal_name (principal_name_value m.sname)) || option_any (text_has n) m.e_text)
+krb_error-has n m =
+    error _ _ _ _ _ _ _ _ _ (option_none m.ctime) (option_none (option_map pos m.cusec)) (option_any-map (has n principal_name) principal_name_value m.cname) (option_none m.e_data)
+  where
+    error : (time micros realm name name₂ server_realm server text octets : Bool) → time ≡ false → micros ≡ false → name ≡ name₂ → octets ≡ false →
+        (time || (micros || (realm || (name || (server_realm || (server || (text || (octets || false))))))))
+        ≡ ((((realm || name₂) || server_realm) || server) || text)
+    error time micros realm name name₂ server_realm server text octets t u e o = rw (t, u, e, o) (simp (or-false, or_assoc))

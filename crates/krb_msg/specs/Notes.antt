@@ -1,30 +1,35 @@
 -- What of a message deserves a note. A note holds of a value where it holds of any part of it, Tickets inside included; the octets of an OCTET STRING are no part.
-use Rattle.std.specs.Prelude.{ℕ, ℤ, negsuc, ◌-◌, ◌*◌, Bool, true, false, ◌&&◌, ◌||◌, ◌==◌, nat_lt, List, [], length, Option, Some, None}
+use Rattle.std.specs.Prelude.{ℕ, ℤ, negsuc, ◌-◌, ◌*◌, Bool, true, false, ◌&&◌, ◌||◌, ◌==◌, nat_lt, List, [], length, Option, Some, None, if◌then◌else◌}
 use Rattle.std.specs.List.{list_any}
 use Rattle.krb_msg.specs.Term.{Term, Fields, Integer, Text, Octets, Time, Bits, Sequence, SequenceOf, Tagged, Application, End, Required, Optional, Value, Values}
 use Rattle.krb_msg.specs.Views.{kind_of, kind_term, message_value}
 use Rattle.krb_msg.specs.declared.message.Message.{Message}
-use Rattle.krb_msg.specs.declared.notes.Note.{Note}
-use Rattle.krb_msg.specs.declared.notes.Note.TheVariants as note
+use Rattle.krb_msg.specs.declared.notes.Notes.{Notes}
+
+pub data Note : Type 0 where
+  HighOctet : Note
+  FewFlags : Note
+  Negative : Note
+  EmptyList : Note
 
 -- a string has an octet above 7F
 abbrev pub text_has : Note → List ℕ → Bool
-text_has note.HighOctet octets = list_any (λ octet. nat_lt 0x7F octet) octets
+text_has HighOctet octets = list_any (λ octet. nat_lt 0x7F octet) octets
 text_has other octets = false
 
 -- there are fewer than 32 flags
 abbrev pub flags_have : Note → ℕ × List ℕ → Bool
-flags_have note.FewFlags bits = nat_lt (8 * length bits.1 - bits.0) 32
+flags_have FewFlags bits = nat_lt (8 * length bits.1 - bits.0) 32
 flags_have other bits = false
 
 -- a number of the node of kvno and nonce is negative
 abbrev pub number_has : Note → ℤ → Bool
-number_has note.Negative (negsuc number) = true
+number_has Negative (negsuc number) = true
 number_has other number = false
 
 -- a list is empty
 abbrev pub list_has : {A : Type 0} → Note → List A → Bool
-list_has note.EmptyList [] = true
+list_has EmptyList [] = true
 list_has other values = false
 
 -- the nodes of addresses, additional-tickets and the two padata
@@ -53,6 +58,26 @@ abbrev mutual
   any_has note (Required term fields) values = has note term values.0 || any_has note fields values.1
   any_has note (Optional term fields) values = option_any (has note term) values.0 || any_has note fields values.1
 
+-- the notes that pass a test
+abbrev pub notes_by : (Note → Bool) → Notes
+notes_by test = record { high_octet = test HighOctet; few_flags = test FewFlags; negative = test Negative; empty_list = test EmptyList }
+
+-- the notes of one or the other
+abbrev pub either : Notes → Notes → Notes
+either notes other = record { high_octet = notes.high_octet || other.high_octet; few_flags = notes.few_flags || other.few_flags; negative = notes.negative || other.negative; empty_list = notes.empty_list || other.empty_list }
+
 -- whether a note holds of a message
 abbrev pub message_has : Note → Message → Bool
 message_has note m = has note (kind_term (kind_of m)) (message_value m)
+
+abbrev pub notes_of : Message → Notes
+notes_of m = notes_by (λ note. message_has note m)
+
+-- whether the note of this number holds
+abbrev pub notes_have : Notes → ℕ → Bool
+notes_have notes number =
+    if number == 1 then notes.high_octet
+    else if number == 2 then notes.few_flags
+    else if number == 3 then notes.negative
+    else if number == 4 then notes.empty_list
+    else false

@@ -35,7 +35,7 @@ pub use kdc_req::KdcReq;
 pub use kdc_req_body::KdcReqBody;
 pub use krb_error::KrbError;
 pub use message::{Kind, Message};
-pub use notes::Note;
+pub use notes::{Notes, notes_of};
 pub use pa_data::PaData;
 pub use principal_name::PrincipalName;
 pub use ticket::Ticket;

@@ -1,10 +1,10 @@
 //! What of a message deserves a note.
 
-ghost use Rattle.std.specs.Prelude.{◌≡◌, Bool, nat_lt};
+ghost use Rattle.std.specs.Prelude.{◌≡◌, Bool, false, nat_lt};
 ghost use Rattle.std.specs.List.{list_any};
 ghost use Rattle.krb_msg.specs.Grammar.{principal_name, encrypted_data, ticket, req_body, as_req, as_rep, ap_req, ap_rep, krb_error};
 ghost use Rattle.krb_msg.specs.Views.{principal_name_value, encrypted_data_value, ticket_value, kdc_req_body_value, kdc_req_value, kdc_rep_value, ap_req_value, ap_rep_value, krb_error_value};
-ghost use Rattle.krb_msg.specs.Notes.{text_has, flags_have, number_has, list_has, option_any, has, message_has};
+ghost use Rattle.krb_msg.specs.Notes.{text_has, flags_have, number_has, list_has, option_any, has, notes_by, notes_of, notes_have, either};
 
 use crate::ap_rep::ApRep;
 use crate::ap_req::ApReq;
@@ -18,28 +18,69 @@ use crate::principal_name::PrincipalName;
 use crate::ticket::Ticket;
 use krb_der::{Flags, KString, Many, Wide32};
 
-/// What of a message deserves a note: not a fault, but what a reader of messages may stumble over.
+/// The notes that hold in a message or in a part of it, Tickets inside included: not faults, but
+/// what a reader of messages may stumble over. They have numbers:
+///
+/// 1. a KerberosString has an octet above 7F;
+/// 2. there are fewer than 32 flags;
+/// 3. a kvno or a nonce is negative;
+/// 4. a padata, an addresses or an additional-tickets is there and empty.
 #[derive(Clone, Copy, PartialEq, Eq, Debug)]
-pub enum Note {
-    /// A KerberosString has an octet above 7F.
-    HighOctet,
-    /// There are fewer than 32 flags.
-    FewFlags,
-    /// A kvno or a nonce is negative.
-    Negative,
-    /// A padata, an addresses or an additional-tickets is there and empty.
-    EmptyList,
+pub struct Notes {
+    high_octet: bool,
+    few_flags: bool,
+    negative: bool,
+    empty_list: bool,
+}
+
+impl Notes {
+    /// Whether the note of this number holds. None has another number than 1 to 4.
+    pub fn has(&self, number: u8) -> bool
+        ensures { result ≡ notes_have self.now number }
+    {
+        match number {
+            1 => self.high_octet,
+            2 => self.few_flags,
+            3 => self.negative,
+            4 => self.empty_list,
+            _ => false,
+        }
+    }
+
+    /// No notes.
+    fn none() -> Notes
+        ensures { result ≡ notes_by (λ note. false) }
+    {
+        Notes {
+            high_octet: false,
+            few_flags: false,
+            negative: false,
+            empty_list: false,
+        }
+    }
+
+    /// The notes that hold in one or the other.
+    fn or(self, other: Notes) -> Notes
+        ensures { result ≡ either self other }
+    {
+        Notes {
+            high_octet: self.high_octet | other.high_octet,
+            few_flags: self.few_flags | other.few_flags,
+            negative: self.negative | other.negative,
+            empty_list: self.empty_list | other.empty_list,
+        }
+    }
 }
 
 /// A value in which notes may hold.
 trait Noted {
-    ghost use Rattle.krb_msg.specs.declared.notes.Note.{Note};
+    ghost use Rattle.krb_msg.specs.Notes.{Note};
 
     ghost noted: { Note → Self → Bool };
 
-    /// Whether the note holds in the value.
-    fn has(&self, note: Note) -> bool
-        ensures { result ≡ noted note self.now };
+    /// The notes that hold in the value.
+    fn notes(&self) -> Notes
+        ensures { result ≡ notes_by (λ note. noted note self.now) };
 }
 
 fn has_high_octet(octets: &[u8]) -> bool
@@ -51,10 +92,10 @@ fn has_high_octet(octets: &[u8]) -> bool
 impl Noted for KString {
     ghost noted = { text_has };
 
-    fn has(&self, note: Note) -> bool {
-        match note {
-            Note::HighOctet => has_high_octet(self.octets()),
-            _ => false,
+    fn notes(&self) -> Notes {
+        Notes {
+            high_octet: has_high_octet(self.octets()),
+            ..Notes::none()
         }
     }
 }
@@ -62,26 +103,32 @@ impl Noted for KString {
 impl Noted for Flags {
     ghost noted = { flags_have };
 
-    fn has(&self, note: Note) -> bool {
-        matches!(note, Note::FewFlags) && self.bits() < 32
+    fn notes(&self) -> Notes {
+        Notes {
+            few_flags: self.bits() < 32,
+            ..Notes::none()
+        }
     }
 }
 
 impl Noted for Wide32 {
     ghost noted = { number_has };
 
-    fn has(&self, note: Note) -> bool {
-        matches!(note, Note::Negative) && self.get() < 0
+    fn notes(&self) -> Notes {
+        Notes {
+            negative: self.get() < 0,
+            ..Notes::none()
+        }
     }
 }
 
 impl<T: Noted> Noted for Option<T> {
     ghost noted = { λ note value. option_any (T.noted note) value };
 
-    fn has(&self, note: Note) -> bool {
+    fn notes(&self) -> Notes {
         match self {
-            None => false,
-            Some(value) => value.has(note),
+            None => Notes::none(),
+            Some(value) => value.notes(),
         }
     }
 }
@@ -89,63 +136,70 @@ impl<T: Noted> Noted for Option<T> {
 impl<T: Noted> Noted for Many<T> {
     ghost noted = { λ note values. list_any (T.noted note) values };
 
-    fn has(&self, note: Note) -> bool {
+    fn notes(&self) -> Notes {
+        let mut notes = Notes::none();
         for value in self.as_slice() {
-            if value.has(note) {
-                return true;
-            }
+            notes = notes.or(value.notes());
         }
-        false
+        notes
     }
 }
 
 impl Noted for PrincipalName {
     ghost noted = { λ note name. has note principal_name (principal_name_value name) };
 
-    fn has(&self, note: Note) -> bool {
-        self.name.has(note)
+    fn notes(&self) -> Notes {
+        self.name.notes()
     }
 }
 
 impl Noted for EncryptedData {
     ghost noted = { λ note sealed. has note encrypted_data (encrypted_data_value sealed) };
 
-    fn has(&self, note: Note) -> bool {
-        self.kvno.has(note)
+    fn notes(&self) -> Notes {
+        self.kvno.notes()
     }
 }
 
 impl Noted for Ticket {
     ghost noted = { λ note a_ticket. has note ticket (ticket_value a_ticket) };
 
-    fn has(&self, note: Note) -> bool {
-        self.realm.has(note) | self.sname.has(note) | self.enc_part.has(note)
+    fn notes(&self) -> Notes {
+        self.realm
+            .notes()
+            .or(self.sname.notes())
+            .or(self.enc_part.notes())
     }
 }
 
-/// Whether a list that may be left out is there and empty, where that is the note.
-fn list_has<T>(values: &Option<Many<T>>, note: Note) -> bool
-    ensures { result ≡ option_any (list_has note) values.now }
+/// The note of a list that may be left out, where it is there and empty.
+fn list_notes<T>(values: &Option<Many<T>>) -> Notes
+    ensures { result ≡ notes_by (λ note. option_any (list_has note) values.now) }
 {
-    match values {
-        Some(values) => matches!(note, Note::EmptyList) && values.as_slice().is_empty(),
+    let empty_list = match values {
+        Some(values) => values.as_slice().is_empty(),
         None => false,
+    };
+    Notes {
+        empty_list,
+        ..Notes::none()
     }
 }
 
 impl Noted for KdcReqBody {
     ghost noted = { λ note body. has note req_body (kdc_req_body_value body) };
 
-    fn has(&self, note: Note) -> bool {
-        self.kdc_options.has(note)
-            | self.cname.has(note)
-            | self.realm.has(note)
-            | self.sname.has(note)
-            | self.nonce.has(note)
-            | list_has(&self.addresses, note)
-            | self.enc_authorization_data.has(note)
-            | list_has(&self.additional_tickets, note)
-            | self.additional_tickets.has(note)
+    fn notes(&self) -> Notes {
+        self.kdc_options
+            .notes()
+            .or(self.cname.notes())
+            .or(self.realm.notes())
+            .or(self.sname.notes())
+            .or(self.nonce.notes())
+            .or(list_notes(&self.addresses))
+            .or(self.enc_authorization_data.notes())
+            .or(list_notes(&self.additional_tickets))
+            .or(self.additional_tickets.notes())
     }
 }
 
@@ -153,8 +207,8 @@ impl Noted for KdcReqBody {
 impl Noted for KdcReq {
     ghost noted = { λ note req. has note as_req (kdc_req_value 10 req) };
 
-    fn has(&self, note: Note) -> bool {
-        list_has(&self.padata, note) | self.body.has(note)
+    fn notes(&self) -> Notes {
+        list_notes(&self.padata).or(self.body.notes())
     }
 }
 
@@ -162,56 +216,58 @@ impl Noted for KdcReq {
 impl Noted for KdcRep {
     ghost noted = { λ note rep. has note as_rep (kdc_rep_value 11 rep) };
 
-    fn has(&self, note: Note) -> bool {
-        list_has(&self.padata, note)
-            | self.crealm.has(note)
-            | self.cname.has(note)
-            | self.ticket.has(note)
-            | self.enc_part.has(note)
+    fn notes(&self) -> Notes {
+        list_notes(&self.padata)
+            .or(self.crealm.notes())
+            .or(self.cname.notes())
+            .or(self.ticket.notes())
+            .or(self.enc_part.notes())
     }
 }
 
 impl Noted for ApReq {
     ghost noted = { λ note req. has note ap_req (ap_req_value req) };
 
-    fn has(&self, note: Note) -> bool {
-        self.ap_options.has(note) | self.ticket.has(note) | self.authenticator.has(note)
+    fn notes(&self) -> Notes {
+        self.ap_options
+            .notes()
+            .or(self.ticket.notes())
+            .or(self.authenticator.notes())
     }
 }
 
 impl Noted for ApRep {
     ghost noted = { λ note rep. has note ap_rep (ap_rep_value rep) };
 
-    fn has(&self, note: Note) -> bool {
-        self.enc_part.has(note)
+    fn notes(&self) -> Notes {
+        self.enc_part.notes()
     }
 }
 
 impl Noted for KrbError {
     ghost noted = { λ note error. has note krb_error (krb_error_value error) };
 
-    fn has(&self, note: Note) -> bool {
-        self.crealm.has(note)
-            | self.cname.has(note)
-            | self.realm.has(note)
-            | self.sname.has(note)
-            | self.e_text.has(note)
+    fn notes(&self) -> Notes {
+        self.crealm
+            .notes()
+            .or(self.cname.notes())
+            .or(self.realm.notes())
+            .or(self.sname.notes())
+            .or(self.e_text.notes())
     }
 }
 
-impl Message {
-    /// Whether the note holds in the message, Tickets inside included.
-    pub fn has(&self, note: Note) -> bool
-        ensures { result ≡ message_has note self.now }
-    {
-        match self {
-            Message::AsReq(req) => req.has(note),
-            Message::AsRep(rep) => rep.has(note),
-            Message::TgsReq(req) => req.has(note),
-            Message::TgsRep(rep) => rep.has(note),
-            Message::ApReq(req) => req.has(note),
-            Message::ApRep(rep) => rep.has(note),
-            Message::KrbError(error) => error.has(note),
-        }
+/// The notes that hold in a message. It takes no memory.
+pub fn notes_of(message: &Message) -> Notes
+    ensures { result ≡ notes_of message.now }
+{
+    match message {
+        Message::AsReq(req) => req.notes(),
+        Message::AsRep(rep) => rep.notes(),
+        Message::TgsReq(req) => req.notes(),
+        Message::TgsRep(rep) => rep.notes(),
+        Message::ApReq(req) => req.notes(),
+        Message::ApRep(rep) => rep.notes(),
+        Message::KrbError(error) => error.notes(),
     }
 }
