@@ -1,5 +1,5 @@
 -- The listings of files, and what a run on one does to its reader and its writer.
-use Rattle.std.specs.Prelude.{ℕ, ◌≡◌, ◌⊎◌, List, ◌++◌, Option, Result, Ok, Err, string_bytes}
+use Rattle.std.specs.Prelude.{ℕ, ◌≡◌, ◌≢◌, List, ◌++◌, Option, Result, Ok, Err, string_bytes}
 use Rattle.std.specs.Io.KnownBytes.{Consumes, Appends, Keeps, IsAtEnd}
 use Rattle.krb_der.specs.Fields.{Fault}
 use Rattle.krb_keytab.specs.declared.value.Keytab.{Keytab}
@@ -14,6 +14,8 @@ use Rattle.krb_tool.specs.declared.run.RunEnd.TheVariants as run
 use Rattle.krb_tool.specs.declared.run.RunFault.{RunFault}
 use Rattle.krb_tool.specs.declared.run.RunFault.TheVariants as fault
 use Rattle.krb_tool.specs.declared.file_run.FileText.{FileText}
+use Rattle.krb_tool.specs.declared.transfer.ReaderState.{ReaderState}
+use Rattle.krb_tool.specs.declared.transfer.ReaderState.TheVariants as reader
 
 -- all that a reader had was taken
 pub record TakesAll (had left : Option (List ℕ)) (file : List ℕ) : Type 0 where
@@ -83,12 +85,29 @@ pub record ListsFront (Lists : List ℕ → FileListing → Type 0) (had left he
   pub taken : TakesAll had left file
   pub added : AddsFront held holds listing.text
 
+-- octets were taken from the front of what a reader had
+abbrev pub TakesSome : Option (List ℕ) → Option (List ℕ) → Type 0
+TakesSome had left = (taken : List ℕ) × Consumes had left taken
+
+-- A run took octets from the front of what its reader had, and wrote nothing.
+pub record WritesNothing (had left held holds : Option (List ℕ)) : Type 0 where
+  pub taken : TakesSome had left
+  pub kept : Keeps held holds
+
 -- Where a run fails by a write, a front of the listing is written, and else nothing.
 abbrev pub FailsFile : (List ℕ → FileListing → Type 0) → Option (List ℕ) → Option (List ℕ) → Option (List ℕ) → Option (List ℕ) → RunFault → Type 0
-FailsFile Lists had left held holds fault.Read = Keeps held holds
+FailsFile Lists had left held holds fault.Read = WritesNothing had left held holds
 FailsFile Lists had left held holds fault.Write = ListsFront Lists had left held holds
-FailsFile Lists had left held holds fault.Memory = Keeps held holds
+FailsFile Lists had left held holds fault.Memory = WritesNothing had left held holds
 
--- no write failed
-abbrev pub IsOfReading : RunFault → Type 0
-IsOfReading e = (e ≡ fault.Read) ⊎ (e ≡ fault.Memory)
+-- the fault of a run that has not written: that of its reader where this failed, and else want of memory
+abbrev pub IsOfReading : ReaderState → RunFault → Type 0
+IsOfReading reader.Failed e = e ≡ fault.Read
+IsOfReading reader.Open e = e ≡ fault.Memory
+IsOfReading reader.Ended e = e ≡ fault.Memory
+
+-- a fault is that of the reader where this failed, and nowhere else
+abbrev pub TellsRead : ReaderState → RunFault → Type 0
+TellsRead reader.Failed e = e ≡ fault.Read
+TellsRead reader.Open e = e ≢ fault.Read
+TellsRead reader.Ended e = e ≢ fault.Read

@@ -1,10 +1,11 @@
 //! Runs over files, which are read whole before anything is written.
 
-ghost use Rattle.std.specs.Prelude.{◌≡◌, ◌^◌, ◌≤◌, List, ℕ, IfErr, IfOk};
-ghost use Rattle.krb_tool.specs.Files.{TakesAll, IsOfReading, FileListing, shown, refused_listing, IsKeytabListing, IsCcacheListing, ListsFile, FailsFile};
+ghost use Rattle.std.specs.Prelude.{◌≡◌, ◌^◌, ◌≤◌, List, ℕ, IfErr, IfOk, OnErr, OnOk};
+ghost use Rattle.krb_tool.specs.declared.transfer.ReaderState.TheVariants as reader;
+ghost use Rattle.krb_tool.specs.Files.{TakesAll, TakesSome, IsOfReading, TellsRead, FileListing, shown, refused_listing, IsKeytabListing, IsCcacheListing, ListsFile, FailsFile};
 
 use crate::run::{PIECE_OCTETS, RunEnd, RunFault};
-use crate::transfer::{Asks, ask, write_all};
+use crate::transfer::{Asked, write_all};
 use krb_der::{FileFault, FileWhy};
 use krb_list::{ccache_lines, put_file_refusal, put_keytab};
 use std::alloc::Global;
@@ -18,15 +19,19 @@ pub(crate) struct FileText {
 }
 
 /// All that a reader holds, in a vector that grows as the octets come.
-fn read_all<R: Read>(alloc: Global, reader: &mut R, asks: &mut Asks) -> Result<Vec<u8>, RunFault>
-    ensures all { IfOk result (λ file. TakesAll (R.remaining reader.old) (R.remaining reader.new) file.items) }
-    ensures fault { IfErr result IsOfReading }
-    ensures asks { asks.new.made ≤ 2 ^ 40 }
+fn read_all<R: Read>(alloc: Global, asked: &mut Asked<'_, R>) -> Result<Vec<u8>, RunFault>
+    requires open { asked.old.state ≡ reader.Open }
+    ensures same_reader { asked.new.reader.ghost_name ≡ asked.old.reader.ghost_name }
+    ensures all { IfOk result (λ file. TakesAll (R.remaining asked.old.reader.now) (R.remaining asked.new.reader.now) file.items) }
+    ensures ended { OnOk result (asked.new.state ≡ reader.Ended) }
+    ensures fault { IfErr result (IsOfReading asked.new.state) }
+    ensures taken { OnErr result (TakesSome (R.remaining asked.old.reader.now) (R.remaining asked.new.reader.now)) }
+    ensures asks { asked.new.made ≤ 2 ^ 40 }
 {
     let mut buffer = vec![in alloc; 0u8; PIECE_OCTETS]?;
     let mut file = Vec::new(alloc);
     'pieces: loop {
-        let count = ask(reader, asks, buffer.as_mut_slice())?;
+        let count = asked.ask(buffer.as_mut_slice())?;
         if count == 0 {
             return Ok(file);
         }
@@ -107,15 +112,17 @@ impl FileFormat for CcacheFormat {
 /// KiB each.
 pub(crate) fn run_file<R: Read, W: Write, F: FileFormat>(
     alloc: Global,
-    reader: &mut R,
+    asked: &mut Asked<'_, R>,
     writer: &mut W,
     format: &F,
 ) -> Result<RunEnd, RunFault>
-    ensures listed { IfOk result (ListsFile (F.Lists format.now) (R.remaining reader.old) (R.remaining reader.new) (W.contents writer.old) (W.contents writer.new)) }
-    ensures fault { IfErr result (FailsFile (F.Lists format.now) (R.remaining reader.old) (R.remaining reader.new) (W.contents writer.old) (W.contents writer.new)) }
+    requires open { asked.old.state ≡ reader.Open }
+    ensures same_reader { asked.new.reader.ghost_name ≡ asked.old.reader.ghost_name }
+    ensures listed { IfOk result (ListsFile (F.Lists format.now) (R.remaining asked.old.reader.now) (R.remaining asked.new.reader.now) (W.contents writer.old) (W.contents writer.new)) }
+    ensures fault { IfErr result (FailsFile (F.Lists format.now) (R.remaining asked.old.reader.now) (R.remaining asked.new.reader.now) (W.contents writer.old) (W.contents writer.new)) }
+    ensures told { IfErr result (TellsRead asked.new.state) }
 {
-    let mut asks = Asks::none();
-    let file = read_all(alloc, reader, &mut asks)?;
+    let file = read_all(alloc, asked)?;
     let listed = format.list(alloc, file.as_slice())?;
     write_all(writer, listed.text.as_bytes())?;
     Ok(listed.end)
@@ -132,7 +139,8 @@ pub fn run_keytab<R: Read, W: Write>(
     ensures listed { IfOk result (ListsFile IsKeytabListing (R.remaining reader.old) (R.remaining reader.new) (W.contents writer.old) (W.contents writer.new)) }
     ensures fault { IfErr result (FailsFile IsKeytabListing (R.remaining reader.old) (R.remaining reader.new) (W.contents writer.old) (W.contents writer.new)) }
 {
-    run_file(alloc, reader, writer, &KeytabFormat)
+    let mut asked = Asked::new(reader);
+    run_file(alloc, &mut asked, writer, &KeytabFormat)
 }
 
 /// Lists a credential cache of version 4: a line for the cache, one for each credential, and the line
@@ -148,5 +156,6 @@ pub fn run_ccache<R: Read, W: Write>(
     ensures listed { IfOk result (ListsFile (IsCcacheListing now) (R.remaining reader.old) (R.remaining reader.new) (W.contents writer.old) (W.contents writer.new)) }
     ensures fault { IfErr result (FailsFile (IsCcacheListing now) (R.remaining reader.old) (R.remaining reader.new) (W.contents writer.old) (W.contents writer.new)) }
 {
-    run_file(alloc, reader, writer, &CcacheFormat { now })
+    let mut asked = Asked::new(reader);
+    run_file(alloc, &mut asked, writer, &CcacheFormat { now })
 }

@@ -8,6 +8,7 @@ ghost use Rattle.krb_tool.specs.Messages.{is_blank, without_blanks, clean_with, 
 
 use crate::file_run::{FileFormat, FileText, run_file};
 use crate::run::{RunEnd, RunFault};
+use crate::transfer::Asked;
 use hex::FromHexError;
 use krb_der::Refusal;
 use krb_judge::{ParseFault, parse};
@@ -116,5 +117,6 @@ pub fn run_message<R: Read, W: Write>(
     ensures listed { IfOk result (ListsFile IsHexListing (R.remaining reader.old) (R.remaining reader.new) (W.contents writer.old) (W.contents writer.new)) }
     ensures fault { IfErr result (FailsFile IsHexListing (R.remaining reader.old) (R.remaining reader.new) (W.contents writer.old) (W.contents writer.new)) }
 {
-    run_file(alloc, reader, writer, &HexFormat)
+    let mut asked = Asked::new(reader);
+    run_file(alloc, &mut asked, writer, &HexFormat)
 }

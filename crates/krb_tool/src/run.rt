@@ -3,9 +3,10 @@
 ghost use Rattle.std.specs.Prelude.{◌≡◌, ◌^◌, ◌≤◌, IfOk};
 ghost use Rattle.krb_tool.specs.Listing.{Lists, status_of};
 ghost use Rattle.krb_tool.specs.declared.run.RunFault.TheVariants as fault;
+ghost use Rattle.krb_tool.specs.declared.transfer.ReaderState.TheVariants as reader;
 
 use crate::listing::Lister;
-use crate::transfer::{Asks, ask, write_all};
+use crate::transfer::{Asked, write_all};
 use krb_der::Memory;
 use krb_frame::Limit;
 use std::alloc::{AllocError, AllocFailed, Global};
@@ -77,7 +78,8 @@ impl<T: Drop> From<AllocFailed<T>> for RunFault {
 /// Lists a stream of framed messages (RFC 4120, 7.2.2): a line for each message, then the line of
 /// the end, or of the first refusal, behind which nothing is looked at. Frames of more than
 /// `limit` octets are refused. The reader is asked at most 2^40 times, for 64 KiB each, and the
-/// lines of what came are written before it is asked again.
+/// lines of what came are written before it is asked again. It is not asked again after an error,
+/// its end or a refusal.
 pub fn run_stream<R: Read, W: Write>(
     alloc: Global,
     reader: &mut R,
@@ -86,25 +88,26 @@ pub fn run_stream<R: Read, W: Write>(
 ) -> Result<RunEnd, RunFault>
     ensures { IfOk result (Lists limit (R.remaining reader.old) (R.remaining reader.new) (W.contents writer.old) (W.contents writer.new)) }
 {
-    let mut asks = Asks::none();
-    list_all(alloc, reader, &mut asks, writer, limit)
+    let mut asked = Asked::new(reader);
+    list_all(alloc, &mut asked, writer, limit)
 }
 
 fn list_all<R: Read, W: Write>(
     alloc: Global,
-    reader: &mut R,
-    asks: &mut Asks,
+    asked: &mut Asked<'_, R>,
     writer: &mut W,
     limit: Limit,
 ) -> Result<RunEnd, RunFault>
-    requires { asks.old.made ≡ 0 }
-    ensures listed { IfOk result (Lists limit (R.remaining reader.old) (R.remaining reader.new) (W.contents writer.old) (W.contents writer.new)) }
-    ensures asks { asks.new.made ≤ 2 ^ 40 }
+    requires none { asked.old.made ≡ 0 }
+    requires open { asked.old.state ≡ reader.Open }
+    ensures same_reader { asked.new.reader.ghost_name ≡ asked.old.reader.ghost_name }
+    ensures listed { IfOk result (Lists limit (R.remaining asked.old.reader.now) (R.remaining asked.new.reader.now) (W.contents writer.old) (W.contents writer.new)) }
+    ensures asks { asked.new.made ≤ 2 ^ 40 }
 {
     let mut buffer = vec![in alloc; 0u8; PIECE_OCTETS]?;
     let mut lister = Lister::new(alloc, limit);
     'pieces: loop {
-        let count = ask(reader, asks, buffer.as_mut_slice())?;
+        let count = asked.ask(buffer.as_mut_slice())?;
         if count == 0 {
             let ended = lister.finish()?;
             write_all(writer, lister.text().as_bytes())?;

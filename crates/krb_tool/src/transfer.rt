@@ -1,7 +1,7 @@
 //! Reading and writing by pieces.
 
-ghost use Rattle.std.specs.Prelude.{◌≡◌, ◌+◌, ◌^◌, ◌<◌, ◌≤◌, length, take, IfErr, IfOk, OnErr, OnOk};
-ghost use Rattle.std.specs.Io.KnownBytes.{Consumes, Appends, IsAtEnd};
+ghost use Rattle.std.specs.Prelude.{◌≡◌, ◌≢◌, ◌+◌, ◌^◌, ◌<◌, ◌≤◌, min, length, take, IfErr, IfOk, OnErr, OnOk};
+ghost use Rattle.std.specs.Io.KnownBytes.{Keeps, Appends};
 ghost use Rattle.krb_tool.specs.Files.{AddsFront};
 ghost use Rattle.krb_tool.specs.Transfers.{Gives};
 
@@ -11,39 +11,76 @@ use std::io::{Read, Write};
 /// How often a run asks its reader at most.
 pub(crate) const MOST_ASKS: u64 = 1 << 40;
 
-/// How often a reader was asked. Only [`ask`] reads, and it counts each time.
+/// Whether a reader may be asked again.
+#[derive(Clone, Copy, PartialEq, Eq, Debug)]
+pub(crate) enum ReaderState {
+    /// It gave octets whenever it was asked.
+    Open,
+    /// It told its end.
+    Ended,
+    /// A read failed, or it was asked [`MOST_ASKS`] times.
+    Failed,
+}
+
+/// A reader and how often it was asked. It holds the one borrow of the reader, so a run reads by
+/// [`ask`](Asked::ask) or not at all.
 #[derive(Drop)]
-pub(crate) struct Asks {
+pub(crate) struct Asked<'a, R> {
+    reader: &'a mut R,
     made: u64,
+    state: ReaderState,
     pub ghost few: { made ≤ 2 ^ 40 },
 }
 
-impl Asks {
-    /// No ask so far.
-    pub(crate) fn none() -> Asks
-        ensures { result.made ≡ 0 }
+impl<'a, R: Read> Asked<'a, R> {
+    /// A reader that was not asked yet.
+    pub(crate) fn new(reader: &'a mut R) -> Asked<'a, R>
+        ensures same_reader { result.reader.ghost_name ≡ reader.entry.ghost_name }
+        ensures untouched { result.reader.now ≡ reader.old }
+        ensures none { result.made ≡ 0 }
+        ensures open { result.state ≡ ReaderState.Open }
     {
-        Asks { made: 0 }
+        Asked {
+            reader,
+            made: 0,
+            state: ReaderState::Open,
+        }
     }
-}
 
-/// Asks the reader for a piece of its octets, and answers how many came, 0 at its end. A read that
-/// fails is a fault, and so is one ask more than [`MOST_ASKS`].
-pub(crate) fn ask<R: Read>(
-    reader: &mut R,
-    asks: &mut Asks,
-    buffer: &mut [u8],
-) -> Result<usize, RunFault>
-    ensures count { IfOk result (λ count. count ≤ length buffer.new) }
-    ensures given { IfOk result (λ count. Gives (R.remaining reader.old) (R.remaining reader.new) (take count buffer.new) (length buffer.old)) }
-    ensures counted { OnOk result (asks.new.made ≡ asks.old.made + 1) }
-    ensures fault { IfErr result (λ e. e ≡ RunFault.Read) }
-{
-    if asks.made == MOST_ASKS {
-        return Err(RunFault::Read);
+    /// Asks the reader for a piece of its octets, and answers how many came, 0 at its end. A read
+    /// that fails is a fault, and so is one ask more than [`MOST_ASKS`]. It may not be asked again
+    /// after its end or a fault.
+    pub(crate) fn ask(&mut self, buffer: &mut [u8]) -> Result<usize, RunFault>
+        requires open { self.old.state ≡ ReaderState.Open }
+        requires room { 0 < length buffer.old }
+        ensures same_reader { self.new.reader.ghost_name ≡ self.old.reader.ghost_name }
+        ensures count { IfOk result (λ count. count ≤ length buffer.new) }
+        ensures given { IfOk result (λ count. Gives (R.remaining self.old.reader.now) (R.remaining self.new.reader.now) (take count buffer.new) (length buffer.old)) }
+        ensures counted { OnOk result (self.new.made ≡ self.old.made + 1) }
+        ensures ended { IfOk result (λ count. count ≡ 0 → self.new.state ≡ ReaderState.Ended) }
+        ensures goes_on { IfOk result (λ count. count ≢ 0 → self.new.state ≡ ReaderState.Open) }
+        ensures fault { IfErr result (λ e. e ≡ RunFault.Read) }
+        ensures failed { OnErr result (self.new.state ≡ ReaderState.Failed) }
+        ensures counted_failed { OnErr result (self.new.made ≡ min (self.old.made + 1) (2 ^ 40)) }
+        ensures kept { OnErr result (Keeps (R.remaining self.old.reader.now) (R.remaining self.new.reader.now)) }
+    {
+        if self.made == MOST_ASKS {
+            self.state = ReaderState::Failed;
+            return Err(RunFault::Read);
+        }
+        self.made += 1;
+        match self.reader.read(buffer) {
+            Ok(0) => {
+                self.state = ReaderState::Ended;
+                Ok(0)
+            }
+            Ok(count) => Ok(count),
+            Err(_) => {
+                self.state = ReaderState::Failed;
+                Err(RunFault::Read)
+            }
+        }
     }
-    asks.made += 1;
-    reader.read(buffer).map_err(|_| RunFault::Read)
 }
 
 /// Writes all the octets. A write that fails, or takes nothing, is a fault.
