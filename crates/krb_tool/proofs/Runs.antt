@@ -15,7 +15,7 @@ use Rattle.krb_frame.specs.declared.decoder.Status.TheVariants as status
 use Rattle.krb_frame.proofs.Ends.{none_found, refused_end, found_of, refusal_ends}
 use Rattle.krb_list.specs.Messages.{message_line}
 use Rattle.krb_list.specs.Streams.{end_line}
-use Rattle.krb_tool.specs.Listing.{end_of, run_end, AllIsRead, Lists}
+use Rattle.krb_tool.specs.Listing.{end_of, run_end, AllIsRead, IsNotRefused, StopsInPiece, Lists}
 use Rattle.krb_tool.specs.Transfers.{Gives}
 use Rattle.krb_tool.specs.Listers.{HasListed, IsNewLister, Feeds, IsWrittenOut, Finishes}
 use Rattle.krb_tool.specs.declared.listing.Lister.{Lister}
@@ -48,6 +48,7 @@ pub record Ends (limit : ℕ) (had left held holds : Option (List ℕ)) (lister 
   pub listed : HasListed lister stream written
   pub same_frames : frames messages limit read ≡ frames messages limit stream
   pub none : (found lister.decoder).contents ≡ []
+  pub stops : StopsInPiece limit read
 
 pub Waits-start : (limit : ℕ) (had held : Option (List ℕ)) (lister : Lister) → IsNewLister limit lister → Waits limit had had held held 0 lister
 Waits-start limit had held lister new = record {
@@ -84,10 +85,22 @@ Runs-fed limit had left left' held holds asks made room piece old new true w g s
     }
 Runs-fed limit had left left' held holds asks made room piece old new false w g short f e n = absurd cc
 
+more_not_refused : (contents : List (List ℕ)) (end : End) → status_at contents end ≡ status.More → IsNotRefused end
+more_not_refused contents Boundary e = tt
+more_not_refused contents (Within present) e = tt
+more_not_refused [] (Refused place reason) e = absurd cc
+more_not_refused (first ∷ others) (Refused place reason) e = absurd cc
+
+-- what was read so far is not refused
+not_refused : (limit : ℕ) (had left held holds : Option (List ℕ)) (asks : ℕ) (lister : Lister) (r : Runs limit had left held holds asks lister) → IsNotRefused (end_of limit r.read)
+not_refused limit had left held holds asks lister r =
+    let same : end_of limit r.read ≡ (found lister.decoder).end = ap (λ l. end_of l r.read) (sym r.same_limit) ∙ ap (λ f. f.end) (found_of lister.decoder r.read (map message_der r.listed.messages) r.listed.stands) in
+    subst IsNotRefused (sym same) (more_not_refused (found lister.decoder).contents (found lister.decoder).end r.waits)
+
 -- a piece was read, and an octet of it is refused
-pub Ends-refused : (limit : ℕ) (had left left' held holds : Option (List ℕ)) (asks room : ℕ) (piece : List ℕ) (old new : Lister) (goes_on : _) → Waits limit had left held holds asks old → Gives left left' piece room → Feeds old piece new goes_on → goes_on ≡ false → (Ends limit had left' held holds new) × ((refusal : Refusal) × ((found new.decoder).end ≡ Refused refusal.place refusal.why))
-Ends-refused limit had left left' held holds asks room piece old new true w g f e = absurd cc
-Ends-refused limit had left left' held holds asks room piece old new false w g f e =
+pub Ends-refused : (limit : ℕ) (had left left' held holds : Option (List ℕ)) (asks room : ℕ) (piece : List ℕ) (old new : Lister) (goes_on : _) → Waits limit had left held holds asks old → Gives left left' piece room → length piece ≤ 65536 → Feeds old piece new goes_on → goes_on ≡ false → (Ends limit had left' held holds new) × ((refusal : Refusal) × ((found new.decoder).end ≡ Refused refusal.place refusal.why))
+Ends-refused limit had left left' held holds asks room piece old new true w g short f e = absurd cc
+Ends-refused limit had left left' held holds asks room piece old new false w g short f e =
     let stream : List ℕ = w.runs.read ++ take f.used piece in
     let same : new.decoder.limit ≡ limit = f.same_limit ∙ w.runs.same_limit in
     let h : HasListed new (w.runs.read ++ take f.used piece) w.runs.written = f.listed w.runs.read w.runs.written w.runs.listed in
@@ -105,6 +118,7 @@ Ends-refused limit had left left' held holds asks room piece old new false w g f
         listed = h;
         same_frames = subst (λ l. frames messages l (w.runs.read ++ piece) ≡ frames messages l (w.runs.read ++ take f.used piece)) same (ap (frames messages new.decoder.limit) (sym parts) ∙ ends);
         none = r.0;
+        stops = record { front = w.runs.read; piece = piece; parts = refl; goes_on = not_refused limit had left held holds asks old w.runs; short = short };
       },
       (f.goes.0, r.1),
     )
@@ -143,6 +157,7 @@ Ends-read limit had left left' held holds asks room piece lister w g none = reco
   listed = w.runs.listed;
   same_frames = refl;
   none = none_found (found lister.decoder).contents (found lister.decoder).end (λ e. no (sym w.runs.waits ∙ e));
+  stops = record { front = w.runs.read; piece = []; parts = sym (append-nil w.runs.read); goes_on = not_refused limit had left held holds asks lister w.runs; short = omega arith };
 }
   where
     no : status.More ≡ status.Ready → ⊥
@@ -179,6 +194,7 @@ Lists-made limit had left held holds holds' old new ended r f a all = record {
   };
   ended_so = f.ended_so ∙ ap run_end (sym end_is);
   all_read = subst (λ e. AllIsRead e left) (sym end_is) all;
+  stops = r.stops;
 }
   where
     frames_read : frames messages limit r.read ≡ behind_frames (map message_der r.listed.messages) (found old.decoder)

@@ -1,5 +1,5 @@
 -- The listing of a stream, and what a run does to its reader and its writer.
-use Rattle.std.specs.Prelude.{ℕ, ◌≡◌, List, ◌++◌, length, map, Option, Result, Ok, Err}
+use Rattle.std.specs.Prelude.{ℕ, ◌≡◌, ◌≤◌, List, ◌++◌, length, map, Option, Result, Ok, Err}
 use Rattle.std.specs.List.{flat_map}
 use Rattle.std.specs.Io.KnownBytes.{Consumes, Appends, IsAtEnd}
 use Rattle.krb_msg.specs.declared.message.Message.{Message}
@@ -34,6 +34,19 @@ AllIsRead Boundary left = IsAtEnd left
 AllIsRead (Within present) left = IsAtEnd left
 AllIsRead (Refused place reason) left = Unit {0}
 
+abbrev pub IsNotRefused : End → Type 0
+IsNotRefused Boundary = Unit {0}
+IsNotRefused (Within present) = Unit {0}
+IsNotRefused (Refused place reason) = ⊥
+
+-- no more was read than octets that are not refused, and then one piece
+pub record StopsInPiece (limit : ℕ) (read : List ℕ) : Type 0 where
+  pub front : List ℕ
+  pub piece : List ℕ
+  pub parts : read ≡ front ++ piece
+  pub goes_on : IsNotRefused (end_of limit front)
+  pub short : length piece ≤ 65536
+
 -- A run took octets from what its reader had and left the rest, and added their listing to what its writer held.
 pub record Lists (limit : ℕ) (had left held holds : Option (List ℕ)) (ended : RunEnd) : Type 0 where
   pub read : List ℕ
@@ -43,6 +56,7 @@ pub record Lists (limit : ℕ) (had left held holds : Option (List ℕ)) (ended 
   pub listed : IsListing limit read written
   pub ended_so : ended ≡ run_end (end_of limit read)
   pub all_read : AllIsRead (end_of limit read) left
+  pub stops : StopsInPiece limit read
 
 -- the status of a process whose run gave this
 abbrev pub status_of : Result RunEnd RunFault → ℕ

@@ -11,8 +11,8 @@ use std::io::{Read, Write};
 /// How often a run asks its reader at most.
 pub(crate) const MOST_ASKS: u64 = 1 << 40;
 
-/// Whether a reader may be asked again.
-#[derive(Clone, Copy, PartialEq, Eq, Debug)]
+/// Whether a reader may be asked again. Only contracts read it.
+#[derive(Clone, Copy)]
 pub(crate) enum ReaderState {
     /// It gave octets whenever it was asked.
     Open,

@@ -33,7 +33,8 @@ returns-then-not-branch-clause-listed g c =
     let full : length c.ask.new.buffer ≡ c.pieces.buffer.len = omega arith in
     let same : c.ask.new.buffer ≡ c.deref.result.now = written-slice _ _ _ _ c.deref.ensures.value full in
     let given = rw same at c.in_ok-count.ensures.given in
-    let refused = Ends-refused _ _ _ _ _ _ _ _ _ _ _ _ c.pieces.invariant.3 given c.in_ok-feed.ensures c.if-not-branch.true in
+    let short : length (take c.in_ok-count.count c.deref.result.now) ≤ 65536 = omega (arith, ap (λ (l : List ℕ). length l) same, length-take c.in_ok-count.count c.deref.result.now) in
+    let refused = Ends-refused _ _ _ _ _ _ _ _ _ _ _ _ c.pieces.invariant.3 given short c.in_ok-feed.ensures c.if-not-branch.true in
     let written = subst (Appends _ _) (c.as_bytes-then-not-branch.ensures.value ∙ c.text-then-not-branch.ensures) c.in_ok-write_all-2.ensures.all in
     Lists-made _ _ _ _ _ _ _ _ _ refused.0 c.in_ok-ended-2.ensures written (AllIsRead-refused _ refused.1.0 _ refused.1.1)
 
