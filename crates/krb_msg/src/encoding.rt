@@ -43,10 +43,11 @@ pub fn size(message: &Message) -> Option<u32>
     }
 }
 
-/// The DER octets of a message. `TooLong` is decided first; then memory is taken once, for just so
-/// many octets, and no more.
+/// The DER octets of a message, in a vector of exactly that capacity. `TooLong` is decided first;
+/// then memory is taken once.
 pub fn encode(alloc: Global, message: &Message) -> Result<Vec<u8>, EncodeFault>
     ensures octets { IfOk result (λ octets. octets.items ≡ message_der message.now) }
+    ensures room { IfOk result (λ octets. vec_capacity octets ≡ vec_len octets) }
     ensures too_long { IsErrOf result EncodeFault.TooLong ↔ (2147483647 < length (message_der message.now)) }
 {
     let Some(size) = size(message) else {
@@ -76,7 +77,9 @@ fn octets_of(message: &Message) -> u64
 pub fn put(message: &Message, out: &mut Vec<u8>)
     requires short { length (message_der message.now) ≤ 2147483647 }
     requires room { vec_len out.old + length (message_der message.now) ≤ vec_capacity out.old }
-    ensures { out.new.items ≡ out.old.items ++ message_der message.now }
+    ensures items { out.new.items ≡ out.old.items ++ message_der message.now }
+    ensures len { vec_len out.new ≡ vec_len out.old + length (message_der message.now) }
+    ensures capacity { vec_capacity out.new ≡ vec_capacity out.old }
 {
     match message {
         Message::AsReq(req) => req.encoding(0x6A, 10).put(out),
