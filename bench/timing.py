@@ -16,14 +16,22 @@ def best_of(runs, action):
     return least
 
 
+def run_on(command, path):
+    """Runs a command on a file."""
+    with open(path, "rb") as octets, open(os.devnull, "wb") as null:
+        subprocess.run(command, stdin=octets, stdout=null, check=True)
+
+
 def best_run(command, path):
     """The least of the seconds that runs of a command took on a file."""
+    return best_of(5, lambda: run_on(command, path))
 
-    def run():
-        with open(path, "rb") as octets, open(os.devnull, "wb") as null:
-            subprocess.run(command, stdin=octets, stdout=null, check=True)
 
-    return best_of(5, run)
+def best_runs(commands, path):
+    """The same of some commands, which take turns."""
+    commands = list(commands)
+    turns = [[best_of(1, lambda: run_on(command, path)) for command in commands] for _ in range(7)]
+    return [min(seconds) for seconds in zip(*turns)]
 
 
 def peak_octets(command, path):

@@ -1,0 +1,93 @@
+"""Times bin/krbls on credential caches that are made here, beside cat and, where it is installed, beside
+MIT's klist -c; and says how much memory each took. The runs of one take turns with those of the others.
+First a cache of a tenth of the credentials, so that the growth is seen."""
+
+import shutil
+import struct
+import sys
+import tempfile
+
+from timing import best_runs, peak_octets, rate
+
+KRBLS = ["bin/krbls", "ccache"]
+CIPHER_OCTETS = 200
+
+
+def number(value):
+    return struct.pack(">I", value)
+
+
+def data(octets):
+    return number(len(octets)) + octets
+
+
+def item(tag, contents):
+    """DER of fewer than 65536 octets."""
+    size = len(contents)
+    if size < 0x80:
+        return bytes([tag, size]) + contents
+    if size < 0x100:
+        return bytes([tag, 0x81, size]) + contents
+    return bytes([tag, 0x82]) + struct.pack(">H", size) + contents
+
+
+def integer(value):
+    return item(0x02, bytes([value]))
+
+
+def principal(realm, *components):
+    return number(1) + number(len(components)) + data(realm) + b"".join(map(data, components))
+
+
+def ticket(realm, *components):
+    names = item(0x30, b"".join(item(0x1B, component) for component in components))
+    name = item(0x30, item(0xA0, integer(1)) + item(0xA1, names))
+    sealed = integer(18), integer(1), item(0x04, bytes(range(CIPHER_OCTETS)))
+    sealed = item(0x30, b"".join(item(0xA0 + place, part) for place, part in enumerate(sealed)))
+    fields = integer(5), item(0x1B, realm), name, sealed
+    return item(0x61, item(0x30, b"".join(item(0xA0 + place, part) for place, part in enumerate(fields))))
+
+
+def credential(each):
+    """The ticket of user@EXAMPLE.ORG for host/serverEACH.example.org@EXAMPLE.ORG."""
+    realm, host = b"EXAMPLE.ORG", b"server%06d.example.org" % each
+    start = 1700000000 + each
+    return (
+        principal(realm, b"user")
+        + principal(realm, b"host", host)
+        + struct.pack(">H", 18)
+        + data(bytes((each + place) % 256 for place in range(32)))
+        + struct.pack(">IIIIBI", 1700000000, start, start + 36000, start + 604800, 0, 0x50E10000)
+        + number(0)
+        + number(0)
+        + data(ticket(realm, b"host", host))
+        + data(b"")
+    )
+
+
+def ccache(credentials):
+    """A file of so many credentials, and its size."""
+    file = tempfile.NamedTemporaryFile(suffix=".ccache")
+    header = b"\x05\x04" + struct.pack(">HHHII", 12, 1, 8, 0, 0)
+    size = file.write(header + principal(b"EXAMPLE.ORG", b"user"))
+    size += sum(file.write(credential(each)) for each in range(credentials))
+    file.flush()
+    return file, size
+
+
+def main():
+    most = int(sys.argv[1])
+    for credentials in (most // 10, most):
+        file, size = ccache(credentials)
+        with file:
+            commands = {"list": KRBLS, "cat": ["cat"]}
+            if shutil.which("klist"):
+                commands["MIT's klist -c"] = ["klist", "-c", f"FILE:{file.name}"]
+            print(f"cache of {credentials} credentials, {size} octets:")
+            seconds = best_runs(commands.values(), file.name)
+            for (name, command), least in zip(commands.items(), seconds):
+                peak = peak_octets(command, file.name) / 1e6
+                print(f"    {name} {rate(size, least)}, {peak:.1f} MB of memory")
+
+
+main()
