@@ -41,11 +41,12 @@ fuzz: build
 	tests/fuzz damage
 	tests/fuzz 100000 1
 
-# Octets per second: of the listing of streams and of a keytab, and of messages parsed and encoded.
+# Octets per second: of the listing of streams, of a keytab and of a cache, and of messages parsed and encoded.
 bench: build
 	cd crates/krb_again && rt run < stdin > /dev/null
 	bench/stream
 	bench/keytab
+	bench/ccache
 
 clean:
 	rm -rf bin crates/*/out
