@@ -2,7 +2,6 @@
 use Rattle.std.specs.Prelude.{ℕ, ℤ, pos, negsuc, ◌-◌, ◌*◌, ◌==◌, Bool, false, List, [], ◌∷◌, ◌++◌, length, Option, Some, None, codes, if◌then◌else◌}
 use Rattle.std.specs.List.{filter}
 use Rattle.std.specs.Fmt.{decimal, signed_decimal}
-use Rattle.hex.specs.Hex.{encode_lower}
 use Rattle.krb_msg.specs.Grammar.{method_data}
 use Rattle.krb_msg.specs.Term.{Value}
 use Rattle.krb_msg.specs.Reading.{value_read}
@@ -19,7 +18,7 @@ use Rattle.krb_msg.specs.declared.message.Message.{Message}
 use Rattle.krb_msg.specs.declared.message.Message.TheVariants as message
 use Rattle.krb_judge.specs.Parses.{method_data_refusal}
 use Rattle.krb_der.specs.declared.verdict.Refusal.{Refusal}
-use Rattle.krb_list.specs.Text.{field, line_feed, escape, or_dash, list_text, principal_text, sealed_text}
+use Rattle.krb_list.specs.Text.{field, line_feed, hex, escape, or_dash, list_text, principal_text, sealed_text}
 
 -- ---- fields
 -- the name of a principal in a realm
@@ -33,7 +32,7 @@ client_text name realm = codes "-"
 
 -- the number of bits, and their octets in hexadecimal
 abbrev pub flags_text : ℕ × List ℕ → List ℕ
-flags_text bits = decimal (8 * length bits.1 - bits.0) ++ codes ":" ++ encode_lower bits.1
+flags_text bits = decimal (8 * length bits.1 - bits.0) ++ codes ":" ++ hex bits.1
 
 -- how many there are
 abbrev pub count_text : {A : Type 0} → List A → List ℕ

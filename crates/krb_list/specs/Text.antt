@@ -12,6 +12,9 @@ is_plain octet = nat_le 0x21 octet && nat_le octet 0x7E && not (octet == 0x2F ||
 abbrev pub two_hex : ℕ → List ℕ
 two_hex octet = digit_glyph false (octet / 16) ∷ digit_glyph false (octet % 16) ∷ []
 
+abbrev pub hex : List ℕ → List ℕ
+hex octets = flat_map two_hex octets
+
 -- an octet itself, or `\x` and its two digits
 abbrev pub escape_octet : ℕ → List ℕ
 escape_octet octet = if is_plain octet then octet ∷ [] else codes "\\x" ++ two_hex octet

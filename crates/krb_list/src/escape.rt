@@ -1,11 +1,13 @@
 //! Octets as printable text.
 
-ghost use Rattle.std.specs.Prelude.{◌≡◌, ◌++◌, OnOk, string_bytes};
+ghost use Rattle.std.specs.Prelude.{◌≡◌, ◌++◌, ◌<◌, false, OnOk, string_bytes};
+ghost use Rattle.std.specs.Fmt.{digit_glyph};
+ghost use Rattle.std.specs.List.{list_all};
 ghost use Rattle.std.specs.Str.{IsAscii};
-ghost use Rattle.hex.specs.Hex.{encode_lower};
-ghost use Rattle.krb_list.specs.Text.{is_plain, escape_octet, escape};
+ghost use Rattle.krb_list.specs.Text.{is_plain, two_hex, hex, escape_octet, escape};
 
 use std::alloc::AllocError;
+use std::str;
 
 fn is_plain(octet: u8) -> bool
     ensures { result ≡ is_plain octet }
@@ -13,24 +15,38 @@ fn is_plain(octet: u8) -> bool
     (0x21..=0x7E).contains(&octet) && !matches!(octet, b'/' | b'@' | b'\\')
 }
 
-#[tactic(auto, using(std::proofs::lemmas::Fmt::hex_byte))]
-fn put_octet(line: &mut String, octet: u8) -> Result<(), AllocError>
-    ensures { OnOk result (string_bytes line.new ≡ string_bytes line.old ++ escape_octet octet) }
+fn are_plain(octets: &[u8]) -> bool
+    ensures { result ≡ list_all is_plain octets.now }
 {
-    if is_plain(octet) {
-        line.push(char::from(octet))
-    } else {
-        write!(line, "\\x{octet:02x}")
-    }
+    octets.iter().all(|octet| is_plain(*octet))
 }
 
-/// Appends octets: 21 to 7E but `/`, `@` and `\` as they are, each other as `\x` and two hexadecimal
-/// digits in lower case. Different octets have different texts.
-pub fn put_escaped(line: &mut String, octets: &[u8]) -> Result<(), AllocError>
-    ensures { OnOk result (string_bytes line.new ≡ string_bytes line.old ++ escape octets.now) }
+/// The hexadecimal digit of a number below 16, in lower case.
+fn hex_digit(number: u8) -> char
+    requires { number < 16 }
+    ensures { result ≡ digit_glyph false number }
+{
+    char::from(if number < 10 {
+        b'0' + number
+    } else {
+        b'a' - 10 + number
+    })
+}
+
+/// Appends an octet in two hexadecimal digits, in lower case.
+pub(crate) fn put_two_hex(line: &mut String, octet: u8) -> Result<(), AllocError>
+    ensures { OnOk result (string_bytes line.new ≡ string_bytes line.old ++ two_hex octet) }
+{
+    line.push(hex_digit(octet / 16))?;
+    line.push(hex_digit(octet % 16))
+}
+
+/// Appends octets in hexadecimal, with digits in lower case.
+pub(crate) fn put_hex(line: &mut String, octets: &[u8]) -> Result<(), AllocError>
+    ensures { OnOk result (string_bytes line.new ≡ string_bytes line.old ++ hex octets.now) }
 {
     for octet in octets {
-        put_octet(line, *octet)?;
+        put_two_hex(line, *octet)?;
     }
     Ok(())
 }
@@ -40,17 +56,33 @@ pub(crate) fn put_ascii(line: &mut String, octets: &[u8]) -> Result<(), AllocErr
     requires { IsAscii octets.now }
     ensures { OnOk result (string_bytes line.new ≡ string_bytes line.old ++ octets.now) }
 {
-    for octet in octets {
-        line.push(char::from(*octet))?;
-    }
-    Ok(())
+    // ASCII is UTF-8.
+    line.push_str(unsafe { str::from_utf8_unchecked(octets) })
 }
 
-/// Appends octets in hexadecimal, with digits in lower case.
-pub(crate) fn put_hex(line: &mut String, octets: &[u8]) -> Result<(), AllocError>
-    ensures { OnOk result (string_bytes line.new ≡ string_bytes line.old ++ encode_lower octets.now) }
+fn put_octet(line: &mut String, octet: u8) -> Result<(), AllocError>
+    ensures { OnOk result (string_bytes line.new ≡ string_bytes line.old ++ escape_octet octet) }
 {
-    let alloc = *line.allocator();
-    let digits = hex::encode(alloc, octets)?;
-    line.push_str(digits.as_str())
+    if is_plain(octet) {
+        line.push(char::from(octet))
+    } else {
+        line.push_str("\\x")?;
+        put_two_hex(line, octet)
+    }
+}
+
+/// Appends octets: 21 to 7E but `/`, `@` and `\` as they are, each other as `\x` and two hexadecimal
+/// digits in lower case. Different octets have different texts.
+#[tactic(auto, using(crate::proofs::Escapes::escape_plain, crate::proofs::Escapes::ascii_plain))]
+pub fn put_escaped(line: &mut String, octets: &[u8]) -> Result<(), AllocError>
+    ensures { OnOk result (string_bytes line.new ≡ string_bytes line.old ++ escape octets.now) }
+{
+    // Nearly all names are plain, and one copy takes a third of the time of octet by octet.
+    if are_plain(octets) {
+        return put_ascii(line, octets);
+    }
+    for octet in octets {
+        put_octet(line, *octet)?;
+    }
+    Ok(())
 }

@@ -1,9 +1,9 @@
 //! The flags of a ticket by name.
 
 ghost use Rattle.std.specs.Prelude.{⊤, ◌≡◌, ◌∷◌, ◌++◌, [], IfOk, OnOk, codes, string_bytes};
-ghost use Rattle.krb_list.specs.Text.{two_hex};
 ghost use Rattle.krb_list.specs.TicketFlags.{eight_hex, first_names, flag_names, last_names, name_if_set, others_text, ticket_flags_text};
 
+use crate::escape::put_two_hex;
 use crate::piece::{Name, Piece, put_joined};
 use bitflags::{Flag, Flags, bitflag_items};
 use std::alloc::{AllocError, Global};
@@ -116,13 +116,6 @@ fn flag_names(alloc: Global, flags: TicketFlags) -> Result<Vec<Name>, AllocError
     push_first_names(&mut names, flags)?;
     push_last_names(&mut names, flags)?;
     Ok(names)
-}
-
-#[tactic(auto, using(std::proofs::lemmas::Fmt::hex_byte))]
-fn put_two_hex(line: &mut String, octet: u8) -> Result<(), AllocError>
-    ensures { OnOk result (string_bytes line.new ≡ string_bytes line.old ++ two_hex octet) }
-{
-    write!(line, "{octet:02x}")
 }
 
 #[tactic(auto, unfolding(crate::specs::TicketFlags::eight_hex))]
