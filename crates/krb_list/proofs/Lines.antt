@@ -7,22 +7,22 @@ use Rattle.krb_msg.specs.declared.ap_rep.ApRep.{ApRep}
 use Rattle.krb_msg.specs.declared.krb_error.KrbError.{KrbError}
 use Rattle.krb_list.specs.Messages.{kdc_req_text, kdc_rep_text, ap_req_text, ap_rep_text, krb_error_text}
 
-pub kdc_req_behind : (text name : List ℕ) (m : KdcReq) → kdc_req_text (text ++ name) m ≡ text ++ kdc_req_text name m
+pub kdc_req_after : (text name : List ℕ) (m : KdcReq) → kdc_req_text (text ++ name) m ≡ text ++ kdc_req_text name m
 unfolding kdc_req_text
-kdc_req_behind text name m = simp append_assoc
+kdc_req_after text name m = simp append_assoc
 
-pub kdc_rep_behind : (text name : List ℕ) (m : KdcRep) → kdc_rep_text (text ++ name) m ≡ text ++ kdc_rep_text name m
+pub kdc_rep_after : (text name : List ℕ) (m : KdcRep) → kdc_rep_text (text ++ name) m ≡ text ++ kdc_rep_text name m
 unfolding kdc_rep_text
-kdc_rep_behind text name m = simp append_assoc
+kdc_rep_after text name m = simp append_assoc
 
-pub ap_req_behind : (text name : List ℕ) (m : ApReq) → ap_req_text (text ++ name) m ≡ text ++ ap_req_text name m
+pub ap_req_after : (text name : List ℕ) (m : ApReq) → ap_req_text (text ++ name) m ≡ text ++ ap_req_text name m
 unfolding ap_req_text
-ap_req_behind text name m = simp append_assoc
+ap_req_after text name m = simp append_assoc
 
-pub ap_rep_behind : (text name : List ℕ) (m : ApRep) → ap_rep_text (text ++ name) m ≡ text ++ ap_rep_text name m
+pub ap_rep_after : (text name : List ℕ) (m : ApRep) → ap_rep_text (text ++ name) m ≡ text ++ ap_rep_text name m
 unfolding ap_rep_text
-ap_rep_behind text name m = simp append_assoc
+ap_rep_after text name m = simp append_assoc
 
-pub krb_error_behind : (text name : List ℕ) (m : KrbError) → krb_error_text (text ++ name) m ≡ text ++ krb_error_text name m
+pub krb_error_after : (text name : List ℕ) (m : KrbError) → krb_error_text (text ++ name) m ≡ text ++ krb_error_text name m
 unfolding krb_error_text
-krb_error_behind text name m = simp append_assoc
+krb_error_after text name m = simp append_assoc

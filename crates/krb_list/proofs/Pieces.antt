@@ -1,10 +1,6 @@
 -- Pieces appended one after another.
 use Rattle.std.proofs.Common.{◌≡◌, ℕ, List, ◌++◌, append_assoc}
 
--- four pieces behind a text, each appended to the text so far
+-- four pieces after a text, each appended to the text so far
 pub appended_four : (text a b c d : List ℕ) → (((text ++ a) ++ b) ++ c) ++ d ≡ text ++ (((a ++ b) ++ c) ++ d)
 appended_four text a b c d = simp append_assoc
-
--- five pieces behind a text, each appended to the text so far
-pub appended_five : (text a b c d e : List ℕ) → ((((text ++ a) ++ b) ++ c) ++ d) ++ e ≡ text ++ ((((a ++ b) ++ c) ++ d) ++ e)
-appended_five text a b c d e = simp append_assoc

@@ -38,7 +38,7 @@ cache_text v =
 unfoldable pub who_text : Credential → List ℕ
 who_text c = field (codes "client") (file_principal_text c.client) ++ field (codes "server") (file_principal_text c.server)
 
--- of the key how many octets there are, and nothing else
+-- of the key, the number of octets alone
 unfoldable pub key_text : Credential → List ℕ
 key_text c = field (codes "enctype") (decimal c.enctype) ++ field (codes "key") (decimal (length c.key))
 

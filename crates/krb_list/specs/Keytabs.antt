@@ -21,7 +21,7 @@ name_text e = codes " principal=" ++ principal_text e.components e.realm ++ code
 unfoldable pub version_text : Entry → List ℕ
 version_text e = codes " time=" ++ time_text e.time ++ codes " kvno=" ++ decimal (kvno e) ++ codes " enctype=" ++ decimal e.enctype
 
--- of the key and of what stands behind it how many octets there are, and nothing else
+-- of the key and of what stands after it, the number of octets alone
 unfoldable pub sizes_text : Entry → List ℕ
 sizes_text e = codes " key=" ++ decimal (length e.key) ++ codes " rest=" ++ decimal (length e.rest)
 

@@ -1,7 +1,6 @@
 -- Lines of messages, computed: octets in hexadecimal, and what is listed of them. The notes are computed of the same values.
 use Rattle.std.specs.Prelude.{ℕ, ◌≡◌, List, ◌++◌, refl, codes}
 use Rattle.std.specs.Fmt.{digits}
-use Rattle.hex.specs.Hex.{encode_with}
 use Rattle.krb_der.specs.Hex.{hex}
 use Rattle.krb_msg.specs.Reading.{message_read}
 use Rattle.krb_list.specs.Text.{field, principal_text}
@@ -26,7 +25,7 @@ unfolding digits field ap_rep_text
 negative_kvno = refl
 
 ap_req : line_of (hex (codes "6E533051 A003020105 A10302010E A20703050000000000 A32D") ++ ticket ++ hex (codes "A40D") ++ sealed) ≡ codes "AP-REQ server=h@A options=32:00000000 ticket=18:-:2 auth=18:-:2 notes=[]"
-unfolding digits encode_with principal_text field ap_req_text
+unfolding digits principal_text field ap_req_text
 ap_req = refl
 
 as_rep : line_of (hex (codes "6B5F305D A003020105 A10302010B A3031B0141 A40E300CA003020101A10530031B0175 A52D") ++ ticket ++ hex (codes "A60D") ++ sealed) ≡ codes "AS-REP client=u@A server=h@A padata=- ticket=18:-:2 enc=18:-:2 notes=[]"
@@ -46,11 +45,11 @@ unfolding digits principal_text field kdc_rep_text
 high_octet = refl
 
 as_req : line_of (hex (codes "6A3A3038 A103020105 A20302010A A42C302A A00403020140 A2031B0141 A511180F31393730303130313030303030305A A7030201FF A8053003020112")) ≡ codes "AS-REQ realm=A client=- server=- options=7:40 from=- till=19700101000000Z rtime=- nonce=-1 etypes=[18] padata=- addresses=- authdata=- tickets=- notes=[2,3]"
-unfolding digits encode_with principal_text field kdc_req_text
+unfolding digits principal_text field kdc_req_text
 as_req = refl
 
 tgs_req : line_of (hex (codes "6C6B3069 A103020105 A20302010C A45D305B A00703050000000000 A2031B0141 A511180F31393730303130313030303030305A A703020101 A8023000 AB2F302D") ++ ticket) ≡ codes "TGS-REQ realm=A client=- server=- options=32:00000000 from=- till=19700101000000Z rtime=- nonce=1 etypes=[] padata=- addresses=- authdata=- tickets=1 notes=[]"
-unfolding digits encode_with principal_text field kdc_req_text
+unfolding digits principal_text field kdc_req_text
 tgs_req = refl
 
 -- a KRB-ERROR with this data

@@ -8,12 +8,12 @@ use Rattle.krb_msg.specs.Stream.{End, Boundary, Within, Refused}
 use Rattle.krb_list.specs.Text.{line_feed}
 use Rattle.krb_list.specs.Refusals.{fault_text}
 
--- the line of a refusal behind so many messages
+-- the last line of a refused stream, after n messages
 abbrev pub refused_line : ℕ → ℕ → Why → List ℕ
 refused_line messages place reason =
     codes "refused messages=" ++ decimal messages ++ fault_text place (reason_number reason) (reason_name reason) ++ line_feed
 
--- the last line of a listing, behind so many messages
+-- the last line of a listing, after n messages
 abbrev pub end_line : ℕ → End → List ℕ
 end_line messages Boundary = codes "end messages=" ++ decimal messages ++ line_feed
 end_line messages (Within present) = refused_line messages present Truncated

@@ -7,7 +7,7 @@ use Rattle.krb_list.specs.Text.{joined, two_hex}
 unfoldable pub name_if_set : ℕ → ℕ → List ℕ → List (List ℕ)
 name_if_set flags flag name = if bit_and flags flag == flag then name ∷ [] else []
 
--- names, and those of the flags from bit 1 to 7 behind them
+-- names, and after them those of the flags from bit 1 to 7
 unfoldable pub first_names : List (List ℕ) → ℕ → List (List ℕ)
 first_names names flags =
     names
@@ -19,7 +19,7 @@ first_names names flags =
     ++ name_if_set flags 0x0200_0000 (codes "postdated")
     ++ name_if_set flags 0x0100_0000 (codes "invalid")
 
--- names, and those of the flags from bit 8 to 13 behind them
+-- names, and after them those of the flags from bit 8 to 13
 unfoldable pub last_names : List (List ℕ) → ℕ → List (List ℕ)
 last_names names flags =
     names

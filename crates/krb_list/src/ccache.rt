@@ -3,10 +3,10 @@
 ghost use Rattle.std.specs.Prelude.{◌≡◌, ◌++◌, IfOk, OnOk, string_bytes};
 ghost use Rattle.std.specs.Fmt.{decimal};
 ghost use Rattle.krb_list.specs.Time.{time_text};
-ghost use Rattle.krb_list.specs.Ccaches.{file_principal_text, offset_text, cache_text, who_text, key_text, times_text, state_text, flags_text, counts_text, tickets_text, credential_front, credential_text, config_text, refused_ticket_text, ticket_server_text, credential_line, credential_lines, cache_end_text, ccache_lines};
+ghost use Rattle.krb_list.specs.Ccaches.{file_principal_text, offset_text, cache_text, who_text, key_text, times_text, state_text, flags_text, counts_text, tickets_text, credential_front, credential_text, config_text, refused_ticket_text, ticket_server_text, state_line, credential_line, credential_lines, cache_end_text, ccache_lines};
 
 use crate::field::put_field;
-use crate::piece::{Name, Piece};
+use crate::piece::{Name, Piece, put_number};
 use crate::principal::put_principal;
 use crate::ticket_flags::TicketFlags;
 use crate::time::put_time;
@@ -166,8 +166,10 @@ impl Piece for Refusal {
 
     #[tactic(auto, unfolding(crate::specs::Ccaches::refused_ticket_text))]
     fn put(&self, line: &mut String) -> Result<(), AllocError> {
-        write!(line, "refused:{}", self.place)?;
-        write!(line, ":{}", why_number(self.why))
+        line.push_str("refused:")?;
+        put_number(line, self.place)?;
+        line.push(':')?;
+        put_number(line, why_number(self.why))
     }
 }
 
@@ -177,6 +179,29 @@ impl Piece for Ticket {
 
     fn put(&self, line: &mut String) -> Result<(), AllocError> {
         put_principal(line, self.sname.name.as_slice(), &self.realm)
+    }
+}
+
+/// Appends the line of a credential whose ticket field holds this, without its line feed.
+fn put_with_state(
+    line: &mut String,
+    now: Option<u32>,
+    credential: &Credential,
+    state: &TicketState,
+) -> Result<(), AllocError>
+    ensures { OnOk result (string_bytes line.new ≡ string_bytes line.old ++ state_line now credential.now state.now) }
+{
+    match state {
+        TicketState::Config => put_config(line, credential),
+        TicketState::Absent => {
+            put_credential(line, now, credential, &Name("absent"), &Name("-"))
+        }
+        TicketState::Ticket(ticket) => {
+            put_credential(line, now, credential, &ticket.enc_part, ticket)
+        }
+        TicketState::Refused(refusal) => {
+            put_credential(line, now, credential, refusal, &Name("-"))
+        }
     }
 }
 
@@ -190,18 +215,8 @@ fn put_line(
 ) -> Result<(), Memory>
     ensures { OnOk result (string_bytes line.new ≡ string_bytes line.old ++ credential_line now credential.now) }
 {
-    match ticket_of(alloc, credential)? {
-        TicketState::Config => put_config(line, credential)?,
-        TicketState::Absent => {
-            put_credential(line, now, credential, &Name("absent"), &Name("-"))?;
-        }
-        TicketState::Ticket(ticket) => {
-            put_credential(line, now, credential, &ticket.enc_part, &ticket)?;
-        }
-        TicketState::Refused(refusal) => {
-            put_credential(line, now, credential, &refusal, &Name("-"))?;
-        }
-    }
+    let state = ticket_of(alloc, credential)?;
+    put_with_state(line, now, credential, &state)?;
     Ok(())
 }
 
@@ -228,7 +243,7 @@ fn put_cache_end(line: &mut String, count: usize) -> Result<(), AllocError>
     put_field(line, "credentials", &count)
 }
 
-/// Appends the lines of a cache, which are [`ccache_lines`]'s.
+/// Appends the lines of a cache, those of [`ccache_lines`].
 #[tactic(auto, unfolding(crate::specs::Ccaches::ccache_lines))]
 pub fn put_ccache(
     alloc: Global,

@@ -11,7 +11,7 @@ pub fn escape_is_graphic()
     ensures { EscapeIsGraphic }
 {}
 
-/// The date so many days after 1970-01-01, found by counting, is the calendar's.
+/// The date n days after 1970-01-01, found by counting, is the calendar's.
 pub fn dates_are_the_calendars()
     ensures { DatesAreTheCalendars }
 {}

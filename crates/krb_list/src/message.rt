@@ -61,7 +61,7 @@ fn put_ap_rep(line: &mut String, rep: &ApRep) -> Result<(), AllocError>
 }
 
 /// Appends the name of a message, and its fields but the notes.
-#[tactic(auto, using(crate::proofs::Lines::kdc_req_behind, crate::proofs::Lines::kdc_rep_behind, crate::proofs::Lines::ap_req_behind, crate::proofs::Lines::ap_rep_behind, crate::proofs::Lines::krb_error_behind))]
+#[tactic(auto, using(crate::proofs::Lines::kdc_req_after, crate::proofs::Lines::kdc_rep_after, crate::proofs::Lines::ap_req_after, crate::proofs::Lines::ap_rep_after, crate::proofs::Lines::krb_error_after))]
 fn put_fields(line: &mut String, message: &Message) -> Result<(), Memory>
     ensures { OnOk result (string_bytes line.new ≡ string_bytes line.old ++ fields_text message.now) }
 {

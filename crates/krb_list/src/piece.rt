@@ -17,7 +17,7 @@ use std::marker::Model;
 pub trait Piece {
     ghost text: { Self → List ℕ };
 
-    /// Appends the text of the value. Where a growth is refused, a part of it may stand there.
+    /// Appends the text of the value, or a part of it when out of memory.
     fn put(&self, line: &mut String) -> Result<(), AllocError>
         ensures { OnOk result (string_bytes line.new ≡ string_bytes line.old ++ text self.now) };
 }
@@ -106,7 +106,7 @@ impl Piece for Micros {
     }
 }
 
-/// The fifteen characters.
+/// Its fifteen characters.
 impl Piece for KerberosTime {
     ghost text = { λ time. time };
 
@@ -157,7 +157,7 @@ impl<T: Piece> Piece for Many<T> {
     }
 }
 
-/// Its type.
+/// Its type alone.
 impl Piece for PaData {
     ghost text = { padata_text };
 

@@ -8,14 +8,14 @@ use crate::refusal::put_fault;
 use krb_der::{Refusal, why_number, why_text};
 use std::alloc::AllocError;
 
-/// Appends the last line of a stream that ends between frames, behind so many messages.
+/// Appends the last line of a stream that ends between frames, after n messages.
 pub fn put_stream_end(text: &mut String, messages: u64) -> Result<(), AllocError>
     ensures { OnOk result (string_bytes text.new ≡ string_bytes text.old ++ end_line messages Boundary) }
 {
     writeln!(text, "end messages={messages}")
 }
 
-/// Appends the line of a refusal, behind so many messages.
+/// Appends the last line of a refused stream, after n messages.
 pub fn put_stream_refusal(
     text: &mut String,
     messages: u64,

@@ -1,4 +1,5 @@
 //! Times of files.
+
 ghost use Rattle.std.specs.Prelude.{◌≡◌, ◌++◌, ◌<◌, IfOk, OnOk, pos, string_bytes};
 ghost use Rattle.krb_list.specs.Time.{civil_date, date_text, clock_text, moment_text, time_text, two_digits};
 ghost use Rattle.jiff.specs.Words.{epoch_day};
@@ -23,7 +24,7 @@ fn day_after(days: u32) -> Date
     date(1970, 1, 1) + i64::from(days).days()
 }
 
-/// The date so many days after 1970-01-01.
+/// The date n days after 1970-01-01.
 fn civil_date(days: u32) -> CivilDate
     requires { days < 50_000 }
     ensures value { result ≡ civil_date days }
@@ -84,7 +85,7 @@ fn put_moment(line: &mut String, seconds: u32) -> Result<(), AllocError>
     line.push('Z')
 }
 
-/// Appends the moment so many seconds after the beginning of 1970, or `-` at 0.
+/// Appends the moment n seconds after the beginning of 1970, or `-` at 0.
 pub fn put_time(line: &mut String, seconds: u32) -> Result<(), AllocError>
     ensures { OnOk result (string_bytes line.new ≡ string_bytes line.old ++ time_text seconds) }
 {
@@ -95,7 +96,7 @@ pub fn put_time(line: &mut String, seconds: u32) -> Result<(), AllocError>
     }
 }
 
-/// The moment so many seconds after the beginning of 1970.
+/// The moment n seconds after the beginning of 1970, or `-` at 0.
 pub fn time_text(alloc: Global, seconds: u32) -> Result<String, Memory>
     ensures { IfOk result (λ text. string_bytes text ≡ time_text seconds) }
 {

@@ -68,7 +68,7 @@ pub option_none : {A : Type 0} (v : Option A) → option_any (λ (x : A). false)
 option_none None = refl
 option_none (Some x) = refl
 
--- what the parts of a request give, one behind another, and those in which no note holds left out
+-- what the parts of a request give, one after another, and those in which no note holds left out
 parts : (options client realm server from until nonce etypes addresses authdata tickets client₂ server₂ addresses₂ authdata₂ none inside : Bool) →
     client ≡ client₂ → server ≡ server₂ → from ≡ false → until ≡ false → etypes ≡ false → addresses ≡ addresses₂ → authdata ≡ authdata₂ → tickets ≡ (none || inside) →
     (options || (client || (realm || (server || (from || (until || (nonce || (etypes || (addresses || (authdata || (tickets || false)))))))))))
