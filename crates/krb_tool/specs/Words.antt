@@ -10,9 +10,9 @@ use Rattle.krb_tool.specs.declared.words.Job.TheVariants as job
 use Rattle.krb_tool.specs.declared.words.Order.{Order}
 
 -- ---- the command
--- an option with one value
+-- an option with one value, for which help has a name
 abbrev pub option : Text → Rule
-option name = record (new_rule name) { long = Some name; action = Some Set }
+option name = record (new_rule name) { long = Some name; action = Some Set; value_names = 1 }
 
 -- an option whose value is a number of 32 bits
 abbrev pub number_option : Text → Rule

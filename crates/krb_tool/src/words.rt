@@ -1,7 +1,7 @@
 //! The words of the command line.
 
 ghost use Rattle.std.specs.Prelude.{◌≡◌, false, codes, map, option_map, string_bytes, IfOk};
-ghost use Rattle.clap.specs.Words.{app_of, found_of, rows_of, rule_of, subcommand_rows_of, first_of, one_of};
+ghost use Rattle.clap.specs.Words.{app_of, new_app, found_of, rows_of, rule_of, subcommand_rows_of, first_of, one_of};
 ghost use Rattle.clap.specs.declared.builder.command.Command.TheViews.{out-Command};
 ghost use Rattle.krb_tool.specs.Words.{file_option, number_option, stream_app, message_app, keytab_app, ccache_app, krbls, IsHelp, IsJob, IsOrderOf, IsOrderIn, IsNumber, IsNumberOr};
 
@@ -49,6 +49,93 @@ impl From<AllocError> for WordsFault {
     }
 }
 
+/// What help says of a command: first what it lists, then how it is called, and last, below its
+/// options, what it reads and prints.
+struct CommandHelp {
+    about: &'static str,
+    usage: &'static str,
+    below: &'static str,
+}
+
+const KRBLS_HELP: CommandHelp = CommandHelp {
+    about: "Lists Kerberos V5 messages, keytabs and credential caches",
+    usage: "krbls <COMMAND> [OPTIONS]",
+    below: "\
+Each message, record or credential gives a line. The last line tells the end, or
+what was refused, at which octet and why. No octet of a key is shown.
+
+Examples:
+  krbls stream --file capture
+  krbls message < message.hex
+  krbls keytab --file /etc/krb5.keytab
+  krbls ccache --file /tmp/krb5cc_0 --now \"$(date +%s)\"
+
+Exit status:
+  0  all was read
+  1  something was refused
+  2  the command line is wrong
+  3  a read, a write or memory failed",
+};
+
+const STREAM_HELP: CommandHelp = CommandHelp {
+    about: "Lists framed messages",
+    usage: "krbls stream [OPTIONS]",
+    below: "\
+Reads frames, as one direction of a TCP connection to a KDC has them: four
+octets of length, the highest first, and a message. Prints a line for each
+message, and then `end messages=N` or `refused messages=N place=P why=REASON`.
+
+Example:
+  krbls stream --limit 65536 --file capture",
+};
+
+const MESSAGE_HELP: CommandHelp = CommandHelp {
+    about: "Lists a message in hexadecimal",
+    usage: "krbls message [OPTIONS]",
+    below: "\
+Reads digits of either case. Spaces, tabs and line ends between them are passed
+over. Prints the line of the message, or `refused place=P why=REASON`,
+`refused hex` or `refused length`.
+
+Example:
+  echo 6f1d301b... | krbls message",
+};
+
+const KEYTAB_HELP: CommandHelp = CommandHelp {
+    about: "Lists a keytab",
+    usage: "krbls keytab [OPTIONS]",
+    below: "\
+Reads a keytab of format 0x0502. Prints a line for each entry and each hole, and
+then `end records=N zero=no` (`zero=yes` where a length of 0 ends it), or
+`refused place=P why=REASON` alone.
+
+Example:
+  krbls keytab --file /etc/krb5.keytab",
+};
+
+const CCACHE_HELP: CommandHelp = CommandHelp {
+    about: "Lists a credential cache",
+    usage: "krbls ccache [OPTIONS]",
+    below: "\
+Reads a cache of version 4. Prints a line for the cache and one for each
+credential or configuration entry, and then `end credentials=N`, or
+`refused place=P why=REASON` alone.
+
+Example:
+  krbls ccache --file /tmp/krb5cc_0 --now \"$(date +%s)\"",
+};
+
+/// A command with its help, and no options yet.
+fn new_command<'a>(alloc: Global, name: &'a str, help: &CommandHelp) -> Command<'a>
+    ensures app { app_of result ≡ new_app name.entry.now }
+    ensures local { (out-Command result).has_globals ≡ false }
+{
+    Command::new(alloc, name)
+        .about(help.about)
+        .override_usage(help.usage)
+        .after_help(help.below)
+}
+
 /// `--file PATH`.
 fn file_option<'a>(alloc: Global) -> Arg<'a>
     ensures rule { rule_of result ≡ file_option }
@@ -57,11 +144,12 @@ fn file_option<'a>(alloc: Global) -> Arg<'a>
     Arg::new(alloc, "file")
         .long("file")
         .action(ArgAction::Set)
+        .value_name("PATH")
         .help("Reads this file in place of the standard input")
 }
 
 /// An option whose value is a number of 32 bits.
-fn number_option<'a>(alloc: Global, name: &'a str, help: &'a str) -> Arg<'a>
+fn number_option<'a>(alloc: Global, name: &'a str, value: &'a str, help: &'a str) -> Arg<'a>
     ensures rule { rule_of result ≡ number_option name.entry.now }
     ensures local { result.global ≡ false }
 {
@@ -69,15 +157,20 @@ fn number_option<'a>(alloc: Global, name: &'a str, help: &'a str) -> Arg<'a>
         .long(name)
         .action(ArgAction::Set)
         .value_parser(value_parser!(u32))
+        .value_name(value)
         .help(help)
 }
 
 fn stream_command<'a>(alloc: Global) -> Result<Command<'a>, AllocError>
     ensures { IfOk result (λ c. (app_of c ≡ stream_app) × ((out-Command c).has_globals ≡ false)) }
 {
-    let limit = number_option(alloc, "limit", "The most octets of a frame");
-    Command::new(alloc, "stream")
-        .about("Lists framed messages")
+    let limit = number_option(
+        alloc,
+        "limit",
+        "OCTETS",
+        "Refuses longer frames; 1 to 2147483647, 16777216 where not given",
+    );
+    new_command(alloc, "stream", &STREAM_HELP)
         .arg(limit)?
         .arg(file_option(alloc))
 }
@@ -85,17 +178,13 @@ fn stream_command<'a>(alloc: Global) -> Result<Command<'a>, AllocError>
 fn message_command<'a>(alloc: Global) -> Result<Command<'a>, AllocError>
     ensures { IfOk result (λ c. (app_of c ≡ message_app) × ((out-Command c).has_globals ≡ false)) }
 {
-    Command::new(alloc, "message")
-        .about("Lists a message in hexadecimal")
-        .arg(file_option(alloc))
+    new_command(alloc, "message", &MESSAGE_HELP).arg(file_option(alloc))
 }
 
 fn keytab_command<'a>(alloc: Global) -> Result<Command<'a>, AllocError>
     ensures { IfOk result (λ c. (app_of c ≡ keytab_app) × ((out-Command c).has_globals ≡ false)) }
 {
-    Command::new(alloc, "keytab")
-        .about("Lists a keytab")
-        .arg(file_option(alloc))
+    new_command(alloc, "keytab", &KEYTAB_HELP).arg(file_option(alloc))
 }
 
 fn ccache_command<'a>(alloc: Global) -> Result<Command<'a>, AllocError>
@@ -104,10 +193,10 @@ fn ccache_command<'a>(alloc: Global) -> Result<Command<'a>, AllocError>
     let now = number_option(
         alloc,
         "now",
-        "The time that tells which credentials have expired",
+        "SECONDS",
+        "Tells which credentials have expired by then, in seconds since 1970",
     );
-    Command::new(alloc, "ccache")
-        .about("Lists a credential cache")
+    new_command(alloc, "ccache", &CCACHE_HELP)
         .arg(now)?
         .arg(file_option(alloc))
 }
@@ -116,8 +205,7 @@ fn ccache_command<'a>(alloc: Global) -> Result<Command<'a>, AllocError>
 fn krbls_command<'a>(alloc: Global) -> Result<Command<'a>, AllocError>
     ensures { IfOk result (λ c. app_of c ≡ krbls) }
 {
-    Command::new(alloc, "krbls")
-        .about("Lists Kerberos V5 messages, keytabs and credential caches")
+    new_command(alloc, "krbls", &KRBLS_HELP)
         .no_binary_name(true)
         .disable_help_subcommand(true)
         .subcommand(stream_command(alloc)?)?

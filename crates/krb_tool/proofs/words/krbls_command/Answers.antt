@@ -8,11 +8,11 @@ use Rattle.krb_tool.proofs.words.krbls_command.Goals as goal
 
 pub returns : goal.returns
 returns c =
-    let named : app_of c.no_binary_name.result ≡ on_top (λ (s : Shape). record s { no_binary_name = true }) (app_of c.new.result) =
-    ap app_of_fields c.no_binary_name.ensures ∙ ap (λ (a : App). on_top (λ (s : Shape). record s { no_binary_name = true }) a) (ap app_of_fields c.about.ensures) in
+    let named : app_of c.no_binary_name.result ≡ on_top (λ (s : Shape). record s { no_binary_name = true }) (app_of c.new_command.result) =
+    ap app_of_fields c.no_binary_name.ensures in
     let top : app_of c.disable_help_subcommand.result ≡ krbls_top =
     ap app_of_fields c.disable_help_subcommand.ensures
-    ∙ ap (λ (a : App). on_top (λ (s : Shape). record s { disable_help_subcommand = true }) a) (named ∙ ap (λ (a : App). on_top (λ (s : Shape). record s { no_binary_name = true }) a) c.new.ensures.app) in
+    ∙ ap (λ (a : App). on_top (λ (s : Shape). record s { disable_help_subcommand = true }) a) (named ∙ ap (λ (a : App). on_top (λ (s : Shape). record s { no_binary_name = true }) a) c.new_command.ensures.app) in
     let first : app_of c.in_ok-subcommand.field-0 ≡ with_subcommand krbls_top stream_app.top =
     subcommand_added _ _ _ _ _ c.in_ok-subcommand.ensures top c.in_ok-stream_command.ensures.0 c.in_ok-stream_command.ensures.1 in
     let second : app_of c.in_ok-subcommand-2.field-0 ≡ with_subcommand (with_subcommand krbls_top stream_app.top) message_app.top =
