@@ -6,3 +6,4 @@ pub mod Dates
 pub mod Escapes
 pub mod Masks
 pub mod CcacheMasks
+pub mod OneLine

@@ -1,5 +1,5 @@
 //! Laws of the texts. Each is the contract of a function that does nothing.
-ghost use Rattle.krb_list.specs.Laws.{DatesAreTheCalendars, EscapeIsGraphic, KeysAreNotShown, PrincipalTextTells, SessionKeysAreNotShown};
+ghost use Rattle.krb_list.specs.Laws.{DatesAreTheCalendars, EscapeIsGraphic, KeysAreNotShown, MessageIsOneLine, PrincipalTextTells, SessionKeysAreNotShown};
 
 /// Different components or realms have different texts.
 pub fn principal_text_tells()
@@ -9,6 +9,11 @@ pub fn principal_text_tells()
 /// Escaped octets are graphic characters of ASCII: no blank, no line feed.
 pub fn escape_is_graphic()
     ensures { EscapeIsGraphic }
+{}
+
+/// The line of a message has no line feed inside: blanks and graphic characters of ASCII alone.
+pub fn message_is_one_line()
+    ensures { MessageIsOneLine }
 {}
 
 /// The date n days after 1970-01-01, found by counting, is the calendar's.
