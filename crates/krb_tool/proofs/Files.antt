@@ -1,8 +1,8 @@
 -- A file that is read piece by piece.
-use Rattle.std.proofs.Common.{◌≡◌, ℕ, ◌<◌, List, [], ◌++◌, Option, Result, Ok, Err, OnErr, IfErr, sym, ◌∙◌, ap, subst, append-nil}
+use Rattle.std.proofs.Common.{◌≡◌, ℕ, ◌+◌, ◌<◌, ◌≤◌, ◌⊎◌, inl, inr, List, [], ◌++◌, length, take, drop, Option, Some, None, IfSome, Result, Ok, Err, OnErr, IfErr, refl, sym, ◌∙◌, ap, subst, arith, append-nil, append_assoc, take-append-drop, length-append, length-take, drop_of_length-le, take-take}
 use Rattle.std.specs.Io.KnownBytes.{Consumes}
-use Rattle.std.proofs.KnownBytes.{Consumes-trans}
-use Rattle.krb_tool.specs.Files.{TakesAll, TakesSome, TellsRead}
+use Rattle.std.proofs.KnownBytes.{Consumes-nil, Consumes-trans}
+use Rattle.krb_tool.specs.Files.{FileListing, IsAllOrFull, IsTold, TakesAll, TakesFront, TakesSome, ListsFront, FailsFile, TellsRead}
 use Rattle.krb_tool.specs.declared.run.RunFault.{RunFault}
 use Rattle.krb_tool.specs.declared.run.RunFault.TheVariants as fault
 use Rattle.krb_tool.specs.declared.transfer.ReaderState.{ReaderState}
@@ -16,6 +16,75 @@ TakesAll-made had left after file piece room c g none some = record {
   ended = g.ended none some;
 }
 
+-- what came so far, of which a front is kept
+pub record KeepsFront (had left : Option (List ℕ)) (most : Option ℕ) (kept : List ℕ) : Type 0 where
+  pub rest : List ℕ
+  pub taken : Consumes had left (kept ++ rest)
+  pub enough : IsAllOrFull most kept rest
+  pub within : IfSome most (λ m. length kept ≤ m)
+
+pub KeepsFront-start : (had : Option (List ℕ)) (most : Option ℕ) → KeepsFront had had most []
+KeepsFront-start had None = record { rest = []; taken = Consumes-nil had; enough = inl refl; within = tt }
+KeepsFront-start had (Some m) = record { rest = []; taken = Consumes-nil had; enough = inl refl; within = omega arith }
+
+grown : (kept piece : List ℕ) (n : ℕ) → n ≤ length piece → length kept + n ≡ length (kept ++ take n piece)
+grown kept piece n few = omega (arith, few, length-append kept (take n piece), length-take n piece)
+
+-- and then a piece, of which a front is kept that is all of it or fills the rest
+pub KeepsFront-more : (had left after : Option (List ℕ)) (most : Option ℕ) (kept piece : List ℕ) (n : ℕ) → KeepsFront had left most kept → Consumes left after piece → n ≤ length piece → IfSome most (λ m. length kept + n ≤ m) → (n ≡ length piece) ⊎ (most ≡ Some (length kept + n)) → KeepsFront had after most (kept ++ take n piece)
+KeepsFront-more had left after most kept piece n k c few within all = record {
+  rest = k.rest ++ drop n piece;
+  taken = subst (Consumes had after) (together k.enough) (Consumes-trans had left after (kept ++ k.rest) piece k.taken c);
+  enough = enough k.enough all;
+  within = subst (λ l. IfSome most (λ m. l ≤ m)) (grown kept piece n few) within;
+}
+  where
+    none : most ≡ Some (length kept) → n ≡ 0
+    none e =
+        let w : length kept + n ≤ length kept = subst (λ (o : Option ℕ). IfSome o (λ m. length kept + n ≤ m)) e within in
+        omega (arith, w)
+
+    together : IsAllOrFull most kept k.rest → (kept ++ k.rest) ++ piece ≡ (kept ++ take n piece) ++ (k.rest ++ drop n piece)
+    together (inl e) =
+        ap (λ r. (kept ++ r) ++ piece) e
+        ∙ ap (λ l. l ++ piece) (append-nil kept)
+        ∙ ap (λ l. kept ++ l) (sym (take-append-drop n piece))
+        ∙ sym (append_assoc kept (take n piece) (drop n piece))
+        ∙ ap (λ r. (kept ++ take n piece) ++ (r ++ drop n piece)) (sym e)
+    together (inr e) =
+        append_assoc kept k.rest piece
+        ∙ ap (λ l. l ++ (k.rest ++ piece)) (sym (append-nil kept))
+        ∙ ap (λ m. (kept ++ take m piece) ++ (k.rest ++ drop m piece)) (sym (none e))
+
+    enough : IsAllOrFull most kept k.rest → (n ≡ length piece) ⊎ (most ≡ Some (length kept + n)) → IsAllOrFull most (kept ++ take n piece) (k.rest ++ drop n piece)
+    enough r (inr f) = inr (f ∙ ap Some (grown kept piece n few))
+    enough (inl e) (inl f) = inl (ap (λ r. r ++ drop n piece) e ∙ drop_of_length-le piece {i = n} (omega (arith, f)))
+    enough (inr e) (inl f) = inr (e ∙ ap Some (omega (arith, none e, grown kept piece n few)))
+
+-- the same of what came into a buffer
+pub KeepsFront-fed : (had left after : Option (List ℕ)) (most : Option ℕ) (kept buffer : List ℕ) (count n len : ℕ) → KeepsFront had left most kept → Consumes left after (take count buffer) → count ≤ length buffer → len ≡ length kept → n ≤ count → IfSome most (λ m. len + n ≤ m) → (n ≡ count) ⊎ (most ≡ Some (len + n)) → KeepsFront had after most (kept ++ take n buffer)
+KeepsFront-fed had left after most kept buffer count n len k c whole same few within all =
+    subst (λ l. KeepsFront had after most (kept ++ l)) (take-take n count buffer few)
+    (KeepsFront-more had left after most kept (take count buffer) n k c (omega (arith, few, whole, length-take count buffer)) (subst (λ l. IfSome most (λ m. l + n ≤ m)) same within) (by all))
+  where
+    by : (n ≡ count) ⊎ (most ≡ Some (len + n)) → (n ≡ length (take count buffer)) ⊎ (most ≡ Some (length kept + n))
+    by (inl e) = inl (omega (arith, e, whole, length-take count buffer))
+    by (inr e) = inr (e ∙ ap (λ l. Some (l + n)) same)
+
+-- a reader that gives nothing has given all
+pub TakesFront-made : (had left after : Option (List ℕ)) (most : Option ℕ) (kept piece : List ℕ) (room : ℕ) → KeepsFront had left most kept → Gives left after piece room → piece ≡ [] → 0 < room → TakesFront had after most kept
+TakesFront-made had left after most kept piece room k g none some = record {
+  rest = k.rest;
+  taken = TakesAll-made had left after (kept ++ k.rest) piece room k.taken g none some;
+  enough = k.enough;
+  within = k.within;
+}
+
+-- the listing of what is kept is that of all
+pub told-whole : (Lists : List ℕ → FileListing → Type 0) (most : Option ℕ) (kept rest : List ℕ) (listing : FileListing) → IsTold Lists most → IsAllOrFull most kept rest → Lists kept listing → Lists (kept ++ rest) listing
+told-whole Lists most kept rest listing t (inl e) l = subst (λ f. Lists f listing) (sym (ap (λ r. kept ++ r) e ∙ append-nil kept)) l
+told-whole Lists most kept rest listing t (inr e) l = t kept rest listing e l
+
 -- octets were taken, whatever came then
 pub some-taken : {T E : Type 0} (r : Result T E) (had left : Option (List ℕ)) (taken : List ℕ) → Consumes had left taken → OnErr r (TakesSome had left)
 some-taken (Ok x) had left taken c = tt
@@ -25,3 +94,8 @@ some-taken (Err e) had left taken c = (taken, c)
 pub told-ended : {T : Type 0} (state : ReaderState) (r : Result T RunFault) (e : RunFault) → state ≡ reader.Ended → (e ≡ fault.Read → ⊥) → IfErr r (λ f. f ≡ e) → IfErr r (TellsRead state)
 told-ended state (Ok x) e s n i = tt
 told-ended state (Err f) e s n i = subst (λ t. TellsRead t f) (sym s) (λ read. n (sym i ∙ read))
+
+-- a write failed when a front of the listing was written
+pub failed-write : {T : Type 0} (r : Result T RunFault) (Lists : List ℕ → FileListing → Type 0) (had left held holds : Option (List ℕ)) → IfErr r (λ e. e ≡ fault.Write) → ListsFront Lists had left held holds → IfErr r (FailsFile Lists had left held holds)
+failed-write (Ok x) Lists had left held holds w f = tt
+failed-write (Err e) Lists had left held holds w f = subst (FailsFile Lists had left held holds) (sym w) f

@@ -1,5 +1,5 @@
 -- The listings of files, and what a run on one does to its reader and its writer.
-use Rattle.std.specs.Prelude.{ℕ, ◌≡◌, ◌≢◌, List, ◌++◌, Option, Result, Ok, Err, string_bytes}
+use Rattle.std.specs.Prelude.{ℕ, ◌≡◌, ◌≢◌, ◌≤◌, ◌⊎◌, List, [], ◌++◌, length, Option, Some, IfSome, Result, Ok, Err, string_bytes}
 use Rattle.std.specs.Io.KnownBytes.{Consumes, Appends, Keeps, IsAtEnd}
 use Rattle.krb_der.specs.Fields.{Fault}
 use Rattle.krb_keytab.specs.declared.value.Keytab.{Keytab}
@@ -22,10 +22,25 @@ pub record TakesAll (had left : Option (List ℕ)) (file : List ℕ) : Type 0 wh
   pub taken : Consumes had left file
   pub ended : IsAtEnd left
 
+-- what is kept is all, or as many octets as are kept at most
+abbrev pub IsAllOrFull : Option ℕ → List ℕ → List ℕ → Type 0
+IsAllOrFull most kept rest = (rest ≡ []) ⊎ (most ≡ Some (length kept))
+
+-- All that a reader had was taken. It is kept, or as many of its first octets as are kept at most.
+pub record TakesFront (had left : Option (List ℕ)) (most : Option ℕ) (kept : List ℕ) : Type 0 where
+  pub rest : List ℕ
+  pub taken : TakesAll had left (kept ++ rest)
+  pub enough : IsAllOrFull most kept rest
+  pub within : IfSome most (λ most. length kept ≤ most)
+
 -- what is written of a file, and how its run ends
 pub record FileListing : Type 0 where
   pub text : List ℕ
   pub end : RunEnd
+
+-- where there is a number, that many octets of a file tell its listing
+abbrev pub IsTold : (List ℕ → FileListing → Type 0) → Option ℕ → Type 0
+IsTold Lists most = (kept rest : List ℕ) (listing : FileListing) → most ≡ Some (length kept) → Lists kept listing → Lists (kept ++ rest) listing
 
 -- what the code made
 abbrev pub shown : FileText → FileListing

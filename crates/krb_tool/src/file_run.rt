@@ -1,8 +1,8 @@
 //! Runs over files, which are read whole before anything is written.
 
-ghost use Rattle.std.specs.Prelude.{◌≡◌, ◌^◌, ◌≤◌, List, ℕ, IfErr, IfOk, OnErr, OnOk};
+ghost use Rattle.std.specs.Prelude.{◌≡◌, ◌+◌, ◌^◌, ◌≤◌, ◌⊎◌, List, ℕ, Some, IfSome, IfErr, IfOk, OnErr, OnOk};
 ghost use Rattle.krb_tool.specs.declared.transfer.ReaderState.TheVariants as reader;
-ghost use Rattle.krb_tool.specs.Files.{TakesAll, TakesSome, IsOfReading, TellsRead, FileListing, shown, refused_listing, IsKeytabListing, IsCcacheListing, ListsFile, FailsFile};
+ghost use Rattle.krb_tool.specs.Files.{TakesFront, TakesSome, IsOfReading, IsTold, TellsRead, FileListing, shown, refused_listing, IsKeytabListing, IsCcacheListing, ListsFile, FailsFile};
 
 use crate::run::{PIECE_OCTETS, RunEnd, RunFault};
 use crate::transfer::{Asked, write_all};
@@ -18,11 +18,30 @@ pub(crate) struct FileText {
     pub end: RunEnd,
 }
 
-/// All that a reader holds, in a vector that grows as the octets come.
-fn read_all<R: Read>(alloc: Global, asked: &mut Asked<'_, R>) -> Result<Vec<u8>, RunFault>
+/// How many of the octets that came are kept, after those that are kept already: all, or those that
+/// there is room for.
+fn room(most: Option<usize>, kept: usize, count: usize) -> usize
+    requires { IfSome most (λ most. kept ≤ most) }
+    ensures few { result ≤ count }
+    ensures within { IfSome most (λ most. kept + result ≤ most) }
+    ensures all { (result ≡ count) ⊎ (most ≡ Some (kept + result)) }
+{
+    match most {
+        Some(most) => count.min(most - kept),
+        None => count,
+    }
+}
+
+/// Reads all that a reader holds, and keeps it, up to a number of octets where one is given, in a
+/// vector that grows as the octets come.
+fn read_all<R: Read>(
+    alloc: Global,
+    asked: &mut Asked<'_, R>,
+    most: Option<usize>,
+) -> Result<Vec<u8>, RunFault>
     requires open { asked.old.state ≡ reader.Open }
     ensures same_reader { asked.new.reader.ghost_name ≡ asked.old.reader.ghost_name }
-    ensures all { IfOk result (λ file. TakesAll (R.remaining asked.old.reader.now) (R.remaining asked.new.reader.now) file.items) }
+    ensures front { IfOk result (λ file. TakesFront (R.remaining asked.old.reader.now) (R.remaining asked.new.reader.now) most file.items) }
     ensures ended { OnOk result (asked.new.state ≡ reader.Ended) }
     ensures fault { IfErr result (IsOfReading asked.new.state) }
     ensures taken { OnErr result (TakesSome (R.remaining asked.old.reader.now) (R.remaining asked.new.reader.now)) }
@@ -35,7 +54,8 @@ fn read_all<R: Read>(alloc: Global, asked: &mut Asked<'_, R>) -> Result<Vec<u8>,
         if count == 0 {
             return Ok(file);
         }
-        file.extend_from_slice(&buffer[..count])?;
+        let kept = room(most, file.len(), count);
+        file.extend_from_slice(&buffer[..kept])?;
     }
 }
 
@@ -43,6 +63,11 @@ fn read_all<R: Read>(alloc: Global, asked: &mut Asked<'_, R>) -> Result<Vec<u8>,
 pub(crate) trait FileFormat {
     /// What the listing of a file is.
     ghost Lists: { Self → List ℕ → FileListing → Type 0 };
+
+    /// How many octets of a file tell its listing, where there is such a number: octets after them
+    /// change nothing.
+    fn most(&self) -> Option<usize>
+        ensures { IsTold (Lists self.now) result };
 
     /// The lines of what a file holds, or the line of its refusal.
     fn list(&self, alloc: Global, file: &[u8]) -> Result<FileText, RunFault>
@@ -68,6 +93,10 @@ struct KeytabFormat;
 impl FileFormat for KeytabFormat {
     ghost Lists = { λ _ file listing. IsKeytabListing file listing };
 
+    fn most(&self) -> Option<usize> {
+        None
+    }
+
     #[tactic(auto, unfolding(crate::specs::Files::keytab_listing))]
     fn list(&self, alloc: Global, file: &[u8]) -> Result<FileText, RunFault> {
         match krb_keytab::read(alloc, file) {
@@ -92,6 +121,10 @@ struct CcacheFormat {
 
 impl FileFormat for CcacheFormat {
     ghost Lists = { λ format. IsCcacheListing format.now };
+
+    fn most(&self) -> Option<usize> {
+        None
+    }
 
     #[tactic(auto, unfolding(crate::specs::Files::ccache_listing))]
     fn list(&self, alloc: Global, file: &[u8]) -> Result<FileText, RunFault> {
@@ -122,7 +155,7 @@ pub(crate) fn run_file<R: Read, W: Write, F: FileFormat>(
     ensures fault { IfErr result (FailsFile (F.Lists format.now) (R.remaining asked.old.reader.now) (R.remaining asked.new.reader.now) (W.contents writer.old) (W.contents writer.new)) }
     ensures told { IfErr result (TellsRead asked.new.state) }
 {
-    let file = read_all(alloc, asked)?;
+    let file = read_all(alloc, asked, format.most())?;
     let listed = format.list(alloc, file.as_slice())?;
     write_all(writer, listed.text.as_bytes())?;
     Ok(listed.end)

@@ -91,6 +91,10 @@ struct HexFormat;
 impl FileFormat for HexFormat {
     ghost Lists = { λ _ text listing. IsHexListing text listing };
 
+    fn most(&self) -> Option<usize> {
+        Some(MOST_TEXT + 1)
+    }
+
     #[tactic(auto, unfolding(crate::specs::Messages::hex_listing))]
     fn list(&self, alloc: Global, text: &[u8]) -> Result<FileText, RunFault> {
         if text.len() > MOST_TEXT {
@@ -107,8 +111,8 @@ impl FileFormat for HexFormat {
 
 /// Lists one message that is given in hexadecimal, of either case and with blanks anywhere: its line,
 /// or the line of its refusal, or `refused hex` of what is no hexadecimal, or `refused length` of
-/// more than 16777216 octets of text. All that the reader holds is read first, by at most 2^40 asks
-/// for 64 KiB each.
+/// more than 16777216 octets of text, of which no more than one octet more is kept. All that the
+/// reader holds is read first, by at most 2^40 asks for 64 KiB each.
 pub fn run_message<R: Read, W: Write>(
     alloc: Global,
     reader: &mut R,

@@ -1,31 +1,32 @@
-use Rattle.std.proofs.Common.{◌≡◌, ◌<◌, [], length, take, refl, ◌∙◌, ap, arith, rules}
-use Rattle.std.proofs.KnownBytes.{Consumes-nil, Consumes-trans, Consumes-kept}
+use Rattle.std.proofs.Common.{◌≡◌, ◌<◌, ◌≤◌, List, ℕ, [], length, take, refl, ◌∙◌, ap, arith, rules}
+use Rattle.std.proofs.KnownBytes.{Consumes-trans, Consumes-kept}
 use Rattle.krb_tool.proofs.Runs.{written-slice}
-use Rattle.krb_tool.proofs.Files.{TakesAll-made, some-taken}
+use Rattle.krb_tool.proofs.Files.{KeepsFront-start, KeepsFront-fed, TakesFront-made, some-taken}
 use Rattle.krb_tool.proofs.file_run.read_all.Goals as goal
 
 pub pieces-init : goal.pieces-init
-pieces-init g c = (c.in_ok-buffer.ensures.len, c.requires.open, refl, rw c.new-file.ensures.items (Consumes-nil (g.R.Read.remaining c.args.asked.now.reader.now)))
+pieces-init g c = (c.in_ok-buffer.ensures.len, c.requires.open, refl, rw c.new-file.ensures.items (KeepsFront-start (g.R.Read.remaining c.args.asked.now.reader.now) c.args.most))
 
-pub returns-then-count-eq0-clause-all : goal.returns-then-count-eq0-clause-all
-returns-then-count-eq0-clause-all g c =
+pub returns-then-count-eq0-clause-front : goal.returns-then-count-eq0-clause-front
+returns-then-count-eq0-clause-front g c =
     let none : take c.in_ok-count.count c.ask.new.buffer ≡ [] = ap (λ n. take n c.ask.new.buffer) c.if-count-eq0.true in
     let room : 0 < length c.as_mut_slice.result.now = omega arith in
-    TakesAll-made _ _ _ _ _ _ c.pieces.invariant.3 c.in_ok-count.ensures.given none room
+    TakesFront-made _ _ _ _ _ _ _ c.pieces.invariant.3 c.in_ok-count.ensures.given none room
 
 pub pieces-preserved : goal.pieces-preserved
 pieces-preserved g c =
     let full : length c.ask.new.buffer ≡ c.pieces.buffer.len = omega arith in
     let same : c.ask.new.buffer ≡ c.deref.result.now = written-slice _ _ _ _ c.deref.ensures.value full in
     let given = rw same at c.in_ok-count.ensures.given in
-    let so_far = Consumes-trans _ _ _ _ _ c.pieces.invariant.3 given.taken in
-    (c.pieces.invariant.0, c.in_ok-count.ensures.goes_on c.if-count-eq0.false, c.ask.ensures.same_reader ∙ c.pieces.invariant.2, rw c.in_ok-extend_from_slice.ensures.items so_far)
+    let whole : c.in_ok-count.count ≤ length c.deref.result.now = omega (arith, c.in_ok-count.ensures.count, ap (λ (l : List ℕ). length l) same) in
+    let kept = KeepsFront-fed _ _ _ _ _ _ _ _ _ c.pieces.invariant.3 given.taken whole (omega arith) c.room-kept.ensures.few c.room-kept.ensures.within c.room-kept.ensures.all in
+    (c.pieces.invariant.0, c.in_ok-count.ensures.goes_on c.if-count-eq0.false, c.ask.ensures.same_reader ∙ c.pieces.invariant.2, rw c.in_ok-extend_from_slice.ensures.items kept)
 
 pub returns-in_err-count-clause-taken : goal.returns-in_err-count-clause-taken
-returns-in_err-count-clause-taken g c = some-taken _ _ _ _ (Consumes-kept _ _ _ _ c.pieces.invariant.3 c.in_err-count.ensures.kept)
+returns-in_err-count-clause-taken g c = some-taken _ _ _ _ (Consumes-kept _ _ _ _ c.pieces.invariant.3.taken c.in_err-count.ensures.kept)
 
 pub returns-in_err-extend_from_slice-clause-fault : goal.returns-in_err-extend_from_slice-clause-fault
 returns-in_err-extend_from_slice-clause-fault g c = rw (c.in_ok-count.ensures.goes_on c.if-count-eq0.false) (search rules)
 
 pub returns-in_err-extend_from_slice-clause-taken : goal.returns-in_err-extend_from_slice-clause-taken
-returns-in_err-extend_from_slice-clause-taken g c = some-taken _ _ _ _ (Consumes-trans _ _ _ _ _ c.pieces.invariant.3 c.in_ok-count.ensures.given.taken)
+returns-in_err-extend_from_slice-clause-taken g c = some-taken _ _ _ _ (Consumes-trans _ _ _ _ _ c.pieces.invariant.3.taken c.in_ok-count.ensures.given.taken)

@@ -1,6 +1,8 @@
-use Rattle.std.proofs.Common.{rules}
+use Rattle.std.proofs.Common.{◌++◌, refl, subst, rules}
+use Rattle.std.specs.Io.KnownBytes.{Appends}
+use Rattle.krb_tool.specs.Files.{shown, AddsFront}
 use Rattle.krb_tool.specs.declared.run.RunFault.TheVariants as fault
-use Rattle.krb_tool.proofs.Files.{told-ended}
+use Rattle.krb_tool.proofs.Files.{told-ended, told-whole, failed-write}
 use Rattle.krb_tool.proofs.file_run.run_file.Goals as goal
 
 pub returns-in_err-listed-clause-told : goal.returns-in_err-listed-clause-told
@@ -8,3 +10,31 @@ returns-in_err-listed-clause-told g c = told-ended _ _ fault.Memory c.in_ok-file
 
 pub returns-in_err-write_all-clause-told : goal.returns-in_err-write_all-clause-told
 returns-in_err-write_all-clause-told g c = told-ended _ _ fault.Write c.in_ok-file.ensures.ended (λ e. cc) (search rules)
+
+pub returns-clause-listed : goal.returns-clause-listed
+returns-clause-listed g c =
+    let front = c.in_ok-file.ensures.front in
+    let listing = shown c.in_ok-listed.listed in
+    let listed = subst (λ f. g.F.FileFormat.Lists c.args.format.now f listing) c.as_slice.ensures.value c.in_ok-listed.ensures.listed in
+    record {
+      file = c.in_ok-file.file.items ++ front.rest;
+      listing = listing;
+      listed = told-whole _ _ _ _ _ c.most.ensures front.enough listed;
+      taken = front.taken;
+      added = subst (Appends _ _) c.as_bytes.ensures.value c.in_ok-write_all.ensures.all;
+      ended_so = refl;
+    }
+
+pub returns-in_err-write_all-clause-fault : goal.returns-in_err-write_all-clause-fault
+returns-in_err-write_all-clause-fault g c =
+    let front = c.in_ok-file.ensures.front in
+    let listing = shown c.in_ok-listed.listed in
+    let listed = subst (λ f. g.F.FileFormat.Lists c.args.format.now f listing) c.as_slice.ensures.value c.in_ok-listed.ensures.listed in
+    failed-write _ _ _ _ _ _ (search rules)
+    (record {
+      file = c.in_ok-file.file.items ++ front.rest;
+      listing = listing;
+      listed = told-whole _ _ _ _ _ c.most.ensures front.enough listed;
+      taken = front.taken;
+      added = subst (AddsFront _ _) c.as_bytes.ensures.value c.in_err-write_all.ensures.front;
+    })
