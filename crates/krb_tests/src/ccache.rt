@@ -283,6 +283,5 @@ fn answers_the_same_or_memory(rt: HostRuntime) {
 
 #[test]
 fn has_its_laws(_rt: HostRuntime) {
-    law::one_state();
     law::spells_one();
 }

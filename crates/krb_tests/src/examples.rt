@@ -41,7 +41,7 @@ pub(crate) const TICKET: &str =
 pub(crate) const KEYTAB: &str =
     "05020000001B000100014100016800000001386D43800200120002ABCD00000102FFFFFFF8000000000000000000000000DEAD";
 
-/// Whether so many octets of the keytab above are a keytab, too.
+/// Whether the first `count` octets of the keytab above are a keytab, too.
 pub(crate) fn is_keytab(count: usize) -> bool {
     matches!(count, 2 | 33 | 45 | 49 | 50 | 51)
 }

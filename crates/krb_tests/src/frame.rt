@@ -137,8 +137,8 @@ fn decoder(alloc: Global, limit: u32) -> Result<Decoder, Fail> {
     Ok(Decoder::new(alloc, limit))
 }
 
-/// Feeds octets in pieces of at most so many, up to an answer that is not `More`, and answers how
-/// many were used in all.
+/// Feeds octets in pieces of `at_most`, up to an answer that is not `More`, and answers how many were
+/// used in all.
 fn feed_pieces(decoder: &mut Decoder, octets: &[u8], at_most: usize) -> Fed {
     let mut rest = octets;
     let mut used = 0usize;
@@ -177,7 +177,7 @@ fn has_come_to(decoder: &mut Decoder, fed: Fed, row: &Row) -> bool {
         && is_ready == (status == Status::Ready)
 }
 
-/// Whether a decoder fed in pieces of at most so many octets comes to what a row says.
+/// Whether a decoder fed in pieces of `at_most` octets comes to what a row says.
 fn comes_to(alloc: Global, row: &Row, octets: &[u8], at_most: usize) -> Result<bool, Fail> {
     let Row(_, limit, _, _, _) = row;
     let mut pieces = decoder(alloc, *limit)?;
@@ -238,7 +238,7 @@ fn refuses_on_the_octet_itself(rt: HostRuntime) -> Result<(), Fail> {
 }
 
 #[test]
-fn leaves_what_is_behind_a_frame(rt: HostRuntime) -> Result<(), Fail> {
+fn leaves_what_is_after_a_frame(rt: HostRuntime) -> Result<(), Fail> {
     let alloc = rt.alloc();
     let octets = octets_of(alloc, TWO_AP_REPS)?;
     let mut frames = decoder(alloc, USUAL)?;
@@ -302,7 +302,7 @@ fn is_framed(alloc: Global, message: &Message, octets: &[u8], count: u32) -> Res
     )
 }
 
-/// Whether a frame in hexadecimal is lent with this kind, and its message has these octets again.
+/// Whether a decoder gives a frame in hexadecimal with this kind, and its message has the same octets.
 fn comes_again(alloc: Global, digits: &str, kind: Kind, count: u32) -> Result<bool, Fail> {
     let octets = octets_of(alloc, digits)?;
     let octets = octets.as_slice();
@@ -348,8 +348,8 @@ fn has_message(alloc: Global, stream: &Decoder) -> bool {
     }
 }
 
-/// How many messages octets hold, fed in pieces of at most so many, and what refuses the rest. A
-/// feed whose growth is refused is made again, with the octets behind those that were used.
+/// How many messages octets hold, fed in pieces of `at_most`, and what refuses the rest. A feed that
+/// is out of memory is made again, with the octets after those that were used.
 fn messages_in(
     alloc: Global,
     octets: &[u8],

@@ -5,7 +5,9 @@ use crate::examples::{
 };
 use krb_der::{Refusal, Why};
 use krb_judge::{ParseFault, parse, parse_method_data, parse_ticket};
-use krb_msg::{EncryptedData, KdcRep, Message, PaData, PrincipalName, Ticket};
+use krb_msg::{
+    ApReq, EncryptedData, KdcRep, KdcReq, Kind, KrbError, Message, PaData, PrincipalName, Ticket,
+};
 use std::alloc::Global;
 use std::test::Fail;
 
@@ -14,21 +16,8 @@ use std::test::Fail;
 const FULL: &str =
     "000000C06D81BD3081BAA003020105A10302010DA21B30193009A103020102A2020400300CA10402020088A20404020102A30D1B0B4558414D504C452E434F4DA4193017A003020101A110300E1B05616C6963651B0561646D696EA54F614D304BA003020105A10D1B0B4558414D504C452E434F4DA220301EA003020102A11730151B066B72627467741B0B4558414D504C452E434F4DA3133011A003020112A103020102A2050403C0FFEEA6163014A0040202FF7BA107020500FFFFFFFFA2030401AA";
 
-/// The message of a frame.
-fn message(alloc: Global, frame: &str) -> Result<Message, Fail> {
-    let octets = contents(alloc, frame)?;
-    let message = parse(alloc, octets.as_slice()).ok().ok_or("a message")?;
-    Ok(message)
-}
-
-/// The refusal of hex digits.
-fn refusal(alloc: Global, digits: &str) -> Result<Refusal, Fail> {
-    let octets = octets_of(alloc, digits)?;
-    match parse(alloc, octets.as_slice()) {
-        Err(ParseFault::Refused(refusal)) => Ok(refusal),
-        _ => Err(Fail::from("a refusal")),
-    }
-}
+/// The METHOD-DATA of the KRB-ERROR.
+const METHOD_DATA: [u8; 13] = *b"\x30\x0B\x30\x09\xA1\x03\x02\x01\x02\xA2\x02\x04\x00";
 
 /// Whether a name has this type and this one component.
 fn is_named(name: &PrincipalName, name_type: i32, component: &[u8]) -> bool {
@@ -80,173 +69,181 @@ fn is_for_u(reply: &KdcRep) -> bool {
         && is_sealed(&reply.enc_part, 18, b"\xBE\xEF")
 }
 
-#[test]
-fn reads_an_ap_rep(rt: HostRuntime) -> Result<(), Fail> {
-    let Message::ApRep(reply) = message(rt.alloc(), AP_REP)? else {
-        return Err(Fail::from("an AP-REP"));
+/// Whether a KDC-REP is the full one above.
+fn is_full(reply: &KdcRep) -> bool {
+    let is_alice = match reply.cname.name.as_slice() {
+        [name, instance] => name.octets() == b"alice".as_slice()
+            && instance.octets() == b"admin".as_slice(),
+        _ => false,
     };
-    assert!(rt; is_sealed(&reply.enc_part, 18, b"\xDE\xAD\xBE\xEF"));
-    Ok(())
+    is_alice
+        && has_padata(reply)
+        && is_keyed(&reply.enc_part, -133, 4294967295)
+        && is_keyed(&reply.ticket.enc_part, 18, 2)
 }
 
-#[test]
-fn reads_an_ap_req(rt: HostRuntime) -> Result<(), Fail> {
-    let Message::ApReq(request) = message(rt.alloc(), AP_REQ)? else {
-        return Err(Fail::from("an AP-REQ"));
-    };
-    assert_eq!(rt; request.ap_options.unused(), 0);
-    assert_eq!(rt; request.ap_options.octets(), b"\0\0\0\0".as_slice());
-    assert!(rt; is_for_h(&request.ticket));
-    assert!(rt; is_sealed(&request.authenticator, 18, b"\xBE\xEF"));
-    Ok(())
+/// Whether an AP-REQ is the one of the octets above.
+fn is_without_options(request: &ApReq) -> bool {
+    request.ap_options.unused() == 0
+        && request.ap_options.octets() == b"\0\0\0\0".as_slice()
+        && is_for_h(&request.ticket)
+        && is_sealed(&request.authenticator, 18, b"\xBE\xEF")
 }
 
-#[test]
-fn reads_replies(rt: HostRuntime) -> Result<(), Fail> {
-    let alloc = rt.alloc();
-    let Message::AsRep(reply) = message(alloc, AS_REP)? else {
-        return Err(Fail::from("an AS-REP"));
-    };
-    assert!(rt; is_for_u(&reply));
-    let Message::TgsRep(reply) = message(alloc, TGS_REP)? else {
-        return Err(Fail::from("a TGS-REP"));
-    };
-    assert!(rt; is_for_u(&reply));
-    Ok(())
-}
-
-#[test]
-fn reads_a_tgs_req(rt: HostRuntime) -> Result<(), Fail> {
-    let Message::TgsReq(request) = message(rt.alloc(), TGS_REQ)? else {
-        return Err(Fail::from("a TGS-REQ"));
-    };
+/// Whether an AS-REQ is the one of the octets above.
+fn is_with_seven_flags(request: &KdcReq) -> bool {
     let body = &request.body;
-    assert!(rt; request.padata.is_none() && body.cname.is_none() && body.sname.is_none());
-    assert_eq!(rt; body.realm.octets(), b"A".as_slice());
-    assert_eq!(rt;
-        body.till.octets().as_slice(),
-        b"19700101000000Z".as_slice()
-    );
-    assert!(rt; body.from.is_none() && body.rtime.is_none() && body.addresses.is_none());
-    assert_eq!(rt; body.nonce.get(), 1);
-    assert!(rt; body.etype.as_slice().is_empty() && body.enc_authorization_data.is_none());
-    let Some(tickets) = &body.additional_tickets else {
-        return Err(Fail::from("tickets"));
+    let etypes = match body.etype.as_slice() {
+        [only] => only.get() == 18,
+        _ => false,
     };
-    match tickets.as_slice() {
-        [only] => assert!(rt; is_for_h(only)),
-        _ => return Err(Fail::from("one ticket")),
-    }
-    Ok(())
+    etypes
+        && body.kdc_options.unused() == 1
+        && body.kdc_options.octets() == b"\x40".as_slice()
+        && body.nonce.get() == -1
 }
 
-#[test]
-fn reads_an_as_req(rt: HostRuntime) -> Result<(), Fail> {
-    let Message::AsReq(request) = message(rt.alloc(), AS_REQ)? else {
-        return Err(Fail::from("an AS-REQ"));
-    };
+/// Whether a KDC-REQ leaves out all that the TGS-REQ of the octets above does.
+fn is_short(request: &KdcReq) -> bool {
     let body = &request.body;
-    assert_eq!(rt; body.kdc_options.unused(), 1);
-    assert_eq!(rt; body.kdc_options.octets(), b"\x40".as_slice());
-    assert_eq!(rt; body.nonce.get(), -1);
-    match body.etype.as_slice() {
-        [only] => assert_eq!(rt; only.get(), 18),
-        _ => return Err(Fail::from("one encryption type")),
+    request.padata.is_none()
+        && body.cname.is_none()
+        && body.sname.is_none()
+        && body.from.is_none()
+        && body.rtime.is_none()
+        && body.addresses.is_none()
+        && body.enc_authorization_data.is_none()
+}
+
+/// Whether a TGS-REQ is the one of the octets above.
+fn is_with_a_ticket(request: &KdcReq) -> bool {
+    let body = &request.body;
+    let tickets = match &body.additional_tickets {
+        Some(tickets) => match tickets.as_slice() {
+            [only] => is_for_h(only),
+            _ => false,
+        },
+        None => false,
+    };
+    tickets
+        && is_short(request)
+        && body.realm.octets() == b"A".as_slice()
+        && *body.till.octets() == *b"19700101000000Z"
+        && body.nonce.get() == 1
+        && body.etype.as_slice().is_empty()
+}
+
+/// Whether a KRB-ERROR leaves out all that the one of the octets above does.
+fn is_terse(error: &KrbError) -> bool {
+    error.ctime.is_none()
+        && error.cusec.is_none()
+        && error.crealm.is_none()
+        && error.cname.is_none()
+        && error.e_text.is_none()
+}
+
+/// Whether a KRB-ERROR is the one of the octets above.
+fn is_with_methods(error: &KrbError) -> bool {
+    let data = match &error.e_data {
+        Some(data) => data.as_slice() == METHOD_DATA.as_slice(),
+        None => false,
+    };
+    data && is_terse(error)
+        && *error.stime.octets() == *b"20000101000000Z"
+        && error.susec.get() == 0
+        && error.error_code.get() == 25
+        && error.realm.octets() == b"A".as_slice()
+        && is_named(&error.sname, 2, b"h")
+}
+
+/// Whether a message has the fields of the one of its kind above.
+fn has_its_fields(message: &Message) -> bool {
+    match message {
+        Message::AsReq(request) => is_with_seven_flags(request),
+        Message::AsRep(reply) => is_for_u(reply),
+        Message::TgsReq(request) => is_with_a_ticket(request),
+        Message::TgsRep(reply) => is_for_u(reply) || is_full(reply),
+        Message::ApReq(request) => is_without_options(request),
+        Message::ApRep(reply) => is_sealed(&reply.enc_part, 18, b"\xDE\xAD\xBE\xEF"),
+        Message::KrbError(error) => is_with_methods(error),
+    }
+}
+
+/// Whether octets are parsed as the message of this kind above.
+fn is_parsed(alloc: Global, octets: &[u8], kind: Kind) -> bool {
+    match parse(alloc, octets) {
+        Ok(message) => message.kind() == kind && has_its_fields(&message),
+        Err(_) => false,
+    }
+}
+
+#[test]
+fn reads_messages(rt: HostRuntime) -> Result<(), Fail> {
+    let alloc = rt.alloc();
+    for (frame, kind) in [
+        (AP_REP, Kind::ApRep),
+        (AP_REQ, Kind::ApReq),
+        (AS_REP, Kind::AsRep),
+        (TGS_REP, Kind::TgsRep),
+        (FULL, Kind::TgsRep),
+        (TGS_REQ, Kind::TgsReq),
+        (AS_REQ, Kind::AsReq),
+        (KRB_ERROR, Kind::KrbError),
+    ] {
+        let octets = contents(alloc, frame)?;
+        assert!(rt; is_parsed(alloc, octets.as_slice(), kind), "{frame}");
     }
     Ok(())
 }
 
-#[test]
-fn reads_a_krb_error_and_its_method_data(rt: HostRuntime) -> Result<(), Fail> {
-    let alloc = rt.alloc();
-    let Message::KrbError(error) = message(alloc, KRB_ERROR)? else {
-        return Err(Fail::from("a KRB-ERROR"));
-    };
-    assert!(rt; error.ctime.is_none() && error.cusec.is_none());
-    assert_eq!(rt;
-        error.stime.octets().as_slice(),
-        b"20000101000000Z".as_slice()
-    );
-    assert_eq!(rt; error.susec.get(), 0);
-    assert_eq!(rt; error.error_code.get(), 25);
-    assert!(rt; error.crealm.is_none() && error.cname.is_none() && error.e_text.is_none());
-    assert_eq!(rt; error.realm.octets(), b"A".as_slice());
-    assert!(rt; is_named(&error.sname, 2, b"h"));
-    let Some(data) = &error.e_data else {
-        return Err(Fail::from("data"));
-    };
-    assert_eq!(rt; data.as_slice().len(), 13);
-    let methods = parse_method_data(alloc, data.as_slice()).map_err(|_| "METHOD-DATA")?;
-    match methods.as_slice() {
-        [only] => assert!(rt; is_padata(only, 2, b"")),
-        _ => return Err(Fail::from("one PA-DATA")),
+/// How many PA-DATA octets are, if each of them has the type 2 and is empty.
+fn methods(alloc: Global, octets: &[u8]) -> Option<usize> {
+    match parse_method_data(alloc, octets) {
+        Ok(methods)
+            if methods
+                .as_slice()
+                .iter()
+                .all(|data| is_padata(data, 2, b"")) => { Some(methods.as_slice().len()) }
+        _ => None,
     }
-    Ok(())
 }
 
 #[test]
 fn reads_a_ticket_and_method_data_alone(rt: HostRuntime) -> Result<(), Fail> {
     let alloc = rt.alloc();
     let octets = octets_of(alloc, TICKET)?;
-    let ticket = parse_ticket(alloc, octets.as_slice()).map_err(|_| "a ticket")?;
-    assert!(rt; is_for_h(&ticket));
-    let none = parse_method_data(alloc, b"\x30\x00").map_err(|_| "METHOD-DATA")?;
-    assert!(rt; none.as_slice().is_empty());
+    let is_ticket = match parse_ticket(alloc, octets.as_slice()) {
+        Ok(ticket) => is_for_h(&ticket),
+        Err(_) => false,
+    };
+    assert!(rt; is_ticket, "a ticket for h");
+    assert_eq!(rt; methods(alloc, b"\x30\x00"), Some(0));
+    assert_eq!(rt; methods(alloc, &METHOD_DATA), Some(1));
     Ok(())
 }
 
+/// The refusal that octets are answered with.
+fn refusal<T: Drop>(answer: Result<T, ParseFault>) -> Option<Refusal> {
+    match answer {
+        Err(ParseFault::Refused(refusal)) => Some(refusal),
+        _ => None,
+    }
+}
+
 #[test]
-fn refuses_what_is_no_ticket(rt: HostRuntime) -> Result<(), Fail> {
+fn refuses_what_is_no_ticket(rt: HostRuntime) {
     let alloc = rt.alloc();
     for (octets, place, why) in [
         (b"".as_slice(), 0, Why::Empty),
         (b"\x61\x80".as_slice(), 1, Why::Indefinite),
         (b"\x30\x00".as_slice(), 0, Why::Tag),
     ] {
-        match parse_ticket(alloc, octets) {
-            Err(ParseFault::Refused(refusal)) => {
-                assert_eq!(rt; refusal, Refusal { place, why });
-            }
-            _ => return Err(Fail::from("a refusal")),
-        }
+        let refused = refusal(parse_ticket(alloc, octets));
+        assert_eq!(rt; refused, Some(Refusal { place, why }));
     }
-    match parse_method_data(alloc, b"\x31\x00") {
-        Err(ParseFault::Refused(refusal)) => {
-            assert_eq!(rt;
-                refusal,
-                Refusal {
-                    place: 0,
-                    why: Why::Tag
-                }
-            );
-        }
-        _ => return Err(Fail::from("a refusal")),
-    }
-    Ok(())
-}
-
-#[test]
-fn reads_what_may_be_left_out(rt: HostRuntime) -> Result<(), Fail> {
-    let Message::TgsRep(reply) = message(rt.alloc(), FULL)? else {
-        return Err(Fail::from("a TGS-REP"));
-    };
-    assert!(rt; has_padata(&reply));
-    assert!(rt; is_keyed(&reply.enc_part, -133, 4294967295));
-    assert!(rt; is_keyed(&reply.ticket.enc_part, 18, 2));
-    Ok(())
-}
-
-#[test]
-fn reads_each_component(rt: HostRuntime) -> Result<(), Fail> {
-    let Message::TgsRep(reply) = message(rt.alloc(), FULL)? else {
-        return Err(Fail::from("a TGS-REP"));
-    };
-    let [name, instance] = reply.cname.name.as_slice() else {
-        return Err(Fail::from("two components"));
-    };
-    assert_eq!(rt; name.octets(), b"alice".as_slice());
-    assert_eq!(rt; instance.octets(), b"admin".as_slice());
-    Ok(())
+    let (place, why) = (0, Why::Tag);
+    let refused = refusal(parse_method_data(alloc, b"\x31\x00"));
+    assert_eq!(rt; refused, Some(Refusal { place, why }));
 }
 
 #[test]
@@ -282,7 +279,9 @@ fn refuses_what_is_no_message(rt: HostRuntime) -> Result<(), Fail> {
             Why::Bits,
         ),
     ] {
-        assert_eq!(rt; refusal(alloc, digits)?, Refusal { place, why }, "{digits}");
+        let octets = octets_of(alloc, digits)?;
+        let refused = refusal(parse(alloc, octets.as_slice()));
+        assert_eq!(rt; refused, Some(Refusal { place, why }), "{digits}");
     }
     Ok(())
 }

@@ -19,7 +19,7 @@ fn refused(alloc: Global, octets: &[u8]) -> Option<(u64, FileWhy)> {
     }
 }
 
-/// The only entry among records, and what stands behind it.
+/// The first record, which is an entry, and those after it.
 fn first_entry(keytab: &Keytab) -> Result<(&Entry, &[Record]), Fail> {
     match keytab.records.as_slice() {
         [Record::Entry(entry), others @ ..] => Ok((entry, others)),
@@ -124,7 +124,7 @@ fn of_one(alloc: Global, record: Record) -> Result<Keytab, Fail> {
     })
 }
 
-/// An entry of h@A with a key of so many octets.
+/// An entry of h@A with a key of `key` octets.
 fn entry(alloc: Global, key: usize, rest: &[u8]) -> Result<Entry, Fail> {
     let component = KString::new(b"h".to_vec(alloc)?);
     Ok(Entry {

@@ -4,7 +4,7 @@ use std::alloc::Global;
 use std::io;
 use std::io::{ErrorKind, Read, Write};
 
-/// A reader that gives at most so many octets for an ask.
+/// A reader that gives at most `at_most` octets for an ask.
 #[derive(Drop)]
 pub(crate) struct Slowly<'a> {
     pub(crate) octets: &'a [u8],
@@ -38,8 +38,8 @@ impl Read for Failing<'_> {
     }
 }
 
-/// A writer that takes at most so many octets at a write, and fails, or takes nothing, once it was
-/// asked so often.
+/// A writer that takes at most `at_most` octets at a write, and fails, or takes nothing, after
+/// `fails_after` writes.
 #[derive(Drop)]
 pub(crate) struct Narrow {
     pub(crate) taken: Vec<u8>,

@@ -111,9 +111,9 @@ fn writes_nothing_where_a_read_fails(rt: HostRuntime) -> Result<(), Fail> {
             octets: &octets.as_slice()[..count],
         };
         let outcome = run_keytab(alloc, &mut reader, &mut text);
-        assert_eq!(rt; outcome, Err(RunFault::Read), "behind {count} octets");
+        assert_eq!(rt; outcome, Err(RunFault::Read), "after {count} octets");
         assert_eq!(rt; status(&outcome), 3);
-        assert_eq!(rt; text.len(), 0, "behind {count} octets");
+        assert_eq!(rt; text.len(), 0, "after {count} octets");
     }
     Ok(())
 }

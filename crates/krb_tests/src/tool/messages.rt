@@ -50,7 +50,7 @@ fn lists_messages(rt: HostRuntime) -> Result<(), Fail> {
 }
 
 #[test]
-fn takes_so_much_text(rt: HostRuntime) -> Result<(), Fail> {
+fn takes_text_up_to_its_limit(rt: HostRuntime) -> Result<(), Fail> {
     let alloc = rt.alloc();
     let blanks = vec![in alloc; b' '; 16777216]?;
     let (lines, _) = listing(alloc, &mut blanks.as_slice())?;
