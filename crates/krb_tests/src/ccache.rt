@@ -1,6 +1,7 @@
 //! Caches worked out by hand from the file format.
 
-use crate::examples::{TICKET, octets_of};
+use crate::examples;
+use crate::examples::octets_of;
 use krb_ccache::{
     Ccache, CcacheFault, Credential, FilePrincipal, Header, HeaderField, TicketState, Typed, law,
     read, ticket_of, write,
@@ -27,14 +28,6 @@ fn refused(alloc: Global, octets: &[u8]) -> Option<(u64, FileWhy)> {
     }
 }
 
-/// The configuration entry and the credential of the cache above.
-fn two(cache: &Ccache) -> Result<(&Credential, &Credential), Fail> {
-    match cache.credentials.as_slice() {
-        [config, credential] => Ok((config, credential)),
-        _ => Err(Fail::from("two credentials")),
-    }
-}
-
 /// Whether a principal has this type, this realm and this first component.
 fn is_named(principal: &FilePrincipal, name_type: i32, realm: &[u8], first: &[u8]) -> bool {
     principal.name_type == name_type
@@ -46,6 +39,29 @@ fn is_named(principal: &FilePrincipal, name_type: i32, realm: &[u8], first: &[u8
             .is_some_and(|component| component.octets() == first)
 }
 
+/// Whether a credential is the configuration entry of the cache above.
+fn is_pa_type(config: &Credential) -> bool {
+    config.is_config() && is_named(&config.server, 0, b"X-CACHECONF:", b"krb5_ccache_conf_data")
+}
+
+/// Whether a credential is the one for h@A of the cache above.
+fn is_for_h(credential: &Credential) -> bool {
+    let times = [
+        credential.authtime,
+        credential.starttime,
+        credential.endtime,
+        credential.renew_till,
+    ];
+    !credential.is_config()
+        && is_named(&credential.client, 1, b"A", b"u")
+        && is_named(&credential.server, 2, b"A", b"h")
+        && (credential.enctype, credential.is_skey, credential.flags) == (18, 0, 0x40E10000)
+        && times == [946684800, 946684800, 946688400, 0]
+        && credential.key.as_slice() == [0xAB, 0xCD].as_slice()
+        && credential.ticket.as_slice() == [0x61, 0x80].as_slice()
+        && credential.second_ticket.as_slice().is_empty()
+}
+
 #[test]
 fn reads_a_cache(rt: HostRuntime) -> Result<(), Fail> {
     let alloc = rt.alloc();
@@ -54,21 +70,11 @@ fn reads_a_cache(rt: HostRuntime) -> Result<(), Fail> {
     assert_eq!(rt; cache.header.fields.as_slice().len(), 1);
     assert_eq!(rt; cache.header.offset(), Some((0, 0)));
     assert!(rt; is_named(&cache.principal, 1, b"A", b"u"));
-    let (config, credential) = two(&cache)?;
-    assert!(rt; is_named(&config.server, 0, b"X-CACHECONF:", b"krb5_ccache_conf_data"));
-    assert_eq!(rt; (config.is_config(), credential.is_config()), (true, false));
-    assert!(rt; is_named(&credential.client, 1, b"A", b"u"));
-    assert!(rt; is_named(&credential.server, 2, b"A", b"h"));
-    assert_eq!(rt; credential.enctype, 18);
-    assert_eq!(rt; credential.key.as_slice(), [0xAB, 0xCD].as_slice());
-    assert_eq!(rt;
-        (credential.authtime, credential.starttime),
-        (946684800, 946684800)
-    );
-    assert_eq!(rt; (credential.endtime, credential.renew_till), (946688400, 0));
-    assert_eq!(rt; (credential.is_skey, credential.flags), (0, 0x40E10000));
-    assert_eq!(rt; credential.ticket.as_slice(), [0x61, 0x80].as_slice());
-    assert!(rt; credential.second_ticket.as_slice().is_empty());
+    let are_read = match cache.credentials.as_slice() {
+        [config, credential] => is_pa_type(config) && is_for_h(credential),
+        _ => false,
+    };
+    assert!(rt; are_read, "a configuration entry and a credential");
     Ok(())
 }
 
@@ -145,6 +151,14 @@ fn takes_the_first_offset_of_eight_octets(rt: HostRuntime) -> Result<(), Fail> {
     Ok(())
 }
 
+/// Whether the field of a credential has a ticket of the realm A.
+fn is_for_a(alloc: Global, credential: &Credential) -> bool {
+    match ticket_of(alloc, credential) {
+        Ok(TicketState::Ticket(ticket)) => ticket.realm.octets() == b"A".as_slice(),
+        _ => false,
+    }
+}
+
 /// The refusal of a ticket.
 fn refusal_of(alloc: Global, credential: &Credential) -> Option<Refusal> {
     match ticket_of(alloc, credential) {
@@ -153,23 +167,26 @@ fn refusal_of(alloc: Global, credential: &Credential) -> Option<Refusal> {
     }
 }
 
+/// Whether the credentials are a configuration entry, and ones with a ticket, a cut one and none.
+fn has_each_state(alloc: Global, credentials: &[Credential]) -> bool {
+    let (place, why) = (1, Why::Indefinite);
+    match credentials {
+        [config, whole, cut, absent] => {
+            matches!(ticket_of(alloc, config), Ok(TicketState::Config))
+                && is_for_a(alloc, whole)
+                && refusal_of(alloc, cut) == Some(Refusal { place, why })
+                && matches!(ticket_of(alloc, absent), Ok(TicketState::Absent))
+        }
+        _ => false,
+    }
+}
+
 #[test]
 fn tells_what_a_ticket_field_holds(rt: HostRuntime) -> Result<(), Fail> {
     let alloc = rt.alloc();
-    let octets = octets_of(alloc, CACHE)?;
+    let octets = examples::cache(alloc)?;
     let cache = cache(alloc, octets.as_slice())?;
-    let (config, cut) = two(&cache)?;
-    assert!(rt; matches!(ticket_of(alloc, config), Ok(TicketState::Config)));
-    let (place, why) = (1, Why::Indefinite);
-    assert_eq!(rt; refusal_of(alloc, cut), Some(Refusal { place, why }));
-    let absent = credential(alloc, &[])?;
-    assert!(rt; matches!(ticket_of(alloc, &absent), Ok(TicketState::Absent)));
-    let whole = credential(alloc, octets_of(alloc, TICKET)?.as_slice())?;
-    let realm = match ticket_of(alloc, &whole) {
-        Ok(TicketState::Ticket(ticket)) => ticket.realm,
-        _ => return Err(Fail::from("a ticket")),
-    };
-    assert_eq!(rt; realm.octets(), b"A".as_slice());
+    assert!(rt; has_each_state(alloc, cache.credentials.as_slice()));
     Ok(())
 }
 
@@ -184,6 +201,51 @@ fn writes_what_was_read(rt: HostRuntime) -> Result<(), Fail> {
     Ok(())
 }
 
+/// A cache of u@A without a header, and a credential for u@A with a different number in each field,
+/// with an address and an element of authorization data.
+const NUMBERED: &str =
+    "05040000000000010000000100000001410000000175000000010000000100000001410000000175000000010000000100000001410000000175001200000002ABCD000000010000000200000003000000040180000001000000010002000000047F000001000000010001000000047F00000100000001610000000105";
+
+/// Whether a list has one item, of this kind and these octets.
+fn is_typed(list: &Many<Typed>, kind: u16, octets: &[u8]) -> bool {
+    match list.as_slice() {
+        [only] => only.kind == kind && only.octets.as_slice() == octets,
+        _ => false,
+    }
+}
+
+/// Whether a credential has each number in its field.
+fn is_numbered(credential: &Credential) -> bool {
+    let numbers = (credential.enctype, credential.is_skey, credential.flags);
+    let times = [
+        credential.authtime,
+        credential.starttime,
+        credential.endtime,
+        credential.renew_till,
+    ];
+    numbers == (18, 1, 0x80000001)
+        && times == [1, 2, 3, 4]
+        && credential.key.as_slice() == [0xAB, 0xCD].as_slice()
+        && is_typed(&credential.addresses, 2, b"\x7F\0\0\x01")
+        && is_typed(&credential.authdata, 1, b"\x7F\0\0\x01")
+        && credential.ticket.as_slice() == b"\x61".as_slice()
+        && credential.second_ticket.as_slice() == b"\x05".as_slice()
+}
+
+#[test]
+fn has_each_field_in_its_place(rt: HostRuntime) -> Result<(), Fail> {
+    let alloc = rt.alloc();
+    let octets = octets_of(alloc, NUMBERED)?;
+    let cache = cache(alloc, octets.as_slice())?;
+    match cache.credentials.as_slice() {
+        [only] => assert!(rt; is_numbered(only), "the fields of the credential"),
+        _ => return Err(Fail::from("one credential")),
+    }
+    let written = write(alloc, &cache).ok().ok_or("octets")?;
+    assert_eq!(rt; written.as_slice(), octets.as_slice());
+    Ok(())
+}
+
 /// u@A.
 fn user(alloc: Global) -> Result<FilePrincipal, Fail> {
     let component = KString::new(b"u".to_vec(alloc)?);
@@ -192,49 +254,6 @@ fn user(alloc: Global) -> Result<FilePrincipal, Fail> {
         realm: KString::new(b"A".to_vec(alloc)?),
         components: Many::new(vec![in alloc; component]?),
     })
-}
-
-/// A credential of u@A with this ticket, an address and an element of authorization data.
-fn credential(alloc: Global, ticket: &[u8]) -> Result<Credential, Fail> {
-    let typed = |kind: u16| -> Result<Many<Typed>, Fail> {
-        let octets = Octets::new(b"\x7F\0\0\x01".to_vec(alloc)?);
-        Ok(Many::new(vec![in alloc; Typed { kind, octets }]?))
-    };
-    Ok(Credential {
-        client: user(alloc)?,
-        server: user(alloc)?,
-        enctype: 18,
-        key: Octets::new(b"\xAB\xCD".to_vec(alloc)?),
-        authtime: 1,
-        starttime: 2,
-        endtime: 3,
-        renew_till: 4,
-        is_skey: 1,
-        flags: 0x80000001,
-        addresses: typed(2)?,
-        authdata: typed(1)?,
-        ticket: Octets::new(Vec::from_slice(alloc, ticket)?),
-        second_ticket: Octets::new(b"\x05".to_vec(alloc)?),
-    })
-}
-
-#[test]
-fn writes_each_field_in_its_place(rt: HostRuntime) -> Result<(), Fail> {
-    let alloc = rt.alloc();
-    let cache = Ccache {
-        header: Header {
-            fields: Many::new(Vec::new(alloc)),
-        },
-        principal: user(alloc)?,
-        credentials: Many::new(vec![in alloc; credential(alloc, b"\x61")?]?),
-    };
-    let written = write(alloc, &cache).ok().ok_or("octets")?;
-    let expected = octets_of(
-        alloc,
-        "05040000000000010000000100000001410000000175000000010000000100000001410000000175000000010000000100000001410000000175001200000002ABCD000000010000000200000003000000040180000001000000010002000000047F000001000000010001000000047F00000100000001610000000105",
-    )?;
-    assert_eq!(rt; written.as_slice(), expected.as_slice());
-    Ok(())
 }
 
 /// What a cache with this header is refused for.

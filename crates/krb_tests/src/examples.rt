@@ -41,10 +41,23 @@ pub(crate) const TICKET: &str =
 pub(crate) const KEYTAB: &str =
     "05020000001B000100014100016800000001386D43800200120002ABCD00000102FFFFFFF8000000000000000000000000DEAD";
 
+pub(crate) const KEYTAB_LINES: &str =
+    "entry principal=h@A type=1 time=2000-01-01T00:00:00Z kvno=258 enctype=18 key=2 rest=4\nhole size=8 clean=yes\nend records=2 zero=yes\n";
+
 /// Whether the first `count` octets of the keytab above are a keytab, too.
 pub(crate) fn is_keytab(count: usize) -> bool {
     matches!(count, 2 | 33 | 45 | 49 | 50 | 51)
 }
+
+/// A cache of u@A with an offset of -1:7, in parts: up to its principal, a configuration entry, and
+/// credentials for h@A with a Ticket for h@A, with one that is cut, and with none.
+const CACHE: [&str; 5] = [
+    "0504000C00010008FFFFFFFF00000007000000010000000100000001410000000175",
+    "00000001000000010000000141000000017500000001000000020000000C582D4341434845434F4E463A000000156B7262355F6363616368655F636F6E665F646174610000000770615F74797065001200000002ABCD386D4380386D4380386D5190000000000140E10000000000010002000000047F0000010000000000000001320000000374776F",
+    "000000010000000100000001410000000175000000010000000100000001410000000168001200000002ABCD386D4380386D4380386D5190000000000140E10000000000010002000000047F000001000000000000002D612B3029A003020105A1031B0141A20E300CA003020102A10530031B0168A30D300BA003020112A2040402BEEF0000000374776F",
+    "000000010000000100000001410000000175000000010000000100000001410000000168001200000002ABCD386D4380386D4380386D5190000000000140E10000000000010002000000047F000001000000000000000261800000000374776F",
+    "000000010000000100000001410000000175000000010000000100000001410000000168001200000002ABCD386D4380386D4380386D5190000000000140E10000000000010002000000047F00000100000000000000000000000374776F",
+];
 
 /// The octets of hexadecimal digits.
 pub(crate) fn octets_of(alloc: Global, digits: &str) -> Result<Vec<u8>, Fail> {
@@ -54,4 +67,13 @@ pub(crate) fn octets_of(alloc: Global, digits: &str) -> Result<Vec<u8>, Fail> {
 /// The octets of a frame's message.
 pub(crate) fn contents(alloc: Global, frame: &str) -> Result<Vec<u8>, Fail> {
     octets_of(alloc, frame.get(8..).ok_or("a frame")?)
+}
+
+/// The octets of the cache above.
+pub(crate) fn cache(alloc: Global) -> Result<Vec<u8>, Fail> {
+    let mut octets = Vec::new(alloc);
+    for part in CACHE {
+        octets.extend_from_slice(octets_of(alloc, part)?.as_slice())?;
+    }
+    Ok(octets)
 }

@@ -5,7 +5,7 @@ use crate::examples::{
     AP_REP, AP_REQ, AS_REP, AS_REQ, KRB_ERROR, TGS_REP, TGS_REQ, TWO_AP_REPS, octets_of,
 };
 use krb_der::{Refusal, Why};
-use krb_frame::{Decoder, Fed, Limit, Status, frame};
+use krb_frame::{Decoder, Fed, Framed, Limit, Status, frame};
 use krb_msg::{EncodeFault, Kind, Message, encode, size};
 use std::alloc::Global;
 use std::test::Fail;
@@ -302,7 +302,19 @@ fn is_framed(alloc: Global, message: &Message, octets: &[u8], count: u32) -> Res
     )
 }
 
-/// Whether a decoder gives a frame in hexadecimal with this kind, and its message has the same octets.
+/// Whether the message of a frame has the octets of the frame again.
+fn is_same(alloc: Global, framed: &Framed<'_>, octets: &[u8], count: u32) -> Result<bool, Fail> {
+    match framed.message(alloc) {
+        Ok(message) => {
+            let same = is_framed(alloc, &message, octets, count);
+            drop(message);
+            same
+        }
+        Err(_) => Err(Fail::from("memory")),
+    }
+}
+
+/// Whether a decoder gives a frame in hexadecimal with this kind, and its message comes again.
 fn comes_again(alloc: Global, digits: &str, kind: Kind, count: u32) -> Result<bool, Fail> {
     let octets = octets_of(alloc, digits)?;
     let octets = octets.as_slice();
@@ -312,10 +324,7 @@ fn comes_again(alloc: Global, digits: &str, kind: Kind, count: u32) -> Result<bo
     if framed.kind() != kind || Some(framed.octets()) != octets.get(4..) {
         return Ok(false);
     }
-    match framed.message(alloc) {
-        Ok(message) => is_framed(alloc, &message, octets, count),
-        Err(_) => Err(Fail::from("memory")),
-    }
+    is_same(alloc, &framed, octets, count)
 }
 
 #[test]

@@ -172,7 +172,11 @@ fn has_its_fields(message: &Message) -> bool {
 /// Whether octets are parsed as the message of this kind above.
 fn is_parsed(alloc: Global, octets: &[u8], kind: Kind) -> bool {
     match parse(alloc, octets) {
-        Ok(message) => message.kind() == kind && has_its_fields(&message),
+        Ok(message) => {
+            let is_it = message.kind() == kind && has_its_fields(&message);
+            drop(message);
+            is_it
+        }
         Err(_) => false,
     }
 }

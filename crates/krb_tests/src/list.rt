@@ -1,8 +1,8 @@
 //! Lines and their pieces. What is expected was worked out by hand from the rules of
 //! `docs/FORMATS.md`.
 
-use crate::examples::{AS_REQ, TICKET, contents, octets_of};
-use krb_ccache::{Ccache, Credential, FilePrincipal, Header, HeaderField, Typed};
+use crate::examples::{AS_REQ, KEYTAB, KEYTAB_LINES, cache, contents, octets_of};
+use krb_ccache::Ccache;
 use krb_der::{FileWhy, Int32, KString, Many, Octets, Refusal, Why, Wide32};
 use krb_judge::parse;
 use krb_keytab::{Entry, Hole, Keytab, Record, Stop};
@@ -38,13 +38,6 @@ fn entry(alloc: Global, rest: &[u8]) -> Result<Record, Fail> {
         key: Octets::new(Vec::from_slice(alloc, &[0xAB, 0xCD])?),
         rest: Octets::new(Vec::from_slice(alloc, rest)?),
     }))
-}
-
-fn keytab(records: Vec<Record>, stop: Stop) -> Keytab {
-    Keytab {
-        records: Many::new(records),
-        stop,
-    }
 }
 
 #[test]
@@ -130,105 +123,102 @@ fn shows_what_is_sealed(rt: HostRuntime) -> Result<(), Fail> {
     Ok(())
 }
 
+/// The lines of a keytab, by both ways to them, if both are the same.
+fn keytab_text(alloc: Global, keytab: &Keytab) -> Result<String, Fail> {
+    let lines = keytab_lines(alloc, keytab)?;
+    let mut text = String::new(alloc);
+    put_keytab(&mut text, keytab)?;
+    if text.as_str() != lines.as_str() {
+        return Err(Fail::from("the same lines"));
+    }
+    Ok(lines)
+}
+
+/// The lines of a keytab of one record.
+fn record_text(alloc: Global, record: Record) -> Result<String, Fail> {
+    let keytab = Keytab {
+        records: Many::new(vec![in alloc; record]?),
+        stop: Stop::File,
+    };
+    keytab_text(alloc, &keytab)
+}
+
+#[test]
+fn lists_records(rt: HostRuntime) -> Result<(), Fail> {
+    let alloc = rt.alloc();
+    for (rest, text) in [
+        (
+            [0, 0, 1, 2].as_slice(),
+            "entry principal=h@A type=1 time=2000-01-01T00:00:00Z kvno=258 enctype=18 key=2 rest=4\nend records=1 zero=no\n",
+        ),
+        (
+            [0, 0, 0, 0].as_slice(),
+            "entry principal=h@A type=1 time=2000-01-01T00:00:00Z kvno=2 enctype=18 key=2 rest=4\nend records=1 zero=no\n",
+        ),
+        (
+            [0, 0, 1].as_slice(),
+            "entry principal=h@A type=1 time=2000-01-01T00:00:00Z kvno=2 enctype=18 key=2 rest=3\nend records=1 zero=no\n",
+        ),
+    ] {
+        let lines = record_text(alloc, entry(alloc, rest)?)?;
+        assert_eq!(rt; lines.as_str(), text);
+    }
+    let lines = record_text(alloc, hole(2147483648, false)?)?;
+    assert_eq!(rt;
+        lines.as_str(),
+        "hole size=2147483648 clean=no\nend records=1 zero=no\n"
+    );
+    Ok(())
+}
+
+/// The lines of the octets of a keytab.
+fn listed_keytab(alloc: Global, octets: &[u8]) -> Result<String, Fail> {
+    match krb_keytab::read(alloc, octets) {
+        Ok((keytab, _)) => keytab_text(alloc, &keytab),
+        Err(_) => Err(Fail::from("a keytab")),
+    }
+}
+
 #[test]
 fn lists_keytabs(rt: HostRuntime) -> Result<(), Fail> {
     let alloc = rt.alloc();
-    let records = vec![in alloc; entry(alloc, &[0, 0, 1, 2])?, hole(8, true)?]?;
-    let lines = keytab_lines(alloc, &keytab(records, Stop::Zero))?;
-    assert_eq!(rt;
-        lines.as_str(),
-        "entry principal=h@A type=1 time=2000-01-01T00:00:00Z kvno=258 enctype=18 key=2 rest=4\nhole size=8 clean=yes\nend records=2 zero=yes\n"
-    );
-    let records = vec![in alloc;
-        entry(alloc, &[0, 0, 0, 0])?,
-        entry(alloc, &[0, 0, 1])?,
-        hole(2147483648, false)?,
-    ]?;
-    let mut lines = String::new(alloc);
-    put_keytab(&mut lines, &keytab(records, Stop::File))?;
-    assert_eq!(rt;
-        lines.as_str(),
-        "entry principal=h@A type=1 time=2000-01-01T00:00:00Z kvno=2 enctype=18 key=2 rest=4\nentry principal=h@A type=1 time=2000-01-01T00:00:00Z kvno=2 enctype=18 key=2 rest=3\nhole size=2147483648 clean=no\nend records=3 zero=no\n"
-    );
-    let lines = keytab_lines(alloc, &keytab(Vec::new(alloc), Stop::File))?;
+    let octets = octets_of(alloc, KEYTAB)?;
+    let lines = listed_keytab(alloc, octets.as_slice())?;
+    assert_eq!(rt; lines.as_str(), KEYTAB_LINES);
+    let lines = listed_keytab(alloc, b"\x05\x02")?;
     assert_eq!(rt; lines.as_str(), "end records=0 zero=no\n");
     Ok(())
 }
 
-fn user(alloc: Global, components: &[&[u8]], realm: &[u8]) -> Result<FilePrincipal, Fail> {
-    let mut names = Vec::new(alloc);
-    for component in components {
-        names.push(string(alloc, component)?)?;
+const CACHE_LINES: &str =
+    "cache principal=u@A type=1 offset=-1:7 fields=1\nconfig client=u@A server=krb5_ccache_conf_data/pa_type@X-CACHECONF: size=1\ncred client=u@A server=h@A enctype=18 key=2 auth=2000-01-01T00:00:00Z start=2000-01-01T00:00:00Z end=2000-01-01T01:00:00Z renew=- skey=1 flags=forwardable,renewable,initial,pre-authent+00010000 state=live addresses=1 authdata=0 ticket=18:-:2 tserver=h@A second=3\ncred client=u@A server=h@A enctype=18 key=2 auth=2000-01-01T00:00:00Z start=2000-01-01T00:00:00Z end=2000-01-01T01:00:00Z renew=- skey=1 flags=forwardable,renewable,initial,pre-authent+00010000 state=live addresses=1 authdata=0 ticket=refused:1:6 tserver=- second=3\ncred client=u@A server=h@A enctype=18 key=2 auth=2000-01-01T00:00:00Z start=2000-01-01T00:00:00Z end=2000-01-01T01:00:00Z renew=- skey=1 flags=forwardable,renewable,initial,pre-authent+00010000 state=live addresses=1 authdata=0 ticket=absent tserver=- second=3\nend credentials=4\n";
+
+/// The lines of a cache at a time, by both ways to them, if both are the same.
+fn cache_text(alloc: Global, cache: &Ccache, now: u32) -> Result<String, Fail> {
+    let lines = ccache_lines(alloc, cache, Some(now))?;
+    let mut text = String::new(alloc);
+    put_ccache(alloc, &mut text, cache, Some(now))?;
+    if text.as_str() != lines.as_str() {
+        return Err(Fail::from("the same lines"));
     }
-    Ok(FilePrincipal {
-        name_type: 1,
-        realm: string(alloc, realm)?,
-        components: Many::new(names),
-    })
+    Ok(lines)
 }
 
-/// A credential of u@A with this server and this ticket.
-fn credential(alloc: Global, server: FilePrincipal, ticket: &[u8]) -> Result<Credential, Fail> {
-    let address = Typed {
-        kind: 2,
-        octets: Octets::new(Vec::from_slice(alloc, &[127, 0, 0, 1])?),
-    };
-    Ok(Credential {
-        client: user(alloc, &[b"u"], b"A")?,
-        server,
-        enctype: 18,
-        key: Octets::new(Vec::from_slice(alloc, &[0xAB, 0xCD])?),
-        authtime: 946684800,
-        starttime: 946684800,
-        endtime: 946688400,
-        renew_till: 0,
-        is_skey: 1,
-        flags: 0x40E10000,
-        addresses: Many::new(vec![in alloc; address]?),
-        authdata: Many::new(Vec::new(alloc)),
-        ticket: Octets::new(Vec::from_slice(alloc, ticket)?),
-        second_ticket: Octets::new(Vec::from_slice(alloc, b"two")?),
-    })
+/// The lines of the octets of a cache at a time.
+fn listed_cache(alloc: Global, octets: &[u8], now: u32) -> Result<String, Fail> {
+    match krb_ccache::read(alloc, octets) {
+        Ok(cache) => cache_text(alloc, &cache, now),
+        Err(_) => Err(Fail::from("a cache")),
+    }
 }
 
 #[test]
 fn lists_caches(rt: HostRuntime) -> Result<(), Fail> {
     let alloc = rt.alloc();
-    let config = user(
-        alloc,
-        &[b"krb5_ccache_conf_data", b"pa_type"],
-        b"X-CACHECONF:",
-    )?;
-    let credentials = vec![in alloc;
-        credential(alloc, config, b"2")?,
-        credential(
-            alloc,
-            user(alloc, &[b"h"], b"A")?,
-            octets_of(alloc, TICKET)?.as_slice()
-        )?,
-        credential(alloc, user(alloc, &[b"h"], b"A")?, b"\x61\x80")?,
-        credential(alloc, user(alloc, &[b"h"], b"A")?, b"")?,
-    ]?;
-    let offset = HeaderField {
-        tag: 1,
-        value: Octets::new(Vec::from_slice(alloc, &[255, 255, 255, 255, 0, 0, 0, 7])?),
-    };
-    let cache = Ccache {
-        header: Header {
-            fields: Many::new(vec![in alloc; offset]?),
-        },
-        principal: user(alloc, &[b"u"], b"A")?,
-        credentials: Many::new(credentials),
-    };
-    let lines = ccache_lines(alloc, &cache, Some(946688399))?;
-    assert_eq!(rt;
-        lines.as_str(),
-        "cache principal=u@A type=1 offset=-1:7 fields=1\nconfig client=u@A server=krb5_ccache_conf_data/pa_type@X-CACHECONF: size=1\ncred client=u@A server=h@A enctype=18 key=2 auth=2000-01-01T00:00:00Z start=2000-01-01T00:00:00Z end=2000-01-01T01:00:00Z renew=- skey=1 flags=forwardable,renewable,initial,pre-authent+00010000 state=live addresses=1 authdata=0 ticket=18:-:2 tserver=h@A second=3\ncred client=u@A server=h@A enctype=18 key=2 auth=2000-01-01T00:00:00Z start=2000-01-01T00:00:00Z end=2000-01-01T01:00:00Z renew=- skey=1 flags=forwardable,renewable,initial,pre-authent+00010000 state=live addresses=1 authdata=0 ticket=refused:1:6 tserver=- second=3\ncred client=u@A server=h@A enctype=18 key=2 auth=2000-01-01T00:00:00Z start=2000-01-01T00:00:00Z end=2000-01-01T01:00:00Z renew=- skey=1 flags=forwardable,renewable,initial,pre-authent+00010000 state=live addresses=1 authdata=0 ticket=absent tserver=- second=3\nend credentials=4\n"
-    );
-    let mut text = String::new(alloc);
-    put_ccache(alloc, &mut text, &cache, Some(946688399))?;
-    assert_eq!(rt; text.as_str(), lines.as_str());
-    let expired = ccache_lines(alloc, &cache, Some(946688400))?;
+    let octets = cache(alloc)?;
+    let live = listed_cache(alloc, octets.as_slice(), 946688399)?;
+    assert_eq!(rt; live.as_str(), CACHE_LINES);
+    let expired = listed_cache(alloc, octets.as_slice(), 946688400)?;
     assert_eq!(rt; expired.as_str().contains(" state=live "), false);
     Ok(())
 }
@@ -287,7 +277,11 @@ fn is_listed(alloc: Global, message: &Message) -> Result<bool, Fail> {
 /// Whether octets are a message that is listed as the AS-REQ.
 fn lists_as_req(alloc: Global, octets: &[u8]) -> Result<bool, Fail> {
     match parse(alloc, octets) {
-        Ok(message) => is_listed(alloc, &message),
+        Ok(message) => {
+            let listed = is_listed(alloc, &message);
+            drop(message);
+            listed
+        }
         Err(_) => Ok(false),
     }
 }

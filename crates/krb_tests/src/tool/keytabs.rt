@@ -2,14 +2,11 @@
 //! out by hand from the rules of `docs/FORMATS.md`.
 
 use super::fakes::{Failing, Narrow, Slowly};
-use crate::examples::{KEYTAB, is_keytab, octets_of};
+use crate::examples::{KEYTAB, KEYTAB_LINES, is_keytab, octets_of};
 use krb_tool::{RunEnd, RunFault, run_keytab, status};
 use std::alloc::Global;
 use std::io::Read;
 use std::test::Fail;
-
-const KEYTAB_LINES: &str =
-    "entry principal=h@A type=1 time=2000-01-01T00:00:00Z kvno=258 enctype=18 key=2 rest=4\nhole size=8 clean=yes\nend records=2 zero=yes\n";
 
 /// Octets in hexadecimal, and their listing.
 struct Case(&'static str, &'static str);
