@@ -163,7 +163,7 @@ pub(crate) fn run_file<R: Read, W: Write, F: FileFormat>(
 
 /// Lists a keytab of format 0x0502: a line for each record, then the line of the end; or, of a file
 /// that is refused, the one line of the refusal. All that the reader holds is read first, by at most
-/// 2^40 asks for 64 KiB each.
+/// 2^40 asks for 64 KiB each; it is not asked again after its end or an error.
 pub fn run_keytab<R: Read, W: Write>(
     alloc: Global,
     reader: &mut R,
