@@ -14,23 +14,23 @@ use Rattle.krb_list.specs.Time.{the_date, date_in_year, date_from, civil_date}
 same_day : (year month other day next : ℕ) → month ≡ other → day ≡ next → the_date year month day ≡ the_date year other next
 same_day year month other day next e f = rw (e, f)
 
-in_year-here : (fuel year month days : ℕ) → days < days_in_month (pos year) month → date_in_year (suc fuel) year month days ≡ the_date year month (days + 1)
+pub in_year-here : (fuel year month days : ℕ) → days < days_in_month (pos year) month → date_in_year (suc fuel) year month days ≡ the_date year month (days + 1)
 unfolding date_in_year
 in_year-here fuel year month days h = when-true _ _ _ (lt-ltb _ _ h)
 
-in_year-next : (fuel year month days : ℕ) → days_in_month (pos year) month ≤ days → date_in_year (suc fuel) year month days ≡ date_in_year fuel year (month + 1) (days - days_in_month (pos year) month)
+pub in_year-next : (fuel year month days : ℕ) → days_in_month (pos year) month ≤ days → date_in_year (suc fuel) year month days ≡ date_in_year fuel year (month + 1) (days - days_in_month (pos year) month)
 unfolding date_in_year
 in_year-next fuel year month days h = when-false _ _ _ (le-ltb _ _ h)
 
-from-here : (fuel year days : ℕ) → days < days_in_year (pos year) → date_from (suc fuel) year days ≡ date_in_year 12 year 1 days
+pub from-here : (fuel year days : ℕ) → days < days_in_year (pos year) → date_from (suc fuel) year days ≡ date_in_year 12 year 1 days
 unfolding date_from
 from-here fuel year days h = when-true _ _ _ (lt-ltb _ _ h)
 
-from-next : (fuel year days : ℕ) → days_in_year (pos year) ≤ days → date_from (suc fuel) year days ≡ date_from fuel (year + 1) (days - days_in_year (pos year))
+pub from-next : (fuel year days : ℕ) → days_in_year (pos year) ≤ days → date_from (suc fuel) year days ≡ date_from fuel (year + 1) (days - days_in_year (pos year))
 unfolding date_from
 from-next fuel year days h = when-false _ _ _ (le-ltb _ _ h)
 
-from-zero : (year days : ℕ) → date_from 0 year days ≡ date_in_year 12 year 1 days
+pub from-zero : (year days : ℕ) → date_from 0 year days ≡ date_in_year 12 year 1 days
 unfolding date_from
 from-zero year days = refl
 

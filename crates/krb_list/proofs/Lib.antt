@@ -7,3 +7,5 @@ pub mod Escapes
 pub mod Masks
 pub mod CcacheMasks
 pub mod OneLine
+pub mod KeytabOneLine
+pub mod CcacheOneLine

@@ -26,38 +26,38 @@ use Rattle.krb_list.specs.Text.{hex, escape, joined, principal_text, or_dash, se
 use Rattle.krb_list.specs.Messages.{in_realm, client_text, flags_text, count_text, quoted_text, padata_text, notes_text, code_name, code_suffix, code_text, methods_in, methods_text, kdc_req_text, kdc_rep_text, ap_req_text, ap_rep_text, krb_error_text, message_text}
 use Rattle.krb_list.proofs.Escapes.{IsGraphic, IsGraphic-escape, glyph-range}
 
-record Prints (text : List ℕ) : Type 0 where
+pub record Prints (text : List ℕ) : Type 0 where
   pub all : IsPrintable text
 
 -- ---- texts
-abbrev is_printable : ℕ → Bool
+abbrev pub is_printable : ℕ → Bool
 is_printable c = nat_le 32 c && nat_le c 126
 
 in_range : (c : ℕ) → is_printable c ≡ true → (32 ≤ c) × (c ≤ 126)
 in_range c e = (grind (arith, nat_tests), grind (arith, nat_tests))
 
-all_in_range : (text : List ℕ) → list_all is_printable text ≡ true → IsPrintable text
+pub all_in_range : (text : List ℕ) → list_all is_printable text ≡ true → IsPrintable text
 all_in_range [] e = tt
 all_in_range (c ∷ cs) e =
     let h = and_parts (is_printable c) (list_all is_printable cs) e in
     (in_range c h.0, all_in_range cs h.1)
 
-word : (text : List ℕ) → list_all is_printable text ≡ true → Prints text
+pub word : (text : List ℕ) → list_all is_printable text ≡ true → Prints text
 word text e = record { all = all_in_range text e }
 
 all-append : (xs ys : List ℕ) → IsPrintable xs → IsPrintable ys → IsPrintable (xs ++ ys)
 all-append [] ys h k = k
 all-append (x ∷ xs) ys h k = (h.0, all-append xs ys h.1 k)
 
-join : {xs ys : List ℕ} → Prints xs → Prints ys → Prints (xs ++ ys)
+pub join : {xs ys : List ℕ} → Prints xs → Prints ys → Prints (xs ++ ys)
 join {xs} {ys} h k = record { all = all-append xs ys h.all k.all }
 
-either : {xs ys : List ℕ} (b : Bool) → Prints xs → Prints ys → Prints (if b then xs else ys)
+pub either : {xs ys : List ℕ} (b : Bool) → Prints xs → Prints ys → Prints (if b then xs else ys)
 either true h k = h
 either false h k = k
 
 -- what stands so far, and one field more
-add : {so_far text : List ℕ} → Prints so_far → (name : List ℕ) → list_all is_printable name ≡ true → Prints text → Prints (so_far ++ field name text)
+pub add : {so_far text : List ℕ} → Prints so_far → (name : List ℕ) → list_all is_printable name ≡ true → Prints text → Prints (so_far ++ field name text)
 unfolding field
 add before name e shown = join before (join (join (join (word (codes " ") refl) (word name e)) (word (codes "=") refl)) shown)
 
@@ -73,11 +73,11 @@ numeral (suc k) n after h =
     more : IsPrintable (digit_glyph false (n % 10) ∷ after)
     more = (digit, h)
 
-number : (n : ℕ) → Prints (decimal n)
+pub number : (n : ℕ) → Prints (decimal n)
 unfolding digits
 number n = record { all = numeral 64 n [] tt }
 
-signed : (n : ℤ) → Prints (signed_decimal n)
+pub signed : (n : ℤ) → Prints (signed_decimal n)
 signed (pos n) = number n
 signed (negsuc n) = join (word (codes "-") refl) (number (suc n))
 
@@ -92,7 +92,7 @@ all-hex : (octets : List ℕ) → AreOctets octets → IsGraphic (hex octets)
 all-hex [] h = tt
 all-hex (o ∷ octets) h = (glyph-range (o / 16) (omega (arith, h.0)), (glyph-range (o % 16) (omega arith), all-hex octets h.1))
 
-in_hex : (octets : List ℕ) → AreOctets octets → Prints (hex octets)
+pub in_hex : (octets : List ℕ) → AreOctets octets → Prints (hex octets)
 in_hex octets h = record { all = graphic (hex octets) (all-hex octets h) }
 
 all-time : (k : ℕ) (octets : List ℕ) → IsTimeFrom k octets → IsPrintable octets
@@ -110,7 +110,7 @@ optional : {A : Type 0} (text : A → List ℕ) (P : A → Type 0) → ((v : A) 
 optional text P shown None h = word (codes "-") refl
 optional text P shown (Some v) h = shown v h
 
-always : {A : Type 0} (text : A → List ℕ) → ((v : A) → Prints (text v)) → (v : Option A) → Prints (or_dash text v)
+pub always : {A : Type 0} (text : A → List ℕ) → ((v : A) → Prints (text v)) → (v : Option A) → Prints (or_dash text v)
 always text shown None = word (codes "-") refl
 always text shown (Some v) = shown v
 
@@ -118,7 +118,7 @@ others : {A : Type 0} (separator : List ℕ) (text : A → List ℕ) (P : A → 
 others separator text P between shown [] h = word [] refl
 others separator text P between shown (v ∷ vs) h = join (join between (shown v h.0)) (others separator text P between shown vs h.1)
 
-all_joined : {A : Type 0} (none separator : List ℕ) (text : A → List ℕ) (P : A → Type 0) → Prints none → Prints separator → ((v : A) → P v → Prints (text v)) → (vs : List A) → AllByRecursion P vs → Prints (joined none separator text vs)
+pub all_joined : {A : Type 0} (none separator : List ℕ) (text : A → List ℕ) (P : A → Type 0) → Prints none → Prints separator → ((v : A) → P v → Prints (text v)) → (vs : List A) → AllByRecursion P vs → Prints (joined none separator text vs)
 all_joined none separator text P empty between shown [] h = empty
 all_joined none separator text P empty between shown (v ∷ vs) h = join (shown v h.0) (others separator text P between shown vs h.1)
 
@@ -131,7 +131,7 @@ list text shown vs =
     join (join (word (codes "[") refl) (all_joined [] (codes ",") text (λ v. Unit {0}) (word [] refl) (word (codes ",") refl) (λ v h. shown v) vs (every vs))) (word (codes "]") refl)
 
 -- ---- pieces of lines
-principal : (components : List (List ℕ)) (realm : List ℕ) → AllAreOctets components → AreOctets realm → Prints (principal_text components realm)
+pub principal : (components : List (List ℕ)) (realm : List ℕ) → AllAreOctets components → AreOctets realm → Prints (principal_text components realm)
 unfolding principal_text
 principal components realm h k =
     join (join (all_joined (codes "\\-") (codes "/") escape AreOctets (word (codes "\\-") refl) (word (codes "/") refl) escaped components h) (word (codes "@") refl)) (escaped realm k)
@@ -149,7 +149,7 @@ client None (Some realm) h k = word (codes "-") refl
 client (Some name) None h k = word (codes "-") refl
 client (Some name) (Some realm) h k = named realm name k h
 
-sealed : (v : EncryptedData) → Prints (sealed_text v)
+pub sealed : (v : EncryptedData) → Prints (sealed_text v)
 sealed v = join (join (join (join (signed v.etype) (word (codes ":") refl)) (always signed_decimal signed v.kvno)) (word (codes ":") refl)) (number (length v.cipher))
 
 flags : (bits : ℕ × List ℕ) → AreOctets bits.1 → Prints (flags_text bits)

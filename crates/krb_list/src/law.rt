@@ -1,5 +1,5 @@
 //! Laws of the texts. Each is the contract of a function that does nothing.
-ghost use Rattle.krb_list.specs.Laws.{DatesAreTheCalendars, EscapeIsGraphic, KeysAreNotShown, MessageIsOneLine, PrincipalTextTells, SessionKeysAreNotShown};
+ghost use Rattle.krb_list.specs.Laws.{CacheEndIsOneLine, CacheIsOneLine, CredentialIsOneLine, DatesAreTheCalendars, EscapeIsGraphic, KeysAreNotShown, KeytabEndIsOneLine, MessageIsOneLine, PrincipalTextTells, RecordIsOneLine, SessionKeysAreNotShown};
 
 /// Different components or realms have different texts.
 pub fn principal_text_tells()
@@ -14,6 +14,19 @@ pub fn escape_is_graphic()
 /// The line of a message has no line feed inside: blanks and graphic characters of ASCII alone.
 pub fn message_is_one_line()
     ensures { MessageIsOneLine }
+{}
+
+/// No line of a keytab has a line feed inside: blanks and graphic characters of ASCII alone.
+pub fn keytab_is_one_line_each()
+    ensures record { RecordIsOneLine }
+    ensures end { KeytabEndIsOneLine }
+{}
+
+/// No line of a cache has a line feed inside: blanks and graphic characters of ASCII alone.
+pub fn ccache_is_one_line_each()
+    ensures cache { CacheIsOneLine }
+    ensures credential { CredentialIsOneLine }
+    ensures end { CacheEndIsOneLine }
 {}
 
 /// The date n days after 1970-01-01, found by counting, is the calendar's.
