@@ -1,5 +1,5 @@
 //! Laws of the texts. Each is the contract of a function that does nothing.
-ghost use Rattle.krb_list.specs.Laws.{CacheEndIsOneLine, CacheIsOneLine, CredentialIsOneLine, DatesAreTheCalendars, EscapeIsGraphic, KeysAreNotShown, KeytabEndIsOneLine, MessageIsOneLine, PrincipalTextTells, RecordIsOneLine, SessionKeysAreNotShown};
+ghost use Rattle.krb_list.specs.Laws.{CacheEndIsOneLine, CacheIsOneLine, CredentialIsOneLine, DatesAreTheCalendars, EscapeIsGraphic, FileRefusalIsOneLine, KeysAreNotShown, KeytabEndIsOneLine, MessageIsOneLine, MessageRefusalIsOneLine, PrincipalTextTells, RecordIsOneLine, SessionKeysAreNotShown, StreamEndIsOneLine};
 
 /// Different components or realms have different texts.
 pub fn principal_text_tells()
@@ -27,6 +27,13 @@ pub fn ccache_is_one_line_each()
     ensures cache { CacheIsOneLine }
     ensures credential { CredentialIsOneLine }
     ensures end { CacheEndIsOneLine }
+{}
+
+/// The line of a refusal, and the last line of a stream, has a line feed at its end alone.
+pub fn end_is_one_line()
+    ensures file { FileRefusalIsOneLine }
+    ensures message { MessageRefusalIsOneLine }
+    ensures stream { StreamEndIsOneLine }
 {}
 
 /// The date n days after 1970-01-01, found by counting, is the calendar's.

@@ -23,8 +23,9 @@ pub use field::put_field;
 pub use keytab::{keytab_lines, put_keytab};
 pub use krb_msg::{Notes, notes_of};
 pub use law::{
-    ccache_is_one_line_each, dates_are_the_calendars, escape_is_graphic, keys_are_not_shown,
-    keytab_is_one_line_each, message_is_one_line, principal_text_tells, session_keys_are_not_shown,
+    ccache_is_one_line_each, dates_are_the_calendars, end_is_one_line, escape_is_graphic,
+    keys_are_not_shown, keytab_is_one_line_each, message_is_one_line, principal_text_tells,
+    session_keys_are_not_shown,
 };
 pub use message::{message_line, put_message};
 pub use piece::{Name, Piece, put_joined, put_list};
