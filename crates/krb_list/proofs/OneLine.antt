@@ -36,7 +36,7 @@ is_printable c = nat_le 32 c && nat_le c 126
 in_range : (c : ℕ) → is_printable c ≡ true → (32 ≤ c) × (c ≤ 126)
 in_range c e = (grind (arith, nat_tests), grind (arith, nat_tests))
 
-pub all_in_range : (text : List ℕ) → list_all is_printable text ≡ true → IsPrintable text
+all_in_range : (text : List ℕ) → list_all is_printable text ≡ true → IsPrintable text
 all_in_range [] e = tt
 all_in_range (c ∷ cs) e =
     let h = and_parts (is_printable c) (list_all is_printable cs) e in
