@@ -349,10 +349,21 @@ fn frames_come_again(rt: HostRuntime) -> Result<(), Fail> {
 const FRAMES: &[u8] =
     b"\0\0\0\x1F\x6F\x1D\x30\x1B\xA0\x03\x02\x01\x05\xA1\x03\x02\x01\x0F\xA2\x0F\x30\x0D\xA0\x03\x02\x01\x12\xA2\x06\x04\x04\xDE\xAD\xBE\xEF\0\0\0\x1F\x6F\x1D\x30\x1B\xA0\x03\x02\x01\x05\xA1\x03\x02\x01\x0F\xA2\x0F\x30\x0D\xA0\x03\x02\x01\x12\xA2\x06\x04\x04\xDE\xAD\xBE\xEF\0\0\0\0";
 
+/// Whether the message of a frame is had.
+fn is_had(alloc: Global, framed: &Framed<'_>) -> bool {
+    match framed.message(alloc) {
+        Ok(message) => {
+            drop(message);
+            true
+        }
+        Err(_) => false,
+    }
+}
+
 /// Whether a ready frame's message is had, at the first or the second try.
 fn has_message(alloc: Global, stream: &Decoder) -> bool {
     match stream.ready() {
-        Some(framed) => framed.message(alloc).is_ok() || framed.message(alloc).is_ok(),
+        Some(framed) => is_had(alloc, &framed) || is_had(alloc, &framed),
         None => false,
     }
 }
