@@ -3,8 +3,8 @@
 use crate::examples;
 use crate::examples::octets_of;
 use krb_ccache::{
-    Ccache, CcacheFault, Credential, FilePrincipal, Header, HeaderField, TicketState, Typed, law,
-    read, ticket_of, write,
+    Ccache, CcacheFault, Credential, FilePrincipal, Header, HeaderField, TicketState, Typed, read,
+    ticket_of, write,
 };
 use krb_der::{FileFault, FileWhy, KString, Many, Octets, Refusal, Why};
 use std::alloc::Global;
@@ -298,9 +298,4 @@ fn answers_the_same_or_memory(rt: HostRuntime) {
         },
         Err(fault) => assert_eq!(rt; fault, FileFault::Memory),
     }
-}
-
-#[test]
-fn has_its_laws(_rt: HostRuntime) {
-    law::spells_one();
 }

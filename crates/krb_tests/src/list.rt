@@ -7,11 +7,9 @@ use krb_der::{FileWhy, Int32, KString, Many, Octets, Refusal, Why, Wide32};
 use krb_judge::parse;
 use krb_keytab::{Entry, Hole, Keytab, Record, Stop};
 use krb_list::{
-    Piece, TicketFlags, ccache_lines, dates_are_the_calendars, escape_is_graphic,
-    keys_are_not_shown, keytab_lines, message_line, notes_of, principal_text, principal_text_tells,
+    Piece, TicketFlags, ccache_lines, keytab_lines, message_line, notes_of, principal_text,
     put_ccache, put_escaped, put_fault, put_field, put_file_refusal, put_joined, put_keytab,
-    put_list, put_message, put_message_refusal, put_principal, put_time,
-    session_keys_are_not_shown, time_text,
+    put_list, put_message, put_message_refusal, put_principal, put_time, time_text,
 };
 use krb_msg::{EncryptedData, Message};
 use std::alloc::{AllocError, Global};
@@ -305,13 +303,4 @@ fn refuses_messages(rt: HostRuntime) -> Result<(), Fail> {
     put_message_refusal(&mut text, refusal)?;
     assert_eq!(rt; text.as_str(), "refused place=1 why=5 Overrun\n");
     Ok(())
-}
-
-#[test]
-fn has_its_laws(_rt: HostRuntime) {
-    dates_are_the_calendars();
-    escape_is_graphic();
-    keys_are_not_shown();
-    principal_text_tells();
-    session_keys_are_not_shown();
 }
