@@ -27,7 +27,7 @@ are_fields values fit = record { values = values; fit = fit; form = refl }
 pub done : Gives (AreFields End) (λ contents. contents ≡ [])
 done contents f = f.form
 
-pub required : {node index : ℕ} {term : Term} {fields : Fields} {IsForm AreForm : List ℕ → Type 0} → Gives (IsDer term) IsForm → Gives (AreFields fields) AreForm → Gives (AreFields (Required (Tagged node index term) fields)) (HasRequired (0xA0 + index) IsForm AreForm)
+pub required : {node index : ℕ} {term : Term} {fields : Fields} {IsForm AreForm : List ℕ → Type 0} → Gives (IsDer term) IsForm → Gives (AreFields fields) AreForm → Gives (AreFields (Required (Tagged index term) fields)) (HasRequired (0xA0 + index) IsForm AreForm)
 required {term = term} {fields = fields} form behind contents f = record {
   octets = der term f.values.0;
   rest = der_of_fields fields f.values.1;
@@ -55,7 +55,7 @@ option_form : {term : Term} {IsForm : List ℕ → Type 0} → Gives (IsDer term
 option_form form None f = (None, tt, λ tag. refl)
 option_form {term = term} form (Some value) f = (Some (der term value), form (der term value) (is_der value f), λ tag. refl)
 
-pub optional : {node index : ℕ} {term : Term} {fields : Fields} {IsForm AreForm : List ℕ → Type 0} → not (may_begin (0xA0 + index) fields) ≡ true → Gives (IsDer term) IsForm → Gives (AreFields fields) AreForm → Gives (AreFields (Optional (Tagged node index term) fields)) (HasOptional (0xA0 + index) IsForm AreForm)
+pub optional : {node index : ℕ} {term : Term} {fields : Fields} {IsForm AreForm : List ℕ → Type 0} → not (may_begin (0xA0 + index) fields) ≡ true → Gives (IsDer term) IsForm → Gives (AreFields fields) AreForm → Gives (AreFields (Optional (Tagged index term) fields)) (HasOptional (0xA0 + index) IsForm AreForm)
 optional {index = index} {term = term} {fields = fields} apart form behind contents f =
     let o = option_form {term = term} form f.values.0 f.fit.0 in
     record {
@@ -80,7 +80,7 @@ parts_of : (term : Term) (values : List (Value term)) → flat_map (der term) va
 parts_of term [] = refl
 parts_of term (value ∷ values) = ap (λ octets. der term value ++ octets) (parts_of term values)
 
-pub listed : {node : ℕ} {term : Term} {IsForm : List ℕ → Type 0} → Gives (IsDer term) IsForm → Gives (IsDer (SequenceOf node term)) (IsListed IsForm)
+pub listed : {node : ℕ} {term : Term} {IsForm : List ℕ → Type 0} → Gives (IsDer term) IsForm → Gives (IsDer (SequenceOf empty term)) (IsListed IsForm)
 listed {term = term} form octets f = record {
   contents = flat_map (der term) f.value;
   listed = record { items = map (der term) f.value; forms = forms_of form f.value f.fits; begun = begun_of term f.value; parts = parts_of term f.value };

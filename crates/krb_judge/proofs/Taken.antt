@@ -4,7 +4,7 @@ use Rattle.std.specs.Prelude.{ℤ, pos, negsuc, ◌≤ℤ◌}
 use Rattle.std.proofs.lemmas.Int.{ints}
 use Rattle.krb_der.specs.Octets.{item, integer_octets, AreBits}
 use Rattle.krb_der.specs.Items.{same_from_cons}
-use Rattle.krb_msg.specs.Grammar.{int32, wide32, micros, kerberos_flags}
+use Rattle.krb_msg.specs.Grammar.{int32, wide32, microseconds, kerberos_flags}
 use Rattle.krb_msg.specs.Term.{Term, Fields, Integer, Sequence, Application, Value, Values, tag_of, der_of_fields}
 use Rattle.krb_msg.specs.Values.{contents, der_is}
 use Rattle.krb_judge.specs.Reads.{value_octets, item_octets, IsDer, AreFields, HasItem, HasInner, IsSplit, IsInner, HasNumber, IsNumber, StandsFirst, IsTaken, IsListed, AreListed, IsTagged}
@@ -36,7 +36,7 @@ unfolding value_octets
 value_taken {term = term} s value e = item_taken s (der_is term value ∙ ap (item (tag_of term)) e)
 
 -- ---- a SEQUENCE of fields
-pub sequence_fields : {node : ℕ} {fields : Fields} {front inner rest : List ℕ} → StandsFirst (IsDer (Sequence node fields)) front → IsSplit front inner rest → AreFields fields inner
+pub sequence_fields : {node : ℕ} {fields : Fields} {front inner rest : List ℕ} → StandsFirst (IsDer (Sequence fields)) front → IsSplit front inner rest → AreFields fields inner
 sequence_fields f s = record { values = f.form.value; fit = f.form.fits; form = contents_are f s }
 
 -- ---- a SEQUENCE OF
@@ -92,7 +92,7 @@ pub taken_alone : {IsForm : List ℕ → Type 0} {octets taken rest : List ℕ} 
 taken_alone {octets = octets} f t = (t.parts octets [] f (sym (append-nil octets))).0
 
 -- ---- the scalars
-has_number : {node : ℕ} {low high : ℤ} {front : List ℕ} → negsuc 2147483647 ≤ℤ low → high ≤ℤ pos 4294967295 → StandsFirst (IsDer (Integer node low high)) front → HasNumber front
+has_number : {node : ℕ} {low high : ℤ} {front : List ℕ} → negsuc 2147483647 ≤ℤ low → high ≤ℤ pos 4294967295 → StandsFirst (IsDer (Integer low high)) front → HasNumber front
 has_number a b f = record {
   number = f.form.value;
   rest = f.rest;
@@ -108,13 +108,13 @@ int32_number f = has_number (omega (arith, ints)) (omega (arith, ints)) f
 pub wide32_number : {front : List ℕ} → StandsFirst (IsDer wide32) front → HasNumber front
 wide32_number f = has_number (omega (arith, ints)) (omega (arith, ints)) f
 
-pub micros_number : {front : List ℕ} → StandsFirst (IsDer micros) front → HasNumber front
+pub micros_number : {front : List ℕ} → StandsFirst (IsDer microseconds) front → HasNumber front
 micros_number f = has_number (omega (arith, ints)) (omega (arith, ints)) f
 
-pub number_is : {node : ℕ} {low high number : ℤ} {front rest : List ℕ} (f : StandsFirst (IsDer (Integer node low high)) front) → IsNumber front number rest → number ≡ f.form.value
+pub number_is : {node : ℕ} {low high number : ℤ} {front rest : List ℕ} (f : StandsFirst (IsDer (Integer low high)) front) → IsNumber front number rest → number ≡ f.form.value
 number_is f s = (s.parts f.form.value f.rest (f.parts ∙ behind_form f.rest f.form.form)).0
 
-pub number_taken : {node : ℕ} {low high number : ℤ} {front rest : List ℕ} → IsNumber front number rest → (taken : ℤ) → taken ≡ number → IsTaken (IsDer (Integer node low high)) front (value_octets (Integer node low high) taken) rest
+pub number_taken : {node : ℕ} {low high number : ℤ} {front rest : List ℕ} → IsNumber front number rest → (taken : ℤ) → taken ≡ number → IsTaken (IsDer (Integer low high)) front (value_octets (Integer low high) taken) rest
 unfolding value_octets
 number_taken s taken e = record {
   parts = λ those behind f p.
@@ -123,7 +123,7 @@ number_taken s taken e = record {
   rest_within = s.rest_within;
 }
 
-pub micros_taken : {front rest : List ℕ} {number : ℤ} → IsNumber front number rest → (taken : ℕ) → pos taken ≡ number → IsTaken (IsDer micros) front (value_octets micros (pos taken)) rest
+pub micros_taken : {front rest : List ℕ} {number : ℤ} → IsNumber front number rest → (taken : ℕ) → pos taken ≡ number → IsTaken (IsDer microseconds) front (value_octets microseconds (pos taken)) rest
 micros_taken s taken e = number_taken s (pos taken) e
 
 -- the octets read of a BIT STRING have its shape

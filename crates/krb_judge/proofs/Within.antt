@@ -23,7 +23,7 @@ taken term room sole octets count h e = done_within term room sole octets count 
 
 -- ---- forms
 pub items_of : (slots : List Slot) (inner : ℕ) (term : Term) → IsFormOf slots (form.Items inner) term → (before room : ℕ) (octets : List ℕ) → sized_outcome term before room octets ≡ items_contents (λ left. item_outcome (term_at inner) left false) room before room octets
-items_of slots inner (SequenceOf node term) h before room octets = rw h.1
+items_of slots inner (SequenceOf empty term) h before room octets = rw h.1
 items_of slots inner term h before room octets = absurd h
 
 only_item : (term inner : Term) (other : Fields) → Required inner End ≡ Required term other → inner ≡ term

@@ -7,7 +7,7 @@ use Rattle.std.specs.Option.{option_map}
 use Rattle.std.specs.Fmt.{decimal, signed_decimal, digit_glyph, digits, digits_onto}
 use Rattle.krb_der.specs.Octets.{AreOctets}
 use Rattle.krb_der.specs.Scalars.{IsTimeFrom}
-use Rattle.krb_msg.specs.Grammar.{principal_name, req_body, ap_req, krb_error, ticket}
+use Rattle.krb_msg.specs.Grammar.{principal_name, kdc_req_body, ap_req, krb_error, ticket}
 use Rattle.krb_msg.specs.Term.{Fits, IfPresent}
 use Rattle.krb_msg.specs.Notes.{notes_of}
 use Rattle.krb_msg.specs.Views.{IsInProfile, principal_name_value, ticket_value, kdc_req_body_value, ap_req_value, krb_error_value}
@@ -177,7 +177,7 @@ unfolding methods_text
 methods n octets = always _ (list _ (λ item. signed item.0)) (methods_in n octets)
 
 -- ---- lines
-kdc_req : (name : List ℕ) (m : KdcReq) → Prints name → Fits req_body (kdc_req_body_value m.body) → Prints (kdc_req_text name m)
+kdc_req : (name : List ℕ) (m : KdcReq) → Prints name → Fits kdc_req_body (kdc_req_body_value m.body) → Prints (kdc_req_text name m)
 unfolding kdc_req_text
 kdc_req name m start (options, (cname, (realm, (sname, (from, (till, (rtime, rest))))))) =
     add (add (add (add (add (add (add (add (add (add (add (add (add start

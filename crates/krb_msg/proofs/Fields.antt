@@ -8,7 +8,7 @@ use Rattle.krb_msg.specs.declared.kdc_req.KdcReq.{KdcReq}
 use Rattle.krb_msg.specs.declared.kdc_req_body.KdcReqBody.{KdcReqBody}
 use Rattle.krb_msg.specs.declared.krb_error.KrbError.{KrbError}
 use Rattle.krb_msg.specs.Term.{SequenceOf, Tagged, der}
-use Rattle.krb_msg.specs.Grammar.{int32, wide32, micros, kerberos_string, kerberos_time, kerberos_flags, octet_string, principal_name, encrypted_data, ticket, pa_data, host_address, req_body, as_req, as_rep, krb_error}
+use Rattle.krb_msg.specs.Grammar.{int32, wide32, microseconds, kerberos_string, kerberos_time, kerberos_flags, octet_string, principal_name, encrypted_data, ticket, pa_data, host_address, kdc_req_body, as_req, as_rep, krb_error}
 use Rattle.krb_msg.specs.Values.{contents}
 use Rattle.krb_msg.specs.Views.{principal_name_value, principal_name_der, encrypted_data_value, encrypted_data_der, ticket_value, ticket_der, pa_data_value, pa_data_der, host_address_value, host_address_der, kdc_req_body_value, kdc_req_body_der, kdc_req_value, kdc_rep_value, krb_error_value}
 
@@ -33,27 +33,27 @@ pub kdc_req_body-contents : (b : KdcReqBody) →
     ++ (octets_of_option (λ x. item 0xA1 (principal_name_der x)) b.cname
     ++ (item 0xA2 (der kerberos_string b.realm)
     ++ (octets_of_option (λ x. item 0xA3 (principal_name_der x)) b.sname
-    ++ (octets_of_option (der (Tagged 71 4 kerberos_time)) b.from
+    ++ (octets_of_option (der (Tagged 4 kerberos_time)) b.from
     ++ (item 0xA5 (der kerberos_time b.till)
-    ++ (octets_of_option (der (Tagged 73 6 kerberos_time)) b.rtime
+    ++ (octets_of_option (der (Tagged 6 kerberos_time)) b.rtime
     ++ (item 0xA7 (der wide32 b.nonce)
-    ++ (item 0xA8 (der (SequenceOf 63 int32) b.etype)
+    ++ (item 0xA8 (der (SequenceOf true int32) b.etype)
     ++ (octets_of_option (λ xs. item 0xA9 (item 0x30 (flat_map host_address_der xs))) b.addresses
     ++ (octets_of_option (λ x. item 0xAA (encrypted_data_der x)) b.enc_authorization_data
     ++ (octets_of_option (λ xs. item 0xAB (item 0x30 (flat_map ticket_der xs))) b.additional_tickets
-    ++ []))))))))))) ≡ contents req_body (kdc_req_body_value b)
+    ++ []))))))))))) ≡ contents kdc_req_body (kdc_req_body_value b)
 kdc_req_body-contents b =
     λ i. item 0xA0 (der kerberos_flags b.kdc_options)
-    ++ (option-octets (der (Tagged 68 1 principal_name)) principal_name_value b.cname i
+    ++ (option-octets (der (Tagged 1 principal_name)) principal_name_value b.cname i
     ++ (item 0xA2 (der kerberos_string b.realm)
-    ++ (option-octets (der (Tagged 70 3 principal_name)) principal_name_value b.sname i
-    ++ (octets_of_option (der (Tagged 71 4 kerberos_time)) b.from
+    ++ (option-octets (der (Tagged 3 principal_name)) principal_name_value b.sname i
+    ++ (octets_of_option (der (Tagged 4 kerberos_time)) b.from
     ++ (item 0xA5 (der kerberos_time b.till)
-    ++ (octets_of_option (der (Tagged 73 6 kerberos_time)) b.rtime
+    ++ (octets_of_option (der (Tagged 6 kerberos_time)) b.rtime
     ++ (item 0xA7 (der wide32 b.nonce)
-    ++ (item 0xA8 (der (SequenceOf 63 int32) b.etype)
+    ++ (item 0xA8 (der (SequenceOf true int32) b.etype)
     ++ (list-octets 0xA9 (der host_address) host_address_value b.addresses i
-    ++ (option-octets (der (Tagged 77 10 encrypted_data)) encrypted_data_value b.enc_authorization_data i
+    ++ (option-octets (der (Tagged 10 encrypted_data)) encrypted_data_value b.enc_authorization_data i
     ++ (list-octets 0xAB (der ticket) ticket_value b.additional_tickets i
     ++ [])))))))))))
 
@@ -94,30 +94,30 @@ kdc_rep-contents number m =
 pub krb_error-contents : (m : KrbError) →
     item 0x30 (item 0xA0 (item 0x02 (integer_octets (pos 5)))
     ++ (item 0xA1 (item 0x02 (integer_octets (pos 30)))
-    ++ (octets_of_option (der (Tagged 98 2 kerberos_time)) m.ctime
-    ++ (octets_of_option (λ x. item 0xA3 (der micros (pos x))) m.cusec
+    ++ (octets_of_option (der (Tagged 2 kerberos_time)) m.ctime
+    ++ (octets_of_option (λ x. item 0xA3 (der microseconds (pos x))) m.cusec
     ++ (item 0xA4 (der kerberos_time m.stime)
-    ++ (item 0xA5 (der micros (pos m.susec))
+    ++ (item 0xA5 (der microseconds (pos m.susec))
     ++ (item 0xA6 (der int32 m.error_code)
-    ++ (octets_of_option (der (Tagged 103 7 kerberos_string)) m.crealm
+    ++ (octets_of_option (der (Tagged 7 kerberos_string)) m.crealm
     ++ (octets_of_option (λ x. item 0xA8 (principal_name_der x)) m.cname
     ++ (item 0xA9 (der kerberos_string m.realm)
     ++ (item 0xAA (principal_name_der m.sname)
-    ++ (octets_of_option (der (Tagged 107 11 kerberos_string)) m.e_text
-    ++ (octets_of_option (der (Tagged 108 12 octet_string)) m.e_data
+    ++ (octets_of_option (der (Tagged 11 kerberos_string)) m.e_text
+    ++ (octets_of_option (der (Tagged 12 octet_string)) m.e_data
     ++ []))))))))))))) ≡ contents krb_error (krb_error_value m)
 krb_error-contents m =
     λ i. item 0x30 (item 0xA0 (item 0x02 (integer_octets (pos 5)))
     ++ (item 0xA1 (item 0x02 (integer_octets (pos 30)))
-    ++ (octets_of_option (der (Tagged 98 2 kerberos_time)) m.ctime
-    ++ (option-octets (der (Tagged 99 3 micros)) pos m.cusec i
+    ++ (octets_of_option (der (Tagged 2 kerberos_time)) m.ctime
+    ++ (option-octets (der (Tagged 3 microseconds)) pos m.cusec i
     ++ (item 0xA4 (der kerberos_time m.stime)
-    ++ (item 0xA5 (der micros (pos m.susec))
+    ++ (item 0xA5 (der microseconds (pos m.susec))
     ++ (item 0xA6 (der int32 m.error_code)
-    ++ (octets_of_option (der (Tagged 103 7 kerberos_string)) m.crealm
-    ++ (option-octets (der (Tagged 104 8 principal_name)) principal_name_value m.cname i
+    ++ (octets_of_option (der (Tagged 7 kerberos_string)) m.crealm
+    ++ (option-octets (der (Tagged 8 principal_name)) principal_name_value m.cname i
     ++ (item 0xA9 (der kerberos_string m.realm)
     ++ (item 0xAA (principal_name_der m.sname)
-    ++ (octets_of_option (der (Tagged 107 11 kerberos_string)) m.e_text
-    ++ (octets_of_option (der (Tagged 108 12 octet_string)) m.e_data
+    ++ (octets_of_option (der (Tagged 11 kerberos_string)) m.e_text
+    ++ (octets_of_option (der (Tagged 12 octet_string)) m.e_data
     ++ [])))))))))))))

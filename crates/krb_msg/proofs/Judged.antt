@@ -16,7 +16,7 @@ use Rattle.krb_msg.specs.declared.message.Kind.{Kind}
 use Rattle.krb_msg.specs.declared.message.Kind.TheVariants as kind
 use Rattle.krb_msg.specs.Term.{Term, tag_of, Value, der, Fits, IfPresent}
 use Rattle.std.specs.List.{AllByRecursion}
-use Rattle.krb_msg.specs.Grammar.{messages, ticket, principal_name, req_body, micros, krb_error}
+use Rattle.krb_msg.specs.Grammar.{messages, ticket, principal_name, kdc_req_body, microseconds, krb_error}
 use Rattle.krb_msg.specs.Shape.{is_unambiguous}
 use Rattle.krb_msg.specs.Judgement.{Outcome, Open, Bad, Done, item_outcome, message_outcome, judgement, term_judgement, verdict_of}
 use Rattle.krb_msg.specs.Views.{kind_of, kind_term, kind_of_tag, message_value, message_of, message_der, pa_data_value, pa_data_of, principal_name_value, principal_name_of, host_address_value, host_address_of, encrypted_data_value, encrypted_data_of, ticket_value, ticket_of, kdc_req_body_value, kdc_req_body_of, KdcReqValue, kdc_req_value, kdc_req_of, KdcRepValue, kdc_rep_value, kdc_rep_of, micros_of, krb_error_value, krb_error_of, ap_req_of, ap_rep_of, IsInProfile}
@@ -124,7 +124,7 @@ additional_tickets_value-of None f = refl
 additional_tickets_value-of (Some vs) f = ap Some (tickets_value-of vs f)
 
 -- the values of a KDC-REQ-BODY, and the numbers that a KDC-REQ of either kind fixes
-body_value-of : (v : Value req_body) → Fits req_body v → kdc_req_body_value (kdc_req_body_of v) ≡ v
+body_value-of : (v : Value kdc_req_body) → Fits kdc_req_body v → kdc_req_body_value (kdc_req_body_of v) ≡ v
 body_value-of (options, (cname, (realm, (sname, (from, (till, (rtime, (nonce, (etype, (addresses, (sealed, (tickets, none)))))))))))) f =
     let names : (o : Option (Value principal_name)) → option_map principal_name_value (option_map principal_name_of o) ≡ o = option-back principal_name_of principal_name_value (λ p. refl) in
     let places : option_map (map host_address_value) (option_map (map host_address_of) addresses) ≡ addresses = list-back host_address_of host_address_value (λ a. refl) addresses in
@@ -146,7 +146,7 @@ micros_value-of : (z : ℤ) → pos 0 ≤ℤ z → pos (micros_of z) ≡ z
 micros_value-of (pos number) f = refl
 micros_value-of (negsuc number) f = absurd (omega (arith, ints, f))
 
-option_micros-of : (o : Option ℤ) → IfPresent (Fits micros) o → option_map pos (option_map micros_of o) ≡ o
+option_micros-of : (o : Option ℤ) → IfPresent (Fits microseconds) o → option_map pos (option_map micros_of o) ≡ o
 option_micros-of None f = refl
 option_micros-of (Some z) f = ap Some (micros_value-of z f.0)
 

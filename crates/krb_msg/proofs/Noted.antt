@@ -2,7 +2,7 @@
 use Rattle.std.proofs.Common.{◌≡◌, pos, Bool, true, false, ◌||◌, List, [], ◌∷◌, Option, Some, None, map, refl, ap}
 use Rattle.std.specs.List.{list_any}
 use Rattle.std.specs.Option.{option_map}
-use Rattle.krb_msg.specs.Grammar.{ticket, pa_data, host_address, principal_name, encrypted_data, req_body, as_req, as_rep, krb_error}
+use Rattle.krb_msg.specs.Grammar.{ticket, pa_data, host_address, principal_name, encrypted_data, kdc_req_body, as_req, as_rep, krb_error}
 use Rattle.krb_msg.specs.Notes.{Note, HighOctet, FewFlags, Negative, EmptyList, text_has, flags_have, number_has, list_has, option_any, has, notes_by}
 use Rattle.krb_msg.specs.Views.{ticket_value, pa_data_value, host_address_value, principal_name_value, encrypted_data_value, kdc_req_body_value, kdc_req_value, kdc_rep_value, krb_error_value}
 use Rattle.krb_msg.specs.declared.pa_data.PaData.{PaData}
@@ -78,7 +78,7 @@ parts options client realm server from until nonce etypes addresses authdata tic
 
 -- The notes of a request are those of its parts.
 pub kdc_req_body-has : (n : Note) (b : KdcReqBody) →
-    has n req_body (kdc_req_body_value b)
+    has n kdc_req_body (kdc_req_body_value b)
     ≡ ((((((((flags_have n b.kdc_options || option_any (λ x. has n principal_name (principal_name_value x)) b.cname) || text_has n b.realm)
     || option_any (λ x. has n principal_name (principal_name_value x)) b.sname) || number_has n b.nonce)
     || option_any (list_has n) b.addresses) || option_any (λ x. has n encrypted_data (encrypted_data_value x)) b.enc_authorization_data)
@@ -94,8 +94,8 @@ kdc_req_body-has n b =
     (option_any-map (has n encrypted_data) encrypted_data_value b.enc_authorization_data)
     (tickets-has n b.additional_tickets)
 
-pub kdc_req-has : (n : Note) (m : KdcReq) → has n as_req (kdc_req_value 10 m) ≡ (option_any (list_has n) m.padata || has n req_body (kdc_req_body_value m.body))
-kdc_req-has n m = rw (padata-has n m.padata, or-false (has n req_body (kdc_req_body_value m.body))) refl
+pub kdc_req-has : (n : Note) (m : KdcReq) → has n as_req (kdc_req_value 10 m) ≡ (option_any (list_has n) m.padata || has n kdc_req_body (kdc_req_body_value m.body))
+kdc_req-has n m = rw (padata-has n m.padata, or-false (has n kdc_req_body (kdc_req_body_value m.body))) refl
 
 pub kdc_rep-has : (n : Note) (m : KdcRep) →
     has n as_rep (kdc_rep_value 11 m)
@@ -111,7 +111,7 @@ pub krb_error-has : (n : Note) (m : KrbError) →
 krb_error-has n m =
     error _ _ _ _ _ _ _ _ _ (option_none m.ctime) (option_none (option_map pos m.cusec)) (option_any-map (has n principal_name) principal_name_value m.cname) (option_none m.e_data)
   where
-    error : (time micros realm name name₂ server_realm server text octets : Bool) → time ≡ false → micros ≡ false → name ≡ name₂ → octets ≡ false →
-        (time || (micros || (realm || (name || (server_realm || (server || (text || (octets || false))))))))
+    error : (time microseconds realm name name₂ server_realm server text octets : Bool) → time ≡ false → microseconds ≡ false → name ≡ name₂ → octets ≡ false →
+        (time || (microseconds || (realm || (name || (server_realm || (server || (text || (octets || false))))))))
         ≡ ((((realm || name₂) || server_realm) || server) || text)
-    error time micros realm name name₂ server_realm server text octets t u e o = rw (t, u, e, o) (simp (or-false, or_assoc))
+    error time microseconds realm name name₂ server_realm server text octets t u e o = rw (t, u, e, o) (simp (or-false, or_assoc))

@@ -57,19 +57,19 @@ IsStable-time_room before room h = rw (eqb-true room 15 h) (IsStable-behind 15 b
 
 mutual
   pub IsStable-contents : (term : Term) (before room : ℕ) → 0 < before → has_size term room ≡ true → IsStable room before (contents_outcome term before room)
-  IsStable-contents (Integer node low high) before room p h = IsStable-behind room before (integer_contents low high room) (IsStable-integer_contents low high room (positive_from_size_integer room _ h))
-  IsStable-contents (Text node) before room p h = IsStable-behind room before (any_contents room) (IsStable-any_contents room)
-  IsStable-contents (Octets node) before room p h = IsStable-behind room before (any_contents room) (IsStable-any_contents room)
-  IsStable-contents (Time node) before room p h = IsStable-time_room before room h
-  IsStable-contents (Bits node) before room p h = IsStable-behind room before (bits_contents room) (IsStable-bits_contents room (ltb-true 0 room h))
-  IsStable-contents (Sequence node fields) before room p h = IsStable-fields fields before room p
-  IsStable-contents (SequenceOf node term) before room p h =
+  IsStable-contents (Integer low high) before room p h = IsStable-behind room before (integer_contents low high room) (IsStable-integer_contents low high room (positive_from_size_integer room _ h))
+  IsStable-contents (Text greatest) before room p h = IsStable-behind room before (any_contents room) (IsStable-any_contents room)
+  IsStable-contents Octets before room p h = IsStable-behind room before (any_contents room) (IsStable-any_contents room)
+  IsStable-contents Time before room p h = IsStable-time_room before room h
+  IsStable-contents (Bits least) before room p h = IsStable-behind room before (bits_contents room) (IsStable-bits_contents room (ltb-true 0 room h))
+  IsStable-contents (Sequence fields) before room p h = IsStable-fields fields before room p
+  IsStable-contents (SequenceOf empty term) before room p h =
       IsStable-items (λ left. item_with (contents_outcome term) term left false)
       (λ left. IsStable-item (contents_outcome term) term left false (λ header contents q g. IsStable-contents term header contents q g)) room before room
-  IsStable-contents (Tagged node index term) before room p h =
+  IsStable-contents (Tagged index term) before room p h =
       IsStable-only (item_with (contents_outcome term) term room true) before room p
       (IsStable-item (contents_outcome term) term room true (λ header contents q g. IsStable-contents term header contents q g))
-  IsStable-contents (Application node number term) before room p h =
+  IsStable-contents (Application number term) before room p h =
       IsStable-only (item_with (contents_outcome term) term room true) before room p
       (IsStable-item (contents_outcome term) term room true (λ header contents q g. IsStable-contents term header contents q g))
 

@@ -1,162 +1,174 @@
--- The terms of RFC 4120, appendix A, and the numbers of their nodes.
-use Rattle.std.specs.Prelude.{ℕ, pos, negsuc, List, [], ◌∷◌}
+-- RFC 4120, appendix A, as terms. A line of a SEQUENCE is a line of the appendix: the index, the field's name, its type.
+-- The lenient profile: a string has any octets, flags are of any number, a list may be empty.
+use Rattle.std.specs.Prelude.{ℕ, pos, negsuc, true, List, [], ◌∷◌}
+use Prim.Native.String.{String}
 use Rattle.krb_msg.specs.Term.{Term, Fields, Integer, Text, Octets, Time, Bits, Sequence, SequenceOf, Tagged, Application, End, Required, Optional}
 
--- writes the fields of a SEQUENCE one behind another
+-- writes the fields of a SEQUENCE one after another
 infixr 5 ◌⨟◌
 abbrev pub ◌⨟◌ : (Fields → Fields) → Fields → Fields
 field ⨟ fields = field fields
 
--- a field [index] of a SEQUENCE, and one that may be left out
-abbrev pub field : ℕ → ℕ → Term → Fields → Fields
-field node index term fields = Required (Tagged node index term) fields
+-- a field [index] of a SEQUENCE, and one that is OPTIONAL; its name is for the reader alone
+abbrev pub field : ℕ → String → Term → Fields → Fields
+field index name term fields = Required (Tagged index term) fields
 
-abbrev pub optional : ℕ → ℕ → Term → Fields → Fields
-optional node index term fields = Optional (Tagged node index term) fields
+abbrev pub optional : ℕ → String → Term → Fields → Fields
+optional index name term fields = Optional (Tagged index term) fields
 
--- a number that the message fixes
-abbrev pub exactly : ℕ → ℕ → Term
-exactly node n = Integer node (pos n) (pos n)
+-- ---- 5.2: basic types
+-- an INTEGER (n)
+abbrev pub exactly : ℕ → Term
+exactly n = Integer (pos n) (pos n)
 
 abbrev pub int32 : Term
-int32 = Integer 0 (negsuc 2147483647) (pos 2147483647)
+int32 = Integer (negsuc 2147483647) (pos 2147483647)
 
+-- a UInt32, which deployed senders also write as the Int32 of the same 32 bits
 abbrev pub wide32 : Term
-wide32 = Integer 1 (negsuc 2147483647) (pos 4294967295)
+wide32 = Integer (negsuc 2147483647) (pos 4294967295)
 
-abbrev pub micros : Term
-micros = Integer 2 (pos 0) (pos 999999)
+abbrev pub microseconds : Term
+microseconds = Integer (pos 0) (pos 999999)
 
 abbrev pub kerberos_string : Term
-kerberos_string = Text 3
+kerberos_string = Text 255
 
 abbrev pub octet_string : Term
-octet_string = Octets 4
+octet_string = Octets
 
 abbrev pub kerberos_time : Term
-kerberos_time = Time 5
+kerberos_time = Time
 
 abbrev pub kerberos_flags : Term
-kerberos_flags = Bits 6
+kerberos_flags = Bits 0
+
+abbrev pub sequence_of : Term → Term
+sequence_of term = SequenceOf true term
 
 abbrev pub principal_name : Term
-principal_name = Sequence 8 (field 9 0 int32 ⨟ field 10 1 (SequenceOf 7 kerberos_string) ⨟ End)
-
-abbrev pub encrypted_data : Term
-encrypted_data = Sequence 11 (field 12 0 int32 ⨟ optional 13 1 wide32 ⨟ field 14 2 octet_string ⨟ End)
-
-abbrev pub version : Term
-version = exactly 15 5
-
-abbrev pub ticket : Term
-ticket = Application 16 1 (Sequence 17 (
-    field 18 0 version
-    ⨟ field 19 1 kerberos_string
-    ⨟ field 20 2 principal_name
-    ⨟ field 21 3 encrypted_data
-    ⨟ End))
-
-abbrev pub ap_rep : Term
-ap_rep = Application 22 15 (Sequence 24 (field 25 0 version ⨟ field 26 1 (exactly 23 15) ⨟ field 27 2 encrypted_data ⨟ End))
-
-abbrev pub ap_req : Term
-ap_req = Application 28 14 (Sequence 30 (
-    field 31 0 version
-    ⨟ field 32 1 (exactly 29 14)
-    ⨟ field 33 2 kerberos_flags
-    ⨟ field 34 3 ticket
-    ⨟ field 35 4 encrypted_data
-    ⨟ End))
-
-abbrev pub pa_data : Term
-pa_data = Sequence 36 (field 37 1 int32 ⨟ field 38 2 octet_string ⨟ End)
-
--- METHOD-DATA, and the padata of replies and of requests: the same items, and places of their own
-abbrev pub method_data : Term
-method_data = SequenceOf 39 pa_data
-
-abbrev pub reply_padata : Term
-reply_padata = SequenceOf 109 pa_data
-
-abbrev pub request_padata : Term
-request_padata = SequenceOf 110 pa_data
-
-abbrev pub as_rep : Term
-as_rep = Application 40 11 (Sequence 42 (
-    field 43 0 version
-    ⨟ field 44 1 (exactly 41 11)
-    ⨟ optional 45 2 reply_padata
-    ⨟ field 46 3 kerberos_string
-    ⨟ field 47 4 principal_name
-    ⨟ field 48 5 ticket
-    ⨟ field 49 6 encrypted_data
-    ⨟ End))
-
-abbrev pub tgs_rep : Term
-tgs_rep = Application 50 13 (Sequence 52 (
-    field 53 0 version
-    ⨟ field 54 1 (exactly 51 13)
-    ⨟ optional 55 2 reply_padata
-    ⨟ field 56 3 kerberos_string
-    ⨟ field 57 4 principal_name
-    ⨟ field 58 5 ticket
-    ⨟ field 59 6 encrypted_data
-    ⨟ End))
+principal_name = Sequence (
+    field 0 "name-type" int32
+    ⨟ field 1 "name-string" (sequence_of kerberos_string)
+    ⨟ End)
 
 abbrev pub host_address : Term
-host_address = Sequence 60 (field 61 0 int32 ⨟ field 62 1 octet_string ⨟ End)
+host_address = Sequence (
+    field 0 "addr-type" int32
+    ⨟ field 1 "address" octet_string
+    ⨟ End)
 
-abbrev pub additional_tickets : Term
-additional_tickets = SequenceOf 65 ticket
+abbrev pub pa_data : Term
+pa_data = Sequence (
+    field 1 "padata-type" int32
+    ⨟ field 2 "padata-value" octet_string
+    ⨟ End)
 
-abbrev pub req_body : Term
-req_body = Sequence 66 (
-    field 67 0 kerberos_flags
-    ⨟ optional 68 1 principal_name
-    ⨟ field 69 2 kerberos_string
-    ⨟ optional 70 3 principal_name
-    ⨟ optional 71 4 kerberos_time
-    ⨟ field 72 5 kerberos_time
-    ⨟ optional 73 6 kerberos_time
-    ⨟ field 74 7 wide32
-    ⨟ field 75 8 (SequenceOf 63 int32)
-    ⨟ optional 76 9 (SequenceOf 64 host_address)
-    ⨟ optional 77 10 encrypted_data
-    ⨟ optional 78 11 additional_tickets
+abbrev pub encrypted_data : Term
+encrypted_data = Sequence (
+    field 0 "etype" int32
+    ⨟ optional 1 "kvno" wide32
+    ⨟ field 2 "cipher" octet_string
+    ⨟ End)
+
+-- ---- 5.3
+abbrev pub version : Term
+version = exactly 5
+
+abbrev pub ticket : Term
+ticket = Application 1 (Sequence (
+    field 0 "tkt-vno" version
+    ⨟ field 1 "realm" kerberos_string
+    ⨟ field 2 "sname" principal_name
+    ⨟ field 3 "enc-part" encrypted_data
+    ⨟ End))
+
+-- ---- 5.4.1: KDC-REQ and its two messages
+abbrev pub kdc_req_body : Term
+kdc_req_body = Sequence (
+    field 0 "kdc-options" kerberos_flags
+    ⨟ optional 1 "cname" principal_name
+    ⨟ field 2 "realm" kerberos_string
+    ⨟ optional 3 "sname" principal_name
+    ⨟ optional 4 "from" kerberos_time
+    ⨟ field 5 "till" kerberos_time
+    ⨟ optional 6 "rtime" kerberos_time
+    ⨟ field 7 "nonce" wide32
+    ⨟ field 8 "etype" (sequence_of int32)
+    ⨟ optional 9 "addresses" (sequence_of host_address)
+    ⨟ optional 10 "enc-authorization-data" encrypted_data
+    ⨟ optional 11 "additional-tickets" (sequence_of ticket)
+    ⨟ End)
+
+abbrev pub kdc_req : ℕ → Term
+kdc_req message_type = Sequence (
+    field 1 "pvno" version
+    ⨟ field 2 "msg-type" (exactly message_type)
+    ⨟ optional 3 "padata" (sequence_of pa_data)
+    ⨟ field 4 "req-body" kdc_req_body
     ⨟ End)
 
 abbrev pub as_req : Term
-as_req = Application 79 10 (Sequence 81 (
-    field 82 1 version
-    ⨟ field 83 2 (exactly 80 10)
-    ⨟ optional 84 3 request_padata
-    ⨟ field 85 4 req_body
-    ⨟ End))
+as_req = Application 10 (kdc_req 10)
 
 abbrev pub tgs_req : Term
-tgs_req = Application 86 12 (Sequence 88 (
-    field 89 1 version
-    ⨟ field 90 2 (exactly 87 12)
-    ⨟ optional 91 3 request_padata
-    ⨟ field 92 4 req_body
+tgs_req = Application 12 (kdc_req 12)
+
+-- ---- 5.4.2: KDC-REP and its two messages
+abbrev pub kdc_rep : ℕ → Term
+kdc_rep message_type = Sequence (
+    field 0 "pvno" version
+    ⨟ field 1 "msg-type" (exactly message_type)
+    ⨟ optional 2 "padata" (sequence_of pa_data)
+    ⨟ field 3 "crealm" kerberos_string
+    ⨟ field 4 "cname" principal_name
+    ⨟ field 5 "ticket" ticket
+    ⨟ field 6 "enc-part" encrypted_data
+    ⨟ End)
+
+abbrev pub as_rep : Term
+as_rep = Application 11 (kdc_rep 11)
+
+abbrev pub tgs_rep : Term
+tgs_rep = Application 13 (kdc_rep 13)
+
+-- ---- 5.5
+abbrev pub ap_req : Term
+ap_req = Application 14 (Sequence (
+    field 0 "pvno" version
+    ⨟ field 1 "msg-type" (exactly 14)
+    ⨟ field 2 "ap-options" kerberos_flags
+    ⨟ field 3 "ticket" ticket
+    ⨟ field 4 "authenticator" encrypted_data
     ⨟ End))
 
-abbrev pub krb_error : Term
-krb_error = Application 93 30 (Sequence 95 (
-    field 96 0 version
-    ⨟ field 97 1 (exactly 94 30)
-    ⨟ optional 98 2 kerberos_time
-    ⨟ optional 99 3 micros
-    ⨟ field 100 4 kerberos_time
-    ⨟ field 101 5 micros
-    ⨟ field 102 6 int32
-    ⨟ optional 103 7 kerberos_string
-    ⨟ optional 104 8 principal_name
-    ⨟ field 105 9 kerberos_string
-    ⨟ field 106 10 principal_name
-    ⨟ optional 107 11 kerberos_string
-    ⨟ optional 108 12 octet_string
+abbrev pub ap_rep : Term
+ap_rep = Application 15 (Sequence (
+    field 0 "pvno" version
+    ⨟ field 1 "msg-type" (exactly 15)
+    ⨟ field 2 "enc-part" encrypted_data
     ⨟ End))
+
+-- ---- 5.9.1
+abbrev pub krb_error : Term
+krb_error = Application 30 (Sequence (
+    field 0 "pvno" version
+    ⨟ field 1 "msg-type" (exactly 30)
+    ⨟ optional 2 "ctime" kerberos_time
+    ⨟ optional 3 "cusec" microseconds
+    ⨟ field 4 "stime" kerberos_time
+    ⨟ field 5 "susec" microseconds
+    ⨟ field 6 "error-code" int32
+    ⨟ optional 7 "crealm" kerberos_string
+    ⨟ optional 8 "cname" principal_name
+    ⨟ field 9 "realm" kerberos_string
+    ⨟ field 10 "sname" principal_name
+    ⨟ optional 11 "e-text" kerberos_string
+    ⨟ optional 12 "e-data" octet_string
+    ⨟ End))
+
+abbrev pub method_data : Term
+method_data = sequence_of pa_data
 
 -- The messages that are judged, by their tags; any other first octet is refused.
 abbrev pub messages : List Term

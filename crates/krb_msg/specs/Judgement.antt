@@ -1,6 +1,6 @@
 -- What the octets present of an item decide, read from the front: nothing yet, that the item is whole, or the first fault (X.690).
 -- The octets present are no more than the room that the container has left.
-use Rattle.std.specs.Prelude.{ℕ, zero, suc, ℤ, pos, negsuc, ◌+◌, ◌-◌, ◌%◌, ◌^◌, Bool, true, false, ◌&&◌, ◌||◌, ◌==◌, nat_lt, nat_le, max, if◌then◌else◌, List, [], ◌∷◌, length, take, drop}
+use Rattle.std.specs.Prelude.{ℕ, zero, suc, ℤ, pos, negsuc, ◌+◌, ◌-◌, ◌*◌, ◌%◌, ◌^◌, Bool, true, false, ◌&&◌, ◌||◌, ◌==◌, nat_lt, nat_le, max, if◌then◌else◌, List, [], ◌∷◌, length, take, drop}
 use Rattle.krb_der.specs.Octets.{when, number, integer_octets, integer_value, last_or_zero}
 use Rattle.krb_der.specs.declared.why.Why.{Why}
 use Rattle.krb_der.specs.declared.why.Why.TheVariants as why
@@ -63,9 +63,10 @@ int_le (negsuc a) (negsuc b) = nat_le b a
 
 -- whether the term has contents of this length
 abbrev pub has_size : Term → ℕ → Bool
-has_size (Integer node low high) contents = nat_lt 0 contents && nat_le contents (max (length (integer_octets low)) (length (integer_octets high)))
-has_size (Time node) contents = contents == 15
-has_size (Bits node) contents = nat_lt 0 contents
+has_size (Integer low high) contents = nat_lt 0 contents && nat_le contents (max (length (integer_octets low)) (length (integer_octets high)))
+has_size Time contents = contents == 15
+has_size (Bits least) contents = nat_lt 0 contents && nat_le least (8 * (contents - 1))
+has_size (SequenceOf empty term) contents = empty || nat_lt 0 contents
 has_size term contents = true
 
 -- the first nine bits are equal
@@ -80,17 +81,24 @@ integer_contents low high contents octets =
     else if int_le low (integer_value octets) && int_le (integer_value octets) high then Done contents
     else Bad (contents - 1) why.Range
 
--- the octets of a time from this place on
-abbrev pub time_contents : ℕ → List ℕ → Outcome
-time_contents place [] = if nat_lt place 15 then Open else Done 15
-time_contents place (octet ∷ octets) =
-    if (if nat_lt place 14 then nat_le 48 octet && nat_le octet 57 else octet == 90) then time_contents (place + 1) octets
-    else Bad place why.Time
+-- octets from a place on, each of which passes a test of its place
+abbrev pub each_contents : (ℕ → ℕ → Bool) → Why → ℕ → ℕ → List ℕ → Outcome
+each_contents passes reason contents place [] = if nat_lt place contents then Open else Done contents
+each_contents passes reason contents place (octet ∷ octets) =
+    if passes place octet then each_contents passes reason contents (place + 1) octets else Bad place reason
 
-abbrev pub bits_contents : ℕ → List ℕ → Outcome
-bits_contents contents [] = Open
-bits_contents contents (unused ∷ octets) =
-    if nat_lt 7 unused || ((contents == 1) && nat_lt 0 unused) then Bad 0 why.Bits
+-- whether an octet may stand at a place of a string, and of a time
+abbrev pub text_octet : ℕ → ℕ → ℕ → Bool
+text_octet greatest place octet = nat_le octet greatest
+
+abbrev pub time_octet : ℕ → ℕ → Bool
+time_octet place octet = if nat_lt place 14 then nat_le 48 octet && nat_le octet 57 else octet == 90
+
+-- the unused count, and bits of which there are enough
+abbrev pub bits_contents : ℕ → ℕ → List ℕ → Outcome
+bits_contents least contents [] = Open
+bits_contents least contents (unused ∷ octets) =
+    if nat_lt 7 unused || nat_lt (8 * (contents - 1)) (least + unused) then Bad 0 why.Bits
     else if nat_lt (length (unused ∷ octets)) contents then Open
     else if last_or_zero octets % 2 ^ unused == 0 then Done contents
     else Bad (contents - 1) why.Bits
@@ -129,15 +137,15 @@ item_with contents_of term room sole (octet ∷ octets) =
 abbrev mutual
   -- an item's contents of a length, behind its tag and length octets, from what is present of them
   pub contents_outcome : Term → ℕ → ℕ → List ℕ → Outcome
-  contents_outcome (Integer node low high) before room octets = behind before (integer_contents low high room octets)
-  contents_outcome (Text node) before room octets = behind before (any_contents room octets)
-  contents_outcome (Octets node) before room octets = behind before (any_contents room octets)
-  contents_outcome (Time node) before room octets = behind before (time_contents 0 octets)
-  contents_outcome (Bits node) before room octets = behind before (bits_contents room octets)
-  contents_outcome (Sequence node fields) before room octets = fields_outcome fields before room octets
-  contents_outcome (SequenceOf node term) before room octets = items_contents (λ left. item_with (contents_outcome term) term left false) room before room octets
-  contents_outcome (Tagged node index term) before room octets = only_contents before room (item_with (contents_outcome term) term room true octets)
-  contents_outcome (Application node number term) before room octets = only_contents before room (item_with (contents_outcome term) term room true octets)
+  contents_outcome (Integer low high) before room octets = behind before (integer_contents low high room octets)
+  contents_outcome (Text greatest) before room octets = behind before (each_contents (text_octet greatest) why.Charset room 0 octets)
+  contents_outcome Octets before room octets = behind before (any_contents room octets)
+  contents_outcome Time before room octets = behind before (each_contents time_octet why.Time 15 0 octets)
+  contents_outcome (Bits least) before room octets = behind before (bits_contents least room octets)
+  contents_outcome (Sequence fields) before room octets = fields_outcome fields before room octets
+  contents_outcome (SequenceOf empty term) before room octets = items_contents (λ left. item_with (contents_outcome term) term left false) room before room octets
+  contents_outcome (Tagged index term) before room octets = only_contents before room (item_with (contents_outcome term) term room true octets)
+  contents_outcome (Application number term) before room octets = only_contents before room (item_with (contents_outcome term) term room true octets)
 
   -- the fields that are left, in the room that is left
   pub fields_outcome : Fields → ℕ → ℕ → List ℕ → Outcome
@@ -171,9 +179,13 @@ verdict_of Open = verdict.Open
 verdict_of (Bad offset reason) = verdict.Refused (record { place = offset; why = reason })
 verdict_of (Done count) = verdict.Whole
 
--- The judgement of the octets present of a message of n octets.
+-- The judgement of the octets present of a message of n octets, which is one of these terms.
+abbrev pub judgement_by : List Term → ℕ → List ℕ → Verdict
+judgement_by terms n octets = verdict_of (message_outcome terms n octets)
+
+-- The judgement by the messages of RFC 4120.
 abbrev pub judgement : ℕ → List ℕ → Verdict
-judgement n octets = verdict_of (message_outcome messages n octets)
+judgement = judgement_by messages
 
 -- The judgement of the octets present of an item of a term, which alone has n octets.
 abbrev pub term_judgement : Term → ℕ → List ℕ → Verdict

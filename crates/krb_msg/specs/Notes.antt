@@ -22,19 +22,26 @@ abbrev pub flags_have : Note → ℕ × List ℕ → Bool
 flags_have FewFlags bits = nat_lt (8 * length bits.1 - bits.0) 32
 flags_have other bits = false
 
--- a number of the node of kvno and nonce is negative
+-- a number of the type of kvno and nonce is negative
 abbrev pub number_has : Note → ℤ → Bool
 number_has Negative (negsuc number) = true
 number_has other number = false
 
--- a list is empty
+-- whether an INTEGER has the type of kvno and nonce, by its greatest number
+abbrev pub is_unsigned : ℤ → Bool
+is_unsigned (pos high) = high == 4294967295
+is_unsigned (negsuc high) = false
+
+-- a list is empty, which notes hold of where it is an OPTIONAL field: padata, addresses, additional-tickets
 abbrev pub list_has : {A : Type 0} → Note → List A → Bool
 list_has EmptyList [] = true
 list_has other values = false
 
--- the nodes of addresses, additional-tickets and the two padata
-abbrev pub is_of_optional_list : ℕ → Bool
-is_of_optional_list node = node == 64 || node == 65 || node == 109 || node == 110
+-- whether a value is an empty list under its tag
+abbrev pub is_list_that_has : Note → (term : Term) → Value term → Bool
+is_list_that_has note (SequenceOf empty term) values = list_has note values
+is_list_that_has note (Tagged index term) value = is_list_that_has note term value
+is_list_that_has note other value = false
 
 abbrev pub option_any : {A : Type 0} → (A → Bool) → Option A → Bool
 option_any test None = false
@@ -43,20 +50,20 @@ option_any test (Some value) = test value
 abbrev mutual
   -- whether a note holds of a value
   pub has : Note → (term : Term) → Value term → Bool
-  has note (Integer node low high) number = node == 1 && number_has note number
-  has note (Text node) octets = text_has note octets
-  has note (Octets node) octets = false
-  has note (Time node) octets = false
-  has note (Bits node) bits = flags_have note bits
-  has note (Sequence node fields) values = any_has note fields values
-  has note (SequenceOf node term) values = is_of_optional_list node && list_has note values || list_any (has note term) values
-  has note (Tagged node index term) value = has note term value
-  has note (Application node number term) value = has note term value
+  has note (Integer low high) number = is_unsigned high && number_has note number
+  has note (Text greatest) octets = text_has note octets
+  has note Octets octets = false
+  has note Time octets = false
+  has note (Bits least) bits = flags_have note bits
+  has note (Sequence fields) values = any_has note fields values
+  has note (SequenceOf empty term) values = list_any (has note term) values
+  has note (Tagged index term) value = has note term value
+  has note (Application number term) value = has note term value
 
   pub any_has : Note → (fields : Fields) → Values fields → Bool
   any_has note End values = false
   any_has note (Required term fields) values = has note term values.0 || any_has note fields values.1
-  any_has note (Optional term fields) values = option_any (has note term) values.0 || any_has note fields values.1
+  any_has note (Optional term fields) values = option_any (λ value. is_list_that_has note term value || has note term value) values.0 || any_has note fields values.1
 
 -- the notes that pass a test
 abbrev pub notes_by : (Note → Bool) → Notes

@@ -36,15 +36,15 @@ bits_of (unused ∷ octets) = (unused, octets)
 abbrev mutual
   -- the value of an item with these contents
   pub value_of : (term : Term) → List ℕ → Value term
-  value_of (Integer node low high) contents = integer_value contents
-  value_of (Text node) contents = contents
-  value_of (Octets node) contents = contents
-  value_of (Time node) contents = contents
-  value_of (Bits node) contents = bits_of contents
-  value_of (Sequence node fields) contents = values_of fields contents
-  value_of (SequenceOf node term) contents = map (value_of term) (all_opened (length contents) contents)
-  value_of (Tagged node index term) contents = value_of term (opened contents).contents
-  value_of (Application node number term) contents = value_of term (opened contents).contents
+  value_of (Integer low high) contents = integer_value contents
+  value_of (Text greatest) contents = contents
+  value_of Octets contents = contents
+  value_of Time contents = contents
+  value_of (Bits least) contents = bits_of contents
+  value_of (Sequence fields) contents = values_of fields contents
+  value_of (SequenceOf empty term) contents = map (value_of term) (all_opened (length contents) contents)
+  value_of (Tagged index term) contents = value_of term (opened contents).contents
+  value_of (Application number term) contents = value_of term (opened contents).contents
 
   pub values_of : (fields : Fields) → List ℕ → Values fields
   values_of End octets = tt

@@ -21,15 +21,15 @@ fields_from (slot.Optional node ∷ slots) = Optional (term_at node) (fields_fro
 
 -- a form is that of the contents of a term
 abbrev pub IsFormOf : List Slot → Form → Term → Type 0
-IsFormOf slots (form.Integer low high widest) (Integer node from to) = (low ≡ from) × (high ≡ to) × (widest ≡ max (length (integer_octets from)) (length (integer_octets to))) × (widest ≤ 5)
-IsFormOf slots form.Text (Text node) = Unit {0}
-IsFormOf slots form.Octets (Octets node) = Unit {0}
-IsFormOf slots form.Time (Time node) = Unit {0}
-IsFormOf slots form.Bits (Bits node) = Unit {0}
-IsFormOf slots (form.Items inner) (SequenceOf node term) = (inner < 111) × (term_at inner ≡ term)
-IsFormOf slots (form.Fields first sole) (Sequence node fields) = (first < 148) × (fields_from (drop first slots) ≡ fields) × (sole ≡ false)
-IsFormOf slots (form.Fields first sole) (Tagged node index term) = (first < 148) × (fields_from (drop first slots) ≡ Required term End) × (sole ≡ true)
-IsFormOf slots (form.Fields first sole) (Application node number term) = (first < 148) × (fields_from (drop first slots) ≡ Required term End) × (sole ≡ true)
+IsFormOf slots (form.Integer low high widest) (Integer from to) = (low ≡ from) × (high ≡ to) × (widest ≡ max (length (integer_octets from)) (length (integer_octets to))) × (widest ≤ 5)
+IsFormOf slots form.Text (Text greatest) = Unit {0}
+IsFormOf slots form.Octets Octets = Unit {0}
+IsFormOf slots form.Time Time = Unit {0}
+IsFormOf slots form.Bits (Bits least) = Unit {0}
+IsFormOf slots (form.Items inner) (SequenceOf empty term) = (inner < 111) × (term_at inner ≡ term)
+IsFormOf slots (form.Fields first sole) (Sequence fields) = (first < 148) × (fields_from (drop first slots) ≡ fields) × (sole ≡ false)
+IsFormOf slots (form.Fields first sole) (Tagged index term) = (first < 148) × (fields_from (drop first slots) ≡ Required term End) × (sole ≡ true)
+IsFormOf slots (form.Fields first sole) (Application number term) = (first < 148) × (fields_from (drop first slots) ≡ Required term End) × (sole ≡ true)
 IsFormOf slots other term = ⊥
 
 -- a row of the table is that of a term

@@ -11,7 +11,7 @@ use Rattle.krb_msg.specs.declared.krb_error.KrbError.{KrbError}
 use Rattle.krb_msg.specs.declared.ap_req.ApReq.{ApReq}
 use Rattle.krb_msg.specs.declared.ap_rep.ApRep.{ApRep}
 use Rattle.krb_msg.specs.Term.{Term, Value, der}
-use Rattle.krb_msg.specs.Grammar.{encrypted_data, principal_name, pa_data, ticket, host_address, req_body, ap_req, ap_rep, krb_error}
+use Rattle.krb_msg.specs.Grammar.{encrypted_data, principal_name, pa_data, ticket, host_address, kdc_req_body, ap_req, ap_rep, krb_error}
 use Rattle.krb_msg.specs.Shape.{is_unambiguous}
 use Rattle.krb_msg.specs.Values.{der_begins, same_from_der}
 use Rattle.krb_msg.specs.Views.{encrypted_data_value, encrypted_data_of, encrypted_data_der, principal_name_value, principal_name_of, principal_name_der, pa_data_value, pa_data_of, pa_data_der, ticket_value, ticket_of, ticket_der, ap_req_value, ap_req_of, ap_req_der, ap_rep_value, ap_rep_of, ap_rep_der, host_address_value, host_address_of, host_address_der, kdc_req_body_value, kdc_req_body_of, kdc_req_body_der, micros_of, krb_error_value, krb_error_of, krb_error_der}
@@ -93,10 +93,10 @@ pub host_address_told : (a b : HostAddress) (rest more : List ℕ) → host_addr
 host_address_told = told host_address refl host_address_value host_address_of (λ a. refl)
 
 pub kdc_req_body_begins : (b : KdcReqBody) → 0 < length (kdc_req_body_der b)
-kdc_req_body_begins b = der_begins req_body (kdc_req_body_value b)
+kdc_req_body_begins b = der_begins kdc_req_body (kdc_req_body_value b)
 
 pub kdc_req_body_told : (a b : KdcReqBody) (rest more : List ℕ) → kdc_req_body_der a ++ rest ≡ kdc_req_body_der b ++ more → (a ≡ b) × (rest ≡ more)
-kdc_req_body_told = told req_body refl kdc_req_body_value kdc_req_body_of kdc_req_body-back
+kdc_req_body_told = told kdc_req_body refl kdc_req_body_value kdc_req_body_of kdc_req_body-back
 
 pub krb_error_begins : (m : KrbError) → 0 < length (krb_error_der m)
 krb_error_begins m = der_begins krb_error (krb_error_value m)

@@ -19,7 +19,7 @@ use Rattle.krb_msg.specs.declared.message.Kind.TheVariants as kind
 use Rattle.krb_der.specs.Octets.{item}
 use Rattle.krb_msg.specs.Term.{Term, Value, der, Fits}
 use Rattle.krb_msg.specs.Values.{contents}
-use Rattle.krb_msg.specs.Grammar.{encrypted_data, principal_name, pa_data, ticket, host_address, req_body, as_req, as_rep, tgs_req, tgs_rep, ap_req, ap_rep, krb_error}
+use Rattle.krb_msg.specs.Grammar.{encrypted_data, principal_name, pa_data, ticket, host_address, kdc_req_body, as_req, as_rep, tgs_req, tgs_rep, ap_req, ap_rep, krb_error}
 
 abbrev pub encrypted_data_value : EncryptedData → Value encrypted_data
 encrypted_data_value e = (e.etype, (e.kvno, (e.cipher, tt)))
@@ -80,7 +80,7 @@ host_address_value a = (a.addr_type, (a.address, tt))
 abbrev pub host_address_of : Value host_address → HostAddress
 host_address_of v = record { addr_type = v.0; address = v.1.0 }
 
-abbrev pub kdc_req_body_value : KdcReqBody → Value req_body
+abbrev pub kdc_req_body_value : KdcReqBody → Value kdc_req_body
 kdc_req_body_value b = (
   b.kdc_options,
   (
@@ -113,7 +113,7 @@ kdc_req_body_value b = (
   ),
 )
 
-abbrev pub kdc_req_body_of : Value req_body → KdcReqBody
+abbrev pub kdc_req_body_of : Value kdc_req_body → KdcReqBody
 kdc_req_body_of (kdc_options, (cname, (realm, (sname, (from, (till, (rtime, (nonce, (etype, (addresses, (enc_authorization_data, (additional_tickets, none)))))))))))) = record {
   kdc_options = kdc_options;
   cname = option_map principal_name_of cname;
@@ -209,7 +209,7 @@ abbrev pub host_address_der : HostAddress → List ℕ
 host_address_der a = der host_address (host_address_value a)
 
 abbrev pub kdc_req_body_der : KdcReqBody → List ℕ
-kdc_req_body_der b = der req_body (kdc_req_body_value b)
+kdc_req_body_der b = der kdc_req_body (kdc_req_body_value b)
 
 abbrev pub krb_error_der : KrbError → List ℕ
 krb_error_der m = der krb_error (krb_error_value m)

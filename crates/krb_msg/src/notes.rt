@@ -2,7 +2,7 @@
 
 ghost use Rattle.std.specs.Prelude.{◌≡◌, Bool, false, nat_lt};
 ghost use Rattle.std.specs.List.{list_any};
-ghost use Rattle.krb_msg.specs.Grammar.{principal_name, encrypted_data, ticket, req_body, as_req, as_rep, ap_req, ap_rep, krb_error};
+ghost use Rattle.krb_msg.specs.Grammar.{principal_name, encrypted_data, ticket, kdc_req_body, as_req, as_rep, ap_req, ap_rep, krb_error};
 ghost use Rattle.krb_msg.specs.Views.{principal_name_value, encrypted_data_value, ticket_value, kdc_req_body_value, kdc_req_value, kdc_rep_value, ap_req_value, ap_rep_value, krb_error_value};
 ghost use Rattle.krb_msg.specs.Notes.{text_has, flags_have, number_has, list_has, option_any, has, notes_by, notes_of, notes_have, either};
 
@@ -187,7 +187,7 @@ fn list_notes<T>(values: &Option<Many<T>>) -> Notes
 }
 
 impl Noted for KdcReqBody {
-    ghost noted = { λ note body. has note req_body (kdc_req_body_value body) };
+    ghost noted = { λ note body. has note kdc_req_body (kdc_req_body_value body) };
 
     fn notes(&self) -> Notes {
         self.kdc_options

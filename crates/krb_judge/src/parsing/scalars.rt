@@ -2,7 +2,7 @@
 
 ghost use Rattle.std.specs.Prelude.{◌≡◌, ◌^◌, ◌<◌, ℕ, pos, List, IfOk, length};
 ghost use Rattle.std.specs.List.{flat_map};
-ghost use Rattle.krb_msg.specs.Grammar.{int32, wide32, micros, kerberos_string, octet_string, kerberos_time, kerberos_flags};
+ghost use Rattle.krb_msg.specs.Grammar.{int32, wide32, microseconds, kerberos_string, octet_string, kerberos_time, kerberos_flags};
 ghost use Rattle.krb_judge.specs.Reads.{value_octets, item_octets, IsDer, IsListed, AreListed};
 
 use crate::parsing::fields::Decode;
@@ -36,9 +36,9 @@ impl Decode for Wide32 {
 }
 
 impl Decode for Micros {
-    ghost IsForm = { IsDer micros };
+    ghost IsForm = { IsDer microseconds };
 
-    ghost octets = { λ number. value_octets micros (pos number) };
+    ghost octets = { λ number. value_octets microseconds (pos number) };
 
     fn decode(_alloc: Global, front: &[u8]) -> Result<(Micros, &[u8]), AllocError> {
         let (number, rest) = split_integer(front);

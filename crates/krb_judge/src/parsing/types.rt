@@ -1,7 +1,7 @@
 //! The types of RFC 4120, section 5, each read of octets that are known to be its DER.
 
 ghost use Rattle.std.specs.Prelude.{◌≡◌, ◌^◌, ◌<◌, IfOk, length};
-ghost use Rattle.krb_msg.specs.Grammar.{principal_name as principal_name_term, pa_data as pa_data_term, host_address as host_address_term, ticket as ticket_term, encrypted_data as encrypted_data_term, req_body as req_body_term, ap_req as ap_req_term, ap_rep as ap_rep_term, krb_error as krb_error_term};
+ghost use Rattle.krb_msg.specs.Grammar.{principal_name as principal_name_term, pa_data as pa_data_term, host_address as host_address_term, ticket as ticket_term, encrypted_data as encrypted_data_term, kdc_req_body as req_body_term, ap_req as ap_req_term, ap_rep as ap_rep_term, krb_error as krb_error_term};
 ghost use Rattle.krb_msg.specs.Views.{principal_name_value, pa_data_value, host_address_value, encrypted_data_value, ticket_value, kdc_req_body_value, kdc_req_octets, kdc_rep_octets, ap_req_value, ap_rep_value, krb_error_value};
 ghost use Rattle.krb_judge.specs.Reads.{value_octets, IsDer, IsTagged};
 
