@@ -1,7 +1,7 @@
 -- The numbers and the names of the reasons for a refusal.
 use Rattle.std.specs.Prelude.{ℕ, List, codes}
 use Rattle.krb_der.specs.declared.why.Why.{Why}
-use Rattle.krb_der.specs.declared.why.Why.TheVariants.{HighBit, TooLong, Empty, Tag, Overrun, Indefinite, LengthWide, LengthNotMinimal, Loose, Size, IntegerNotMinimal, Range, Time, Bits, Missing, Truncated}
+use Rattle.krb_der.specs.declared.why.Why.TheVariants.{HighBit, TooLong, Empty, Tag, Overrun, Indefinite, LengthWide, LengthNotMinimal, Loose, Size, IntegerNotMinimal, Range, Time, Bits, Missing, Truncated, Charset}
 
 abbrev pub reason_number : Why → ℕ
 reason_number HighBit = 1
@@ -20,6 +20,7 @@ reason_number Time = 13
 reason_number Bits = 14
 reason_number Missing = 15
 reason_number Truncated = 16
+reason_number Charset = 17
 
 abbrev pub reason_name : Why → List ℕ
 reason_name HighBit = codes "HighBit"
@@ -38,3 +39,4 @@ reason_name Time = codes "Time"
 reason_name Bits = codes "Bits"
 reason_name Missing = codes "Missing"
 reason_name Truncated = codes "Truncated"
+reason_name Charset = codes "Charset"

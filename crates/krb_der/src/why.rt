@@ -39,9 +39,12 @@ pub enum Why {
     Missing,
     /// The input ended inside a frame.
     Truncated,
+    /// An octet of a GeneralString that the profile does not have: one above the greatest octet of
+    /// its strings.
+    Charset,
 }
 
-/// The number of a reason, from 1 (`HighBit`) to 16 (`Truncated`), in the order of the enum.
+/// The number of a reason, from 1 (`HighBit`) to 17 (`Charset`), in the order of the enum.
 pub fn why_number(why: Why) -> u8
     ensures { result ≡ reason_number why }
 {
@@ -62,6 +65,7 @@ pub fn why_number(why: Why) -> u8
         Why::Bits => 14,
         Why::Missing => 15,
         Why::Truncated => 16,
+        Why::Charset => 17,
     }
 }
 
@@ -86,5 +90,6 @@ pub fn why_text(why: Why) -> &'static str
         Why::Bits => "Bits",
         Why::Missing => "Missing",
         Why::Truncated => "Truncated",
+        Why::Charset => "Charset",
     }
 }

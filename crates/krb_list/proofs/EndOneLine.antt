@@ -38,6 +38,7 @@ name whys.Time = word _ refl
 name whys.Bits = word _ refl
 name whys.Missing = word _ refl
 name whys.Truncated = word _ refl
+name whys.Charset = word _ refl
 
 fault : (place n : ℕ) {text : List ℕ} → Prints text → Prints (fault_text place n text)
 unfolding fault_text

@@ -6,10 +6,10 @@ use Rattle.krb_msg.specs.Shape.{is_unambiguous}
 use Rattle.krb_msg.specs.Judgement.{Bad, item_outcome}
 
 abbrev text_or_two : Term
-text_or_two = Sequence 0 (Optional (Text 0) (Required (Text 0) End))
+text_or_two = Sequence (Optional (Text 255) (Required (Text 255) End))
 
 abbrev two_options : Term
-two_options = Sequence 0 (Optional (Text 0) (Optional (Text 0) End))
+two_options = Sequence (Optional (Text 255) (Optional (Text 255) End))
 
 text_or_two-ambiguous : is_unambiguous text_or_two ≡ false
 text_or_two-ambiguous = refl

@@ -16,7 +16,7 @@ use Rattle.krb_msg.specs.declared.message.Kind.{Kind}
 use Rattle.krb_msg.specs.declared.message.Kind.TheVariants as kind
 use Rattle.krb_msg.specs.Term.{Term, tag_of, Value, der, Fits, IfPresent}
 use Rattle.std.specs.List.{AllByRecursion}
-use Rattle.krb_msg.specs.Grammar.{messages, ticket, principal_name, kdc_req_body, microseconds, krb_error}
+use Rattle.krb_msg.specs.Grammar.{messages, sequence_of, ticket, principal_name, kdc_req_body, microseconds, krb_error}
 use Rattle.krb_msg.specs.Shape.{is_unambiguous}
 use Rattle.krb_msg.specs.Judgement.{Outcome, Open, Bad, Done, item_outcome, message_outcome, judgement, term_judgement, verdict_of}
 use Rattle.krb_msg.specs.Views.{kind_of, kind_term, kind_of_tag, message_value, message_of, message_der, pa_data_value, pa_data_of, principal_name_value, principal_name_of, host_address_value, host_address_of, encrypted_data_value, encrypted_data_of, ticket_value, ticket_of, kdc_req_body_value, kdc_req_body_of, KdcReqValue, kdc_req_value, kdc_req_of, KdcRepValue, kdc_rep_value, kdc_rep_of, micros_of, krb_error_value, krb_error_of, ap_req_of, ap_rep_of, IsInProfile}
@@ -119,9 +119,9 @@ tickets_value-of : (vs : List (Value ticket)) → AllByRecursion (Fits ticket) v
 tickets_value-of [] f = refl
 tickets_value-of (v ∷ vs) f = ap₂ (λ t ts. t ∷ ts) (ticket_value-of v f.0) (tickets_value-of vs f.1)
 
-additional_tickets_value-of : (o : Option (List (Value ticket))) → IfPresent (AllByRecursion (Fits ticket)) o → option_map (map ticket_value) (option_map (map ticket_of) o) ≡ o
+additional_tickets_value-of : (o : Option (List (Value ticket))) → IfPresent (Fits (sequence_of ticket)) o → option_map (map ticket_value) (option_map (map ticket_of) o) ≡ o
 additional_tickets_value-of None f = refl
-additional_tickets_value-of (Some vs) f = ap Some (tickets_value-of vs f)
+additional_tickets_value-of (Some vs) f = ap Some (tickets_value-of vs f.1)
 
 -- the values of a KDC-REQ-BODY, and the numbers that a KDC-REQ of either kind fixes
 body_value-of : (v : Value kdc_req_body) → Fits kdc_req_body v → kdc_req_body_value (kdc_req_body_of v) ≡ v

@@ -1,11 +1,11 @@
--- The contents of numbers, octets, times and bit strings: their judgements are stable.
-use Rattle.std.proofs.Common.{◌≡◌, ℕ, zero, suc, ◌+◌, ◌-◌, ◌%◌, ◌^◌, ◌<◌, ◌≤◌, ◌⊎◌, inl, inr, Bool, true, false, cond, ◌&&◌, ◌||◌, ltb, leb, eqb, ℤ, List, [], ◌∷◌, ◌++◌, length, take, drop, refl, sym, ◌∙◌, ap, arith, length-append, append-nil, length-take, take-append-drop, lt-ltb, le-ltb}
+-- The contents of numbers, octets, bit strings, strings and times: their judgements are stable.
+use Rattle.std.proofs.Common.{◌≡◌, ℕ, zero, suc, ◌+◌, ◌-◌, ◌*◌, ◌%◌, ◌^◌, ◌<◌, ◌≤◌, ◌⊎◌, inl, inr, Bool, true, false, cond, ◌&&◌, ◌||◌, ltb, leb, eqb, ℤ, List, [], ◌∷◌, ◌++◌, length, take, drop, refl, sym, ◌∙◌, ap, subst, arith, length-append, append-nil, length-take, take-append-drop, lt-ltb, le-ltb}
 use Rattle.std.proofs.lemmas.Bool.{cases_lt, cases_Bool, true≢false}
 use Rattle.std.proofs.lemmas.List.{nil_from_length, length-take-le}
 use Rattle.krb_der.specs.Octets.{integer_value, last_or_zero}
 use Rattle.krb_der.specs.declared.why.Why.{Why}
 use Rattle.krb_der.specs.declared.why.Why.TheVariants as why
-use Rattle.krb_msg.specs.Judgement.{Outcome, Open, Bad, Done, is_padded, int_le, integer_contents, time_contents, bits_contents, any_contents}
+use Rattle.krb_msg.specs.Judgement.{Outcome, Open, Bad, Done, is_padded, int_le, integer_contents, each_contents, bits_contents, any_contents}
 use Rattle.krb_msg.proofs.Stable.{need, IsDecided, Shown, IsStable, IsStable-same, not_open}
 
 -- ---- what is refused early, or else judged when all of it is there
@@ -101,94 +101,97 @@ IsStable-integer_contents low high room p =
     (λ octets h. need-last (int_le low (integer_value octets) && int_le (integer_value octets) high) room why.Range p)
 
 -- ---- bit strings
-abbrev bits_early : ℕ → List ℕ → Bool
-bits_early room [] = false
-bits_early room (unused ∷ octets) = ltb 7 unused || (eqb room 1 && ltb 0 unused)
+abbrev bits_early : ℕ → ℕ → List ℕ → Bool
+bits_early least room [] = false
+bits_early least room (unused ∷ octets) = ltb 7 unused || ltb (8 * (room - 1)) (least + unused)
 
 abbrev bits_full : ℕ → List ℕ → Outcome
 bits_full room [] = Done room
 bits_full room (unused ∷ octets) = cond (eqb (last_or_zero octets % 2 ^ unused) 0) (Done room) (Bad (room - 1) why.Bits)
 
-bits_early-short : (room : ℕ) (octets : List ℕ) → length octets ≤ 0 → bits_early room octets ≡ false
-bits_early-short room [] h = refl
-bits_early-short room (unused ∷ octets) h = absurd (omega arith)
+bits_early-short : (least room : ℕ) (octets : List ℕ) → length octets ≤ 0 → bits_early least room octets ≡ false
+bits_early-short least room [] h = refl
+bits_early-short least room (unused ∷ octets) h = absurd (omega arith)
 
-bits_early-append : (room : ℕ) (octets rest : List ℕ) → 0 < length octets → bits_early room (octets ++ rest) ≡ bits_early room octets
-bits_early-append room [] rest h = absurd (omega arith)
-bits_early-append room (unused ∷ octets) rest h = refl
+bits_early-append : (least room : ℕ) (octets rest : List ℕ) → 0 < length octets → bits_early least room (octets ++ rest) ≡ bits_early least room octets
+bits_early-append least room [] rest h = absurd (omega arith)
+bits_early-append least room (unused ∷ octets) rest h = refl
 
 need-bits_full : (room : ℕ) → 0 < room → (octets : List ℕ) → length octets ≡ room → need (bits_full room octets) ≡ room
 need-bits_full room p [] h = refl
 need-bits_full room p (unused ∷ octets) h = need-last (eqb (last_or_zero octets % 2 ^ unused) 0) room why.Bits p
 
-bits_contents-as : (room : ℕ) → 0 < room → (octets : List ℕ) → cond (bits_early room octets) (Bad 0 why.Bits) (cond (ltb (length octets) room) Open (bits_full room octets)) ≡ bits_contents room octets
-bits_contents-as room p [] = rw (lt-ltb 0 room p)
-bits_contents-as room p (unused ∷ octets) = refl
+bits_contents-as : (least room : ℕ) → 0 < room → (octets : List ℕ) → cond (bits_early least room octets) (Bad 0 why.Bits) (cond (ltb (length octets) room) Open (bits_full room octets)) ≡ bits_contents least room octets
+bits_contents-as least room p [] = rw (lt-ltb 0 room p)
+bits_contents-as least room p (unused ∷ octets) = refl
 
-pub IsStable-bits_contents : (room : ℕ) → 0 < room → IsStable room 0 (bits_contents room)
-IsStable-bits_contents room p =
-    IsStable-same room 0 _ (bits_contents room) (bits_contents-as room p)
-    (IsStable-early_or_full room 0 why.Bits (bits_early room) (bits_full room) (bits_early-short room) (bits_early-append room) (need-bits_full room p))
+pub IsStable-bits_contents : (least room : ℕ) → 0 < room → IsStable room 0 (bits_contents least room)
+IsStable-bits_contents least room p =
+    IsStable-same room 0 _ (bits_contents least room) (bits_contents-as least room p)
+    (IsStable-early_or_full room 0 why.Bits (bits_early least room) (bits_full room) (bits_early-short least room) (bits_early-append least room) (need-bits_full room p))
 
--- ---- times
-abbrev pub time_test : ℕ → ℕ → Bool
-time_test place octet = cond (ltb place 14) (leb 48 octet && leb octet 57) (eqb octet 90)
-
-pub time_contents-next : (place octet : ℕ) (octets : List ℕ) → time_test place octet ≡ true → time_contents place (octet ∷ octets) ≡ time_contents (place + 1) octets
-time_contents-next place octet octets t = rw t
-
-pub time_contents-bad : (place octet : ℕ) (octets : List ℕ) → time_test place octet ≡ false → time_contents place (octet ∷ octets) ≡ Bad place why.Time
-time_contents-bad place octet octets t = rw t
-
-pub time_contents-open : (place : ℕ) → place < 15 → time_contents place [] ≡ Open
-time_contents-open place h = rw (lt-ltb place 15 h)
-
-pub time_contents-done : (place : ℕ) → 15 ≤ place → time_contents place [] ≡ Done 15
-time_contents-done place h = rw (le-ltb place 15 h)
-
+-- ---- octets that each pass a test: strings and times
 zero_from_lt_one : (k : ℕ) → k < 1 → k ≡ 0
 zero_from_lt_one k h = omega arith
 
-Shown-time_contents-cons : (place octet : ℕ) (octets : List ℕ) (outcome : Outcome) → place < 15 → time_test place octet ≡ true → Shown (15 - (place + 1)) (place + 1) (time_contents (place + 1)) octets outcome → Shown (15 - place) place (time_contents place) (octet ∷ octets) outcome
-Shown-time_contents-cons place octet octets outcome p t s = record {
-  front = octet ∷ s.front;
-  back = s.back;
-  parts = ap (λ l. octet ∷ l) s.parts;
-  reached = omega (arith, s.reached);
-  same = λ rest h. time_contents-next place octet (s.front ++ rest) t ∙ s.same rest (omega arith);
-  sooner = sooner;
-}
-  where
-    sooner : (k : ℕ) → k < suc (length s.front) → time_contents place (take k (octet ∷ s.front)) ≡ Open
-    sooner zero h = time_contents-open place p
-    sooner (suc k) h = time_contents-next place octet (take k s.front) t ∙ s.sooner k (omega arith)
+module _ (passes : ℕ → ℕ → Bool) (reason : Why) (size : ℕ) where
+  abbrev each : ℕ → List ℕ → Outcome
+  each = each_contents passes reason size
 
-Shown-time_contents : (place : ℕ) (octets : List ℕ) (outcome : Outcome) → place ≤ 15 → length octets ≤ 15 - place → time_contents place octets ≡ outcome → IsDecided outcome → Shown (15 - place) place (time_contents place) octets outcome
-Shown-time_contents place [] outcome w fits e d =
-    elim (cases_lt place 15) [
-      | inl l ↦ absurd (not_open outcome (sym (time_contents-open place l) ∙ e) d)
-      | inr l ↦ record {
-        front = [];
-        back = [];
-        parts = refl;
-        reached = ap need (sym e ∙ time_contents-done place l) ∙ omega arith;
-        same = λ rest h. ap (time_contents place) (nil_from_length rest (omega arith)) ∙ e;
-        sooner = λ k h. absurd (omega arith);
-      }
-    ]
-Shown-time_contents place (octet ∷ octets) outcome w fits e d =
-    elim (cases_Bool (time_test place octet)) [
-      | inl t ↦ Shown-time_contents-cons place octet octets outcome (omega arith) t
-          (Shown-time_contents (place + 1) octets outcome (omega arith) (omega arith) (sym (time_contents-next place octet octets t) ∙ e) d)
-      | inr t ↦ record {
-        front = octet ∷ [];
-        back = octets;
-        parts = refl;
-        reached = ap need (sym e ∙ time_contents-bad place octet octets t) ∙ omega arith;
-        same = λ rest h. time_contents-bad place octet rest t ∙ (sym (time_contents-bad place octet octets t) ∙ e);
-        sooner = λ k h. rw (zero_from_lt_one k h) (time_contents-open place (omega arith));
-      }
-    ]
+  pub each-next : (place octet : ℕ) (octets : List ℕ) → passes place octet ≡ true → each place (octet ∷ octets) ≡ each (place + 1) octets
+  each-next place octet octets t = rw t
 
-pub IsStable-time_contents : IsStable 15 0 (time_contents 0)
-IsStable-time_contents octets outcome fits e d = Shown-time_contents 0 octets outcome (omega arith) (omega arith) e d
+  pub each-bad : (place octet : ℕ) (octets : List ℕ) → passes place octet ≡ false → each place (octet ∷ octets) ≡ Bad place reason
+  each-bad place octet octets t = rw t
+
+  pub each-open : (place : ℕ) → place < size → each place [] ≡ Open
+  each-open place h = rw (lt-ltb place size h)
+
+  pub each-done : (place : ℕ) → size ≤ place → each place [] ≡ Done size
+  each-done place h = rw (le-ltb place size h)
+
+  Shown-each-cons : (place octet : ℕ) (octets : List ℕ) (outcome : Outcome) → place < size → passes place octet ≡ true → Shown (size - (place + 1)) (place + 1) (each (place + 1)) octets outcome → Shown (size - place) place (each place) (octet ∷ octets) outcome
+  Shown-each-cons place octet octets outcome p t s = record {
+    front = octet ∷ s.front;
+    back = s.back;
+    parts = ap (λ l. octet ∷ l) s.parts;
+    reached = omega (arith, s.reached);
+    same = λ rest h. each-next place octet (s.front ++ rest) t ∙ s.same rest (omega arith);
+    sooner = sooner;
+  }
+    where
+      sooner : (k : ℕ) → k < suc (length s.front) → each place (take k (octet ∷ s.front)) ≡ Open
+      sooner zero h = each-open place p
+      sooner (suc k) h = each-next place octet (take k s.front) t ∙ s.sooner k (omega arith)
+
+  Shown-each : (place : ℕ) (octets : List ℕ) (outcome : Outcome) → place ≤ size → length octets ≤ size - place → each place octets ≡ outcome → IsDecided outcome → Shown (size - place) place (each place) octets outcome
+  Shown-each place [] outcome w fits e d =
+      elim (cases_lt place size) [
+        | inl l ↦ absurd (not_open outcome (sym (each-open place l) ∙ e) d)
+        | inr l ↦ record {
+          front = [];
+          back = [];
+          parts = refl;
+          reached = ap need (sym e ∙ each-done place l) ∙ omega arith;
+          same = λ rest h. ap (each place) (nil_from_length rest (omega arith)) ∙ e;
+          sooner = λ k h. absurd (omega arith);
+        }
+      ]
+  Shown-each place (octet ∷ octets) outcome w fits e d =
+      elim (cases_Bool (passes place octet)) [
+        | inl t ↦ Shown-each-cons place octet octets outcome (omega arith) t
+            (Shown-each (place + 1) octets outcome (omega arith) (omega arith) (sym (each-next place octet octets t) ∙ e) d)
+        | inr t ↦ record {
+          front = octet ∷ [];
+          back = octets;
+          parts = refl;
+          reached = ap need (sym e ∙ each-bad place octet octets t) ∙ omega arith;
+          same = λ rest h. each-bad place octet rest t ∙ (sym (each-bad place octet octets t) ∙ e);
+          sooner = λ k h. rw (zero_from_lt_one k h) (each-open place (omega arith));
+        }
+      ]
+
+  pub IsStable-each_contents : IsStable size 0 (each 0)
+  IsStable-each_contents octets outcome fits e d =
+      let n : size - 0 ≡ size = omega arith in
+      subst (λ room. Shown room 0 (each 0) octets outcome) n (Shown-each 0 octets outcome (omega arith) (omega arith) e d)

@@ -14,6 +14,7 @@ pub mod Encoded
 pub mod Ambiguous
 pub mod Streams
 pub mod Judged
+pub mod Fitting
 pub mod Fronts
 pub mod Table
 pub mod Fields

@@ -3,9 +3,9 @@ use Rattle.std.proofs.Common.{◌≡◌, ℕ, zero, suc, ◌+◌, ◌-◌, ◌<�
 use Rattle.std.proofs.lemmas.Bool.{cases_Bool, and_parts}
 use Rattle.krb_der.specs.declared.why.Why.TheVariants as why
 use Rattle.krb_msg.specs.Term.{Term, Fields, Integer, Text, Octets, Time, Bits, Sequence, SequenceOf, Tagged, Application, End, Required, Optional, tag_of}
-use Rattle.krb_msg.specs.Judgement.{Outcome, Open, Bad, Done, behind, then_after, has_size, item_with, item_outcome, only_contents, items_contents, integer_contents, any_contents, time_contents, bits_contents, contents_outcome, fields_outcome}
+use Rattle.krb_msg.specs.Judgement.{Outcome, Open, Bad, Done, behind, then_after, has_size, item_with, item_outcome, only_contents, items_contents, integer_contents, each_contents, text_octet, time_octet, any_contents, bits_contents, contents_outcome, fields_outcome}
 use Rattle.krb_msg.proofs.Stable.{need, IsStable, IsStable-constant, IsStable-open, IsStable-refusal, IsStable-behind, IsStable-then_after, refusal}
-use Rattle.krb_msg.proofs.Leaves.{IsStable-any_contents, IsStable-integer_contents, IsStable-bits_contents, IsStable-time_contents}
+use Rattle.krb_msg.proofs.Leaves.{IsStable-any_contents, IsStable-integer_contents, IsStable-bits_contents, IsStable-each_contents}
 use Rattle.krb_msg.proofs.Items.{IsStable-first, IsStable-item}
 
 -- ---- items one after another, and a sole item
@@ -52,16 +52,16 @@ module _ (term : Term) (fields : Fields) (before room : ℕ) where
 pub positive_from_size_integer : (contents limit : ℕ) → (ltb 0 contents && leb contents limit) ≡ true → 0 < contents
 positive_from_size_integer contents limit h = ltb-true 0 contents (and_parts (ltb 0 contents) (leb contents limit) h).0
 
-IsStable-time_room : (before room : ℕ) → eqb room 15 ≡ true → IsStable room before (λ octets. behind before (time_contents 0 octets))
-IsStable-time_room before room h = rw (eqb-true room 15 h) (IsStable-behind 15 before (time_contents 0) IsStable-time_contents)
+pub positive_from_size_bits : (least contents : ℕ) → has_size (Bits least) contents ≡ true → 0 < contents
+positive_from_size_bits least contents h = ltb-true 0 contents (and_parts (ltb 0 contents) _ h).0
 
 mutual
   pub IsStable-contents : (term : Term) (before room : ℕ) → 0 < before → has_size term room ≡ true → IsStable room before (contents_outcome term before room)
   IsStable-contents (Integer low high) before room p h = IsStable-behind room before (integer_contents low high room) (IsStable-integer_contents low high room (positive_from_size_integer room _ h))
-  IsStable-contents (Text greatest) before room p h = IsStable-behind room before (any_contents room) (IsStable-any_contents room)
+  IsStable-contents (Text greatest) before room p h = IsStable-behind room before (each_contents (text_octet greatest) why.Charset room 0) (IsStable-each_contents (text_octet greatest) why.Charset room)
   IsStable-contents Octets before room p h = IsStable-behind room before (any_contents room) (IsStable-any_contents room)
-  IsStable-contents Time before room p h = IsStable-time_room before room h
-  IsStable-contents (Bits least) before room p h = IsStable-behind room before (bits_contents room) (IsStable-bits_contents room (ltb-true 0 room h))
+  IsStable-contents Time before room p h = IsStable-behind room before (each_contents time_octet why.Time room 0) (IsStable-each_contents time_octet why.Time room)
+  IsStable-contents (Bits least) before room p h = IsStable-behind room before (bits_contents least room) (IsStable-bits_contents least room (positive_from_size_bits least room h))
   IsStable-contents (Sequence fields) before room p h = IsStable-fields fields before room p
   IsStable-contents (SequenceOf empty term) before room p h =
       IsStable-items (λ left. item_with (contents_outcome term) term left false)

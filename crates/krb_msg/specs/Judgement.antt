@@ -81,20 +81,21 @@ integer_contents low high contents octets =
     else if int_le low (integer_value octets) && int_le (integer_value octets) high then Done contents
     else Bad (contents - 1) why.Range
 
--- octets from a place on, each of which passes a test of its place
+-- octets from a place on, each of which passes a test at its place, and else is refused
 abbrev pub each_contents : (ℕ → ℕ → Bool) → Why → ℕ → ℕ → List ℕ → Outcome
 each_contents passes reason contents place [] = if nat_lt place contents then Open else Done contents
 each_contents passes reason contents place (octet ∷ octets) =
     if passes place octet then each_contents passes reason contents (place + 1) octets else Bad place reason
 
--- whether an octet may stand at a place of a string, and of a time
+-- whether an octet may stand at a place of a string
 abbrev pub text_octet : ℕ → ℕ → ℕ → Bool
 text_octet greatest place octet = nat_le octet greatest
 
+-- and of a time: fourteen digits and `Z`
 abbrev pub time_octet : ℕ → ℕ → Bool
 time_octet place octet = if nat_lt place 14 then nat_le 48 octet && nat_le octet 57 else octet == 90
 
--- the unused count, and bits of which there are enough
+-- an unused count that leaves enough bits, and clear unused bits
 abbrev pub bits_contents : ℕ → ℕ → List ℕ → Outcome
 bits_contents least contents [] = Open
 bits_contents least contents (unused ∷ octets) =
@@ -140,7 +141,7 @@ abbrev mutual
   contents_outcome (Integer low high) before room octets = behind before (integer_contents low high room octets)
   contents_outcome (Text greatest) before room octets = behind before (each_contents (text_octet greatest) why.Charset room 0 octets)
   contents_outcome Octets before room octets = behind before (any_contents room octets)
-  contents_outcome Time before room octets = behind before (each_contents time_octet why.Time 15 0 octets)
+  contents_outcome Time before room octets = behind before (each_contents time_octet why.Time room 0 octets)
   contents_outcome (Bits least) before room octets = behind before (bits_contents least room octets)
   contents_outcome (Sequence fields) before room octets = fields_outcome fields before room octets
   contents_outcome (SequenceOf empty term) before room octets = items_contents (λ left. item_with (contents_outcome term) term left false) room before room octets

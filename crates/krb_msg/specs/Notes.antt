@@ -1,5 +1,5 @@
 -- What of a message deserves a note. A note holds of a value where it holds of any part of it, Tickets inside included; the octets of an OCTET STRING are no part.
-use Rattle.std.specs.Prelude.{ℕ, ℤ, negsuc, ◌-◌, ◌*◌, Bool, true, false, ◌&&◌, ◌||◌, ◌==◌, nat_lt, List, [], length, Option, Some, None, if◌then◌else◌}
+use Rattle.std.specs.Prelude.{ℕ, ℤ, pos, negsuc, ◌-◌, ◌*◌, Bool, true, false, ◌&&◌, ◌||◌, ◌==◌, nat_lt, List, [], length, Option, Some, None, if◌then◌else◌}
 use Rattle.std.specs.List.{list_any}
 use Rattle.krb_msg.specs.Term.{Term, Fields, Integer, Text, Octets, Time, Bits, Sequence, SequenceOf, Tagged, Application, End, Required, Optional, Value, Values}
 use Rattle.krb_msg.specs.Views.{kind_of, kind_term, message_value}

@@ -30,6 +30,7 @@ fn takes_what_is_in_range(rt: HostRuntime) {
     assert_eq!(rt; Int32::new(-2147483648).get(), -2147483648);
     assert_eq!(rt; why_number(Why::HighBit), 1);
     assert_eq!(rt; why_number(Why::Truncated), 16);
+    assert_eq!(rt; why_number(Why::Charset), 17);
     assert_eq!(rt; why_text(Why::LengthNotMinimal), "LengthNotMinimal");
 }
 
