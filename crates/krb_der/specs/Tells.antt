@@ -26,7 +26,7 @@ same_natural number other rest more e =
     let p : (pos number ≡ pos other) × (rest ≡ more) = same_integer (pos number) (pos other) rest more e in
     (same_pos number other p.0, p.1)
 
-same_pair : {A B : Type 0} (v w : A × B) → v.0 ≡ w.0 → v.1 ≡ w.1 → v ≡ w
+pub same_pair : {A B : Type 0} (v w : A × B) → v.0 ≡ w.0 → v.1 ≡ w.1 → v ≡ w
 same_pair v w p q = λ i. (p i, q i)
 
 pub same_bits : (bits other : ℕ × List ℕ) (rest more : List ℕ) → item 0x03 (bits.0 ∷ bits.1) ++ rest ≡ item 0x03 (other.0 ∷ other.1) ++ more → (bits ≡ other) × (rest ≡ more)
@@ -41,7 +41,7 @@ not_nil [] more h e = absurd (omega arith)
 not_nil (octet ∷ octets) more h e = absurd cc
 
 module _ {A : Type 0} (f : A → List ℕ) (begins : (value : A) → 0 < length (f value)) (tells : (value other : A) (rest more : List ℕ) → f value ++ rest ≡ f other ++ more → (value ≡ other) × (rest ≡ more)) where
-  same_from_flat_map : (values others : List A) → flat_map f values ≡ flat_map f others → values ≡ others
+  pub same_from_flat_map : (values others : List A) → flat_map f values ≡ flat_map f others → values ≡ others
   same_from_flat_map [] [] e = refl
   same_from_flat_map [] (other ∷ others) e = absurd (not_nil (f other) (flat_map f others) (begins other) (sym e))
   same_from_flat_map (value ∷ values) [] e = absurd (not_nil (f value) (flat_map f values) (begins value) e)

@@ -102,7 +102,7 @@ impl Der for Flags {
 }
 
 /// The last octet, or 0 where there is none.
-fn last_or_zero(octets: &[u8]) -> u8
+pub fn last_or_zero(octets: &[u8]) -> u8
     ensures { result ≡ last_of octets.now }
 {
     match octets {

@@ -32,7 +32,7 @@ pub use der::Der;
 pub use encoding::{Encoding, End, Fixed, Optional, Required, Sequence, Tagged};
 pub use field::Source;
 pub use file::{FileFault, FileWhy, file_why_number, file_why_text};
-pub use flags::Flags;
+pub use flags::{Flags, last_or_zero};
 pub use int32::Int32;
 pub use item::{TOO_LONG, item_size, put_header, put_item, put_octets};
 pub use kerberos_time::KerberosTime;

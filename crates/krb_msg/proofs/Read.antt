@@ -6,6 +6,7 @@ use Rattle.std.specs.List.{flat_map}
 use Rattle.krb_der.specs.Octets.{item, length_octets}
 use Rattle.krb_der.specs.Numbers.{integer_value-integer_octets, when-true, when-false}
 use Rattle.krb_der.specs.Items.{item-append}
+use Rattle.krb_der.specs.Tells.{same_pair}
 use Rattle.krb_msg.specs.Term.{Term, Fields, Integer, Text, Octets, Time, Bits, Sequence, SequenceOf, Tagged, Application, End, Required, Optional, tag_of, Value, Values, der, der_of_fields, octets_of_option}
 use Rattle.krb_msg.specs.Reading.{Opened, opened_at, opened, all_opened, begins_with, value_of, values_of, value_read}
 use Rattle.krb_msg.specs.Shape.{may_begin, is_unambiguous, are_unambiguous}
@@ -62,9 +63,6 @@ items-read term read (v ∷ vs) (suc bound) within small =
     (ap₂ ◌∷◌ (read v (inner-small term v (flat_map (der term) vs) small)) (items-read term read vs bound (omega arith) (omega arith)))
 
 -- ---- fields
-same_pair : {A B : Type 0} (v w : A × B) → v.0 ≡ w.0 → v.1 ≡ w.1 → v ≡ w
-same_pair v w e f = λ i. (e i, f i)
-
 begins-der : (term : Term) (value : Value term) (rest : List ℕ) → begins_with (tag_of term) (der term value ++ rest) ≡ true
 begins-der term value rest = ap (λ octets. begins_with (tag_of term) (octets ++ rest)) (der_is term value) ∙ eq-eqb (tag_of term) (tag_of term) refl
 

@@ -44,16 +44,20 @@ long_head room k (first ∷ octets) =
     else if nat_lt (length (first ∷ octets)) k then Partial
     else fitting room (2 + k) (number (take k (first ∷ octets)))
 
--- of an item's octets in a room, from the tag on
-abbrev pub head : ℕ → List ℕ → Head
-head room [] = Partial
-head room (tag ∷ []) = Partial
-head room (tag ∷ octet ∷ octets) =
+-- of an item's octets in a room, from the first length octet on
+abbrev pub short_head : ℕ → ℕ → List ℕ → Head
+short_head room octet octets =
     if nat_lt octet 0x80 then fitting room 2 octet
     else if octet == 0x80 then Refused 1 why.Indefinite
     else if nat_lt 0x84 octet then Refused 1 why.LengthWide
     else if nat_lt room (2 + (octet - 0x80)) then Refused 1 why.Overrun
     else long_head room (octet - 0x80) octets
+
+-- and from the tag on
+abbrev pub head : ℕ → List ℕ → Head
+head room [] = Partial
+head room (tag ∷ []) = Partial
+head room (tag ∷ octet ∷ octets) = short_head room octet octets
 
 abbrev pub int_le : ℤ → ℤ → Bool
 int_le (pos a) (pos b) = nat_le a b
