@@ -17,55 +17,40 @@ use Rattle.krb_msg.specs.declared.message.Kind.TheVariants as kind
 use Rattle.krb_msg.specs.Term.{Term, tag_of, Value, der, Fits, IfPresent}
 use Rattle.std.specs.List.{AllByRecursion}
 use Rattle.krb_msg.specs.Grammar.{messages, sequence_of, ticket, principal_name, kdc_req_body, microseconds, krb_error}
-use Rattle.krb_msg.specs.Shape.{is_unambiguous}
-use Rattle.krb_msg.specs.Judgement.{Outcome, Open, Bad, Done, item_outcome, message_outcome, judgement, term_judgement, verdict_of}
+use Rattle.krb_msg.specs.Shape.{IsOneOf, IsGrammar}
+use Rattle.krb_msg.specs.Judgement.{judgement}
 use Rattle.krb_msg.specs.Views.{kind_of, kind_term, kind_of_tag, message_value, message_of, message_der, pa_data_value, pa_data_of, principal_name_value, principal_name_of, host_address_value, host_address_of, encrypted_data_value, encrypted_data_of, ticket_value, ticket_of, kdc_req_body_value, kdc_req_body_of, KdcReqValue, kdc_req_value, kdc_req_of, KdcRepValue, kdc_rep_value, kdc_rep_of, micros_of, krb_error_value, krb_error_of, ap_req_of, ap_rep_of, IsInProfile}
 use Rattle.krb_msg.specs.Told.{option-back, list-back, kdc_req_body-back, krb_error-back}
-use Rattle.krb_msg.specs.Laws.{AreMessage, AreValue, IsFinal}
+use Rattle.krb_msg.specs.Laws.{AreOneOf, AreMessage}
 use Rattle.krb_der.specs.Items.{same_from_cons}
 use Rattle.krb_msg.specs.Values.{der-append}
-use Rattle.krb_msg.proofs.Laws.{IsWhole, IsWhole-done, Settles, item_outcome-der, decided, same_value}
-use Rattle.krb_msg.proofs.Messages.{IsChosen, IsWhole-message, Settles-message_outcome, message_outcome-decided, message-accepts, unambiguous_message}
+use Rattle.krb_msg.proofs.Laws.{same_value}
+use Rattle.krb_msg.proofs.Grammars.{whole_is_one_of, unambiguous_message, one_of_is_whole, refusal_is_none_of}
+pub use Rattle.krb_msg.proofs.Grammars.{whole_outcome, refused_outcome, open_outcome, whole_is_value, value_is_whole, value_is_decided}
 
--- ---- the judgement and the outcome
-pub whole_outcome : (outcome : Outcome) → verdict_of outcome ≡ verdict.Whole → (count : ℕ) × (outcome ≡ Done count)
-whole_outcome Open e = absurd cc
-whole_outcome (Bad offset reason) e = absurd cc
-whole_outcome (Done count) e = (count, refl)
-
-pub refused_outcome : (outcome : Outcome) (place : ℕ) (reason : Why) → verdict_of outcome ≡ verdict.Refused (record { place = place; why = reason }) → outcome ≡ Bad place reason
-refused_outcome Open place reason e = absurd cc
-refused_outcome (Bad offset other) place reason e =
-    let there : Refusal = record { place = offset; why = other } in
-    let here : Refusal = record { place = place; why = reason } in
-    let same : there ≡ here = cc in
-    λ i. Bad ((same i).place) ((same i).why)
-refused_outcome (Done count) place reason e = absurd cc
-
-pub open_outcome : (outcome : Outcome) → verdict_of outcome ≡ verdict.Open → outcome ≡ Open
-open_outcome Open e = refl
-open_outcome (Bad offset reason) e = absurd cc
-open_outcome (Done count) e = absurd cc
+-- ---- the grammar
+pub messages_are_grammar : IsGrammar messages
+messages_are_grammar = record { own_tags = refl; unambiguous = refl; octet_tags = refl }
 
 -- ---- messages of each kind
-chosen_kind : (k : Kind) → IsChosen (kind_term k) messages
-chosen_kind kind.AsReq = inl refl
-chosen_kind kind.AsRep = inr (refl, inl refl)
-chosen_kind kind.TgsReq = inr (refl, inr (refl, inl refl))
-chosen_kind kind.TgsRep = inr (refl, inr (refl, inr (refl, inl refl)))
-chosen_kind kind.ApReq = inr (refl, inr (refl, inr (refl, inr (refl, inl refl))))
-chosen_kind kind.ApRep = inr (refl, inr (refl, inr (refl, inr (refl, inr (refl, inl refl)))))
-chosen_kind kind.KrbError = inr (refl, inr (refl, inr (refl, inr (refl, inr (refl, inr (refl, inl refl))))))
+pub kind_is_one_of : (k : Kind) → IsOneOf (kind_term k) messages
+kind_is_one_of kind.AsReq = inl refl
+kind_is_one_of kind.AsRep = inr (inl refl)
+kind_is_one_of kind.TgsReq = inr (inr (inl refl))
+kind_is_one_of kind.TgsRep = inr (inr (inr (inl refl)))
+kind_is_one_of kind.ApReq = inr (inr (inr (inr (inl refl))))
+kind_is_one_of kind.ApRep = inr (inr (inr (inr (inr (inl refl)))))
+kind_is_one_of kind.KrbError = inr (inr (inr (inr (inr (inr (inl refl))))))
 
-kind_of_chosen : (term : Term) → IsChosen term messages → (k : Kind) × (term ≡ kind_term k)
-kind_of_chosen term (inl e) = (kind.AsReq, e)
-kind_of_chosen term (inr (a, inl e)) = (kind.AsRep, e)
-kind_of_chosen term (inr (a, inr (b, inl e))) = (kind.TgsReq, e)
-kind_of_chosen term (inr (a, inr (b, inr (c, inl e)))) = (kind.TgsRep, e)
-kind_of_chosen term (inr (a, inr (b, inr (c, inr (d, inl e))))) = (kind.ApReq, e)
-kind_of_chosen term (inr (a, inr (b, inr (c, inr (d, inr (f, inl e)))))) = (kind.ApRep, e)
-kind_of_chosen term (inr (a, inr (b, inr (c, inr (d, inr (f, inr (g, inl e))))))) = (kind.KrbError, e)
-kind_of_chosen term (inr (a, inr (b, inr (c, inr (d, inr (f, inr (g, inr none))))))) = absurd none.1
+kind_of_one_of : (term : Term) → IsOneOf term messages → (k : Kind) × (term ≡ kind_term k)
+kind_of_one_of term (inl e) = (kind.AsReq, e)
+kind_of_one_of term (inr (inl e)) = (kind.AsRep, e)
+kind_of_one_of term (inr (inr (inl e))) = (kind.TgsReq, e)
+kind_of_one_of term (inr (inr (inr (inl e)))) = (kind.TgsRep, e)
+kind_of_one_of term (inr (inr (inr (inr (inl e))))) = (kind.ApReq, e)
+kind_of_one_of term (inr (inr (inr (inr (inr (inl e)))))) = (kind.ApRep, e)
+kind_of_one_of term (inr (inr (inr (inr (inr (inr (inl e))))))) = (kind.KrbError, e)
+kind_of_one_of term (inr (inr (inr (inr (inr (inr (inr none))))))) = absurd none
 
 pub kind_of_tag-tag : (k : Kind) → kind_of_tag (tag_of (kind_term k)) ≡ k
 kind_of_tag-tag kind.AsReq = refl
@@ -188,65 +173,25 @@ kind_stands kind.ApRep (five, (fifteen, (enc, none))) f =
     let q : pos 15 ≡ fifteen = exactly_one 15 fifteen f.1.0.0 f.1.0.1 in
     StandsFor-same (message.ApRep (ap_rep_of (five, (fifteen, (enc, none))))) (five, (fifteen, (enc, none))) (λ i. (p i, (q i, (enc, none)))) f
 
-stands_for : (term : Term) → IsChosen term messages → (value : Value term) → Fits term value → StandsFor term value
-stands_for term c = let k : (k : Kind) × (term ≡ kind_term k) = kind_of_chosen term c in subst (λ t. (value : Value t) → Fits t value → StandsFor t value) (sym k.1) (kind_stands k.0)
+stands_for : (term : Term) → IsOneOf term messages → (value : Value term) → Fits term value → StandsFor term value
+stands_for term c = let k : (k : Kind) × (term ≡ kind_term k) = kind_of_one_of term c in subst (λ t. (value : Value t) → Fits t value → StandsFor t value) (sym k.1) (kind_stands k.0)
 
 -- ---- the laws
 pub whole_is_message : (n : ℕ) (octets : List ℕ) → n < 2 ^ 31 → AreOctets octets → length octets ≤ n → judgement n octets ≡ verdict.Whole → AreMessage n octets
-whole_is_message n octets small a l e = by (whole_outcome (message_outcome messages n octets) e)
+whole_is_message n octets small a l e = by (whole_is_one_of messages n octets a l e)
   where
-    by : (count : ℕ) × (message_outcome messages n octets ≡ Done count) → AreMessage n octets
-    by (count, d) = of_whole (IsWhole-message messages n octets count a d)
-      where
-        of_whole : (term : Term) × (IsChosen term messages) × (IsWhole term n true octets count) → AreMessage n octets
-        of_whole (term, c, w) =
-            let s : StandsFor term w.value = stands_for term c w.value w.fits in
-            let fills : count ≡ n = w.fills refl in
-            let all : length octets ≡ n = omega (arith, w.within) in
-            let form : message_der s.message ≡ octets = s.form ∙ sym w.form ∙ take_all count octets (omega arith) in
-            record { message = s.message; in_profile = record { fits = s.fits; short = omega (arith, ap length form) }; form = form; all = all }
-
--- of any term
-pub whole_is_value : (term : Term) (octets : List ℕ) → AreOctets octets → term_judgement term (length octets) octets ≡ verdict.Whole → AreValue term octets
-whole_is_value term octets a e = by (whole_outcome (item_outcome term (length octets) true octets) e)
-  where
-    by : (count : ℕ) × (item_outcome term (length octets) true octets ≡ Done count) → AreValue term octets
-    by (count, d) =
-        let w : IsWhole term (length octets) true octets count = IsWhole-done term (length octets) true octets count a d in
-        record { value = w.value; fits = w.fits; form = sym w.form ∙ take_all count octets (omega (arith, w.fills refl)) }
-
-pub value_is_whole : (term : Term) (value : Value term) → is_unambiguous term ≡ true → Fits term value → length (der term value) < 2 ^ 31 → term_judgement term (length (der term value)) (der term value) ≡ verdict.Whole
-value_is_whole term value u f small =
-    let e : item_outcome term (length (der term value)) true (der term value ++ []) ≡ Done (length (der term value)) =
-    item_outcome-der term u value f (omega arith) (length (der term value)) true [] (omega arith) (λ t. refl) in
-    ap verdict_of (ap (item_outcome term (length (der term value)) true) (sym (append-nil (der term value))) ∙ e)
-
-pub value_is_decided : (term : Term) (octets : List ℕ) → 0 < length octets → term_judgement term (length octets) octets ≡ verdict.Open → ⊥
-value_is_decided term octets some e = decided term (length octets) true octets some refl (open_outcome (item_outcome term (length octets) true octets) e)
+    by : AreOneOf messages n octets → AreMessage n octets
+    by w =
+        let s : StandsFor w.term w.are_value.value = stands_for w.term w.one_of w.are_value.value w.are_value.fits in
+        let form : message_der s.message ≡ octets = s.form ∙ w.are_value.form in
+        record { message = s.message; in_profile = record { fits = s.fits; short = omega (arith, ap length form) }; form = form; all = w.all }
 
 pub message_is_whole : (m : Message) → IsInProfile m → judgement (length (message_der m)) (message_der m) ≡ verdict.Whole
-message_is_whole m p =
-    let e : message_outcome messages (length (message_der m)) (message_der m ++ []) ≡ Done (length (message_der m)) =
-    message-accepts (kind_term (kind_of m)) (chosen_kind (kind_of m)) (message_value m) p.fits (omega (arith, p.short)) [] in
-    ap verdict_of (ap (message_outcome messages (length (message_der m))) (sym (append-nil (message_der m))) ∙ e)
-
-pub refusal_is_final : (n : ℕ) (octets : List ℕ) (place : ℕ) (reason : Why) → length octets ≤ n → judgement n octets ≡ verdict.Refused (record { place = place; why = reason }) → IsFinal n octets place reason
-refusal_is_final n octets place reason l e =
-    let s : Settles n (message_outcome messages n) octets (Bad place reason) = Settles-message_outcome messages n octets (Bad place reason) l (refused_outcome (message_outcome messages n octets) place reason e) tt in
-    record {
-      within = s.within;
-      same = λ other k t. ap verdict_of (s.same other k t);
-      sooner = λ k h. ap verdict_of (s.sooner k (omega arith));
-    }
+message_is_whole m p = one_of_is_whole messages messages_are_grammar (kind_term (kind_of m)) (kind_is_one_of (kind_of m)) (message_value m) p.fits (omega (arith, p.short))
 
 pub refusal_is_right : (n : ℕ) (octets : List ℕ) (place : ℕ) (reason : Why) → length octets ≤ n → judgement n octets ≡ verdict.Refused (record { place = place; why = reason }) → (m : Message) → IsInProfile m → length (message_der m) ≡ n → take (suc place) (message_der m) ≡ take (suc place) octets → ⊥
 refusal_is_right n octets place reason l e m p same begins =
-    let whole : judgement n (message_der m) ≡ verdict.Whole = subst (λ k. judgement k (message_der m) ≡ verdict.Whole) same (message_is_whole m p) in
-    let refused : judgement n (message_der m) ≡ verdict.Refused (record { place = place; why = reason }) = (refusal_is_final n octets place reason l e).same (message_der m) (omega arith) begins in
-    cc
-
-pub all_is_decided : (n : ℕ) (octets : List ℕ) → 0 < n → length octets ≡ n → judgement n octets ≡ verdict.Open → ⊥
-all_is_decided n octets p l e = message_outcome-decided messages n octets p l (open_outcome (message_outcome messages n octets) e)
+    refusal_is_none_of messages messages_are_grammar n octets place reason l e (kind_term (kind_of m)) (kind_is_one_of (kind_of m)) (message_value m) p.fits (omega (arith, p.short)) same begins
 
 same_kind : (k l : Kind) → tag_of (kind_term k) ≡ tag_of (kind_term l) → k ≡ l
 same_kind k l e = sym (kind_of_tag-tag k) ∙ ap kind_of_tag e ∙ kind_of_tag-tag l
@@ -264,7 +209,7 @@ der_tells m other x y e =
     tags = (same_from_cons _ _ _ _ (sym (der-append (kind_term (kind_of m)) (message_value m) x) ∙ e ∙ der-append (kind_term (kind_of other)) (message_value other) y)).0
 
     at_same : Tells m x y (kind_of m)
-    at_same v e = let s : (message_value m ≡ v) × (x ≡ y) = same_value (kind_term (kind_of m)) (unambiguous_message (kind_term (kind_of m)) (chosen_kind (kind_of m))) (message_value m) v x y e in (ap (message_of (kind_of m)) s.0, s.1)
+    at_same v e = let s : (message_value m ≡ v) × (x ≡ y) = same_value (kind_term (kind_of m)) (unambiguous_message messages messages_are_grammar (kind_term (kind_of m)) (kind_is_one_of (kind_of m))) (message_value m) v x y e in (ap (message_of (kind_of m)) s.0, s.1)
 
     at_kind : (k : Kind) → kind_of m ≡ k → Tells m x y k
     at_kind k same = subst (Tells m x y) same at_same

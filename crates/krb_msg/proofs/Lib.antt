@@ -13,6 +13,7 @@ pub mod Messages
 pub mod Encoded
 pub mod Ambiguous
 pub mod Streams
+pub mod Grammars
 pub mod Judged
 pub mod Fitting
 pub mod Fronts

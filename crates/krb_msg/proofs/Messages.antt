@@ -1,14 +1,13 @@
--- The laws of the judgement of a message, which its tag chooses, and the shape of the grammar.
-use Rattle.std.proofs.Common.{subst, ◌≡◌, ℕ, ◌^◌, ◌<◌, ◌≤◌, ◌⊎◌, inl, inr, true, false, eqb, List, [], ◌∷◌, ◌++◌, length, refl, sym, ◌∙◌, ap, arith, eq-eqb, eqb-true}
+-- The laws of the judgement of a message, which its tag chooses, by any messages.
+use Rattle.std.proofs.Common.{◌≡◌, ℕ, ◌^◌, ◌<◌, ◌≤◌, ◌⊎◌, inl, inr, Bool, true, false, not, eqb, List, [], ◌∷◌, ◌++◌, length, refl, sym, ◌∙◌, ap, arith, eq-eqb, eqb-true}
 use mathlib.Core.Path.{path_j}
-use Rattle.std.proofs.lemmas.Bool.{cases_Bool, true≢false}
-use Rattle.std.specs.List.{AllByRecursion}
+use Rattle.std.proofs.lemmas.Bool.{cases_Bool, true≢false, and_parts, not-true}
+use Rattle.std.specs.List.{list_all}
 use Rattle.krb_der.specs.Octets.{AreOctets}
 use Rattle.krb_der.specs.declared.why.Why.TheVariants as why
 use Rattle.krb_msg.specs.Term.{Term, tag_of, Value, der, Fits}
-use Rattle.krb_msg.specs.Shape.{is_unambiguous, has_octet_tags}
-use Rattle.krb_msg.proofs.Encoded.{AreOctets-der}
-use Rattle.krb_msg.specs.Grammar.{messages}
+use Rattle.krb_msg.specs.Shape.{is_unambiguous, IsOneOf, have_own_tags}
+use Rattle.krb_msg.specs.Laws.{SomeValue}
 use Rattle.krb_msg.specs.Judgement.{Outcome, Open, Bad, Done, item_outcome, message_outcome}
 use Rattle.krb_msg.proofs.Stable.{IsDecided, IsStable, IsStable-refusal, refusal}
 use Rattle.krb_msg.proofs.Items.{IsStable-first}
@@ -17,15 +16,30 @@ use Rattle.krb_der.specs.Items.{same_from_cons}
 use Rattle.krb_msg.specs.Values.{der-append}
 use Rattle.krb_msg.proofs.Laws.{item_outcome-der, Settles, Settles-stable, IsWhole, IsWhole-done, decided, same_value}
 
--- ---- the grammar
-pub unambiguous-messages : AllByRecursion (λ term. is_unambiguous term ≡ true) messages
-unambiguous-messages = (refl, (refl, (refl, (refl, (refl, (refl, (refl, tt)))))))
-
 -- ---- the term of a tag
 -- a term whose tag is no earlier one's
 abbrev pub IsChosen : Term → List Term → Type 0
 IsChosen term [] = ⊥
 IsChosen term (first ∷ terms) = (term ≡ first) ⊎ ((eqb (tag_of term) (tag_of first) ≡ false) × IsChosen term terms)
+
+-- one of the terms, and none before it has its tag
+pub one_of_chosen : (terms : List Term) (term : Term) → IsChosen term terms → IsOneOf term terms
+one_of_chosen [] term c = absurd c
+one_of_chosen (first ∷ terms) term (inl e) = inl e
+one_of_chosen (first ∷ terms) term (inr c) = inr (one_of_chosen terms term c.1)
+
+-- what passes for all passes for one
+pub one_of_passes : (test : Term → Bool) (terms : List Term) (term : Term) → list_all test terms ≡ true → IsOneOf term terms → test term ≡ true
+one_of_passes test [] term a o = absurd o
+one_of_passes test (first ∷ terms) term a (inl e) = ap test e ∙ (and_parts _ _ a).0
+one_of_passes test (first ∷ terms) term a (inr o) = one_of_passes test terms term (and_parts _ _ a).1 o
+
+pub chosen_one_of : (terms : List Term) (term : Term) → have_own_tags terms ≡ true → IsOneOf term terms → IsChosen term terms
+chosen_one_of [] term a o = absurd o
+chosen_one_of (first ∷ terms) term a (inl e) = inl e
+chosen_one_of (first ∷ terms) term a (inr o) =
+    let t : (list_all (λ term. not (eqb (tag_of term) (tag_of first))) terms ≡ true) × (have_own_tags terms ≡ true) = and_parts _ _ a in
+    inr (not-true _ (one_of_passes (λ term. not (eqb (tag_of term) (tag_of first))) terms term t.0 o), chosen_one_of terms term t.1 o)
 
 message-first : (first : Term) (terms : List Term) (room octet : ℕ) (rest : List ℕ) → eqb octet (tag_of first) ≡ true → message_outcome (first ∷ terms) room (octet ∷ rest) ≡ item_outcome first room true (octet ∷ rest)
 message-first first terms room octet rest t = rw t
@@ -104,10 +118,6 @@ same_chosen s t (first ∷ terms) (inl c) (inr d) e = absurd (true≢false (sym 
 same_chosen s t (first ∷ terms) (inr c) (inl d) e = absurd (true≢false (sym (eq-eqb (tag_of s) (tag_of first) (e ∙ ap tag_of d)) ∙ c.0))
 same_chosen s t (first ∷ terms) (inr c) (inr d) e = same_chosen s t terms c.1 d.1 e
 
--- a value of some term
-abbrev pub SomeValue : Type 0
-SomeValue = (term : Term) × Value term
-
 -- no message's octets begin another's, and they tell the term and the value
 pub same_message : (terms : List Term) (s t : Term) → IsChosen s terms → IsChosen t terms → is_unambiguous s ≡ true → (v : Value s) (w : Value t) (x y : List ℕ) → der s v ++ x ≡ der t w ++ y → (◌≡◌ {A = SomeValue} (s, v) (t, w)) × (x ≡ y)
 same_message terms s t c d u v w x y e =
@@ -119,25 +129,3 @@ same_message terms s t c d u v w x y e =
 
     at_term : (t : Term) → s ≡ t → (w : Value t) → der s v ++ x ≡ der t w ++ y → (◌≡◌ {A = SomeValue} (s, v) (t, w)) × (x ≡ y)
     at_term t same = path_j (λ (z : Term) (q : s ≡ z). (w : Value z) → der s v ++ x ≡ der z w ++ y → (◌≡◌ {A = SomeValue} (s, v) (z, w)) × (x ≡ y)) at_same same
-
--- ---- at the grammar's messages
-All-chosen : (P : Term → Type 0) (term : Term) (terms : List Term) → AllByRecursion P terms → IsChosen term terms → P term
-All-chosen P term [] a c = absurd c
-All-chosen P term (first ∷ terms) a (inl e) = subst P (sym e) a.0
-All-chosen P term (first ∷ terms) a (inr c) = All-chosen P term terms a.1 c.1
-
-pub unambiguous_message : (term : Term) → IsChosen term messages → is_unambiguous term ≡ true
-unambiguous_message term c = All-chosen (λ term. is_unambiguous term ≡ true) term messages unambiguous-messages c
-
-pub message-accepts : (term : Term) → IsChosen term messages → (value : Value term) → Fits term value → length (der term value) < 2 ^ 32 → (rest : List ℕ) → message_outcome messages (length (der term value)) (der term value ++ rest) ≡ Done (length (der term value))
-message-accepts term c value f small rest = message_outcome-der messages term c (unambiguous_message term c) value f small rest
-
-pub octet_tags-messages : AllByRecursion (λ term. has_octet_tags term ≡ true) messages
-octet_tags-messages = (refl, (refl, (refl, (refl, (refl, (refl, (refl, tt)))))))
-
-pub AreOctets-message : (term : Term) → IsChosen term messages → (value : Value term) → Fits term value → length (der term value) < 2 ^ 32 → AreOctets (der term value)
-AreOctets-message term c = AreOctets-der term (All-chosen (λ term. has_octet_tags term ≡ true) term messages octet_tags-messages c)
-
--- each message is chosen by its own tag
-pub chosen-messages : AllByRecursion (λ term. IsChosen term messages) messages
-chosen-messages = (inl refl, (inr (refl, inl refl), (inr (refl, inr (refl, inl refl)), (inr (refl, inr (refl, inr (refl, inl refl))), (inr (refl, inr (refl, inr (refl, inr (refl, inl refl)))), (inr (refl, inr (refl, inr (refl, inr (refl, inr (refl, inl refl))))), (inr (refl, inr (refl, inr (refl, inr (refl, inr (refl, inr (refl, inl refl)))))), tt)))))))

@@ -1,4 +1,4 @@
--- What holds of all messages and of all octets. Each is the contract of a function of the module `law`.
+-- What holds of all grammars, of all messages and of all octets. Each is the contract of a function of the module `law`.
 use Rattle.std.specs.Prelude.{ℕ, suc, true, ◌≡◌, ◌^◌, ◌<◌, ◌≤◌, List, ◌++◌, length, take}
 use Rattle.krb_der.specs.Octets.{AreOctets}
 use Rattle.krb_der.specs.declared.why.Why.{Why}
@@ -6,25 +6,12 @@ use Rattle.krb_der.specs.declared.verdict.Verdict.TheVariants.{Open, Whole, Refu
 use Rattle.krb_msg.specs.declared.message.Message.{Message}
 use Rattle.krb_msg.specs.Views.{kind_of, message_value, message_of, message_der, IsInProfile}
 use Rattle.krb_msg.specs.Term.{Term, Value, der, Fits}
-use Rattle.krb_msg.specs.Shape.{is_unambiguous}
-use Rattle.krb_msg.specs.Judgement.{judgement, term_judgement}
+use Rattle.krb_msg.specs.Shape.{is_unambiguous, IsOneOf, IsGrammar}
+use Rattle.krb_msg.specs.Grammar.{messages}
+use Rattle.krb_msg.specs.Judgement.{judgement_by, judgement, term_judgement}
 use Rattle.krb_msg.specs.Reading.{value_read, message_read}
 
--- the octets are all of the n, and the DER of a message
-pub record AreMessage (n : ℕ) (octets : List ℕ) : Type 0 where
-  pub message : Message
-  pub in_profile : IsInProfile message
-  pub form : message_der message ≡ octets
-  pub all : length octets ≡ n
-
--- What is judged whole is the DER of a message.
-abbrev pub WholeIsMessage : Type 0
-WholeIsMessage = (n : ℕ) (octets : List ℕ) → n < 2 ^ 31 → AreOctets octets → length octets ≤ n → judgement n octets ≡ Whole → AreMessage n octets
-
--- The DER of a message is judged whole.
-abbrev pub MessageIsWhole : Type 0
-MessageIsWhole = (m : Message) → IsInProfile m → judgement (length (message_der m)) (message_der m) ≡ Whole
-
+-- ---- any term
 -- the octets are the DER of a value of a term
 pub record AreValue (term : Term) (octets : List ℕ) : Type 0 where
   pub value : Value term
@@ -43,26 +30,82 @@ ValueIsWhole = (term : Term) (value : Value term) → is_unambiguous term ≡ tr
 abbrev pub ValueIsRead : Type 0
 ValueIsRead = (term : Term) (value : Value term) → is_unambiguous term ≡ true → length (der term value) < 2 ^ 32 → value_read term (der term value) ≡ value
 
+-- ---- any messages
+-- the octets are all of the n, and the DER of a value of one of the messages
+pub record AreOneOf (messages : List Term) (n : ℕ) (octets : List ℕ) : Type 0 where
+  pub term : Term
+  pub one_of : IsOneOf term messages
+  pub are_value : AreValue term octets
+  pub all : length octets ≡ n
+
+-- What is judged whole is the DER of a value of one of the messages.
+abbrev pub WholeIsOneOf : Type 0
+WholeIsOneOf = (messages : List Term) (n : ℕ) (octets : List ℕ) → AreOctets octets → length octets ≤ n → judgement_by messages n octets ≡ Whole → AreOneOf messages n octets
+
+-- A refusal stands at an octet that is there. It is the same whatever follows that octet, and without that octet nothing is decided.
+pub record IsFinal (messages : List Term) (n : ℕ) (octets : List ℕ) (place : ℕ) (reason : Why) : Type 0 where
+  pub within : place < length octets
+  pub same : (other : List ℕ) → length other ≤ n → take (suc place) other ≡ take (suc place) octets → judgement_by messages n other ≡ Refused (record { place = place; why = reason })
+  pub sooner : (k : ℕ) → k ≤ place → judgement_by messages n (take k octets) ≡ Open
+
+abbrev pub RefusalIsFinal : Type 0
+RefusalIsFinal = (messages : List Term) (n : ℕ) (octets : List ℕ) (place : ℕ) (reason : Why) → length octets ≤ n → judgement_by messages n octets ≡ Refused (record { place = place; why = reason }) → IsFinal messages n octets place reason
+
+-- With all n octets present, something is decided.
+abbrev pub AllIsDecided : Type 0
+AllIsDecided = (messages : List Term) (n : ℕ) (octets : List ℕ) → 0 < n → length octets ≡ n → judgement_by messages n octets ≡ Open → ⊥
+
+-- ---- any grammar
+-- The DER of a value of one of the messages is judged whole.
+abbrev pub OneOfIsWhole : Type 0
+OneOfIsWhole = (messages : List Term) → IsGrammar messages → (term : Term) → IsOneOf term messages → (value : Value term) → Fits term value → length (der term value) < 2 ^ 31 → judgement_by messages (length (der term value)) (der term value) ≡ Whole
+
+-- It is octets.
+abbrev pub OneOfIsOctets : Type 0
+OneOfIsOctets = (messages : List Term) → IsGrammar messages → (term : Term) → IsOneOf term messages → (value : Value term) → Fits term value → length (der term value) < 2 ^ 31 → AreOctets (der term value)
+
+-- No DER of n octets of a value of one of the messages begins with the octets up to and with one that is refused.
+abbrev pub RefusalIsNoneOf : Type 0
+RefusalIsNoneOf = (messages : List Term) → IsGrammar messages → (n : ℕ) (octets : List ℕ) (place : ℕ) (reason : Why) → length octets ≤ n → judgement_by messages n octets ≡ Refused (record { place = place; why = reason }) → (term : Term) → IsOneOf term messages → (value : Value term) → Fits term value → length (der term value) < 2 ^ 31 → length (der term value) ≡ n → take (suc place) (der term value) ≡ take (suc place) octets → ⊥
+
+-- a value of some term
+abbrev pub SomeValue : Type 0
+SomeValue = (term : Term) × Value term
+
+abbrev pub AreSame : SomeValue → SomeValue → Type 0
+AreSame value other = value ≡ other
+
+-- No DER of a value of one of the messages begins another's, and it tells the message and the value.
+abbrev pub OneOfTells : Type 0
+OneOfTells = (messages : List Term) → IsGrammar messages → (term other : Term) → IsOneOf term messages → IsOneOf other messages → (v : Value term) (w : Value other) (x y : List ℕ) → der term v ++ x ≡ der other w ++ y → AreSame (term, v) (other, w) × (x ≡ y)
+
+-- ---- the messages of the crate
+-- They are a grammar.
+abbrev pub MessagesAreGrammar : Type 0
+MessagesAreGrammar = IsGrammar messages
+
+-- the octets are all of the n, and the DER of a message
+pub record AreMessage (n : ℕ) (octets : List ℕ) : Type 0 where
+  pub message : Message
+  pub in_profile : IsInProfile message
+  pub form : message_der message ≡ octets
+  pub all : length octets ≡ n
+
+-- What is judged whole is the DER of a message.
+abbrev pub WholeIsMessage : Type 0
+WholeIsMessage = (n : ℕ) (octets : List ℕ) → n < 2 ^ 31 → AreOctets octets → length octets ≤ n → judgement n octets ≡ Whole → AreMessage n octets
+
+-- The DER of a message is judged whole.
+abbrev pub MessageIsWhole : Type 0
+MessageIsWhole = (m : Message) → IsInProfile m → judgement (length (message_der m)) (message_der m) ≡ Whole
+
 -- What is read of the DER of a message is the message.
 abbrev pub MessageIsRead : Type 0
 MessageIsRead = (m : Message) → IsInProfile m → message_read (message_der m) ≡ m
 
--- A refusal stands at an octet that is there. It is the same whatever follows that octet, and without that octet nothing is decided.
-pub record IsFinal (n : ℕ) (octets : List ℕ) (place : ℕ) (reason : Why) : Type 0 where
-  pub within : place < length octets
-  pub same : (other : List ℕ) → length other ≤ n → take (suc place) other ≡ take (suc place) octets → judgement n other ≡ Refused (record { place = place; why = reason })
-  pub sooner : (k : ℕ) → k ≤ place → judgement n (take k octets) ≡ Open
-
-abbrev pub RefusalIsFinal : Type 0
-RefusalIsFinal = (n : ℕ) (octets : List ℕ) (place : ℕ) (reason : Why) → length octets ≤ n → judgement n octets ≡ Refused (record { place = place; why = reason }) → IsFinal n octets place reason
-
 -- No message of n octets begins with the octets up to and with one that is refused.
 abbrev pub RefusalIsRight : Type 0
 RefusalIsRight = (n : ℕ) (octets : List ℕ) (place : ℕ) (reason : Why) → length octets ≤ n → judgement n octets ≡ Refused (record { place = place; why = reason }) → (m : Message) → IsInProfile m → length (message_der m) ≡ n → take (suc place) (message_der m) ≡ take (suc place) octets → ⊥
-
--- With all n octets present, something is decided.
-abbrev pub AllIsDecided : Type 0
-AllIsDecided = (n : ℕ) (octets : List ℕ) → 0 < n → length octets ≡ n → judgement n octets ≡ Open → ⊥
 
 -- No message's DER begins another's, and different messages have different DER.
 abbrev pub DerTells : Type 0

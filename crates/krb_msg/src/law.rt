@@ -1,16 +1,6 @@
-//! Laws of the messages, of their DER and of the judgement of octets. Each is the contract of a
-//! function that does nothing.
-ghost use Rattle.krb_msg.specs.Laws.{WholeIsMessage, MessageIsWhole, WholeIsValue, ValueIsWhole, ValueIsRead, MessageIsRead, RefusalIsFinal, RefusalIsRight, AllIsDecided, DerTells, MessageComesBack};
-
-/// What is judged whole is the DER of a message.
-pub fn whole_is_message()
-    ensures { WholeIsMessage }
-{}
-
-/// The DER of a message is judged whole.
-pub fn message_is_whole()
-    ensures { MessageIsWhole }
-{}
+//! Laws of grammars, of the messages, of their DER and of the judgement of octets. Each is the
+//! contract of a function that does nothing.
+ghost use Rattle.krb_msg.specs.Laws.{WholeIsValue, ValueIsWhole, ValueIsRead, WholeIsOneOf, RefusalIsFinal, AllIsDecided, OneOfIsWhole, OneOfIsOctets, RefusalIsNoneOf, OneOfTells, MessagesAreGrammar, WholeIsMessage, MessageIsWhole, MessageIsRead, RefusalIsRight, DerTells, MessageComesBack};
 
 /// What is judged whole as an item of a term, a Ticket say, is the DER of one of its values.
 pub fn whole_is_value()
@@ -27,24 +17,67 @@ pub fn value_is_read()
     ensures { ValueIsRead }
 {}
 
+/// By any messages, what is judged whole is the DER of a value of one of them.
+pub fn whole_is_one_of()
+    ensures { WholeIsOneOf }
+{}
+
+/// By any messages, a refusal is the same whatever follows the octet that it stands at, and comes
+/// with that octet.
+pub fn refusal_is_final()
+    ensures { RefusalIsFinal }
+{}
+
+/// By any messages, with all the octets present something is decided.
+pub fn all_is_decided()
+    ensures { AllIsDecided }
+{}
+
+/// By any grammar, the DER of a value of one of its messages is judged whole.
+pub fn one_of_is_whole()
+    ensures { OneOfIsWhole }
+{}
+
+/// The DER of a value of one of a grammar's messages is octets.
+pub fn one_of_is_octets()
+    ensures { OneOfIsOctets }
+{}
+
+/// By any grammar, no DER of a value of one of its messages begins with the octets up to and with
+/// one that is refused.
+pub fn refusal_is_none_of()
+    ensures { RefusalIsNoneOf }
+{}
+
+/// In any grammar, no DER of a value of one of its messages begins another's, and it tells the
+/// message and the value.
+pub fn one_of_tells()
+    ensures { OneOfTells }
+{}
+
+/// The messages of this crate are a grammar.
+pub fn messages_are_grammar()
+    ensures { MessagesAreGrammar }
+{}
+
+/// What is judged whole is the DER of a message.
+pub fn whole_is_message()
+    ensures { WholeIsMessage }
+{}
+
+/// The DER of a message is judged whole.
+pub fn message_is_whole()
+    ensures { MessageIsWhole }
+{}
+
 /// What is read of the DER of a message is the message.
 pub fn message_is_read()
     ensures { MessageIsRead }
 {}
 
-/// A refusal is the same whatever follows the octet that it stands at, and comes with that octet.
-pub fn refusal_is_final()
-    ensures { RefusalIsFinal }
-{}
-
 /// No message begins with the octets up to and with one that is refused.
 pub fn refusal_is_right()
     ensures { RefusalIsRight }
-{}
-
-/// With all the octets of a message present, something is decided.
-pub fn all_is_decided()
-    ensures { AllIsDecided }
 {}
 
 /// No message's DER begins another's, and different messages have different DER.

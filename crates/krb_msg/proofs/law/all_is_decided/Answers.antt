@@ -1,4 +1,4 @@
-use Rattle.krb_msg.proofs.Judged.{all_is_decided}
+use Rattle.krb_msg.proofs.Grammars.{all_is_decided}
 use Rattle.krb_msg.proofs.law.all_is_decided.Goals as goal
 
 pub returns : goal.returns

@@ -1,4 +1,4 @@
-use Rattle.krb_msg.proofs.Judged.{refusal_is_final}
+use Rattle.krb_msg.proofs.Grammars.{refusal_is_final}
 use Rattle.krb_msg.proofs.law.refusal_is_final.Goals as goal
 
 pub returns : goal.returns

@@ -1,0 +1,5 @@
+use Rattle.krb_msg.proofs.Grammars.{one_of_is_whole}
+use Rattle.krb_msg.proofs.law.one_of_is_whole.Goals as goal
+
+pub returns : goal.returns
+returns c = one_of_is_whole

@@ -1,0 +1,5 @@
+use Rattle.krb_msg.proofs.Grammars.{whole_is_one_of}
+use Rattle.krb_msg.proofs.law.whole_is_one_of.Goals as goal
+
+pub returns : goal.returns
+returns c = whole_is_one_of
