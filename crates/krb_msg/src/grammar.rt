@@ -1,10 +1,138 @@
 //! The grammar of `specs/Grammar` as a table, from which octets are judged.
 
-ghost use Rattle.std.specs.Prelude.{◌≡◌, ◌<◌, map, true};
+ghost use Rattle.std.specs.Prelude.{◌≡◌, map};
 ghost use Rattle.krb_msg.specs.Term.{tag_of as term_tag};
 ghost use Rattle.krb_msg.specs.Grammar.{messages};
-ghost use Rattle.krb_msg.specs.Nodes.{term_at};
-ghost use Rattle.krb_msg.specs.Table.{IsFormOf, IsSlot, IsMessageOf, RowsAre, are_known};
+ghost use Rattle.krb_msg.specs.Nodes.{nodes, term_at};
+ghost use Rattle.krb_msg.specs.Table.{IsNode, IsRowOf, IsFormOf, IsMessageOf};
+
+/// The rows of the table, in their order: the terms of RFC 4120 by their names, those in a tag by
+/// the field that has it.
+pub enum Row {
+    // basic types, and lists of one type
+    Int32,
+    Wide32,
+    Microseconds,
+    KerberosString,
+    OctetString,
+    KerberosTime,
+    KerberosFlags,
+    Version,
+    AsReqType,
+    AsRepType,
+    TgsReqType,
+    TgsRepType,
+    ApReqType,
+    ApRepType,
+    KrbErrorType,
+    KerberosStrings,
+    Int32s,
+    HostAddresses,
+    Tickets,
+    MethodData,
+    // PrincipalName
+    PrincipalName,
+    PrincipalNameNameType,
+    PrincipalNameNameString,
+    // HostAddress
+    HostAddress,
+    HostAddressAddrType,
+    HostAddressAddress,
+    // PA-DATA
+    PaData,
+    PaDataPadataType,
+    PaDataPadataValue,
+    // EncryptedData
+    EncryptedData,
+    EncryptedDataEtype,
+    EncryptedDataKvno,
+    EncryptedDataCipher,
+    // Ticket
+    Ticket,
+    TicketFields,
+    TicketTktVno,
+    TicketRealm,
+    TicketSname,
+    TicketEncPart,
+    // KDC-REQ-BODY
+    KdcReqBody,
+    KdcReqBodyKdcOptions,
+    KdcReqBodyCname,
+    KdcReqBodyRealm,
+    KdcReqBodySname,
+    KdcReqBodyFrom,
+    KdcReqBodyTill,
+    KdcReqBodyRtime,
+    KdcReqBodyNonce,
+    KdcReqBodyEtype,
+    KdcReqBodyAddresses,
+    KdcReqBodyEncAuthorizationData,
+    KdcReqBodyAdditionalTickets,
+    // AS-REQ
+    AsReq,
+    AsReqFields,
+    AsReqPvno,
+    AsReqMsgType,
+    AsReqPadata,
+    AsReqReqBody,
+    // TGS-REQ
+    TgsReq,
+    TgsReqFields,
+    TgsReqPvno,
+    TgsReqMsgType,
+    TgsReqPadata,
+    TgsReqReqBody,
+    // AS-REP
+    AsRep,
+    AsRepFields,
+    AsRepPvno,
+    AsRepMsgType,
+    AsRepPadata,
+    AsRepCrealm,
+    AsRepCname,
+    AsRepTicket,
+    AsRepEncPart,
+    // TGS-REP
+    TgsRep,
+    TgsRepFields,
+    TgsRepPvno,
+    TgsRepMsgType,
+    TgsRepPadata,
+    TgsRepCrealm,
+    TgsRepCname,
+    TgsRepTicket,
+    TgsRepEncPart,
+    // AP-REQ
+    ApReq,
+    ApReqFields,
+    ApReqPvno,
+    ApReqMsgType,
+    ApReqApOptions,
+    ApReqTicket,
+    ApReqAuthenticator,
+    // AP-REP
+    ApRep,
+    ApRepFields,
+    ApRepPvno,
+    ApRepMsgType,
+    ApRepEncPart,
+    // KRB-ERROR
+    KrbError,
+    KrbErrorFields,
+    KrbErrorPvno,
+    KrbErrorMsgType,
+    KrbErrorCtime,
+    KrbErrorCusec,
+    KrbErrorStime,
+    KrbErrorSusec,
+    KrbErrorErrorCode,
+    KrbErrorCrealm,
+    KrbErrorCname,
+    KrbErrorRealm,
+    KrbErrorSname,
+    KrbErrorEText,
+    KrbErrorEData,
+}
 
 /// What the contents of an item are.
 #[derive(Clone, Copy)]
@@ -21,9 +149,10 @@ pub enum Form {
     Bits,
     /// Any number of items of one node.
     Items { node: u16 },
-    /// The fields from a place of `FIELDS` on. Where they are `sole`, they are one required field, which
-    /// fills the contents: the item of a tag.
-    Fields { first: u16, sole: bool },
+    /// The one item of a tag.
+    Item { node: u16 },
+    /// The fields of a SEQUENCE.
+    Fields { fields: &'static [Slot] },
 }
 
 /// A term of the grammar: its tag octet and what its contents are.
@@ -35,14 +164,12 @@ pub struct Node {
     pub form: Form,
 }
 
-/// A place in the lists of fields.
+/// A field of a SEQUENCE.
 #[derive(Clone, Copy)]
 pub enum Slot {
-    /// No more fields.
-    End,
-    /// A field that must be there.
+    /// One that must be there.
     Required { node: u16 },
-    /// A field that may be left out.
+    /// One that may be left out.
     Optional { node: u16 },
 }
 
@@ -54,18 +181,24 @@ macro_rules! node {
     (Octets) => { Node { tag: 0x04, form: Form::Octets } };
     (Time) => { Node { tag: 0x18, form: Form::Time } };
     (Bits) => { Node { tag: 0x03, form: Form::Bits } };
-    (Items, $node:expr) => { Node { tag: 0x30, form: Form::Items { node: $node } } };
-    (Sequence, $first:expr) => { Node { tag: 0x30, form: Form::Fields { first: $first, sole: false } } };
-    (Tagged, $index:expr, $first:expr) => {
-        Node { tag: 0xA0 + $index, form: Form::Fields { first: $first, sole: true } }
+    (Items, $row:ident) => { Node { tag: 0x30, form: Form::Items { node: Row::$row as u16 } } };
+    (Sequence, $($slot:ident $row:ident),*) => {
+        Node { tag: 0x30, form: Form::Fields { fields: &[$(Slot::$slot { node: Row::$row as u16 }),*] } }
     };
-    (Application, $number:expr, $first:expr) => {
-        Node { tag: 0x60 + $number, form: Form::Fields { first: $first, sole: true } }
+    (Tagged, $index:expr, $row:ident) => {
+        Node { tag: 0xA0 + $index, form: Form::Item { node: Row::$row as u16 } }
+    };
+    (Application, $number:expr, $row:ident) => {
+        Node { tag: 0x60 + $number, form: Form::Item { node: Row::$row as u16 } }
     };
 }
 
-/// A row for each term of the grammar, in the order of the numbers that `specs/Grammar` gives.
-pub static GRAMMAR: [Node; 111] = [
+/// How many rows the table has.
+pub const NODES: usize = 109;
+
+/// A row for each term of the grammar, in the order of [`Row`].
+static GRAMMAR: [Node; NODES] = [
+    // basic types, and lists of one type
     node!(Integer, -2147483648, 2147483647, 4),
     node!(Integer, -2147483648, 4294967295, 5),
     node!(Integer, 0, 999999, 3),
@@ -73,298 +206,162 @@ pub static GRAMMAR: [Node; 111] = [
     node!(Octets),
     node!(Time),
     node!(Bits),
-    node!(Items, 3),
-    node!(Sequence, 1),
-    node!(Tagged, 0, 4),
-    node!(Tagged, 1, 6),
-    node!(Sequence, 8),
-    node!(Tagged, 0, 4),
-    node!(Tagged, 1, 12),
-    node!(Tagged, 2, 14),
     node!(Integer, 5, 5, 1),
-    node!(Application, 1, 16),
-    node!(Sequence, 18),
-    node!(Tagged, 0, 23),
-    node!(Tagged, 1, 25),
-    node!(Tagged, 2, 27),
-    node!(Tagged, 3, 29),
-    node!(Application, 15, 31),
-    node!(Integer, 15, 15, 1),
-    node!(Sequence, 33),
-    node!(Tagged, 0, 23),
-    node!(Tagged, 1, 37),
-    node!(Tagged, 2, 29),
-    node!(Application, 14, 39),
-    node!(Integer, 14, 14, 1),
-    node!(Sequence, 41),
-    node!(Tagged, 0, 23),
-    node!(Tagged, 1, 47),
-    node!(Tagged, 2, 49),
-    node!(Tagged, 3, 51),
-    node!(Tagged, 4, 29),
-    node!(Sequence, 53),
-    node!(Tagged, 1, 4),
-    node!(Tagged, 2, 14),
-    node!(Items, 36),
-    node!(Application, 11, 56),
-    node!(Integer, 11, 11, 1),
-    node!(Sequence, 58),
-    node!(Tagged, 0, 23),
-    node!(Tagged, 1, 66),
-    node!(Tagged, 2, 68),
-    node!(Tagged, 3, 25),
-    node!(Tagged, 4, 27),
-    node!(Tagged, 5, 51),
-    node!(Tagged, 6, 29),
-    node!(Application, 13, 70),
-    node!(Integer, 13, 13, 1),
-    node!(Sequence, 72),
-    node!(Tagged, 0, 23),
-    node!(Tagged, 1, 80),
-    node!(Tagged, 2, 68),
-    node!(Tagged, 3, 25),
-    node!(Tagged, 4, 27),
-    node!(Tagged, 5, 51),
-    node!(Tagged, 6, 29),
-    node!(Sequence, 82),
-    node!(Tagged, 0, 4),
-    node!(Tagged, 1, 14),
-    node!(Items, 0),
-    node!(Items, 60),
-    node!(Items, 16),
-    node!(Sequence, 85),
-    node!(Tagged, 0, 49),
-    node!(Tagged, 1, 27),
-    node!(Tagged, 2, 25),
-    node!(Tagged, 3, 27),
-    node!(Tagged, 4, 98),
-    node!(Tagged, 5, 98),
-    node!(Tagged, 6, 98),
-    node!(Tagged, 7, 12),
-    node!(Tagged, 8, 100),
-    node!(Tagged, 9, 102),
-    node!(Tagged, 10, 29),
-    node!(Tagged, 11, 104),
-    node!(Application, 10, 106),
     node!(Integer, 10, 10, 1),
-    node!(Sequence, 108),
-    node!(Tagged, 1, 23),
-    node!(Tagged, 2, 113),
-    node!(Tagged, 3, 115),
-    node!(Tagged, 4, 117),
-    node!(Application, 12, 119),
+    node!(Integer, 11, 11, 1),
     node!(Integer, 12, 12, 1),
-    node!(Sequence, 121),
-    node!(Tagged, 1, 23),
-    node!(Tagged, 2, 126),
-    node!(Tagged, 3, 115),
-    node!(Tagged, 4, 117),
-    node!(Application, 30, 128),
+    node!(Integer, 13, 13, 1),
+    node!(Integer, 14, 14, 1),
+    node!(Integer, 15, 15, 1),
     node!(Integer, 30, 30, 1),
-    node!(Sequence, 130),
-    node!(Tagged, 0, 23),
-    node!(Tagged, 1, 144),
-    node!(Tagged, 2, 98),
-    node!(Tagged, 3, 146),
-    node!(Tagged, 4, 98),
-    node!(Tagged, 5, 146),
-    node!(Tagged, 6, 4),
-    node!(Tagged, 7, 25),
-    node!(Tagged, 8, 27),
-    node!(Tagged, 9, 25),
-    node!(Tagged, 10, 27),
-    node!(Tagged, 11, 25),
-    node!(Tagged, 12, 14),
-    node!(Items, 36),
-    node!(Items, 36),
-];
-
-/// The lists of fields, each up to its end.
-pub static FIELDS: [Slot; 148] = [
-    Slot::End,
-    Slot::Required { node: 9 },
-    Slot::Required { node: 10 },
-    Slot::End,
-    Slot::Required { node: 0 },
-    Slot::End,
-    Slot::Required { node: 7 },
-    Slot::End,
-    Slot::Required { node: 12 },
-    Slot::Optional { node: 13 },
-    Slot::Required { node: 14 },
-    Slot::End,
-    Slot::Required { node: 1 },
-    Slot::End,
-    Slot::Required { node: 4 },
-    Slot::End,
-    Slot::Required { node: 17 },
-    Slot::End,
-    Slot::Required { node: 18 },
-    Slot::Required { node: 19 },
-    Slot::Required { node: 20 },
-    Slot::Required { node: 21 },
-    Slot::End,
-    Slot::Required { node: 15 },
-    Slot::End,
-    Slot::Required { node: 3 },
-    Slot::End,
-    Slot::Required { node: 8 },
-    Slot::End,
-    Slot::Required { node: 11 },
-    Slot::End,
-    Slot::Required { node: 24 },
-    Slot::End,
-    Slot::Required { node: 25 },
-    Slot::Required { node: 26 },
-    Slot::Required { node: 27 },
-    Slot::End,
-    Slot::Required { node: 23 },
-    Slot::End,
-    Slot::Required { node: 30 },
-    Slot::End,
-    Slot::Required { node: 31 },
-    Slot::Required { node: 32 },
-    Slot::Required { node: 33 },
-    Slot::Required { node: 34 },
-    Slot::Required { node: 35 },
-    Slot::End,
-    Slot::Required { node: 29 },
-    Slot::End,
-    Slot::Required { node: 6 },
-    Slot::End,
-    Slot::Required { node: 16 },
-    Slot::End,
-    Slot::Required { node: 37 },
-    Slot::Required { node: 38 },
-    Slot::End,
-    Slot::Required { node: 42 },
-    Slot::End,
-    Slot::Required { node: 43 },
-    Slot::Required { node: 44 },
-    Slot::Optional { node: 45 },
-    Slot::Required { node: 46 },
-    Slot::Required { node: 47 },
-    Slot::Required { node: 48 },
-    Slot::Required { node: 49 },
-    Slot::End,
-    Slot::Required { node: 41 },
-    Slot::End,
-    Slot::Required { node: 109 },
-    Slot::End,
-    Slot::Required { node: 52 },
-    Slot::End,
-    Slot::Required { node: 53 },
-    Slot::Required { node: 54 },
-    Slot::Optional { node: 55 },
-    Slot::Required { node: 56 },
-    Slot::Required { node: 57 },
-    Slot::Required { node: 58 },
-    Slot::Required { node: 59 },
-    Slot::End,
-    Slot::Required { node: 51 },
-    Slot::End,
-    Slot::Required { node: 61 },
-    Slot::Required { node: 62 },
-    Slot::End,
-    Slot::Required { node: 67 },
-    Slot::Optional { node: 68 },
-    Slot::Required { node: 69 },
-    Slot::Optional { node: 70 },
-    Slot::Optional { node: 71 },
-    Slot::Required { node: 72 },
-    Slot::Optional { node: 73 },
-    Slot::Required { node: 74 },
-    Slot::Required { node: 75 },
-    Slot::Optional { node: 76 },
-    Slot::Optional { node: 77 },
-    Slot::Optional { node: 78 },
-    Slot::End,
-    Slot::Required { node: 5 },
-    Slot::End,
-    Slot::Required { node: 63 },
-    Slot::End,
-    Slot::Required { node: 64 },
-    Slot::End,
-    Slot::Required { node: 65 },
-    Slot::End,
-    Slot::Required { node: 81 },
-    Slot::End,
-    Slot::Required { node: 82 },
-    Slot::Required { node: 83 },
-    Slot::Optional { node: 84 },
-    Slot::Required { node: 85 },
-    Slot::End,
-    Slot::Required { node: 80 },
-    Slot::End,
-    Slot::Required { node: 110 },
-    Slot::End,
-    Slot::Required { node: 66 },
-    Slot::End,
-    Slot::Required { node: 88 },
-    Slot::End,
-    Slot::Required { node: 89 },
-    Slot::Required { node: 90 },
-    Slot::Optional { node: 91 },
-    Slot::Required { node: 92 },
-    Slot::End,
-    Slot::Required { node: 87 },
-    Slot::End,
-    Slot::Required { node: 95 },
-    Slot::End,
-    Slot::Required { node: 96 },
-    Slot::Required { node: 97 },
-    Slot::Optional { node: 98 },
-    Slot::Optional { node: 99 },
-    Slot::Required { node: 100 },
-    Slot::Required { node: 101 },
-    Slot::Required { node: 102 },
-    Slot::Optional { node: 103 },
-    Slot::Optional { node: 104 },
-    Slot::Required { node: 105 },
-    Slot::Required { node: 106 },
-    Slot::Optional { node: 107 },
-    Slot::Optional { node: 108 },
-    Slot::End,
-    Slot::Required { node: 94 },
-    Slot::End,
-    Slot::Required { node: 2 },
-    Slot::End,
+    node!(Items, KerberosString),
+    node!(Items, Int32),
+    node!(Items, HostAddress),
+    node!(Items, Ticket),
+    node!(Items, PaData),
+    // PrincipalName
+    node!(Sequence, Required PrincipalNameNameType, Required PrincipalNameNameString),
+    node!(Tagged, 0, Int32),
+    node!(Tagged, 1, KerberosStrings),
+    // HostAddress
+    node!(Sequence, Required HostAddressAddrType, Required HostAddressAddress),
+    node!(Tagged, 0, Int32),
+    node!(Tagged, 1, OctetString),
+    // PA-DATA
+    node!(Sequence, Required PaDataPadataType, Required PaDataPadataValue),
+    node!(Tagged, 1, Int32),
+    node!(Tagged, 2, OctetString),
+    // EncryptedData
+    node!(Sequence, Required EncryptedDataEtype, Optional EncryptedDataKvno, Required EncryptedDataCipher),
+    node!(Tagged, 0, Int32),
+    node!(Tagged, 1, Wide32),
+    node!(Tagged, 2, OctetString),
+    // Ticket
+    node!(Application, 1, TicketFields),
+    node!(Sequence, Required TicketTktVno, Required TicketRealm, Required TicketSname, Required TicketEncPart),
+    node!(Tagged, 0, Version),
+    node!(Tagged, 1, KerberosString),
+    node!(Tagged, 2, PrincipalName),
+    node!(Tagged, 3, EncryptedData),
+    // KDC-REQ-BODY
+    node!(Sequence, Required KdcReqBodyKdcOptions, Optional KdcReqBodyCname, Required KdcReqBodyRealm, Optional KdcReqBodySname, Optional KdcReqBodyFrom, Required KdcReqBodyTill, Optional KdcReqBodyRtime, Required KdcReqBodyNonce, Required KdcReqBodyEtype, Optional KdcReqBodyAddresses, Optional KdcReqBodyEncAuthorizationData, Optional KdcReqBodyAdditionalTickets),
+    node!(Tagged, 0, KerberosFlags),
+    node!(Tagged, 1, PrincipalName),
+    node!(Tagged, 2, KerberosString),
+    node!(Tagged, 3, PrincipalName),
+    node!(Tagged, 4, KerberosTime),
+    node!(Tagged, 5, KerberosTime),
+    node!(Tagged, 6, KerberosTime),
+    node!(Tagged, 7, Wide32),
+    node!(Tagged, 8, Int32s),
+    node!(Tagged, 9, HostAddresses),
+    node!(Tagged, 10, EncryptedData),
+    node!(Tagged, 11, Tickets),
+    // AS-REQ
+    node!(Application, 10, AsReqFields),
+    node!(Sequence, Required AsReqPvno, Required AsReqMsgType, Optional AsReqPadata, Required AsReqReqBody),
+    node!(Tagged, 1, Version),
+    node!(Tagged, 2, AsReqType),
+    node!(Tagged, 3, MethodData),
+    node!(Tagged, 4, KdcReqBody),
+    // TGS-REQ
+    node!(Application, 12, TgsReqFields),
+    node!(Sequence, Required TgsReqPvno, Required TgsReqMsgType, Optional TgsReqPadata, Required TgsReqReqBody),
+    node!(Tagged, 1, Version),
+    node!(Tagged, 2, TgsReqType),
+    node!(Tagged, 3, MethodData),
+    node!(Tagged, 4, KdcReqBody),
+    // AS-REP
+    node!(Application, 11, AsRepFields),
+    node!(Sequence, Required AsRepPvno, Required AsRepMsgType, Optional AsRepPadata, Required AsRepCrealm, Required AsRepCname, Required AsRepTicket, Required AsRepEncPart),
+    node!(Tagged, 0, Version),
+    node!(Tagged, 1, AsRepType),
+    node!(Tagged, 2, MethodData),
+    node!(Tagged, 3, KerberosString),
+    node!(Tagged, 4, PrincipalName),
+    node!(Tagged, 5, Ticket),
+    node!(Tagged, 6, EncryptedData),
+    // TGS-REP
+    node!(Application, 13, TgsRepFields),
+    node!(Sequence, Required TgsRepPvno, Required TgsRepMsgType, Optional TgsRepPadata, Required TgsRepCrealm, Required TgsRepCname, Required TgsRepTicket, Required TgsRepEncPart),
+    node!(Tagged, 0, Version),
+    node!(Tagged, 1, TgsRepType),
+    node!(Tagged, 2, MethodData),
+    node!(Tagged, 3, KerberosString),
+    node!(Tagged, 4, PrincipalName),
+    node!(Tagged, 5, Ticket),
+    node!(Tagged, 6, EncryptedData),
+    // AP-REQ
+    node!(Application, 14, ApReqFields),
+    node!(Sequence, Required ApReqPvno, Required ApReqMsgType, Required ApReqApOptions, Required ApReqTicket, Required ApReqAuthenticator),
+    node!(Tagged, 0, Version),
+    node!(Tagged, 1, ApReqType),
+    node!(Tagged, 2, KerberosFlags),
+    node!(Tagged, 3, Ticket),
+    node!(Tagged, 4, EncryptedData),
+    // AP-REP
+    node!(Application, 15, ApRepFields),
+    node!(Sequence, Required ApRepPvno, Required ApRepMsgType, Required ApRepEncPart),
+    node!(Tagged, 0, Version),
+    node!(Tagged, 1, ApRepType),
+    node!(Tagged, 2, EncryptedData),
+    // KRB-ERROR
+    node!(Application, 30, KrbErrorFields),
+    node!(Sequence, Required KrbErrorPvno, Required KrbErrorMsgType, Optional KrbErrorCtime, Optional KrbErrorCusec, Required KrbErrorStime, Required KrbErrorSusec, Required KrbErrorErrorCode, Optional KrbErrorCrealm, Optional KrbErrorCname, Required KrbErrorRealm, Required KrbErrorSname, Optional KrbErrorEText, Optional KrbErrorEData),
+    node!(Tagged, 0, Version),
+    node!(Tagged, 1, KrbErrorType),
+    node!(Tagged, 2, KerberosTime),
+    node!(Tagged, 3, Microseconds),
+    node!(Tagged, 4, KerberosTime),
+    node!(Tagged, 5, Microseconds),
+    node!(Tagged, 6, Int32),
+    node!(Tagged, 7, KerberosString),
+    node!(Tagged, 8, PrincipalName),
+    node!(Tagged, 9, KerberosString),
+    node!(Tagged, 10, PrincipalName),
+    node!(Tagged, 11, KerberosString),
+    node!(Tagged, 12, OctetString),
 ];
 
 /// The messages that are judged.
-pub static MESSAGES: [u16; 7] = [79, 40, 86, 50, 28, 22, 93];
+pub static MESSAGES: [u16; 7] = [
+    Row::AsReq as u16,
+    Row::AsRep as u16,
+    Row::TgsReq as u16,
+    Row::TgsRep as u16,
+    Row::ApReq as u16,
+    Row::ApRep as u16,
+    Row::KrbError as u16,
+];
 
-/// Each row of the table is that of its term, and each message that is judged has its row.
+/// The messages that are judged are those of the grammar.
 pub fn tables()
-    ensures rows { RowsAre FIELDS 0 GRAMMAR }
-    ensures slots { are_known FIELDS ≡ true }
     ensures judged { map term_at MESSAGES ≡ messages }
 {}
 
+/// The row of a node.
+#[inline(always)]
+fn row_at(node: u16) -> Node
+    requires { IsNode node }
+    ensures { IsRowOf nodes result (term_at node) }
+{
+    GRAMMAR[node as usize]
+}
+
 /// The tag octet of a node's term.
 pub fn tag_of(node: u16) -> u8
-    requires { node < 111 }
+    requires { IsNode node }
     ensures { result ≡ term_tag (term_at node) }
 {
-    let row = GRAMMAR[node as usize];
-    row.tag
+    row_at(node).tag
 }
 
 /// What the contents of a node's term are.
 pub fn form_of(node: u16) -> Form
-    requires { node < 111 }
-    ensures { IsFormOf FIELDS result (term_at node) }
+    requires { IsNode node }
+    ensures { IsFormOf nodes result (term_at node) }
 {
-    let row = GRAMMAR[node as usize];
-    row.form
-}
-
-/// The slot at a place of the lists of fields.
-pub fn slot_at(place: u16) -> Slot
-    requires { place < 148 }
-    ensures { IsSlot FIELDS place result }
-{
-    FIELDS[place as usize]
+    row_at(node).form
 }
 
 /// The node of the message that begins with a tag octet, of those that are judged.
