@@ -10,7 +10,7 @@ use Rattle.krb_msg.specs.Term.{Term, tag_of}
 use Rattle.krb_msg.specs.Nodes.{nodes, term_in, term_at}
 use Rattle.krb_msg.specs.Table.{IsNode, IsFormOf, IsRowOf, RowsAre}
 use Rattle.krb_msg.specs.declared.grammar.Node.{Node}
-use Rattle.krb_msg.specs.declared.grammar.TheConstants.{MESSAGES}
+use Rattle.krb_msg.specs.declared.grammar.TheConstants.{MESSAGES, NODES}
 
 row_from : (terms : List Term) (rows : List Node) (others : List Term) (k : ℕ) (none : Node) (absent : Term) → RowsAre terms rows others → k < length rows → IsRowOf terms (get_or rows k none) (get_or others k absent)
 row_from terms [] others k none absent h le = absurd (omega arith)
@@ -22,6 +22,19 @@ row_from terms (row ∷ rows) (term ∷ others) (suc k) none absent h le = row_f
 pub row_of : (rows : List Node) (node : ℕ) (none : Node) → RowsAre nodes rows nodes → node < length rows → IsRowOf nodes (get_or rows node none) (term_at node)
 unfolding term_in
 row_of rows node none h le = row_from nodes rows nodes node none _ h le
+
+all_there : (terms : List Term) (rows : List Node) (others : List Term) → RowsAre terms rows others → length others ≤ length rows
+all_there terms [] [] h = omega arith
+all_there terms [] (term ∷ others) h = absurd h
+all_there terms (row ∷ rows) [] h = absurd h
+all_there terms (row ∷ rows) (term ∷ others) h = omega (arith, all_there terms rows others h.1)
+
+nodes_long : length nodes ≡ NODES
+unfolding nodes
+nodes_long = refl
+
+pub row_there : (rows : List Node) (node : ℕ) → RowsAre nodes rows nodes → IsNode node → node < length rows
+row_there rows node h k = omega (arith, all_there nodes rows nodes h, nodes_long, k)
 
 pub message_terms : map term_at MESSAGES ≡ messages
 unfolding term_in nodes

@@ -4,7 +4,7 @@ ghost use Rattle.std.specs.Prelude.{◌≡◌, map};
 ghost use Rattle.krb_msg.specs.Term.{tag_of as term_tag};
 ghost use Rattle.krb_msg.specs.Grammar.{messages};
 ghost use Rattle.krb_msg.specs.Nodes.{nodes, term_at};
-ghost use Rattle.krb_msg.specs.Table.{IsNode, IsRowOf, IsFormOf, IsMessageOf};
+ghost use Rattle.krb_msg.specs.Table.{IsNode, IsRowOf, RowsAre, IsFormOf, IsMessageOf};
 
 /// The rows of the table, in their order: the terms of RFC 4120 by their names, those in a tag by
 /// the field that has it.
@@ -336,8 +336,18 @@ pub static MESSAGES: [u16; 7] = [
 
 /// The messages that are judged are those of the grammar.
 pub fn tables()
-    ensures judged { map term_at MESSAGES ≡ messages }
+    ensures { map term_at MESSAGES ≡ messages }
 {}
+
+/// The row of a node, in rows that are those of the terms.
+#[inline(always)]
+fn row_in(rows: &[Node], node: u16) -> Node
+    requires known { IsNode node }
+    requires rows { RowsAre nodes rows.now nodes }
+    ensures { IsRowOf nodes result (term_at node) }
+{
+    rows[node as usize]
+}
 
 /// The row of a node.
 #[inline(always)]
@@ -345,7 +355,7 @@ fn row_at(node: u16) -> Node
     requires { IsNode node }
     ensures { IsRowOf nodes result (term_at node) }
 {
-    GRAMMAR[node as usize]
+    row_in(&GRAMMAR, node)
 }
 
 /// The tag octet of a node's term.
