@@ -1,13 +1,12 @@
 -- Steps of the loops over a leaf's octets.
-use Rattle.std.proofs.Common.{◌≡◌, ℕ, suc, ◌+◌, ◌-◌, ◌*◌, ◌^◌, ◌<◌, ◌≤◌, true, false, lt-ltb, le-ltb, List, [], ◌∷◌, length, drop, get_or, refl, sym, ap, ◌∙◌, arith, add-one}
+use Rattle.std.proofs.Common.{◌≡◌, ℕ, suc, ◌+◌, ◌-◌, ◌*◌, ◌^◌, ◌<◌, ◌≤◌, Bool, true, false, nat_lt, nat_le, lt-ltb, le-ltb, le-leb, if◌then◌else◌, List, [], ◌∷◌, length, drop, get_or, refl, sym, ap, ◌∙◌, arith, add-one}
 use Rattle.std.proofs.Math.Seq.{drop-cons}
 use Rattle.std.proofs.Math.Nat.{pow-le-pow_right}
 use Rattle.std.proofs.lemmas.Grind.{pow_more}
 use Rattle.std.proofs.lemmas.List.{drop_all}
-use Rattle.krb_der.specs.Octets.{number_from, complement, last_or_zero}
-use Rattle.krb_msg.specs.Judgement.{Open, Bad, Done, time_contents}
-use Rattle.krb_der.specs.declared.why.Why.TheVariants as why
-use Rattle.krb_judge.specs.Outcomes.{time_octet}
+use Rattle.krb_der.specs.Octets.{number_from, complement, last_or_zero, AreOctets}
+use Rattle.krb_msg.specs.Judgement.{Open, Bad, Done, each_contents, text_octet, any_contents}
+use Rattle.krb_der.specs.declared.why.Why.{Why}
 
 pub next_octet : (octets : List ℕ) (k : ℕ) → k < length octets → drop k octets ≡ get_or octets k 0 ∷ drop (k + 1) octets
 next_octet octets k h = drop-cons octets k 0 h ∙ ap (λ j. get_or octets k 0 ∷ drop j octets) (sym (add-one k))
@@ -31,22 +30,38 @@ small-next k high octet h o = omega (arith, pow_more 256 k)
 pub small : (k j high : ℕ) → k ≤ j → high < 256 ^ k → high < 256 ^ j
 small k j high l h = omega (arith, pow-le-pow_right {n = 256} (omega arith) l)
 
--- ---- times
-pub time-next : (octets : List ℕ) (place k : ℕ) → place ≡ k → k < length octets → time_octet place (get_or octets k 0) ≡ true → time_contents place (drop place octets) ≡ time_contents (place + 1) (drop (place + 1) octets)
-time-next octets place k e h t =
-    let u : time_octet k (get_or octets k 0) ≡ true = rw e at t in
-    rw e (ap (time_contents k) (next_octet octets k h) ∙ rw u)
+-- ---- octets that pass a test of their places
+module _ (passes : ℕ → ℕ → Bool) (reason : Why) (contents : ℕ) where
+  pub each-next : (octets : List ℕ) (place k : ℕ) → place ≡ k → k < length octets → passes place (get_or octets k 0) ≡ true → each_contents passes reason contents place (drop place octets) ≡ each_contents passes reason contents (place + 1) (drop (place + 1) octets)
+  each-next octets place k e h t =
+      let u : passes k (get_or octets k 0) ≡ true = rw e at t in
+      rw e (ap (each_contents passes reason contents k) (next_octet octets k h) ∙ rw u)
 
-pub time-bad : (octets : List ℕ) (place k : ℕ) → place ≡ k → k < length octets → time_octet place (get_or octets k 0) ≡ false → time_contents place (drop place octets) ≡ Bad place why.Time
-time-bad octets place k e h t =
-    let u : time_octet k (get_or octets k 0) ≡ false = rw e at t in
-    rw e (ap (time_contents k) (next_octet octets k h) ∙ rw u)
+  pub each-bad : (octets : List ℕ) (place k : ℕ) → place ≡ k → k < length octets → passes place (get_or octets k 0) ≡ false → each_contents passes reason contents place (drop place octets) ≡ Bad place reason
+  each-bad octets place k e h t =
+      let u : passes k (get_or octets k 0) ≡ false = rw e at t in
+      rw e (ap (each_contents passes reason contents k) (next_octet octets k h) ∙ rw u)
 
-pub time-open : (octets : List ℕ) (place : ℕ) → length octets ≤ place → place < 15 → time_contents place (drop place octets) ≡ Open
-time-open octets place h l = ap (time_contents place) (drop_all place octets h) ∙ rw (lt-ltb place 15 l)
+  pub each-open : (octets : List ℕ) (place : ℕ) → length octets ≤ place → place < contents → each_contents passes reason contents place (drop place octets) ≡ Open
+  each-open octets place h l = ap (each_contents passes reason contents place) (drop_all place octets h) ∙ rw (lt-ltb place contents l)
 
-pub time-done : (octets : List ℕ) (place : ℕ) → length octets ≤ place → 15 ≤ place → time_contents place (drop place octets) ≡ Done 15
-time-done octets place h l = ap (time_contents place) (drop_all place octets h) ∙ rw (le-ltb place 15 l)
+  pub each-done : (octets : List ℕ) (place : ℕ) → length octets ≤ place → contents ≤ place → each_contents passes reason contents place (drop place octets) ≡ Done contents
+  each-done octets place h l = ap (each_contents passes reason contents place) (drop_all place octets h) ∙ rw (le-ltb place contents l)
+
+-- octets are all in a string that may have any
+each-octet : (reason : Why) (contents place : ℕ) (octets : List ℕ) → AreOctets octets → each_contents (text_octet 255) reason contents place octets ≡ (if nat_lt (place + length octets) contents then Open else Done contents)
+each-octet reason contents place [] a =
+    let e : place + 0 ≡ place = omega arith in
+    rw e
+each-octet reason contents place (octet ∷ octets) a =
+    let e : place + 1 + length octets ≡ place + length (octet ∷ octets) = omega arith in
+    let t : nat_le octet 255 ≡ true = le-leb octet 255 (omega (arith, a.0)) in
+    rw t (each-octet reason contents (place + 1) octets a.1 ∙ ap (λ n. if nat_lt n contents then Open else Done contents) e)
+
+pub text-any : (reason : Why) (contents : ℕ) (octets : List ℕ) → AreOctets octets → each_contents (text_octet 255) reason contents 0 octets ≡ any_contents contents octets
+text-any reason contents octets a =
+    let e : 0 + length octets ≡ length octets = omega arith in
+    each-octet reason contents 0 octets a ∙ ap (λ n. if nat_lt n contents then Open else Done contents) e
 
 -- ---- the last octet
 pub last_octet : (octets : List ℕ) → 0 < length octets → get_or octets (length octets - 1) 0 ≡ last_or_zero octets

@@ -1,16 +1,25 @@
--- What the judge's functions need of the judgement: its offsets and counts are within the octets present, and the contents of the forms of the table.
-use Rattle.std.proofs.Common.{◌≡◌, ℕ, zero, suc, ◌+◌, ◌-◌, ◌<◌, ◌≤◌, Bool, true, false, List, length, take, drop, length-drop, sym, ap, ◌∙◌, arith}
+-- What the judge's functions need of the judgement: its offsets and counts are within the octets present, and what is left after an item.
+use Rattle.std.proofs.Common.{◌≡◌, ℕ, zero, suc, ◌+◌, ◌-◌, ◌<◌, ◌≤◌, Bool, true, false, ◌⊎◌, inl, inr, List, [], ◌∷◌, length, take, drop, get_or, length-take, length-drop, refl, sym, ap, ◌∙◌, arith, add-one}
+use Rattle.std.proofs.Math.Seq.{drop-cons}
 use Rattle.std.proofs.lemmas.List.{take_all}
+use Rattle.std.specs.List.{AllByRecursion}
 use Rattle.krb_der.specs.declared.why.Why.{Why}
-use Rattle.krb_msg.specs.Term.{Term, Fields, Sequence, SequenceOf, Tagged, Application, End, Required}
-use Rattle.krb_msg.specs.Judgement.{Outcome, Bad, Done, then_after, item_outcome, items_contents, only_contents, fields_outcome}
-use Rattle.krb_msg.specs.Nodes.{term_at}
-use Rattle.krb_msg.specs.Table.{IsFormOf, fields_from}
-use Rattle.krb_msg.specs.declared.grammar.Slot.{Slot}
+use Rattle.krb_der.specs.Octets.{AreOctets}
+use Rattle.krb_der.specs.declared.why.Why.TheVariants as why
+use Rattle.krb_msg.specs.Term.{Term, Fields, Text, Octets, SequenceOf, Tagged, Application}
+use Rattle.krb_msg.specs.Shape.{depth_of_fields}
+use Rattle.krb_msg.specs.Judgement.{Outcome, Bad, Done, behind, then_after, any_contents, only_contents, item_outcome, items_contents, fields_outcome}
+use Rattle.krb_msg.specs.Nodes.{nodes, term_at}
+use Rattle.krb_msg.specs.Table.{IsFormOf, IsSlot, with_slot, fields_from}
+use Rattle.krb_msg.specs.declared.grammar.Form.{Form}
 use Rattle.krb_msg.specs.declared.grammar.Form.TheVariants as form
+use Rattle.krb_msg.specs.declared.grammar.Slot.{Slot}
+use Rattle.krb_msg.specs.declared.grammar.Slot.TheVariants as slot
 use Rattle.krb_msg.proofs.Laws.{bad_within, done_within}
 use Rattle.krb_msg.proofs.TermsDecided.{item-count, contents-count}
-use Rattle.krb_judge.specs.Outcomes.{sized_outcome}
+use Rattle.krb_judge.specs.declared.judging.Left.{Left}
+use Rattle.krb_judge.specs.Outcomes.{IsLeft, IsNext, outcome_in, sized_outcome}
+use Rattle.krb_judge.proofs.Leaves.{text-any}
 
 pub refused : (term : Term) (room : ℕ) (sole : Bool) (octets : List ℕ) (offset : ℕ) (reason : Why) → length octets ≤ room → Bad offset reason ≡ item_outcome term room sole octets → offset < length octets
 refused term room sole octets offset reason h e = bad_within term room sole octets offset reason h (sym e)
@@ -22,41 +31,76 @@ pub taken : (term : Term) (room : ℕ) (sole : Bool) (octets : List ℕ) (count 
 taken term room sole octets count h e = done_within term room sole octets count h (sym e)
 
 -- ---- forms
-pub items_of : (slots : List Slot) (inner : ℕ) (term : Term) → IsFormOf slots (form.Items inner) term → (before room : ℕ) (octets : List ℕ) → sized_outcome term before room octets ≡ items_contents (λ left. item_outcome (term_at inner) left false) room before room octets
-items_of slots inner (SequenceOf empty term) h before room octets = rw h.1
-items_of slots inner term h before room octets = absurd h
+text_of : (term : Term) → IsFormOf nodes form.Text term → (before size : ℕ) (octets : List ℕ) → AreOctets octets → sized_outcome term before size octets ≡ behind before (any_contents size octets)
+text_of (Text greatest) h before size octets a = rw h (ap (behind before) (text-any why.Charset size octets a))
+text_of term h before size octets a = absurd h
 
-only_item : (term inner : Term) (other : Fields) → Required inner End ≡ Required term other → inner ≡ term
-only_item term inner other e = cc
+octets_of : (term : Term) → IsFormOf nodes form.Octets term → (before size : ℕ) (octets : List ℕ) → sized_outcome term before size octets ≡ behind before (any_contents size octets)
+octets_of Octets h before size octets = refl
+octets_of term h before size octets = absurd h
 
-pub only_of : (slots : List Slot) (first node : ℕ) (term : Term) → IsFormOf slots (form.Fields first true) term → fields_from (drop first slots) ≡ Required (term_at node) End → (before room : ℕ) (octets : List ℕ) → sized_outcome term before room octets ≡ only_contents before room (item_outcome (term_at node) room true octets)
-only_of slots first node (Tagged number index term) h e before room octets =
-    let same : term_at node ≡ term = only_item term (term_at node) End (sym e ∙ h.1) in
-    rw same
-only_of slots first node (Application number index term) h e before room octets =
-    let same : term_at node ≡ term = only_item term (term_at node) End (sym e ∙ h.1) in
-    rw same
-only_of slots first node (Sequence number fields) h e before room octets = absurd cc
-only_of slots first node term h e before room octets = absurd h
+pub string_of : (it : Form) (term : Term) → (it ≡ form.Text) ⊎ (it ≡ form.Octets) → IsFormOf nodes it term → (before size : ℕ) (octets : List ℕ) → AreOctets octets → sized_outcome term before size octets ≡ behind before (any_contents size octets)
+string_of it term (inl e) h before size octets a = text_of term (rw e at h) before size octets a
+string_of it term (inr e) h before size octets a = octets_of term (rw e at h) before size octets
+
+pub items_of : (node : ℕ) (term : Term) → IsFormOf nodes (form.Items node) term → (before size : ℕ) (octets : List ℕ) → sized_outcome term before size octets ≡ items_contents (λ left. item_outcome (term_at node) left false) size before size octets
+items_of node (SequenceOf empty term) h before size octets = rw (h.1, h.2)
+items_of node term h before size octets = absurd h
+
+pub only_of : (node : ℕ) (term : Term) → IsFormOf nodes (form.Item node) term → (before size : ℕ) (octets : List ℕ) → sized_outcome term before size octets ≡ only_contents before size (item_outcome (term_at node) size true octets)
+only_of node (Tagged index term) h before size octets = rw h.1
+only_of node (Application number term) h before size octets = rw h.1
+only_of node term h before size octets = absurd h
 
 -- a slice from a place on
 pub rest_taken : (octets : List ℕ) (count : ℕ) → take (length octets - count) (drop count octets) ≡ drop count octets
 rest_taken octets count = take_all (length octets - count) (drop count octets) (rw length-drop (omega arith))
 
+-- ---- what is left after an item
+pub left_next : {item : Outcome} {left next : Left} → IsLeft left → IsNext item left next → IsLeft next
+left_next {left = left} {next = next} l n = record {
+  some = omega (arith, l.some, n.before);
+  short = omega (arith, l.short, n.before, n.room, n.fits);
+  present = rw (n.octets, length-drop) (omega (arith, l.present, n.room));
+}
+
+pub field_next : {item : Outcome} {left next : Left} (fields : Fields) → IsNext item left next → then_after left.before item (λ count. fields_outcome fields (left.before + count) (left.room - count) (drop count left.octets.now)) ≡ outcome_in next fields
+field_next fields n = rw (n.done, n.before, n.room, n.octets)
+
+-- an item that is done leaves what is after it
+pub next_of : (term : Term) (left next : Left) (count : ℕ) → IsLeft left → Done count ≡ item_outcome term left.room false left.octets.now → next.before ≡ left.before + count → next.room ≡ left.room - count → next.octets.now ≡ take (length left.octets.now - count) (drop count left.octets.now) → IsNext (item_outcome term left.room false left.octets.now) left next
+next_of term left next count l e before room octets = record {
+  count = count;
+  done = sym e;
+  more = some_taken term left.room false left.octets.now count e;
+  fits = omega (arith, l.present, taken term left.room false left.octets.now count l.present e);
+  before = before;
+  room = room;
+  octets = octets ∙ rest_taken left.octets.now count;
+}
+
 -- ---- fields
-pub field_done : (fields : Fields) (outcome : Outcome) (before room count : ℕ) (octets : List ℕ) → Done count ≡ outcome → then_after before outcome (λ some. fields_outcome fields (before + some) (room - some) (drop some octets)) ≡ fields_outcome fields (before + count) (room - count) (take (length octets - count) (drop count octets))
-field_done fields outcome before room count octets e =
-    ap (λ o. then_after before o (λ some. fields_outcome fields (before + some) (room - some) (drop some octets))) (sym e)
-    ∙ ap (fields_outcome fields (before + count) (room - count)) (sym (rest_taken octets count))
+pub slot_next : (slots : List Slot) (k : ℕ) (none : Slot) → k < length slots → fields_from nodes (drop k slots) ≡ with_slot nodes (get_or slots k none) (fields_from nodes (drop (k + 1) slots))
+slot_next slots k none h = ap (fields_from nodes) (drop-cons slots k none h ∙ ap (λ j. get_or slots k none ∷ drop j slots) (sym (add-one k)))
+
+pub slot_known : (slots : List Slot) (k : ℕ) (none : Slot) → AllByRecursion IsSlot slots → k < length slots → IsSlot (get_or slots k none)
+slot_known [] k none a h = absurd (omega arith)
+slot_known (it ∷ slots) zero none a h = a.0
+slot_known (it ∷ slots) (suc k) none a h = slot_known slots k none a.1 (omega arith)
+
+pub slot_shallow : (it : Slot) (fields : Fields) → depth_of_fields fields ≤ depth_of_fields (with_slot nodes it fields)
+slot_shallow (slot.Required node) fields = omega arith
+slot_shallow (slot.Optional node) fields = omega arith
 
 -- ---- items
-items_next : (one : ℕ → List ℕ → Outcome) (bound before room count : ℕ) (octets : List ℕ) → 0 < room → Done count ≡ one room octets → items_contents one (suc bound) before room octets ≡ items_contents one bound (before + count) (room - count) (drop count octets)
-items_next one bound before zero count octets p e = absurd (omega arith)
-items_next one bound before (suc room) count octets p e = rw (← e)
+items_step : (one : ℕ → List ℕ → Outcome) (bound before room : ℕ) (octets : List ℕ) → 0 < room → items_contents one (suc bound) before room octets ≡ then_after before (one room octets) (λ count. items_contents one bound (before + count) (room - count) (drop count octets))
+items_step one bound before zero octets p = absurd (omega arith)
+items_step one bound before (suc room) octets p = refl
 
-pub items_more : (one : ℕ → List ℕ → Outcome) (bound before room count : ℕ) (octets : List ℕ) → 0 < room → room ≤ bound → count ≤ length octets → Done count ≡ one room octets → items_contents one bound before room octets ≡ items_contents one (bound - 1) (before + count) (room - count) (take (length octets - count) (drop count octets))
-items_more one bound before room count octets p b n e =
+items_from : (one : ℕ → List ℕ → Outcome) (bound : ℕ) (left : Left) → 0 < left.room → left.room ≤ bound → items_contents one bound left.before left.room left.octets.now ≡ then_after left.before (one left.room left.octets.now) (λ count. items_contents one (bound - 1) (left.before + count) (left.room - count) (drop count left.octets.now))
+items_from one bound left p b =
     let more : bound ≡ suc (bound - 1) = omega arith in
-    ap (λ some. items_contents one some before room octets) more
-    ∙ items_next one (bound - 1) before room count octets p e
-    ∙ ap (items_contents one (bound - 1) (before + count) (room - count)) (sym (rest_taken octets count))
+    ap (λ some. items_contents one some left.before left.room left.octets.now) more ∙ items_step one (bound - 1) left.before left.room left.octets.now p
+
+pub items_next : (one : ℕ → List ℕ → Outcome) (bound : ℕ) (left next : Left) → 0 < left.room → left.room ≤ bound → IsNext (one left.room left.octets.now) left next → items_contents one bound left.before left.room left.octets.now ≡ items_contents one (bound - 1) next.before next.room next.octets.now
+items_next one bound left next p b n = items_from one bound left p b ∙ rw (n.done, n.before, n.room, n.octets)

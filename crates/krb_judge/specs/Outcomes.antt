@@ -1,12 +1,15 @@
 -- The values of the code as those of the judgement.
-use Rattle.std.specs.Prelude.{ℕ, ◌≡◌, ◌+◌, ◌-◌, ◌<◌, ◌≤◌, ◌==◌, nat_lt, nat_le, ◌&&◌, Bool, false, if◌then◌else◌, List, drop}
+use Rattle.std.specs.Prelude.{ℕ, ◌≡◌, ◌+◌, ◌-◌, ◌^◌, ◌<◌, ◌≤◌, if◌then◌else◌, false, List, length, drop}
 use Rattle.krb_der.specs.declared.why.Why.TheVariants as why
-use Rattle.krb_msg.specs.Term.{Term, Fields, End, Required}
+use Rattle.krb_msg.specs.Term.{Term, Fields}
 use Rattle.krb_msg.specs.Shape.{depth, depth_of_fields}
-use Rattle.krb_msg.specs.Judgement.{Outcome, Open, Bad, Done, Head, Partial, Refused, Got, fitting, long_head, then_after, has_size, item_outcome, contents_outcome, fields_outcome}
-use Rattle.krb_msg.specs.Nodes.{term_at}
-use Rattle.krb_msg.specs.Table.{fields_from}
-use Rattle.krb_msg.specs.declared.grammar.TheConstants.{FIELDS}
+use Rattle.krb_msg.specs.Judgement.{Outcome, Open, Bad, Done, Head, Partial, Refused, Got, then_after, has_size, item_outcome, contents_outcome, fields_outcome}
+use Rattle.krb_msg.specs.Nodes.{nodes, term_at}
+use Rattle.krb_msg.specs.Table.{IsNode, with_slot}
+use Rattle.krb_msg.specs.declared.grammar.Slot.{Slot}
+use Rattle.krb_judge.specs.declared.judging.Left.{Left}
+use Rattle.krb_judge.specs.declared.judging.Step.{Step}
+use Rattle.krb_judge.specs.declared.judging.Step.TheVariants as step
 use Rattle.krb_judge.specs.declared.judging.Due.{Due}
 use Rattle.krb_judge.specs.declared.judging.Due.TheVariants as due
 use Rattle.krb_judge.specs.declared.judging.outcome.Outcome.{Outcome as Decided}
@@ -24,54 +27,51 @@ head_of found.Partial = Partial
 head_of (found.Refused offset reason) = Refused offset reason
 head_of (found.Got header size) = Got header size
 
--- a head from its first length octet on
-abbrev pub short_head : ℕ → ℕ → List ℕ → Head
-short_head room octet octets =
-    if nat_lt octet 0x80 then fitting room 2 octet
-    else if octet == 0x80 then Refused 1 why.Indefinite
-    else if nat_lt 0x84 octet then Refused 1 why.LengthWide
-    else if nat_lt room (2 + (octet - 0x80)) then Refused 1 why.Overrun
-    else long_head room (octet - 0x80) octets
-
--- whether an octet may stand at a place of a time
-abbrev pub time_octet : ℕ → ℕ → Bool
-time_octet place octet = if nat_lt place 14 then nat_le 48 octet && nat_le octet 57 else octet == 90
-
--- one required field and no more
-abbrev pub IsOne : Fields → Type 0
-IsOne (Required term End) = Unit {0}
-IsOne fields = ⊥
-
 -- an item's contents of a length, where the item may have that length, and else that it may not
 abbrev pub sized_outcome : Term → ℕ → ℕ → List ℕ → Outcome
 sized_outcome term before size octets = if has_size term size then contents_outcome term before size octets else Bad (before - 1) why.Size
 
--- the fields from a place on
-abbrev pub fields_at : ℕ → Fields
-fields_at place = fields_from (drop place FIELDS)
+-- what is left is in its room
+pub record IsLeft (left : Left) : Type 0 where
+  pub some : 0 < left.before
+  pub short : left.before + left.room < 2 ^ 31
+  pub present : length left.octets.now ≤ left.room
 
--- another field is behind this place, and the fields behind it nest no deeper
-pub record HasNext (place : ℕ) : Type 0 where
-  pub more : place + 1 < 148
-  pub shallow : depth_of_fields (fields_at (place + 1)) ≤ depth_of_fields (fields_at place)
+-- the outcome of fields in what is left
+abbrev pub outcome_in : Left → Fields → Outcome
+outcome_in left fields = fields_outcome fields left.before left.room left.octets.now
 
--- the field at a place is left out
-pub record IsLeftOut (place before room : ℕ) (octets : List ℕ) : Type 0 where
-  pub next : HasNext place
-  pub same : fields_outcome (fields_at place) before room octets ≡ fields_outcome (fields_at (place + 1)) before room octets
+-- a field is left out, whatever fields are after it
+abbrev pub IsLeftOut : Slot → Left → Type 0
+IsLeftOut slot left = (fields : Fields) → outcome_in left (with_slot nodes slot fields) ≡ outcome_in left fields
 
--- an item is due for the field at a place
-pub record IsDueItem (place before room : ℕ) (octets : List ℕ) (node : ℕ) : Type 0 where
-  pub next : HasNext place
-  pub known : node < 111
-  pub left : 0 < room
-  pub shallow : depth (term_at node) ≤ depth_of_fields (fields_at place)
+-- an item is due for a field, and then the fields after it
+pub record IsDueItem (slot : Slot) (left : Left) (node : ℕ) : Type 0 where
+  pub known : IsNode node
+  pub room : 0 < left.room
+  pub shallow : (fields : Fields) → depth (term_at node) ≤ depth_of_fields (with_slot nodes slot fields)
   pub same :
-      fields_outcome (fields_at place) before room octets
-      ≡ then_after before (item_outcome (term_at node) room false octets) (λ count. fields_outcome (fields_at (place + 1)) (before + count) (room - count) (drop count octets))
+      (fields : Fields)
+      → outcome_in left (with_slot nodes slot fields)
+      ≡ then_after left.before (item_outcome (term_at node) left.room false left.octets.now) (λ count. fields_outcome fields (left.before + count) (left.room - count) (drop count left.octets.now))
 
--- what is due of the fields from a place on
-abbrev pub IsDue : ℕ → ℕ → ℕ → List ℕ → Due → Type 0
-IsDue place before room octets (due.Decided outcome) = outcome_of outcome ≡ fields_outcome (fields_at place) before room octets
-IsDue place before room octets due.LeftOut = IsLeftOut place before room octets
-IsDue place before room octets (due.Item node) = IsDueItem place before room octets node
+-- what is due for a field
+abbrev pub IsDue : Slot → Left → Due → Type 0
+IsDue slot left (due.Decided outcome) = (fields : Fields) → outcome_in left (with_slot nodes slot fields) ≡ outcome_of outcome
+IsDue slot left due.LeftOut = IsLeftOut slot left
+IsDue slot left (due.Item node) = IsDueItem slot left node
+
+-- an item is done, and this is left after it
+pub record IsNext (item : Outcome) (left next : Left) : Type 0 where
+  pub count : ℕ
+  pub done : item ≡ Done count
+  pub more : 0 < count
+  pub fits : count ≤ left.room
+  pub before : next.before ≡ left.before + count
+  pub room : next.room ≡ left.room - count
+  pub octets : next.octets.now ≡ drop count left.octets.now
+
+-- how it goes on after an item, of which this is the outcome
+abbrev pub IsStep : Outcome → Left → Step → Type 0
+IsStep item left (step.Decided outcome) = (next : ℕ → Outcome) → then_after left.before item next ≡ outcome_of outcome
+IsStep item left (step.Next next) = IsNext item left next

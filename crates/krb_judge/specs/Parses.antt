@@ -11,6 +11,7 @@ use Rattle.krb_msg.specs.declared.pa_data.PaData.{PaData}
 use Rattle.krb_msg.specs.Term.{Term, Value, der, Fits}
 use Rattle.krb_msg.specs.Grammar.{ticket, method_data}
 use Rattle.krb_msg.specs.Nodes.{term_at}
+use Rattle.krb_msg.specs.Table.{IsNode}
 use Rattle.krb_msg.specs.Views.{ticket_value, pa_data_value, kind_of, message_der, IsInProfile}
 use Rattle.krb_msg.specs.Judgement.{judgement, term_judgement}
 use Rattle.krb_judge.specs.declared.parsing.Expected.{Expected}
@@ -46,7 +47,7 @@ judged_as (expected.Node node) = term_judgement (term_at node)
 
 abbrev pub IsKnown : Expected → Type 0
 IsKnown expected.Message = Unit {0}
-IsKnown (expected.Node node) = node < 111
+IsKnown (expected.Node node) = IsNode node
 
 -- the octets are those of this message of the profile
 pub record AreOf (octets : List ℕ) (m : Message) : Type 0 where

@@ -10,18 +10,40 @@ pub(crate) mod number;
 mod outcome;
 
 ghost use Rattle.std.specs.Prelude.{◌≡◌, ◌+◌, ◌^◌, ◌<◌, ◌≤◌, length, true, false};
-ghost use Rattle.krb_msg.specs.Term.{End, Required};
+ghost use Rattle.std.specs.List.{AllByRecursion};
+ghost use Rattle.krb_msg.specs.Term.{End};
 ghost use Rattle.krb_msg.specs.Judgement.{judgement, term_judgement, verdict_of, only_contents, item_outcome, fields_outcome, items_contents};
-ghost use Rattle.krb_msg.specs.Nodes.{term_at};
-ghost use Rattle.krb_judge.specs.Outcomes.{outcome_of, sized_outcome, fields_at, IsOne, IsDue};
+ghost use Rattle.krb_msg.specs.Nodes.{nodes, term_at};
+ghost use Rattle.krb_msg.specs.Table.{IsNode, IsSlot, fields_from};
+ghost use Rattle.krb_judge.specs.Outcomes.{outcome_of, outcome_in, sized_outcome, IsLeft, IsDue, IsStep};
 
 use crate::judging::head::{Head, part, read_head};
 use crate::judging::leaf::{bits, integer, string, time};
 use crate::judging::outcome::Outcome;
 use krb_der::{Refusal, Verdict, Why};
-use krb_msg::grammar::{Form, Slot, form_of, message_of, slot_at, tag_of};
+use krb_msg::grammar::{Form, Slot, form_of, message_of, tag_of};
 
-/// What is due where fields are left.
+/// What of a container is not judged yet.
+#[derive(Clone, Copy)]
+struct Left<'a> {
+    /// How many octets are before it, from the first of the item.
+    before: u32,
+    /// The room for it.
+    room: u32,
+    /// Its octets that are present.
+    octets: &'a [u8],
+}
+
+/// How it goes on after an item.
+#[derive(Clone, Copy)]
+enum Step<'a> {
+    /// This is decided.
+    Decided(Outcome),
+    /// This is left.
+    Next(Left<'a>),
+}
+
+/// What is due for a field.
 #[derive(Clone, Copy)]
 enum Due {
     /// This is decided.
@@ -53,7 +75,7 @@ pub fn judge(n: u32, front: &[u8]) -> Verdict
 
 /// What the octets present of an item of a node's term decide, of which alone there are `n` octets.
 pub(crate) fn judge_node(node: u16, n: u32, front: &[u8]) -> Verdict
-    requires known { node < 111 }
+    requires known { IsNode node }
     requires some { 0 < n }
     requires short { n < 2 ^ 31 }
     requires present { length front.now ≤ n }
@@ -76,7 +98,7 @@ fn verdict(outcome: Outcome) -> Verdict
 /// An item of a node's term, in a room that it fills if it is the sole item there.
 #[cycle(judge)]
 fn item(node: u16, room: u32, sole: bool, octets: &[u8]) -> Outcome
-    requires known { node < 111 }
+    requires known { IsNode node }
     requires some { 0 < room }
     requires short { room < 2 ^ 31 }
     requires present { length octets.now ≤ room }
@@ -115,7 +137,7 @@ fn item(node: u16, room: u32, sole: bool, octets: &[u8]) -> Outcome
 #[cycle(judge)]
 #[inline(always)]
 fn contents(node: u16, before: u32, size: u32, octets: &[u8]) -> Outcome
-    requires known { node < 111 }
+    requires known { IsNode node }
     requires some { 0 < before }
     requires short { before + size < 2 ^ 31 }
     requires present { length octets.now ≤ size }
@@ -133,11 +155,8 @@ fn contents(node: u16, before: u32, size: u32, octets: &[u8]) -> Outcome
         },
         Form::Text | Form::Octets => string(before, size, octets),
         Form::Items { node } => items(node, before, size, octets),
-        Form::Fields { first, sole } => if sole {
-            only(only_node(first), before, size, octets)
-        } else {
-            fields(first, before, size, octets)
-        },
+        Form::Item { node } => only(node, before, size, octets),
+        Form::Fields { fields: slots } => fields(slots, before, size, octets),
     }
 }
 
@@ -145,7 +164,7 @@ fn contents(node: u16, before: u32, size: u32, octets: &[u8]) -> Outcome
 #[cycle(judge)]
 #[inline(always)]
 fn only(node: u16, before: u32, size: u32, octets: &[u8]) -> Outcome
-    requires known { node < 111 }
+    requires known { IsNode node }
     requires some { 0 < before }
     requires short { before + size < 2 ^ 31 }
     requires present { length octets.now ≤ size }
@@ -170,80 +189,101 @@ fn only(node: u16, before: u32, size: u32, octets: &[u8]) -> Outcome
     }
 }
 
-/// The node of the one field of a tag.
-fn only_node(first: u16) -> u16
-    requires known { first < 148 }
-    requires one { IsOne (fields_at first) }
-    ensures known { result < 111 }
-    ensures same { fields_at first ≡ Required (term_at result) End }
-{
-    match slot_at(first) {
-        Slot::Required { node } => node,
-        _ => unreachable!(),
-    }
-}
-
-/// The fields from a place on.
+/// The fields of a SEQUENCE.
 #[cycle(judge)]
-fn fields(first: u16, before: u32, size: u32, octets: &[u8]) -> Outcome
-    requires known { first < 148 }
+fn fields(slots: &[Slot], before: u32, size: u32, octets: &[u8]) -> Outcome
+    requires known { AllByRecursion IsSlot slots.now }
     requires some { 0 < before }
     requires short { before + size < 2 ^ 31 }
     requires present { length octets.now ≤ size }
-    ensures { outcome_of result ≡ fields_outcome (fields_at first) before size octets.now }
+    ensures { outcome_of result ≡ fields_outcome (fields_from nodes slots.now) before size octets.now }
 {
-    let mut place = first;
-    let mut taken = before;
-    let mut room = size;
-    let mut rest = octets;
-    'fields: loop {
-        let node = match due_at(place, taken, room, rest) {
+    let mut left = Left {
+        before,
+        room: size,
+        octets,
+    };
+    for slot in slots {
+        let node = match due_for(*slot, left) {
             Due::Decided(outcome) => return outcome,
-            Due::LeftOut => {
-                place += 1;
-                continue 'fields;
-            }
+            Due::LeftOut => continue,
             Due::Item { node } => node,
         };
-        match item(node, room, false, rest) {
-            Outcome::Open => return Outcome::Open,
-            Outcome::Bad { offset, why } => return Outcome::Bad {
-                offset: taken + offset,
-                why,
-            },
-            Outcome::Done { count } => {
-                place += 1;
-                taken += count;
-                room -= count;
-                rest = &rest[count as usize..];
-            }
+        match front_item(node, left) {
+            Step::Decided(outcome) => return outcome,
+            Step::Next(next) => left = next,
         }
+    }
+    end(left)
+}
+
+/// Items one after another, until the room is full.
+#[cycle(judge)]
+fn items(node: u16, before: u32, size: u32, octets: &[u8]) -> Outcome
+    requires known { IsNode node }
+    requires some { 0 < before }
+    requires short { before + size < 2 ^ 31 }
+    requires present { length octets.now ≤ size }
+    ensures { outcome_of result ≡ items_contents (λ left. item_outcome (term_at node) left false) size before size octets.now }
+{
+    let mut left = Left {
+        before,
+        room: size,
+        octets,
+    };
+    while left.room > 0 {
+        match front_item(node, left) {
+            Step::Decided(outcome) => return outcome,
+            Step::Next(next) => left = next,
+        }
+    }
+    Outcome::Done { count: left.before }
+}
+
+/// An item at the front of what is left, and then what is left after it.
+#[cycle(judge)]
+#[inline(always)]
+fn front_item(node: u16, left: Left<'_>) -> Step<'_>
+    requires known { IsNode node }
+    requires some { 0 < left.room }
+    requires left { IsLeft left }
+    ensures { IsStep (item_outcome (term_at node) left.entry.room false left.entry.octets.now) left.entry result }
+{
+    match item(node, left.room, false, left.octets) {
+        Outcome::Open => Step::Decided(Outcome::Open),
+        Outcome::Bad { offset, why } => Step::Decided(Outcome::Bad {
+            offset: left.before + offset,
+            why,
+        }),
+        Outcome::Done { count } => Step::Next(Left {
+            before: left.before + count,
+            room: left.room - count,
+            octets: &left.octets[count as usize..],
+        }),
     }
 }
 
-/// What is due of the fields that are left, from a place on, in the room that is left.
+/// What is due for a field.
 #[inline(always)]
-fn due_at(place: u16, before: u32, room: u32, octets: &[u8]) -> Due
-    requires known { place < 148 }
-    requires some { 0 < before }
-    requires present { length octets.now ≤ room }
-    ensures { IsDue place before room octets.now result }
+fn due_for(slot: Slot, left: Left) -> Due
+    requires known { IsSlot slot }
+    requires left { IsLeft left }
+    ensures { IsDue slot left.entry result }
 {
-    match slot_at(place) {
-        Slot::End => Due::Decided(end(before, room, octets)),
-        Slot::Required { node } => if room == 0 {
+    match slot {
+        Slot::Required { node } => if left.room == 0 {
             Due::Decided(Outcome::Bad {
-                offset: before - 1,
+                offset: left.before - 1,
                 why: Why::Missing,
             })
         } else {
             Due::Item { node }
         },
         Slot::Optional { node } => {
-            if room == 0 {
+            if left.room == 0 {
                 return Due::LeftOut;
             }
-            match octets.first() {
+            match left.octets.first() {
                 None => Due::Decided(Outcome::Open),
                 Some(tag) if *tag == tag_of(node) => Due::Item { node },
                 Some(_) => Due::LeftOut,
@@ -253,47 +293,18 @@ fn due_at(place: u16, before: u32, room: u32, octets: &[u8]) -> Due
 }
 
 /// Where no field is left, no octet may be.
-fn end(before: u32, room: u32, octets: &[u8]) -> Outcome
-    requires { length octets.now ≤ room }
-    ensures { outcome_of result ≡ fields_outcome End before room octets.now }
+fn end(left: Left) -> Outcome
+    requires { IsLeft left }
+    ensures { outcome_of result ≡ outcome_in left.entry End }
 {
-    if room == 0 {
-        Outcome::Done { count: before }
-    } else if octets.is_empty() {
+    if left.room == 0 {
+        Outcome::Done { count: left.before }
+    } else if left.octets.is_empty() {
         Outcome::Open
     } else {
         Outcome::Bad {
-            offset: before,
+            offset: left.before,
             why: Why::Tag,
         }
     }
-}
-
-/// Items one after another, until the room is full.
-#[cycle(judge)]
-fn items(node: u16, before: u32, size: u32, octets: &[u8]) -> Outcome
-    requires known { node < 111 }
-    requires some { 0 < before }
-    requires short { before + size < 2 ^ 31 }
-    requires present { length octets.now ≤ size }
-    ensures { outcome_of result ≡ items_contents (λ left. item_outcome (term_at node) left false) size before size octets.now }
-{
-    let mut taken = before;
-    let mut room = size;
-    let mut rest = octets;
-    while room > 0 {
-        match item(node, room, false, rest) {
-            Outcome::Open => return Outcome::Open,
-            Outcome::Bad { offset, why } => return Outcome::Bad {
-                offset: taken + offset,
-                why,
-            },
-            Outcome::Done { count } => {
-                taken += count;
-                room -= count;
-                rest = &rest[count as usize..];
-            }
-        }
-    }
-    Outcome::Done { count: taken }
 }

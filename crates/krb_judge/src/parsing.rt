@@ -9,6 +9,7 @@ ghost use Rattle.std.specs.Prelude.{◌≡◌, ◌≢◌, ◌^◌, ◌<◌, ◌�
 ghost use Rattle.krb_der.specs.declared.verdict.Verdict.TheVariants.{Whole};
 ghost use Rattle.krb_msg.specs.Judgement.{judgement, term_judgement};
 ghost use Rattle.krb_msg.specs.Nodes.{term_at};
+ghost use Rattle.krb_msg.specs.Table.{IsNode};
 ghost use Rattle.krb_msg.specs.Views.{kind_of_tag, message_der};
 ghost use Rattle.krb_judge.specs.Reads.{IsDer};
 ghost use Rattle.krb_judge.specs.Parses.{refusal_by, refusal_of as refusal_in, ticket_refusal, method_data_refusal, judged_as, IsKnown, AreOf, AreOfKind, AreOfTicket, AreOfMethodData, HasNoMessage};
@@ -18,6 +19,7 @@ use crate::judging::{judge, judge_node};
 use crate::parsing::fields::Decode;
 use crate::parsing::types::{kdc_rep, kdc_req};
 use krb_der::{Many, Memory, Refusal, Verdict, Why};
+use krb_msg::grammar::Row;
 use krb_msg::{ApRep, ApReq, Kind, KrbError, Message, PaData, Ticket};
 use std::alloc::{AllocError, AllocFailed, Global};
 
@@ -64,10 +66,10 @@ enum Expected {
 }
 
 /// The node of a Ticket (RFC 4120, 5.3).
-const TICKET: u16 = 16;
+const TICKET: u16 = Row::Ticket as u16;
 
 /// The node of METHOD-DATA (RFC 4120, 5.9.1).
-const METHOD_DATA: u16 = 39;
+const METHOD_DATA: u16 = Row::MethodData as u16;
 
 /// The message that octets are, or why they are none. A slice of more than 2147483647 octets is
 /// `TooLong` at 0, an empty one `Empty` at 0; else [`judge`] refuses it. A refusal is decided
@@ -111,7 +113,7 @@ pub fn parse_method_data(alloc: Global, octets: &[u8]) -> Result<Vec<PaData>, Pa
 
 /// The value whose octets these are, as an item of a node's term.
 fn parse_node<T: Decode>(alloc: Global, node: u16, octets: &[u8]) -> Result<T, ParseFault>
-    requires known { node < 111 }
+    requires known { IsNode node }
     requires form { (those : List ℕ) → IsDer (term_at node) those → T.IsForm those }
     ensures value { IfOk result (λ value. IsDer (term_at node) octets.now × (length octets.now < 2 ^ 31) × (T.octets value ≡ octets.now)) }
     ensures refused { (r : Refusal) → IsErrOf result (fault.Refused r) ↔ (refusal_by (term_judgement (term_at node)) octets.now ≡ Some r) }

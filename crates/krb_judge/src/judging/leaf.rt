@@ -2,8 +2,9 @@
 
 ghost use Rattle.std.specs.Prelude.{◌≡◌, ◌+◌, ◌^◌, ◌<◌, ◌≤◌, length, ℤ, ◌&&◌};
 ghost use Rattle.krb_der.specs.Octets.{last_or_zero as last_of};
-ghost use Rattle.krb_msg.specs.Judgement.{behind, any_contents, integer_contents, time_contents, bits_contents, int_le, is_padded as padded};
-ghost use Rattle.krb_judge.specs.Outcomes.{outcome_of, time_octet};
+ghost use Rattle.krb_msg.specs.Judgement.{behind, any_contents, integer_contents, each_contents, time_octet, bits_contents, int_le, is_padded as padded};
+ghost use Rattle.krb_judge.specs.Outcomes.{outcome_of};
+ghost use Rattle.krb_der.specs.declared.why.Why.TheVariants as why;
 
 use crate::judging::number::integer_value;
 use crate::judging::outcome::Outcome;
@@ -71,7 +72,7 @@ fn is_between(low: i64, high: i64, value: i64) -> bool
 pub(crate) fn time(before: u32, octets: &[u8]) -> Outcome
     requires short { before < 2 ^ 31 }
     requires present { length octets.now ≤ 15 }
-    ensures { outcome_of result ≡ behind before (time_contents 0 octets.now) }
+    ensures { outcome_of result ≡ behind before (each_contents time_octet why.Time 15 0 octets.now) }
 {
     let mut place = 0;
     for octet in octets {
@@ -106,7 +107,7 @@ fn is_time_octet(place: u32, octet: u8) -> bool
 pub(crate) fn bits(before: u32, size: u32, octets: &[u8]) -> Outcome
     requires some { 0 < size }
     requires short { before + size < 2 ^ 31 }
-    ensures { outcome_of result ≡ behind before (bits_contents size octets.now) }
+    ensures { outcome_of result ≡ behind before (bits_contents 0 size octets.now) }
 {
     let [unused, rest @ ..] = octets else {
         return Outcome::Open;
