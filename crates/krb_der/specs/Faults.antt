@@ -1,5 +1,8 @@
--- The numbers and the names of the reasons why a file is refused.
-use Rattle.std.specs.Prelude.{ℕ, List, codes}
+-- The numbers and the names of the reasons why a file is refused, and what a fault of a file prints.
+use Rattle.std.specs.Prelude.{ℕ, List, ◌++◌, codes}
+use Rattle.std.specs.Fmt.{decimal}
+use Rattle.krb_der.specs.declared.file.FileFault.{FileFault}
+use Rattle.krb_der.specs.declared.file.FileFault.TheVariants.{Refused, Read, Memory}
 use Rattle.krb_der.specs.declared.file.FileWhy.{FileWhy}
 use Rattle.krb_der.specs.declared.file.FileWhy.TheVariants.{Magic, Version, Truncated, Overrun, TooLong}
 
@@ -16,3 +19,8 @@ file_reason_name Version = codes "Version"
 file_reason_name Truncated = codes "Truncated"
 file_reason_name Overrun = codes "Overrun"
 file_reason_name TooLong = codes "TooLong"
+
+abbrev pub file_fault_text : FileFault → List ℕ
+file_fault_text (Refused place why) = codes "refused at " ++ decimal place ++ codes ": " ++ file_reason_name why
+file_fault_text Read = codes "a read failed"
+file_fault_text Memory = codes "out of memory"

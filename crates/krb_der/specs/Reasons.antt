@@ -1,5 +1,7 @@
--- The numbers and the names of the reasons for a refusal.
-use Rattle.std.specs.Prelude.{ℕ, List, codes}
+-- The numbers and the names of the reasons for a refusal, and what a refusal prints.
+use Rattle.std.specs.Prelude.{ℕ, List, ◌++◌, codes}
+use Rattle.std.specs.Fmt.{decimal}
+use Rattle.krb_der.specs.declared.verdict.Refusal.{Refusal}
 use Rattle.krb_der.specs.declared.why.Why.{Why}
 use Rattle.krb_der.specs.declared.why.Why.TheVariants.{HighBit, TooLong, Empty, Tag, Overrun, Indefinite, LengthWide, LengthNotMinimal, Loose, Size, IntegerNotMinimal, Range, Time, Bits, Missing, Truncated, Charset}
 
@@ -40,3 +42,6 @@ reason_name Bits = codes "Bits"
 reason_name Missing = codes "Missing"
 reason_name Truncated = codes "Truncated"
 reason_name Charset = codes "Charset"
+
+abbrev pub refusal_text : Refusal → List ℕ
+refusal_text refusal = codes "refused at " ++ decimal refusal.place ++ codes ": " ++ reason_name refusal.why

@@ -1,10 +1,12 @@
 //! The reasons why a file is refused.
 
-ghost use Rattle.std.specs.Prelude.{◌≡◌};
-ghost use Rattle.krb_der.specs.Faults.{file_reason_number, file_reason_name};
+ghost use Rattle.std.specs.Prelude.{◌≡◌, Some};
+ghost use Rattle.krb_der.specs.Faults.{file_reason_number, file_reason_name, file_fault_text};
 ghost use Rattle.krb_der.specs.declared.file.FileFault.TheVariants.{Memory};
 
 use std::alloc::{AllocError, AllocFailed};
+use std::error::Error;
+use std::fmt;
 
 /// Why a keytab or a credential cache is refused. Each reason has a number and a name of its own,
 /// by [`file_why_number`] and [`file_why_text`].
@@ -80,3 +82,27 @@ pub fn file_why_text(why: FileWhy) -> &'static str
         FileWhy::TooLong => "TooLong",
     }
 }
+
+/// Its name.
+impl fmt::Display for FileWhy {
+    ghost output = { λ why. Some (file_reason_name why) };
+
+    fn fmt<W: fmt::Write>(&self, f: &mut fmt::Formatter<W>) -> fmt::Result {
+        f.write_str(file_why_text(*self))
+    }
+}
+
+/// `refused at 12: Truncated`, `a read failed` or `out of memory`.
+impl fmt::Display for FileFault {
+    ghost output = { λ fault. Some (file_fault_text fault) };
+
+    fn fmt<W: fmt::Write>(&self, f: &mut fmt::Formatter<W>) -> fmt::Result {
+        match self {
+            FileFault::Refused { place, why } => write!(f, "refused at {place}: {why}"),
+            FileFault::Read => f.write_str("a read failed"),
+            FileFault::Memory => f.write_str("out of memory"),
+        }
+    }
+}
+
+impl Error for FileFault {}

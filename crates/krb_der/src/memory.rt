@@ -1,6 +1,10 @@
 //! The answer where memory was refused.
 
+ghost use Rattle.std.specs.Prelude.{Some, codes};
+
 use std::alloc::{AllocError, AllocFailed};
+use std::error::Error;
+use std::fmt;
 
 /// Out of memory: the allocator gave no room. Nothing else answers it.
 #[derive(Clone, Copy, PartialEq, Eq, Debug)]
@@ -17,3 +21,14 @@ impl<T: Drop> From<AllocFailed<T>> for Memory {
         Memory
     }
 }
+
+/// `out of memory`.
+impl fmt::Display for Memory {
+    ghost output = { λ memory. Some (codes "out of memory") };
+
+    fn fmt<W: fmt::Write>(&self, f: &mut fmt::Formatter<W>) -> fmt::Result {
+        f.write_str("out of memory")
+    }
+}
+
+impl Error for Memory {}

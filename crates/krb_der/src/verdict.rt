@@ -1,6 +1,11 @@
 //! What octets decide.
 
+ghost use Rattle.std.specs.Prelude.{Some};
+ghost use Rattle.krb_der.specs.Reasons.{refusal_text};
+
 use crate::why::Why;
+use std::error::Error;
+use std::fmt;
 
 /// The first fault, and the octet that shows it.
 #[derive(Clone, Copy, PartialEq, Eq, Debug)]
@@ -22,3 +27,14 @@ pub enum Verdict {
     /// No message begins with them.
     Refused(Refusal),
 }
+
+/// `refused at 12: Range`.
+impl fmt::Display for Refusal {
+    ghost output = { λ refusal. Some (refusal_text refusal) };
+
+    fn fmt<W: fmt::Write>(&self, f: &mut fmt::Formatter<W>) -> fmt::Result {
+        write!(f, "refused at {}: {}", self.place, self.why)
+    }
+}
+
+impl Error for Refusal {}

@@ -1,7 +1,9 @@
 //! The reasons for a refusal.
 
-ghost use Rattle.std.specs.Prelude.{◌≡◌};
+ghost use Rattle.std.specs.Prelude.{◌≡◌, Some};
 ghost use Rattle.krb_der.specs.Reasons.{reason_number, reason_name};
+
+use std::fmt;
 
 /// Why octets are refused. Each reason has a number and a name of its own, by [`why_number`] and
 /// [`why_text`].
@@ -91,5 +93,14 @@ pub fn why_text(why: Why) -> &'static str
         Why::Missing => "Missing",
         Why::Truncated => "Truncated",
         Why::Charset => "Charset",
+    }
+}
+
+/// Its name.
+impl fmt::Display for Why {
+    ghost output = { λ why. Some (reason_name why) };
+
+    fn fmt<W: fmt::Write>(&self, f: &mut fmt::Formatter<W>) -> fmt::Result {
+        f.write_str(why_text(*self))
     }
 }
