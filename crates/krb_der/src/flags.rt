@@ -7,7 +7,7 @@ use std::marker::Model;
 /// A bit string (KerberosFlags of RFC 4120, 5.2.8; X.690, 8.6 and 11.2): octets, and how many low
 /// bits of the last one are unused, 0 to 7. These bits are clear, and where there are no octets
 /// none are unused. Contracts see the pair of the count and the list of the octets.
-#[derive(Drop)]
+#[derive(Drop, Debug)]
 pub struct Flags {
     unused: u8,
     octets: Vec<u8>,
@@ -26,6 +26,11 @@ impl Model for Flags {
 
 ghost use Rattle.std.specs.Prelude.{◌≡◌, ◌<◌, ◌≤◌, ◌-◌, ◌*◌, ◌↔◌, min, length, false, IsSome, IfSome};
 ghost use Rattle.std.specs.Prelude.{◌∷◌};
+ghost use Rattle.std.specs.Prelude.{nat_eq};
+ghost use Rattle.std.specs.Ordering.{on, eq_of_both};
+ghost use Rattle.std.specs.Cmp.Rules.{comparing};
+ghost use Rattle.std.specs.Cmp.Lexicographic.{pointwise};
+ghost use Rattle.std.proofs.Common.{rules};
 ghost use Rattle.krb_der.specs.Octets.{AreBits, item, last_or_zero as last_of};
 ghost use Rattle.krb_der.specs.Tells.{item_begins, same_bits};
 ghost use Rattle.krb_der.specs.Scalars.{has_bit};
@@ -80,6 +85,21 @@ impl Flags {
             None => false,
         }
     }
+}
+
+/// By the octets, and the number of unused bits.
+impl PartialEq for Flags {
+    ghost eq = { eq_of_both (on (λ flags. flags.1) (pointwise nat_eq)) (on (λ flags. flags.0) nat_eq) };
+
+    ghost laws = { Prim.search (comparing, rules) };
+
+    fn eq(&self, other: &Flags) -> bool {
+        self.octets() == other.octets() && self.unused() == other.unused()
+    }
+}
+
+impl Eq for Flags {
+    ghost laws = { Prim.search (comparing, rules) };
 }
 
 /// A BIT STRING (X.690, 8.6).

@@ -6,7 +6,7 @@ use std::marker::Model;
 
 /// A KerberosString (RFC 4120, 5.2.1): octets of any kind, as implementations send them. Contracts
 /// see them as their list.
-#[derive(Drop)]
+#[derive(Drop, Debug)]
 pub struct KString {
     octets: Vec<u8>,
 }
@@ -20,6 +20,9 @@ impl Model for KString {
 }
 
 ghost use Rattle.std.specs.Prelude.{◌≡◌};
+ghost use Rattle.std.specs.Prelude.{nat_eq};
+ghost use Rattle.std.specs.Cmp.{partial_equiv_from_equiv};
+ghost use Rattle.std.specs.Cmp.Lexicographic.{pointwise, nat_list_eq_equiv};
 ghost use Rattle.krb_der.specs.Octets.{item};
 ghost use Rattle.krb_der.specs.Tells.{item_begins, same_octets};
 
@@ -45,6 +48,21 @@ impl KString {
         let KString { octets } = self;
         octets
     }
+}
+
+/// By the octets alone.
+impl PartialEq for KString {
+    ghost eq = { pointwise nat_eq };
+
+    ghost laws = { partial_equiv_from_equiv nat_list_eq_equiv };
+
+    fn eq(&self, other: &KString) -> bool {
+        self.octets() == other.octets()
+    }
+}
+
+impl Eq for KString {
+    ghost laws = { nat_list_eq_equiv };
 }
 
 /// A GeneralString (X.690, 8.23).

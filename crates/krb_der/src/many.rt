@@ -5,7 +5,7 @@ use crate::item::{add_sizes, item_size, put_header};
 use std::marker::Model;
 
 /// Any number of values, in order: a SEQUENCE OF (X.690, 8.10). Contracts see them as their list.
-#[derive(Drop)]
+#[derive(Drop, Debug)]
 pub struct Many<T> {
     values: Vec<T>,
 }
@@ -21,6 +21,7 @@ impl<T> Model for Many<T> {
 ghost use Rattle.std.specs.Prelude.{◌≡◌, ◌+◌, ◌≤◌, ◌++◌, length};
 ghost use Rattle.std.specs.List.{flat_map};
 ghost use Rattle.std.specs.Vec.{vec_len, vec_capacity};
+ghost use Rattle.std.specs.Cmp.Lexicographic.{pointwise, lists_per, lists_equiv};
 ghost use Rattle.krb_der.specs.Octets.{item};
 ghost use Rattle.krb_der.specs.Sizes.{saturated};
 ghost use Rattle.krb_der.specs.Tells.{item_begins, same_many};
@@ -47,6 +48,21 @@ impl<T> Many<T> {
         let Many { values } = self;
         values
     }
+}
+
+/// Value by value, in order.
+impl<T: PartialEq> PartialEq for Many<T> {
+    ghost eq = { pointwise T.eq };
+
+    ghost laws = { lists_per T.laws };
+
+    fn eq(&self, other: &Many<T>) -> bool {
+        self.as_slice() == other.as_slice()
+    }
+}
+
+impl<T: Eq> Eq for Many<T> {
+    ghost laws = { lists_equiv T.Eq.laws };
 }
 
 /// A SEQUENCE OF (X.690, 8.10).

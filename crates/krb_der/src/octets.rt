@@ -5,7 +5,7 @@ use crate::item::{item_size, put_item};
 use std::marker::Model;
 
 /// Octets, any number of any kind. Contracts see them as their list.
-#[derive(Drop)]
+#[derive(Drop, Debug)]
 pub struct Octets {
     octets: Vec<u8>,
 }
@@ -19,6 +19,9 @@ impl Model for Octets {
 }
 
 ghost use Rattle.std.specs.Prelude.{◌≡◌};
+ghost use Rattle.std.specs.Prelude.{nat_eq};
+ghost use Rattle.std.specs.Cmp.{partial_equiv_from_equiv};
+ghost use Rattle.std.specs.Cmp.Lexicographic.{pointwise, nat_list_eq_equiv};
 ghost use Rattle.krb_der.specs.Octets.{item};
 ghost use Rattle.krb_der.specs.Tells.{item_begins, same_octets};
 
@@ -44,6 +47,21 @@ impl Octets {
         let Octets { octets } = self;
         octets
     }
+}
+
+/// By the octets alone.
+impl PartialEq for Octets {
+    ghost eq = { pointwise nat_eq };
+
+    ghost laws = { partial_equiv_from_equiv nat_list_eq_equiv };
+
+    fn eq(&self, other: &Octets) -> bool {
+        self.as_slice() == other.as_slice()
+    }
+}
+
+impl Eq for Octets {
+    ghost laws = { nat_list_eq_equiv };
 }
 
 /// An OCTET STRING (X.690, 8.7).
