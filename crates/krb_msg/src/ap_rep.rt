@@ -9,7 +9,7 @@ use krb_der::{Der, Encoding, End, Fixed, Required, Sequence, Tagged};
 
 /// The reply of an application server (RFC 4120, 5.5.2). Its version and its message type are
 /// fixed, and so not kept.
-#[derive(Drop)]
+#[derive(PartialEq, Eq, Debug, Drop)]
 pub struct ApRep {
     /// The sealed EncAPRepPart.
     pub enc_part: EncryptedData,

@@ -10,7 +10,7 @@ use krb_der::{Der, Encoding, End, Fixed, Flags, Required, Sequence, Tagged};
 
 /// What a client sends an application server (RFC 4120, 5.5.1). Its version and its message type
 /// are fixed, and so not kept.
-#[derive(Drop)]
+#[derive(PartialEq, Eq, Debug, Drop)]
 pub struct ApReq {
     /// APOptions.
     pub ap_options: Flags,

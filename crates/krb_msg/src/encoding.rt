@@ -18,7 +18,7 @@ pub enum EncodeFault {
     #[error("too long")]
     TooLong,
     /// Out of memory.
-    #[error("memory")]
+    #[error("out of memory")]
     Memory,
 }
 

@@ -7,7 +7,7 @@ ghost use Rattle.std.specs.Prelude.{◌≡◌};
 use krb_der::{Der, Encoding, End, Int32, Octets, Optional, Required, Sequence, Wide32};
 
 /// What is sealed (RFC 4120, 5.2.9). Its cipher is never opened.
-#[derive(Drop)]
+#[derive(PartialEq, Eq, Debug, Drop)]
 pub struct EncryptedData {
     /// The encryption type (RFC 3961), of which none is refused.
     pub etype: Int32,

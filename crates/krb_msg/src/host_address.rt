@@ -7,7 +7,7 @@ ghost use Rattle.krb_msg.specs.Told.{host_address_begins, host_address_told};
 use krb_der::{Der, Encoding, End, Int32, Octets, Required, Sequence};
 
 /// The address of a host (RFC 4120, 5.2.5). What it means is not looked into.
-#[derive(Drop)]
+#[derive(PartialEq, Eq, Debug, Drop)]
 pub struct HostAddress {
     /// What kind of address it is (7.5.3).
     pub addr_type: Int32,

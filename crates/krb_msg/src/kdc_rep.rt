@@ -11,7 +11,7 @@ use krb_der::{Encoding, End, Fixed, KString, Many, Optional, Required, Sequence,
 
 /// What a KDC answers (RFC 4120, 5.4.2): the contents of an AS-REP or a TGS-REP. Their version and
 /// their message type are fixed, and so not kept; so a KDC-REP has octets only as one or the other.
-#[derive(Drop)]
+#[derive(PartialEq, Eq, Debug, Drop)]
 pub struct KdcRep {
     /// Pre-authentication data, where there is some.
     pub padata: Option<Many<PaData>>,

@@ -10,7 +10,7 @@ use krb_der::{Encoding, End, Fixed, Many, Optional, Required, Sequence, Tagged};
 /// What a client sends a KDC (RFC 4120, 5.4.1): the contents of an AS-REQ or a TGS-REQ. Their
 /// version and their message type are fixed, and so not kept; so a KDC-REQ has octets only as one or
 /// the other.
-#[derive(Drop)]
+#[derive(PartialEq, Eq, Debug, Drop)]
 pub struct KdcReq {
     /// Pre-authentication data, where there is some.
     pub padata: Option<Many<PaData>>,

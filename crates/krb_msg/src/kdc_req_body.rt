@@ -14,7 +14,7 @@ use krb_der::{
 };
 
 /// What a client asks a KDC for (RFC 4120, 5.4.1).
-#[derive(Drop)]
+#[derive(PartialEq, Eq, Debug, Drop)]
 pub struct KdcReqBody {
     /// KDCOptions.
     pub kdc_options: Flags,

@@ -12,7 +12,7 @@ use krb_der::{
 
 /// The message of an error (RFC 4120, 5.9.1). Its version and its message type are fixed, and so not
 /// kept.
-#[derive(Drop)]
+#[derive(PartialEq, Eq, Debug, Drop)]
 pub struct KrbError {
     /// The time of the client.
     pub ctime: Option<KerberosTime>,

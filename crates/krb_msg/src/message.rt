@@ -10,7 +10,7 @@ use crate::kdc_req::KdcReq;
 use crate::krb_error::KrbError;
 
 /// A message of any kind (RFC 4120, section 5).
-#[derive(Drop)]
+#[derive(PartialEq, Eq, Debug, Drop)]
 pub enum Message {
     /// What a client sends a KDC for its first ticket (5.4.1).
     AsReq(KdcReq),

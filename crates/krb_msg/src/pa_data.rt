@@ -7,7 +7,7 @@ ghost use Rattle.krb_msg.specs.Told.{pa_data_begins, pa_data_told};
 use krb_der::{Der, Encoding, End, Int32, Octets, Required, Sequence};
 
 /// Pre-authentication data (RFC 4120, 5.2.7). What it means is not looked into.
-#[derive(Drop)]
+#[derive(PartialEq, Eq, Debug, Drop)]
 pub struct PaData {
     /// What kind of data it is (7.5.2).
     pub padata_type: Int32,

@@ -7,7 +7,7 @@ ghost use Rattle.krb_msg.specs.Told.{principal_name_begins, principal_name_told}
 use krb_der::{Der, Encoding, End, Int32, KString, Many, Required, Sequence};
 
 /// The name of a principal within a realm (RFC 4120, 5.2.2).
-#[derive(Drop)]
+#[derive(PartialEq, Eq, Debug, Drop)]
 pub struct PrincipalName {
     /// How the name is meant (6.2). Two names that differ in this alone name one principal.
     pub name_type: Int32,

@@ -9,7 +9,7 @@ use crate::principal_name::PrincipalName;
 use krb_der::{Der, Encoding, End, Fixed, KString, Required, Sequence, Tagged};
 
 /// A ticket (RFC 4120, 5.3). Its version is fixed, and so not kept.
-#[derive(Drop)]
+#[derive(PartialEq, Eq, Debug, Drop)]
 pub struct Ticket {
     /// The realm that issued it, and that of its server.
     pub realm: KString,
