@@ -20,7 +20,7 @@ pub enum CcacheFault {
     #[error("too long")]
     TooLong,
     /// Out of memory.
-    #[error("memory")]
+    #[error("out of memory")]
     Memory,
 }
 

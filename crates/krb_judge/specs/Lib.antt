@@ -1,3 +1,4 @@
 pub mod Outcomes
 pub mod Reads
 pub mod Parses
+pub mod Faults

@@ -11,6 +11,7 @@ ghost use Rattle.krb_msg.specs.Judgement.{judgement, term_judgement};
 ghost use Rattle.krb_msg.specs.Nodes.{term_at};
 ghost use Rattle.krb_msg.specs.Table.{IsNode};
 ghost use Rattle.krb_msg.specs.Views.{kind_of_tag, message_der};
+ghost use Rattle.krb_judge.specs.Faults.{parse_fault_text};
 ghost use Rattle.krb_judge.specs.Reads.{IsDer};
 ghost use Rattle.krb_judge.specs.Parses.{refusal_by, refusal_of as refusal_in, ticket_refusal, method_data_refusal, judged_as, IsKnown, AreOf, AreOfKind, AreOfTicket, AreOfMethodData, HasNoMessage};
 ghost use Rattle.krb_judge.specs.declared.parsing.ParseFault.TheVariants as fault;
@@ -22,6 +23,8 @@ use krb_der::{Many, Memory, Refusal, Verdict, Why};
 use krb_msg::grammar::Row;
 use krb_msg::{ApRep, ApReq, Kind, KrbError, Message, PaData, Ticket};
 use std::alloc::{AllocError, AllocFailed, Global};
+use std::error::Error;
+use std::fmt;
 
 /// Why octets gave no message, no Ticket and no METHOD-DATA.
 #[derive(Clone, Copy, PartialEq, Eq, Debug)]
@@ -55,6 +58,20 @@ impl<T: Drop> From<AllocFailed<T>> for ParseFault {
         ParseFault::Memory
     }
 }
+
+/// `refused at 12: Range`, or `out of memory`.
+impl fmt::Display for ParseFault {
+    ghost output = { λ fault. Some (parse_fault_text fault) };
+
+    fn fmt<W: fmt::Write>(&self, f: &mut fmt::Formatter<W>) -> fmt::Result {
+        match self {
+            ParseFault::Refused(refusal) => write!(f, "{refusal}"),
+            ParseFault::Memory => f.write_str("out of memory"),
+        }
+    }
+}
+
+impl Error for ParseFault {}
 
 /// What a slice is judged as.
 #[derive(Clone, Copy)]

@@ -28,7 +28,7 @@ pub enum KeytabFault {
     #[error("too long")]
     TooLong,
     /// Out of memory.
-    #[error("memory")]
+    #[error("out of memory")]
     Memory,
 }
 
