@@ -6,11 +6,11 @@ use Rattle.krb_der.specs.Octets.{number}
 use Rattle.krb_der.specs.declared.why.Why.TheVariants as why
 use Rattle.krb_der.specs.declared.verdict.Refusal.{Refusal}
 use Rattle.krb_der.specs.declared.verdict.Verdict.TheVariants as verdict
-use Rattle.krb_msg.specs.Grammar.{messages}
-use Rattle.krb_msg.specs.Judgement.{Open, Bad, Done, message_outcome, judgement}
+use Rattle.krb_msg.specs.Term.{Term}
+use Rattle.krb_msg.specs.Judgement.{Open, Bad, Done, message_outcome, judgement_by}
 use Rattle.krb_msg.specs.Stream.{Frames, Boundary, Within, Refused, ends, with_first, frames}
 use Rattle.krb_msg.proofs.Fronts.{MayFollow, frames-high, frames-long, frames-empty, frames-open, frames-bad, frames-done_more, frames-short, frames-nil}
-use Rattle.krb_msg.proofs.Judged.{whole_outcome, refused_outcome, open_outcome}
+use Rattle.krb_msg.proofs.Grammars.{whole_outcome, refused_outcome, open_outcome}
 use Rattle.krb_frame.specs.Decoding.{Decoding, found, status_at, status_of, first_of, lent, finish_at, finish_of, AreOfOne, IsOfOneFrame}
 use Rattle.krb_frame.specs.Phases.{end_behind, octets_of, IsRefusedIn, IsTaken, phase_of, IsAccepted, HasPartOfLength, HasPart, HasFrame, HasRefused, IsAt, phase_status}
 use Rattle.krb_frame.specs.declared.decoder.Phase.{Phase}
@@ -39,71 +39,8 @@ number_of announced contents size a = ap number (take_at announced contents 4 a.
 room : (announced contents : List ℕ) (size : ℕ) → Announces announced size → 4 ≤ length (announced ++ contents)
 room announced contents size a = omega (arith, a.four, length-append announced contents)
 
-pub high : (limit : ℕ) (announced : List ℕ) (size : ℕ) → Announces announced size → 2 ^ 31 ≤ size → HasRefused limit announced [] (record { place = 3; why = why.HighBit })
-high limit announced size a h = record {
-  four = a.four;
-  found = frames-high messages limit (announced ++ []) size (room announced [] size a) (number_of announced [] size a) h;
-  last = refl;
-  few = omega arith;
-  short = omega arith;
-}
-
-pub long : (limit : ℕ) (announced : List ℕ) (size : ℕ) → Announces announced size → size < 2 ^ 31 → limit < size → HasRefused limit announced [] (record { place = 3; why = why.TooLong })
-long limit announced size a k h = record {
-  four = a.four;
-  found = frames-long messages limit (announced ++ []) size (room announced [] size a) (number_of announced [] size a) k h;
-  last = refl;
-  few = omega arith;
-  short = omega arith;
-}
-
-pub empty : (limit : ℕ) (announced : List ℕ) → Announces announced 0 → HasRefused limit announced [] (record { place = 3; why = why.Empty })
-empty limit announced a = record {
-  four = a.four;
-  found = frames-empty messages limit (announced ++ []) (room announced [] 0 a) (number_of announced [] 0 a);
-  last = refl;
-  few = omega arith;
-  short = omega arith;
-}
-
--- ---- the frames of what a decoder holds
-may_follow : (limit : ℕ) (announced : List ℕ) (size : ℕ) → IsAccepted limit announced size → MayFollow messages limit size
-may_follow limit announced size a = record { some = a.some; short = a.short; within = a.within }
-
 announces : (limit : ℕ) (announced : List ℕ) (size : ℕ) → IsAccepted limit announced size → Announces announced size
 announces limit announced size a = record { four = a.four; is = a.is }
-
-pub found-part : (limit : ℕ) (announced contents : List ℕ) (size : ℕ) → HasPart limit announced contents size → frames messages limit (announced ++ contents) ≡ ends (Within (4 + length contents))
-found-part limit announced contents size h =
-    let a = announces limit announced size h.accepted in
-    let there : take size (drop 4 (announced ++ contents)) ≡ contents = ap (take size) (drop_at announced contents 4 a.four) ∙ take_all size contents h.present in
-    let opened : message_outcome messages size (take size (drop 4 (announced ++ contents))) ≡ Open = ap (message_outcome messages size) there ∙ open_outcome (message_outcome messages size contents) h.undecided in
-    let long : length (announced ++ contents) ≡ 4 + length contents = omega (arith, a.four, length-append announced contents) in
-    frames-open messages limit (announced ++ contents) size (room announced contents size a) (number_of announced contents size a) (may_follow limit announced size h.accepted) opened
-    ∙ ap (λ n. ends (Within n)) long
-
--- whatever comes behind a frame
-pub found-frame : (limit : ℕ) (announced contents more : List ℕ) → HasFrame limit announced contents → frames messages limit ((announced ++ contents) ++ more) ≡ with_first contents (frames messages limit more)
-found-frame limit announced contents more h = by (whole_outcome (message_outcome messages (length contents) contents) h.whole)
-  where
-    a : Announces announced (length contents)
-    a = announces limit announced (length contents) h.accepted
-
-    there : take (length contents) (drop 4 (announced ++ contents)) ≡ contents
-    there = ap (take (length contents)) (drop_at announced contents 4 h.accepted.four) ∙ take_all (length contents) contents (omega arith)
-
-    all : length (announced ++ contents) ≡ 4 + length contents
-    all = omega (arith, h.accepted.four, length-append announced contents)
-
-    none : drop (4 + length contents) (announced ++ contents) ++ more ≡ more
-    none =
-        ap (λ l. l ++ more)
-        (ap (λ l. drop (4 + length contents) l) (sym (append-nil (announced ++ contents))) ∙ drop_at (announced ++ contents) [] (4 + length contents) all)
-
-    by : (count : ℕ) × (message_outcome messages (length contents) contents ≡ Done count) → frames messages limit ((announced ++ contents) ++ more) ≡ with_first contents (frames messages limit more)
-    by (count, d) =
-        frames-done_more messages limit (announced ++ contents) more (length contents) count (omega (arith, all)) (number_of announced contents (length contents) a) (may_follow limit announced (length contents) h.accepted) (ap (message_outcome messages (length contents)) there ∙ d)
-        ∙ ap₂ (λ c r. with_first c (frames messages limit r)) there none
 
 -- the frames of the octets that a phase holds
 abbrev pub frames_at : Phase → List ℕ → Frames
@@ -116,28 +53,12 @@ pub end-some : (present : ℕ) → 0 < present → end_behind present ≡ Within
 end-some zero h = absurd (omega arith)
 end-some (suc present) h = refl
 
-found-short : (limit : ℕ) (octets : List ℕ) → length octets < 4 → frames messages limit octets ≡ ends (end_behind (length octets))
-found-short limit [] h = frames-nil messages limit
-found-short limit (octet ∷ octets) h = frames-short messages limit octet octets h
-
 -- all four octets are taken
 pub four_octets : (announced contents : List ℕ) → length announced ≡ 4 → take 4 announced ++ contents ≡ announced ++ contents
 four_octets announced contents four = ap (λ l. l ++ contents) (take_all 4 announced (omega arith))
 
 pub length_of-part : (announced contents : List ℕ) (count : ℕ) → HasPartOfLength announced contents count → length (take count announced ++ contents) ≡ count
 length_of-part announced contents count h = omega (arith, h.part, h.four, ap length h.none, length-append (take count announced) contents, length-take count announced)
-
-pub found-at : (limit : ℕ) (announced contents : List ℕ) (p : Phase) → IsAt limit announced contents p → frames messages limit (octets_of p announced contents) ≡ frames_at p contents
-found-at limit announced contents (phase.Length count) h =
-    let n : length (take count announced ++ contents) ≡ count = length_of-part announced contents count h in
-    found-short limit (take count announced ++ contents) (omega (arith, h.part)) ∙ ap (λ k. ends (end_behind k)) n
-found-at limit announced contents (phase.Contents size) h =
-    ap (frames messages limit) (four_octets announced contents h.accepted.four) ∙ found-part limit announced contents size h
-found-at limit announced contents phase.Ready h =
-    ap (frames messages limit) (four_octets announced contents h.accepted.four ∙ sym (append-nil (announced ++ contents)))
-    ∙ found-frame limit announced contents [] h
-    ∙ ap (with_first contents) (frames-nil messages limit)
-found-at limit announced contents (phase.Refused refusal) h = ap (frames messages limit) (four_octets announced contents h.four) ∙ h.found
 
 -- ---- what a decoder is answered as
 -- the octets that a phase holds are of one frame
@@ -146,12 +67,6 @@ one-end [] zero e = refl
 one-end [] (suc count) e = e
 one-end (octet ∷ octets) zero e = absurd (omega arith)
 one-end (octet ∷ octets) (suc count) e = e
-
-one-at : (limit : ℕ) (announced contents : List ℕ) (p : Phase) → IsAt limit announced contents p → AreOfOne (octets_of p announced contents) (frames_at p contents).contents (frames_at p contents).end
-one-at limit announced contents (phase.Length count) h = one-end (take count announced ++ contents) count (length_of-part announced contents count h)
-one-at limit announced contents (phase.Contents size) h = omega (arith, h.accepted.four, length-append (take 4 announced) contents, length-take 4 announced)
-one-at limit announced contents phase.Ready h = ap (drop 4) (four_octets announced contents h.accepted.four) ∙ drop_at announced contents 4 h.accepted.four
-one-at limit announced contents (phase.Refused refusal) h = omega (arith, h.four, h.last, length-append (take 4 announced) contents, length-take 4 announced)
 
 status-end : (count : ℕ) → status_at [] (end_behind count) ≡ status.More
 status-end zero = refl
@@ -163,25 +78,6 @@ status-at (phase.Contents size) contents = refl
 status-at phase.Ready contents = refl
 status-at (phase.Refused refusal) contents = refl
 
-pub record Comes (d : Decoding) (answer : Status) : Type 0 where
-  pub is : status_of d ≡ answer
-  pub one : IsOfOneFrame d
-
-pub comes : (limit : ℕ) (announced contents : List ℕ) (p : Phase) → IsAt limit announced contents p → Comes (record { limit = limit; octets = octets_of p announced contents }) (phase_status p)
-unfolding found
-comes limit announced contents p h = record {
-  is = ap (λ f. status_at f.contents f.end) (found-at limit announced contents p h) ∙ status-at p contents;
-  one = subst (λ f. AreOfOne (octets_of p announced contents) f.contents f.end) (sym (found-at limit announced contents p h)) (one-at limit announced contents p h);
-}
-
-pub one-nothing : (limit : ℕ) → IsOfOneFrame (record { limit = limit; octets = [] })
-unfolding found
-one-nothing limit = subst (λ f. AreOfOne [] f.contents f.end) (sym (frames-nil messages limit)) refl
-
-pub more-nothing : (limit : ℕ) → status_of (record { limit = limit; octets = [] }) ≡ status.More
-unfolding found
-more-nothing limit = ap (λ f. status_at f.contents f.end) (frames-nil messages limit)
-
 -- ---- what is lent, kept and answered at the end
 none_ready : (p : Phase) (contents : List ℕ) → (p ≡ phase.Ready → ⊥) → first_of (frames_at p contents).contents ≡ None
 none_ready (phase.Length count) contents n = refl
@@ -189,53 +85,159 @@ none_ready (phase.Contents size) contents n = refl
 none_ready phase.Ready contents n = absurd (n refl)
 none_ready (phase.Refused refusal) contents n = refl
 
-pub lent-none : (limit : ℕ) (announced contents : List ℕ) (p : Phase) → IsAt limit announced contents p → (p ≡ phase.Ready → ⊥) → lent (record { limit = limit; octets = octets_of p announced contents }) ≡ None
-unfolding found
-lent-none limit announced contents p h n = ap (λ f. first_of f.contents) (found-at limit announced contents p h) ∙ none_ready p contents n
+-- ---- by any messages
+module _ (messages : List Term) where
+  pub high : (limit : ℕ) (announced : List ℕ) (size : ℕ) → Announces announced size → 2 ^ 31 ≤ size → HasRefused messages limit announced [] (record { place = 3; why = why.HighBit })
+  high limit announced size a h = record {
+    four = a.four;
+    found = frames-high messages limit (announced ++ []) size (room announced [] size a) (number_of announced [] size a) h;
+    last = refl;
+    few = omega arith;
+    short = omega arith;
+  }
 
-pub lent-ready : (limit : ℕ) (announced contents : List ℕ) (p : Phase) → IsAt limit announced contents p → p ≡ phase.Ready → lent (record { limit = limit; octets = octets_of p announced contents }) ≡ Some contents
-unfolding found
-lent-ready limit announced contents p h e = ap (λ f. first_of f.contents) (found-at limit announced contents p h ∙ ap (λ q. frames_at q contents) e)
+  pub long : (limit : ℕ) (announced : List ℕ) (size : ℕ) → Announces announced size → size < 2 ^ 31 → limit < size → HasRefused messages limit announced [] (record { place = 3; why = why.TooLong })
+  long limit announced size a k h = record {
+    four = a.four;
+    found = frames-long messages limit (announced ++ []) size (room announced [] size a) (number_of announced [] size a) k h;
+    last = refl;
+    few = omega arith;
+    short = omega arith;
+  }
 
-pub finish-at : (limit : ℕ) (announced contents : List ℕ) (p : Phase) → IsAt limit announced contents p → finish_of (record { limit = limit; octets = octets_of p announced contents }) ≡ finish_at (frames_at p contents).end
-unfolding found
-finish-at limit announced contents p h = ap (λ f. finish_at f.end) (found-at limit announced contents p h)
+  pub empty : (limit : ℕ) (announced : List ℕ) → Announces announced 0 → HasRefused messages limit announced [] (record { place = 3; why = why.Empty })
+  empty limit announced a = record {
+    four = a.four;
+    found = frames-empty messages limit (announced ++ []) (room announced [] 0 a) (number_of announced [] 0 a);
+    last = refl;
+    few = omega arith;
+    short = omega arith;
+  }
 
--- the contents are those that are kept
-pub kept-at : (limit : ℕ) (announced contents : List ℕ) (p : Phase) → IsAt limit announced contents p → length contents ≡ length (drop 4 (octets_of p announced contents))
-kept-at limit announced contents (phase.Length count) h = omega (arith, length_of-part announced contents count h, h.part, ap length h.none, length-drop 4 (take count announced ++ contents))
-kept-at limit announced contents (phase.Contents size) h = omega (arith, h.accepted.four, length-append (take 4 announced) contents, length-take 4 announced, length-drop 4 (take 4 announced ++ contents))
-kept-at limit announced contents phase.Ready h = omega (arith, h.accepted.four, length-append (take 4 announced) contents, length-take 4 announced, length-drop 4 (take 4 announced ++ contents))
-kept-at limit announced contents (phase.Refused refusal) h = omega (arith, h.four, length-append (take 4 announced) contents, length-take 4 announced, length-drop 4 (take 4 announced ++ contents))
+  -- ---- the frames of what a decoder holds
+  may_follow : (limit : ℕ) (announced : List ℕ) (size : ℕ) → IsAccepted limit announced size → MayFollow messages limit size
+  may_follow limit announced size a = record { some = a.some; short = a.short; within = a.within }
 
-pub few-at : (limit : ℕ) (announced contents : List ℕ) (p : Phase) → limit < 2 ^ 31 → IsAt limit announced contents p → (length contents ≤ limit) × (length contents < 2 ^ 31)
-few-at limit announced contents (phase.Length count) l h = (omega (arith, ap length h.none), omega (arith, ap length h.none))
-few-at limit announced contents (phase.Contents size) l h = (omega (arith, h.present, h.accepted.within), omega (arith, h.present, h.accepted.short))
-few-at limit announced contents phase.Ready l h = (h.accepted.within, h.accepted.short)
-few-at limit announced contents (phase.Refused refusal) l h = (h.few, h.short)
+  pub found-part : (limit : ℕ) (announced contents : List ℕ) (size : ℕ) → HasPart messages limit announced contents size → frames messages limit (announced ++ contents) ≡ ends (Within (4 + length contents))
+  found-part limit announced contents size h =
+      let a = announces limit announced size h.accepted in
+      let there : take size (drop 4 (announced ++ contents)) ≡ contents = ap (take size) (drop_at announced contents 4 a.four) ∙ take_all size contents h.present in
+      let opened : message_outcome messages size (take size (drop 4 (announced ++ contents))) ≡ Open = ap (message_outcome messages size) there ∙ open_outcome (message_outcome messages size contents) h.undecided in
+      let long : length (announced ++ contents) ≡ 4 + length contents = omega (arith, a.four, length-append announced contents) in
+      frames-open messages limit (announced ++ contents) size (room announced contents size a) (number_of announced contents size a) (may_follow limit announced size h.accepted) opened
+      ∙ ap (λ n. ends (Within n)) long
 
--- ---- contents that were taken
-refused_within : (limit : ℕ) (announced contents : List ℕ) (size : ℕ) (refusal : Refusal) → IsAccepted limit announced size → length contents ≤ size → IsRefusedIn size contents refusal → HasRefused limit announced contents refusal
-refused_within limit announced contents size refusal accepted few r =
-    let a = announces limit announced size accepted in
-    let there : take size (drop 4 (announced ++ contents)) ≡ contents = ap (take size) (drop_at announced contents 4 a.four) ∙ take_all size contents few in
-    let bad : message_outcome messages size (take size (drop 4 (announced ++ contents))) ≡ Bad r.offset refusal.why = ap (message_outcome messages size) there ∙ refused_outcome (message_outcome messages size contents) r.offset refusal.why r.judged in
-    let place : 4 + r.offset ≡ refusal.place = omega (arith, r.place) in
-    record {
-      four = a.four;
-      found =
-          frames-bad messages limit (announced ++ contents) size r.offset refusal.why (room announced contents size a) (number_of announced contents size a) (may_follow limit announced size accepted) bad
-          ∙ ap (λ n. ends (Refused n refusal.why)) place;
-      last = omega (arith, r.place, r.last);
-      few = omega (arith, accepted.within);
-      short = omega (arith, accepted.short);
-    }
+  -- whatever comes behind a frame
+  pub found-frame : (limit : ℕ) (announced contents more : List ℕ) → HasFrame messages limit announced contents → frames messages limit ((announced ++ contents) ++ more) ≡ with_first contents (frames messages limit more)
+  found-frame limit announced contents more h = by (whole_outcome (message_outcome messages (length contents) contents) h.whole)
+    where
+      a : Announces announced (length contents)
+      a = announces limit announced (length contents) h.accepted
 
-pub taken-at : (limit : ℕ) (announced before piece after : List ℕ) (size used : ℕ) (answer : Status) → HasPart limit announced before size → IsTaken size before piece after (record { used = used; status = answer }) → IsAt limit announced after (phase_of size answer)
-taken-at limit announced before piece after size used status.More h t = record { accepted = h.accepted; present = t.present; undecided = t.decided.0 }
-taken-at limit announced before piece after size used status.Memory h t = record { accepted = h.accepted; present = t.present; undecided = t.decided.0 }
-taken-at limit announced before piece after size used status.Ready h t = record {
-  accepted = subst (IsAccepted limit announced) (sym t.decided.1) h.accepted;
-  whole = subst (λ n. judgement n after ≡ verdict.Whole) (sym t.decided.1) t.decided.0;
-}
-taken-at limit announced before piece after size used (status.Refused refusal) h t = refused_within limit announced after size refusal h.accepted t.present t.decided
+      there : take (length contents) (drop 4 (announced ++ contents)) ≡ contents
+      there = ap (take (length contents)) (drop_at announced contents 4 h.accepted.four) ∙ take_all (length contents) contents (omega arith)
+
+      all : length (announced ++ contents) ≡ 4 + length contents
+      all = omega (arith, h.accepted.four, length-append announced contents)
+
+      none : drop (4 + length contents) (announced ++ contents) ++ more ≡ more
+      none =
+          ap (λ l. l ++ more)
+          (ap (λ l. drop (4 + length contents) l) (sym (append-nil (announced ++ contents))) ∙ drop_at (announced ++ contents) [] (4 + length contents) all)
+
+      by : (count : ℕ) × (message_outcome messages (length contents) contents ≡ Done count) → frames messages limit ((announced ++ contents) ++ more) ≡ with_first contents (frames messages limit more)
+      by (count, d) =
+          frames-done_more messages limit (announced ++ contents) more (length contents) count (omega (arith, all)) (number_of announced contents (length contents) a) (may_follow limit announced (length contents) h.accepted) (ap (message_outcome messages (length contents)) there ∙ d)
+          ∙ ap₂ (λ c r. with_first c (frames messages limit r)) there none
+
+  found-short : (limit : ℕ) (octets : List ℕ) → length octets < 4 → frames messages limit octets ≡ ends (end_behind (length octets))
+  found-short limit [] h = frames-nil messages limit
+  found-short limit (octet ∷ octets) h = frames-short messages limit octet octets h
+
+  pub found-at : (limit : ℕ) (announced contents : List ℕ) (p : Phase) → IsAt messages limit announced contents p → frames messages limit (octets_of p announced contents) ≡ frames_at p contents
+  found-at limit announced contents (phase.Length count) h =
+      let n : length (take count announced ++ contents) ≡ count = length_of-part announced contents count h in
+      found-short limit (take count announced ++ contents) (omega (arith, h.part)) ∙ ap (λ k. ends (end_behind k)) n
+  found-at limit announced contents (phase.Contents size) h =
+      ap (frames messages limit) (four_octets announced contents h.accepted.four) ∙ found-part limit announced contents size h
+  found-at limit announced contents phase.Ready h =
+      ap (frames messages limit) (four_octets announced contents h.accepted.four ∙ sym (append-nil (announced ++ contents)))
+      ∙ found-frame limit announced contents [] h
+      ∙ ap (with_first contents) (frames-nil messages limit)
+  found-at limit announced contents (phase.Refused refusal) h = ap (frames messages limit) (four_octets announced contents h.four) ∙ h.found
+
+  one-at : (limit : ℕ) (announced contents : List ℕ) (p : Phase) → IsAt messages limit announced contents p → AreOfOne (octets_of p announced contents) (frames_at p contents).contents (frames_at p contents).end
+  one-at limit announced contents (phase.Length count) h = one-end (take count announced ++ contents) count (length_of-part announced contents count h)
+  one-at limit announced contents (phase.Contents size) h = omega (arith, h.accepted.four, length-append (take 4 announced) contents, length-take 4 announced)
+  one-at limit announced contents phase.Ready h = ap (drop 4) (four_octets announced contents h.accepted.four) ∙ drop_at announced contents 4 h.accepted.four
+  one-at limit announced contents (phase.Refused refusal) h = omega (arith, h.four, h.last, length-append (take 4 announced) contents, length-take 4 announced)
+
+  pub record Comes (d : Decoding) (answer : Status) : Type 0 where
+    pub is : status_of messages d ≡ answer
+    pub one : IsOfOneFrame messages d
+
+  pub comes : (limit : ℕ) (announced contents : List ℕ) (p : Phase) → IsAt messages limit announced contents p → Comes (record { limit = limit; octets = octets_of p announced contents }) (phase_status p)
+  unfolding found
+  comes limit announced contents p h = record {
+    is = ap (λ f. status_at f.contents f.end) (found-at limit announced contents p h) ∙ status-at p contents;
+    one = subst (λ f. AreOfOne (octets_of p announced contents) f.contents f.end) (sym (found-at limit announced contents p h)) (one-at limit announced contents p h);
+  }
+
+  pub one-nothing : (limit : ℕ) → IsOfOneFrame messages (record { limit = limit; octets = [] })
+  unfolding found
+  one-nothing limit = subst (λ f. AreOfOne [] f.contents f.end) (sym (frames-nil messages limit)) refl
+
+  pub more-nothing : (limit : ℕ) → status_of messages (record { limit = limit; octets = [] }) ≡ status.More
+  unfolding found
+  more-nothing limit = ap (λ f. status_at f.contents f.end) (frames-nil messages limit)
+
+  pub lent-none : (limit : ℕ) (announced contents : List ℕ) (p : Phase) → IsAt messages limit announced contents p → (p ≡ phase.Ready → ⊥) → lent messages (record { limit = limit; octets = octets_of p announced contents }) ≡ None
+  unfolding found
+  lent-none limit announced contents p h n = ap (λ f. first_of f.contents) (found-at limit announced contents p h) ∙ none_ready p contents n
+
+  pub lent-ready : (limit : ℕ) (announced contents : List ℕ) (p : Phase) → IsAt messages limit announced contents p → p ≡ phase.Ready → lent messages (record { limit = limit; octets = octets_of p announced contents }) ≡ Some contents
+  unfolding found
+  lent-ready limit announced contents p h e = ap (λ f. first_of f.contents) (found-at limit announced contents p h ∙ ap (λ q. frames_at q contents) e)
+
+  pub finish-at : (limit : ℕ) (announced contents : List ℕ) (p : Phase) → IsAt messages limit announced contents p → finish_of messages (record { limit = limit; octets = octets_of p announced contents }) ≡ finish_at (frames_at p contents).end
+  unfolding found
+  finish-at limit announced contents p h = ap (λ f. finish_at f.end) (found-at limit announced contents p h)
+
+  -- the contents are those that are kept
+  pub kept-at : (limit : ℕ) (announced contents : List ℕ) (p : Phase) → IsAt messages limit announced contents p → length contents ≡ length (drop 4 (octets_of p announced contents))
+  kept-at limit announced contents (phase.Length count) h = omega (arith, length_of-part announced contents count h, h.part, ap length h.none, length-drop 4 (take count announced ++ contents))
+  kept-at limit announced contents (phase.Contents size) h = omega (arith, h.accepted.four, length-append (take 4 announced) contents, length-take 4 announced, length-drop 4 (take 4 announced ++ contents))
+  kept-at limit announced contents phase.Ready h = omega (arith, h.accepted.four, length-append (take 4 announced) contents, length-take 4 announced, length-drop 4 (take 4 announced ++ contents))
+  kept-at limit announced contents (phase.Refused refusal) h = omega (arith, h.four, length-append (take 4 announced) contents, length-take 4 announced, length-drop 4 (take 4 announced ++ contents))
+
+  pub few-at : (limit : ℕ) (announced contents : List ℕ) (p : Phase) → limit < 2 ^ 31 → IsAt messages limit announced contents p → (length contents ≤ limit) × (length contents < 2 ^ 31)
+  few-at limit announced contents (phase.Length count) l h = (omega (arith, ap length h.none), omega (arith, ap length h.none))
+  few-at limit announced contents (phase.Contents size) l h = (omega (arith, h.present, h.accepted.within), omega (arith, h.present, h.accepted.short))
+  few-at limit announced contents phase.Ready l h = (h.accepted.within, h.accepted.short)
+  few-at limit announced contents (phase.Refused refusal) l h = (h.few, h.short)
+
+  -- ---- contents that were taken
+  refused_within : (limit : ℕ) (announced contents : List ℕ) (size : ℕ) (refusal : Refusal) → IsAccepted limit announced size → length contents ≤ size → IsRefusedIn messages size contents refusal → HasRefused messages limit announced contents refusal
+  refused_within limit announced contents size refusal accepted few r =
+      let a = announces limit announced size accepted in
+      let there : take size (drop 4 (announced ++ contents)) ≡ contents = ap (take size) (drop_at announced contents 4 a.four) ∙ take_all size contents few in
+      let bad : message_outcome messages size (take size (drop 4 (announced ++ contents))) ≡ Bad r.offset refusal.why = ap (message_outcome messages size) there ∙ refused_outcome (message_outcome messages size contents) r.offset refusal.why r.judged in
+      let place : 4 + r.offset ≡ refusal.place = omega (arith, r.place) in
+      record {
+        four = a.four;
+        found =
+            frames-bad messages limit (announced ++ contents) size r.offset refusal.why (room announced contents size a) (number_of announced contents size a) (may_follow limit announced size accepted) bad
+            ∙ ap (λ n. ends (Refused n refusal.why)) place;
+        last = omega (arith, r.place, r.last);
+        few = omega (arith, accepted.within);
+        short = omega (arith, accepted.short);
+      }
+
+  pub taken-at : (limit : ℕ) (announced before piece after : List ℕ) (size used : ℕ) (answer : Status) → HasPart messages limit announced before size → IsTaken messages size before piece after (record { used = used; status = answer }) → IsAt messages limit announced after (phase_of size answer)
+  taken-at limit announced before piece after size used status.More h t = record { accepted = h.accepted; present = t.present; undecided = t.decided.0 }
+  taken-at limit announced before piece after size used status.Memory h t = record { accepted = h.accepted; present = t.present; undecided = t.decided.0 }
+  taken-at limit announced before piece after size used status.Ready h t = record {
+    accepted = subst (IsAccepted limit announced) (sym t.decided.1) h.accepted;
+    whole = subst (λ n. judgement_by messages n after ≡ verdict.Whole) (sym t.decided.1) t.decided.0;
+  }
+  taken-at limit announced before piece after size used (status.Refused refusal) h t = refused_within limit announced after size refusal h.accepted t.present t.decided

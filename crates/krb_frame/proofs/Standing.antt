@@ -3,7 +3,7 @@ use Rattle.std.proofs.Common.{◌≡◌, ◌≢◌, ℕ, ◌+◌, ◌<◌, ◌�
 use Rattle.std.proofs.lemmas.Bool.{cases_lt}
 use Rattle.std.proofs.Math.Seq.{take-add}
 use Rattle.std.specs.Prelude.{is_some}
-use Rattle.krb_msg.specs.Grammar.{messages}
+use Rattle.krb_msg.specs.Term.{Term}
 use Rattle.krb_msg.specs.Stream.{with_first, frames}
 use Rattle.krb_frame.specs.Decoding.{Decoding, status_of, lent, IsOfOneFrame}
 use Rattle.krb_frame.specs.Stands.{Stands, behind_frames}
@@ -16,90 +16,10 @@ use Rattle.krb_frame.specs.declared.decoder.Status.{Status}
 use Rattle.krb_frame.specs.declared.decoder.Status.TheVariants as status
 use Rattle.krb_frame.proofs.Founds.{Comes, comes, one-nothing, found-frame, four_octets, lent-ready, length_of-part, taken-at}
 
-pub Stands-new : (limit : ℕ) → Stands (record { limit = limit; octets = [] }) [] []
-Stands-new limit = record { goes_on = λ more. refl; last = record { before = []; parts = refl }; one = one-nothing limit }
-
--- octets more
-pub Stands-fed : (old new : Decoding) (used : List ℕ) → new.limit ≡ old.limit → new.octets ≡ old.octets ++ used → IsOfOneFrame new → (stream : List ℕ) (cleared : List (List ℕ)) → Stands old stream cleared → Stands new (stream ++ used) cleared
-Stands-fed old new used l o one stream cleared s = record {
-  goes_on = λ more.
-      ap (frames messages new.limit) (append_assoc stream used more)
-      ∙ ap (λ n. frames messages n (stream ++ (used ++ more))) l
-      ∙ s.goes_on (used ++ more)
-      ∙ ap (λ n. behind_frames cleared (frames messages n (old.octets ++ (used ++ more)))) (sym l)
-      ∙ ap (λ r. behind_frames cleared (frames messages new.limit r)) (sym (append_assoc old.octets used more) ∙ ap (λ r. r ++ more) (sym o));
-  last = record { before = s.last.before; parts = ap (λ r. r ++ used) s.last.parts ∙ append_assoc s.last.before old.octets used ∙ ap (λ r. s.last.before ++ r) (sym o) };
-  one = one;
-}
-
--- one frame less
-pub Stands-cleared : (limit : ℕ) (octets contents : List ℕ) → ((more : List ℕ) → frames messages limit (octets ++ more) ≡ with_first contents (frames messages limit more)) → (stream : List ℕ) (cleared : List (List ℕ)) → Stands (record { limit = limit; octets = octets }) stream cleared → Stands (record { limit = limit; octets = [] }) stream (cleared ++ contents ∷ [])
-Stands-cleared limit octets contents first stream cleared s = record {
-  goes_on = λ more.
-      s.goes_on more
-      ∙ ap (behind_frames cleared) (first more)
-      ∙ ap (λ l. record { contents = l; end = (frames messages limit more).end }) (sym (append_assoc cleared (contents ∷ []) (frames messages limit more).contents));
-  last = record { before = stream; parts = sym (append-nil stream) };
-  one = one-nothing limit;
-}
-
--- ---- feeds
-pub Feeds-made : (old new : Decoding) (piece : List ℕ) (count : ℕ) (answer came : Status) → count ≤ length piece → new.limit ≡ old.limit → new.octets ≡ old.octets ++ take count piece → status_of old ≡ status.More → Comes new came → (answer ≡ came) ⊎ ((answer ≡ status.Memory) × (came ≡ status.More)) → (answer ≡ status.More → count ≡ length piece) → (answer ≡ status.Memory → (4 ≤ length new.octets) × (count < length piece)) → Feeds old piece new (record { used = count; status = answer })
-Feeds-made old new piece count answer came k l o w c a more memory = record {
-  within = k;
-  same_limit = l;
-  octets = o;
-  answer = by a;
-  all = more;
-  again = λ n. absurd (n w);
-  memory = memory;
-  stands = Stands-fed old new (take count piece) l o c.one;
-}
-  where
-    by : (answer ≡ came) ⊎ ((answer ≡ status.Memory) × (came ≡ status.More)) → IsAnswer new answer
-    by (inl e) = inl (e ∙ sym c.is)
-    by (inr (e, f)) = inr (e, c.is ∙ f)
-
--- nothing is used
-pub Feeds-nothing : (d : Decoding) (piece : List ℕ) (answer : Status) → Comes d answer → (answer ≡ status.More → piece ≡ []) → answer ≢ status.Memory → Feeds d piece d (record { used = 0; status = answer })
-Feeds-nothing d piece answer c none not_memory = record {
-  within = omega arith;
-  same_limit = refl;
-  octets = sym (append-nil d.octets);
-  answer = inl (sym c.is);
-  all = λ e. omega (arith, ap length (none e));
-  again = λ n. (refl, sym c.is);
-  memory = λ e. absurd (not_memory e);
-  stands = Stands-fed d d [] refl (sym (append-nil d.octets)) c.one;
-}
-
-pub Feeds-idle : (limit : ℕ) (announced contents piece : List ℕ) (p : Phase) (answer : Status) → IsAt limit announced contents p → phase_status p ≡ answer → (answer ≡ status.More → piece ≡ []) → answer ≢ status.Memory → Feeds (record { limit = limit; octets = octets_of p announced contents }) piece (record { limit = limit; octets = octets_of p announced contents }) (record { used = 0; status = answer })
-Feeds-idle limit announced contents piece p answer h e none n =
-    Feeds-nothing (record { limit = limit; octets = octets_of p announced contents }) piece answer
-    (subst (Comes (record { limit = limit; octets = octets_of p announced contents })) e (comes limit announced contents p h)) none n
-
 -- less than a length is there
 pub none-fed : (announced contents piece : List ℕ) (count : ℕ) → HasPartOfLength announced contents count → (piece ≡ []) ⊎ (4 ≤ length (take count announced ++ contents)) → piece ≡ []
 none-fed announced contents piece count h (inl e) = e
 none-fed announced contents piece count h (inr l) = absurd (omega (arith, h.part, length_of-part announced contents count h))
-
-answer_of : (size used : ℕ) (after piece : List ℕ) (answer : Status) → IsDecided size after piece used answer → (answer ≡ phase_status (phase_of size answer)) ⊎ ((answer ≡ status.Memory) × (phase_status (phase_of size answer) ≡ status.More))
-answer_of size used after piece status.More d = inl refl
-answer_of size used after piece status.Memory d = inr (refl, refl)
-answer_of size used after piece status.Ready d = inl refl
-answer_of size used after piece (status.Refused refusal) d = inl refl
-
-all_of : (size used : ℕ) (after piece : List ℕ) (answer : Status) → IsDecided size after piece used answer → answer ≡ status.More → used ≡ length piece
-all_of size used after piece status.More d e = d.1
-all_of size used after piece status.Memory d e = absurd cc
-all_of size used after piece status.Ready d e = absurd cc
-all_of size used after piece (status.Refused refusal) d e = absurd cc
-
-memory_of : (size used : ℕ) (after piece : List ℕ) (answer : Status) → IsDecided size after piece used answer → answer ≡ status.Memory → used < length piece
-memory_of size used after piece status.More d e = absurd cc
-memory_of size used after piece status.Memory d e = d.1
-memory_of size used after piece status.Ready d e = absurd cc
-memory_of size used after piece (status.Refused refusal) d e = absurd cc
 
 four_present : (size : ℕ) (answer : Status) → length_present (phase_of size answer) ≡ 4
 four_present size status.More = refl
@@ -107,116 +27,198 @@ four_present size status.Memory = refl
 four_present size status.Ready = refl
 four_present size (status.Refused refusal) = refl
 
-pub Feeds-contents : (limit : ℕ) (announced before piece after : List ℕ) (size : ℕ) (p : Phase) (fed : Fed) → HasPart limit announced before size → IsTaken size before piece after fed → p ≡ phase_of size fed.status → Feeds (record { limit = limit; octets = octets_of (phase.Contents size) announced before }) piece (record { limit = limit; octets = octets_of p announced after }) fed
-Feeds-contents limit announced before piece after size p fed h t e =
-    let old : Decoding = record { limit = limit; octets = octets_of (phase.Contents size) announced before } in
-    let octets : octets_of (phase_of size fed.status) announced after ≡ octets_of (phase.Contents size) announced before ++ take fed.used piece =
-    ap (λ n. take n announced ++ after) (four_present size fed.status) ∙ ap (λ l. take 4 announced ++ l) t.contents ∙ sym (append_assoc (take 4 announced) before (take fed.used piece)) in
-    let four : 4 ≤ length (octets_of (phase_of size fed.status) announced after) =
-    let n : length_present (phase_of size fed.status) ≡ 4 = four_present size fed.status in
-    omega (arith, n, h.accepted.four, length-append (take (length_present (phase_of size fed.status)) announced) after, length-take (length_present (phase_of size fed.status)) announced) in
-    subst (λ q. Feeds old piece (record { limit = limit; octets = octets_of q announced after }) fed) (sym e)
-    (Feeds-made old (record { limit = limit; octets = octets_of (phase_of size fed.status) announced after }) piece fed.used fed.status (phase_status (phase_of size fed.status)) t.within refl octets (comes limit announced before (phase.Contents size) h).is
-    (comes limit announced after (phase_of size fed.status) (taken-at limit announced before piece after size fed.used fed.status h t))
-    (answer_of size fed.used after piece fed.status t.decided)
-    (all_of size fed.used after piece fed.status t.decided)
-    (λ m. (four, memory_of size fed.used after piece fed.status t.decided m)))
-
--- no octet of a length is missing
-pub FeedsLength-none : (limit : ℕ) (announced contents piece : List ℕ) (p : Phase) → IsAt limit announced contents p → ((count : ℕ) → p ≡ phase.Length count → ⊥) → FeedsLength (record { limit = limit; octets = octets_of p announced contents }) piece (record { limit = limit; octets = octets_of p announced contents }) 0
-FeedsLength-none limit announced contents piece p h n = record {
-  within = omega arith;
-  same_limit = refl;
-  octets = sym (append-nil (octets_of p announced contents));
-  again = λ m. refl;
-  on = inr (four p h n);
-  one = (comes limit announced contents p h).one;
-}
-  where
-    four : (p : Phase) → IsAt limit announced contents p → ((count : ℕ) → p ≡ phase.Length count → ⊥) → 4 ≤ length (octets_of p announced contents)
-    four (phase.Length count) h n = absurd (n count refl)
-    four (phase.Contents size) h n = omega (arith, h.accepted.four, length-append (take 4 announced) contents, length-take 4 announced)
-    four phase.Ready h n = omega (arith, h.accepted.four, length-append (take 4 announced) contents, length-take 4 announced)
-    four (phase.Refused refusal) h n = omega (arith, h.four, length-append (take 4 announced) contents, length-take 4 announced)
-
--- octets of a length
-pub FeedsLength-made : (limit : ℕ) (announced contents piece after : List ℕ) (present used : ℕ) (p : Phase) → HasPartOfLength announced contents present → IsPut announced present piece after used → length after ≡ 4 → length_present p ≡ present + used → IsAt limit after contents p → FeedsLength (record { limit = limit; octets = take present announced ++ contents }) piece (record { limit = limit; octets = octets_of p after contents }) used
-FeedsLength-made limit announced contents piece after present used p h put four n at = record {
-  within = omega (arith, put.many);
-  same_limit = refl;
-  octets =
-      ap (λ l. take (length_present p) after ++ l) h.none
-      ∙ append-nil (take (length_present p) after)
-      ∙ ap (λ k. take k after) n
-      ∙ put.front
-      ∙ ap (λ l. l ++ take used piece) (sym (ap (λ l. take present announced ++ l) h.none ∙ append-nil (take present announced)));
-  again = λ m. absurd (m (comes limit announced contents (phase.Length present) h).is);
-  on = by (cases_lt used (length piece));
-  one = (comes limit after contents p at).one;
-}
-  where
-    by : (used < length piece) ⊎ (length piece ≤ used) → (used ≡ length piece) ⊎ (4 ≤ length (octets_of p after contents))
-    by (inl l) = inr (omega (arith, put.many, n, four, h.part, length-append (take (length_present p) after) contents, length-take (length_present p) after))
-    by (inr l) = inl (omega (arith, put.many))
-
--- the length, and then the contents
-pub Feeds-both : (old between new : Decoding) (piece : List ℕ) (used : ℕ) (fed : Fed) → FeedsLength old piece between used → Feeds between (drop used piece) new fed → Feeds old piece new (record { used = used + fed.used; status = fed.status })
-Feeds-both old between new piece used fed f g = record {
-  within = omega (arith, f.within, g.within, length-drop used piece);
-  same_limit = g.same_limit ∙ f.same_limit;
-  octets = octets;
-  answer = g.answer;
-  all = λ e. omega (arith, g.all e, f.within, length-drop used piece);
-  again = λ n. again n (f.again n);
-  memory = λ e. ((g.memory e).0, omega (arith, (g.memory e).1, f.within, length-drop used piece));
-  stands = λ stream cleared s.
-      subst (λ l. Stands new l cleared)
-      (append_assoc stream (take used piece) (take fed.used (drop used piece)) ∙ ap (λ l. stream ++ l) (sym (take-add used fed.used piece)))
-      (g.stands (stream ++ take used piece) cleared (Stands-fed old between (take used piece) f.same_limit f.octets f.one stream cleared s));
-}
-  where
-    octets : new.octets ≡ old.octets ++ take (used + fed.used) piece
-    octets =
-        g.octets
-        ∙ ap (λ l. l ++ take fed.used (drop used piece)) f.octets
-        ∙ append_assoc old.octets (take used piece) (take fed.used (drop used piece))
-        ∙ ap (λ l. old.octets ++ l) (sym (take-add used fed.used piece))
-
-    same : used ≡ 0 → between ≡ old
-    same e = λ i. record { limit = f.same_limit i; octets = (f.octets ∙ ap (λ n. old.octets ++ take n piece) e ∙ append-nil old.octets) i }
-
-    again : status_of old ≢ status.More → used ≡ 0 → (used + fed.used ≡ 0) × (fed.status ≡ status_of old)
-    again n e =
-        let s : status_of between ≡ status_of old = ap status_of (same e) in
-        let a = g.again (λ m. n (sym s ∙ m)) in
-        (omega (arith, e, a.0), a.1 ∙ s)
-
--- ---- a frame that is cleared
-pub Clears-none : (d : Decoding) → lent d ≡ None → Clears d d false
-Clears-none d e = record {
-  is_ready = sym (ap is_some e);
-  left = rw e refl;
-  stands = λ stream contents cleared s m. absurd (no_contents contents (sym e ∙ m));
-}
-  where
-    no_contents : (contents : List ℕ) → None ≡ Some contents → ⊥
-    no_contents contents n = cc
-
 same_contents : (contents other : List ℕ) → Some contents ≡ Some other → contents ≡ other
 same_contents contents other e = cc
 
-pub Clears-frame : (limit : ℕ) (announced contents after : List ℕ) → HasFrame limit announced contents → after ≡ [] → Clears (record { limit = limit; octets = take 4 announced ++ contents }) (record { limit = limit; octets = after }) true
-Clears-frame limit announced contents after h e =
-    let d : Decoding = record { limit = limit; octets = take 4 announced ++ contents } in
-    let there : lent d ≡ Some contents = lent-ready limit announced contents phase.Ready h refl in
-    let first : (more : List ℕ) → frames messages limit ((take 4 announced ++ contents) ++ more) ≡ with_first contents (frames messages limit more) =
-    λ more. ap (λ l. frames messages limit (l ++ more)) (four_octets announced contents h.accepted.four) ∙ found-frame limit announced contents more h in
-    record {
-      is_ready = sym (ap is_some there);
-      left = rw (there, e) refl;
-      stands = λ stream other cleared s m.
-          let same : contents ≡ other = same_contents contents other (sym there ∙ m) in
-          subst (λ o. Stands (record { limit = limit; octets = after }) stream (cleared ++ o ∷ [])) same
-          (subst (λ l. Stands (record { limit = limit; octets = l }) stream (cleared ++ contents ∷ [])) (sym e)
-          (Stands-cleared limit (take 4 announced ++ contents) contents first stream cleared s));
-    }
+-- ---- by any messages
+module _ (messages : List Term) where
+  pub Stands-new : (limit : ℕ) → Stands messages (record { limit = limit; octets = [] }) [] []
+  Stands-new limit = record { goes_on = λ more. refl; last = record { before = []; parts = refl }; one = one-nothing messages limit }
+
+  -- octets more
+  pub Stands-fed : (old new : Decoding) (used : List ℕ) → new.limit ≡ old.limit → new.octets ≡ old.octets ++ used → IsOfOneFrame messages new → (stream : List ℕ) (cleared : List (List ℕ)) → Stands messages old stream cleared → Stands messages new (stream ++ used) cleared
+  Stands-fed old new used l o one stream cleared s = record {
+    goes_on = λ more.
+        ap (frames messages new.limit) (append_assoc stream used more)
+        ∙ ap (λ n. frames messages n (stream ++ (used ++ more))) l
+        ∙ s.goes_on (used ++ more)
+        ∙ ap (λ n. behind_frames cleared (frames messages n (old.octets ++ (used ++ more)))) (sym l)
+        ∙ ap (λ r. behind_frames cleared (frames messages new.limit r)) (sym (append_assoc old.octets used more) ∙ ap (λ r. r ++ more) (sym o));
+    last = record { before = s.last.before; parts = ap (λ r. r ++ used) s.last.parts ∙ append_assoc s.last.before old.octets used ∙ ap (λ r. s.last.before ++ r) (sym o) };
+    one = one;
+  }
+
+  -- one frame less
+  pub Stands-cleared : (limit : ℕ) (octets contents : List ℕ) → ((more : List ℕ) → frames messages limit (octets ++ more) ≡ with_first contents (frames messages limit more)) → (stream : List ℕ) (cleared : List (List ℕ)) → Stands messages (record { limit = limit; octets = octets }) stream cleared → Stands messages (record { limit = limit; octets = [] }) stream (cleared ++ contents ∷ [])
+  Stands-cleared limit octets contents first stream cleared s = record {
+    goes_on = λ more.
+        s.goes_on more
+        ∙ ap (behind_frames cleared) (first more)
+        ∙ ap (λ l. record { contents = l; end = (frames messages limit more).end }) (sym (append_assoc cleared (contents ∷ []) (frames messages limit more).contents));
+    last = record { before = stream; parts = sym (append-nil stream) };
+    one = one-nothing messages limit;
+  }
+
+  -- ---- feeds
+  pub Feeds-made : (old new : Decoding) (piece : List ℕ) (count : ℕ) (answer came : Status) → count ≤ length piece → new.limit ≡ old.limit → new.octets ≡ old.octets ++ take count piece → status_of messages old ≡ status.More → Comes messages new came → (answer ≡ came) ⊎ ((answer ≡ status.Memory) × (came ≡ status.More)) → (answer ≡ status.More → count ≡ length piece) → (answer ≡ status.Memory → (4 ≤ length new.octets) × (count < length piece)) → Feeds messages old piece new (record { used = count; status = answer })
+  Feeds-made old new piece count answer came k l o w c a more memory = record {
+    within = k;
+    same_limit = l;
+    octets = o;
+    answer = by a;
+    all = more;
+    again = λ n. absurd (n w);
+    memory = memory;
+    stands = Stands-fed old new (take count piece) l o c.one;
+  }
+    where
+      by : (answer ≡ came) ⊎ ((answer ≡ status.Memory) × (came ≡ status.More)) → IsAnswer messages new answer
+      by (inl e) = inl (e ∙ sym c.is)
+      by (inr (e, f)) = inr (e, c.is ∙ f)
+
+  -- nothing is used
+  pub Feeds-nothing : (d : Decoding) (piece : List ℕ) (answer : Status) → Comes messages d answer → (answer ≡ status.More → piece ≡ []) → answer ≢ status.Memory → Feeds messages d piece d (record { used = 0; status = answer })
+  Feeds-nothing d piece answer c none not_memory = record {
+    within = omega arith;
+    same_limit = refl;
+    octets = sym (append-nil d.octets);
+    answer = inl (sym c.is);
+    all = λ e. omega (arith, ap length (none e));
+    again = λ n. (refl, sym c.is);
+    memory = λ e. absurd (not_memory e);
+    stands = Stands-fed d d [] refl (sym (append-nil d.octets)) c.one;
+  }
+
+  pub Feeds-idle : (limit : ℕ) (announced contents piece : List ℕ) (p : Phase) (answer : Status) → IsAt messages limit announced contents p → phase_status p ≡ answer → (answer ≡ status.More → piece ≡ []) → answer ≢ status.Memory → Feeds messages (record { limit = limit; octets = octets_of p announced contents }) piece (record { limit = limit; octets = octets_of p announced contents }) (record { used = 0; status = answer })
+  Feeds-idle limit announced contents piece p answer h e none n =
+      Feeds-nothing (record { limit = limit; octets = octets_of p announced contents }) piece answer
+      (subst (Comes messages (record { limit = limit; octets = octets_of p announced contents })) e (comes messages limit announced contents p h)) none n
+
+  answer_of : (size used : ℕ) (after piece : List ℕ) (answer : Status) → IsDecided messages size after piece used answer → (answer ≡ phase_status (phase_of size answer)) ⊎ ((answer ≡ status.Memory) × (phase_status (phase_of size answer) ≡ status.More))
+  answer_of size used after piece status.More d = inl refl
+  answer_of size used after piece status.Memory d = inr (refl, refl)
+  answer_of size used after piece status.Ready d = inl refl
+  answer_of size used after piece (status.Refused refusal) d = inl refl
+
+  all_of : (size used : ℕ) (after piece : List ℕ) (answer : Status) → IsDecided messages size after piece used answer → answer ≡ status.More → used ≡ length piece
+  all_of size used after piece status.More d e = d.1
+  all_of size used after piece status.Memory d e = absurd cc
+  all_of size used after piece status.Ready d e = absurd cc
+  all_of size used after piece (status.Refused refusal) d e = absurd cc
+
+  memory_of : (size used : ℕ) (after piece : List ℕ) (answer : Status) → IsDecided messages size after piece used answer → answer ≡ status.Memory → used < length piece
+  memory_of size used after piece status.More d e = absurd cc
+  memory_of size used after piece status.Memory d e = d.1
+  memory_of size used after piece status.Ready d e = absurd cc
+  memory_of size used after piece (status.Refused refusal) d e = absurd cc
+
+  pub Feeds-contents : (limit : ℕ) (announced before piece after : List ℕ) (size : ℕ) (p : Phase) (fed : Fed) → HasPart messages limit announced before size → IsTaken messages size before piece after fed → p ≡ phase_of size fed.status → Feeds messages (record { limit = limit; octets = octets_of (phase.Contents size) announced before }) piece (record { limit = limit; octets = octets_of p announced after }) fed
+  Feeds-contents limit announced before piece after size p fed h t e =
+      let old : Decoding = record { limit = limit; octets = octets_of (phase.Contents size) announced before } in
+      let octets : octets_of (phase_of size fed.status) announced after ≡ octets_of (phase.Contents size) announced before ++ take fed.used piece =
+      ap (λ n. take n announced ++ after) (four_present size fed.status) ∙ ap (λ l. take 4 announced ++ l) t.contents ∙ sym (append_assoc (take 4 announced) before (take fed.used piece)) in
+      let four : 4 ≤ length (octets_of (phase_of size fed.status) announced after) =
+      let n : length_present (phase_of size fed.status) ≡ 4 = four_present size fed.status in
+      omega (arith, n, h.accepted.four, length-append (take (length_present (phase_of size fed.status)) announced) after, length-take (length_present (phase_of size fed.status)) announced) in
+      subst (λ q. Feeds messages old piece (record { limit = limit; octets = octets_of q announced after }) fed) (sym e)
+      (Feeds-made old (record { limit = limit; octets = octets_of (phase_of size fed.status) announced after }) piece fed.used fed.status (phase_status (phase_of size fed.status)) t.within refl octets (comes messages limit announced before (phase.Contents size) h).is
+      (comes messages limit announced after (phase_of size fed.status) (taken-at messages limit announced before piece after size fed.used fed.status h t))
+      (answer_of size fed.used after piece fed.status t.decided)
+      (all_of size fed.used after piece fed.status t.decided)
+      (λ m. (four, memory_of size fed.used after piece fed.status t.decided m)))
+
+  -- no octet of a length is missing
+  pub FeedsLength-none : (limit : ℕ) (announced contents piece : List ℕ) (p : Phase) → IsAt messages limit announced contents p → ((count : ℕ) → p ≡ phase.Length count → ⊥) → FeedsLength messages (record { limit = limit; octets = octets_of p announced contents }) piece (record { limit = limit; octets = octets_of p announced contents }) 0
+  FeedsLength-none limit announced contents piece p h n = record {
+    within = omega arith;
+    same_limit = refl;
+    octets = sym (append-nil (octets_of p announced contents));
+    again = λ m. refl;
+    on = inr (four p h n);
+    one = (comes messages limit announced contents p h).one;
+  }
+    where
+      four : (p : Phase) → IsAt messages limit announced contents p → ((count : ℕ) → p ≡ phase.Length count → ⊥) → 4 ≤ length (octets_of p announced contents)
+      four (phase.Length count) h n = absurd (n count refl)
+      four (phase.Contents size) h n = omega (arith, h.accepted.four, length-append (take 4 announced) contents, length-take 4 announced)
+      four phase.Ready h n = omega (arith, h.accepted.four, length-append (take 4 announced) contents, length-take 4 announced)
+      four (phase.Refused refusal) h n = omega (arith, h.four, length-append (take 4 announced) contents, length-take 4 announced)
+
+  -- octets of a length
+  pub FeedsLength-made : (limit : ℕ) (announced contents piece after : List ℕ) (present used : ℕ) (p : Phase) → HasPartOfLength announced contents present → IsPut announced present piece after used → length after ≡ 4 → length_present p ≡ present + used → IsAt messages limit after contents p → FeedsLength messages (record { limit = limit; octets = take present announced ++ contents }) piece (record { limit = limit; octets = octets_of p after contents }) used
+  FeedsLength-made limit announced contents piece after present used p h put four n at = record {
+    within = omega (arith, put.many);
+    same_limit = refl;
+    octets =
+        ap (λ l. take (length_present p) after ++ l) h.none
+        ∙ append-nil (take (length_present p) after)
+        ∙ ap (λ k. take k after) n
+        ∙ put.front
+        ∙ ap (λ l. l ++ take used piece) (sym (ap (λ l. take present announced ++ l) h.none ∙ append-nil (take present announced)));
+    again = λ m. absurd (m (comes messages limit announced contents (phase.Length present) h).is);
+    on = by (cases_lt used (length piece));
+    one = (comes messages limit after contents p at).one;
+  }
+    where
+      by : (used < length piece) ⊎ (length piece ≤ used) → (used ≡ length piece) ⊎ (4 ≤ length (octets_of p after contents))
+      by (inl l) = inr (omega (arith, put.many, n, four, h.part, length-append (take (length_present p) after) contents, length-take (length_present p) after))
+      by (inr l) = inl (omega (arith, put.many))
+
+  -- the length, and then the contents
+  pub Feeds-both : (old between new : Decoding) (piece : List ℕ) (used : ℕ) (fed : Fed) → FeedsLength messages old piece between used → Feeds messages between (drop used piece) new fed → Feeds messages old piece new (record { used = used + fed.used; status = fed.status })
+  Feeds-both old between new piece used fed f g = record {
+    within = omega (arith, f.within, g.within, length-drop used piece);
+    same_limit = g.same_limit ∙ f.same_limit;
+    octets = octets;
+    answer = g.answer;
+    all = λ e. omega (arith, g.all e, f.within, length-drop used piece);
+    again = λ n. again n (f.again n);
+    memory = λ e. ((g.memory e).0, omega (arith, (g.memory e).1, f.within, length-drop used piece));
+    stands = λ stream cleared s.
+        subst (λ l. Stands messages new l cleared)
+        (append_assoc stream (take used piece) (take fed.used (drop used piece)) ∙ ap (λ l. stream ++ l) (sym (take-add used fed.used piece)))
+        (g.stands (stream ++ take used piece) cleared (Stands-fed old between (take used piece) f.same_limit f.octets f.one stream cleared s));
+  }
+    where
+      octets : new.octets ≡ old.octets ++ take (used + fed.used) piece
+      octets =
+          g.octets
+          ∙ ap (λ l. l ++ take fed.used (drop used piece)) f.octets
+          ∙ append_assoc old.octets (take used piece) (take fed.used (drop used piece))
+          ∙ ap (λ l. old.octets ++ l) (sym (take-add used fed.used piece))
+
+      same : used ≡ 0 → between ≡ old
+      same e = λ i. record { limit = f.same_limit i; octets = (f.octets ∙ ap (λ n. old.octets ++ take n piece) e ∙ append-nil old.octets) i }
+
+      again : status_of messages old ≢ status.More → used ≡ 0 → (used + fed.used ≡ 0) × (fed.status ≡ status_of messages old)
+      again n e =
+          let s : status_of messages between ≡ status_of messages old = ap (status_of messages) (same e) in
+          let a = g.again (λ m. n (sym s ∙ m)) in
+          (omega (arith, e, a.0), a.1 ∙ s)
+
+  -- ---- a frame that is cleared
+  pub Clears-none : (d : Decoding) → lent messages d ≡ None → Clears messages d d false
+  Clears-none d e = record {
+    is_ready = sym (ap is_some e);
+    left = rw e refl;
+    stands = λ stream contents cleared s m. absurd (no_contents contents (sym e ∙ m));
+  }
+    where
+      no_contents : (contents : List ℕ) → None ≡ Some contents → ⊥
+      no_contents contents n = cc
+
+  pub Clears-frame : (limit : ℕ) (announced contents after : List ℕ) → HasFrame messages limit announced contents → after ≡ [] → Clears messages (record { limit = limit; octets = take 4 announced ++ contents }) (record { limit = limit; octets = after }) true
+  Clears-frame limit announced contents after h e =
+      let d : Decoding = record { limit = limit; octets = take 4 announced ++ contents } in
+      let there : lent messages d ≡ Some contents = lent-ready messages limit announced contents phase.Ready h refl in
+      let first : (more : List ℕ) → frames messages limit ((take 4 announced ++ contents) ++ more) ≡ with_first contents (frames messages limit more) =
+      λ more. ap (λ l. frames messages limit (l ++ more)) (four_octets announced contents h.accepted.four) ∙ found-frame messages limit announced contents more h in
+      record {
+        is_ready = sym (ap is_some there);
+        left = rw (there, e) refl;
+        stands = λ stream other cleared s m.
+            let same : contents ≡ other = same_contents contents other (sym there ∙ m) in
+            subst (λ o. Stands messages (record { limit = limit; octets = after }) stream (cleared ++ o ∷ [])) same
+            (subst (λ l. Stands messages (record { limit = limit; octets = l }) stream (cleared ++ contents ∷ [])) (sym e)
+            (Stands-cleared limit (take 4 announced ++ contents) contents first stream cleared s));
+      }

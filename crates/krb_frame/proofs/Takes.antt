@@ -8,9 +8,10 @@ use Rattle.krb_der.specs.Octets.{AreOctets}
 use Rattle.krb_der.specs.declared.why.Why.{Why}
 use Rattle.krb_der.specs.declared.verdict.Refusal.{Refusal}
 use Rattle.krb_der.specs.declared.verdict.Verdict.TheVariants as verdict
-use Rattle.krb_msg.specs.Judgement.{judgement}
+use Rattle.krb_msg.specs.Term.{Term}
+use Rattle.krb_msg.specs.Judgement.{judgement_by}
 use Rattle.krb_msg.specs.Laws.{IsFinal}
-use Rattle.krb_msg.proofs.Judged.{refusal_is_final, all_is_decided, whole_is_message}
+use Rattle.krb_msg.proofs.Grammars.{refusal_is_final, all_is_decided, whole_is_one_of}
 use Rattle.krb_frame.specs.declared.decoder.Status.TheVariants as status
 use Rattle.krb_frame.specs.Phases.{IsTaken}
 
@@ -19,71 +20,73 @@ pub extended : {A B : Type 0} (r : Result A B) (held all kept : List ℕ) → he
 extended (Ok done) held all kept e f = e
 extended (Err error) held all kept e f = absurd cc
 
--- a refusal stands behind the octets that left all open
-pub refused_later : (size : ℕ) (refusal : Refusal) (before piece : List ℕ) → length (before ++ piece) ≤ size → judgement size before ≡ verdict.Open → judgement size (before ++ piece) ≡ verdict.Refused refusal → length before ≤ refusal.place
-refused_later size refusal before piece l o e = elim (cases_lt refusal.place (length before)) [
-  | inl h ↦
-      let f = refusal_is_final size (before ++ piece) refusal.place refusal.why l e in
-      let again : judgement size before ≡ verdict.Refused refusal = f.same before (omega (arith, length-append before piece)) (sym (take-append-le (suc refusal.place) before piece (omega arith))) in
-      absurd cc
-  | inr h ↦ h
-]
+-- ---- by any messages
+module _ (messages : List Term) where
+  -- a refusal stands behind the octets that left all open
+  pub refused_later : (size : ℕ) (refusal : Refusal) (before piece : List ℕ) → length (before ++ piece) ≤ size → judgement_by messages size before ≡ verdict.Open → judgement_by messages size (before ++ piece) ≡ verdict.Refused refusal → length before ≤ refusal.place
+  refused_later size refusal before piece l o e = elim (cases_lt refusal.place (length before)) [
+    | inl h ↦
+        let f = refusal_is_final messages size (before ++ piece) refusal.place refusal.why l e in
+        let again : judgement_by messages size before ≡ verdict.Refused refusal = f.same before (omega (arith, length-append before piece)) (sym (take-append-le (suc refusal.place) before piece (omega arith))) in
+        absurd cc
+    | inr h ↦ h
+  ]
 
-module _ (size count : ℕ) (before piece : List ℕ) (few : count ≤ length piece) (room : length before + count ≤ size) where
-  all : length (before ++ take count piece) ≡ length before + count
-  all = omega (arith, length-append before (take count piece), length-take count piece)
+  module _ (size count : ℕ) (before piece : List ℕ) (few : count ≤ length piece) (room : length before + count ≤ size) where
+    all : length (before ++ take count piece) ≡ length before + count
+    all = omega (arith, length-append before (take count piece), length-take count piece)
 
-  -- where a refusal stands
-  pub record Stops (refusal : Refusal) : Type 0 where
-    pub final : IsFinal size (before ++ take count piece) refusal.place refusal.why
-    pub later : length before ≤ refusal.place
-    pub inside : refusal.place < length before + count
-    pub small : refusal.place < size
+    -- where a refusal stands
+    pub record Stops (refusal : Refusal) : Type 0 where
+      pub final : IsFinal messages size (before ++ take count piece) refusal.place refusal.why
+      pub later : length before ≤ refusal.place
+      pub inside : refusal.place < length before + count
+      pub small : refusal.place < size
 
-  pub stops : (refusal : Refusal) → judgement size before ≡ verdict.Open → judgement size (before ++ take count piece) ≡ verdict.Refused refusal → Stops refusal
-  stops refusal o e =
-      let f = refusal_is_final size (before ++ take count piece) refusal.place refusal.why (omega (arith, all)) e in
-      record { final = f; later = refused_later size refusal before (take count piece) (omega (arith, all)) o e; inside = omega (arith, f.within, all); small = omega (arith, f.within, all) }
+    pub stops : (refusal : Refusal) → judgement_by messages size before ≡ verdict.Open → judgement_by messages size (before ++ take count piece) ≡ verdict.Refused refusal → Stops refusal
+    stops refusal o e =
+        let f = refusal_is_final messages size (before ++ take count piece) refusal.place refusal.why (omega (arith, all)) e in
+        record { final = f; later = refused_later size refusal before (take count piece) (omega (arith, all)) o e; inside = omega (arith, f.within, all); small = omega (arith, f.within, all) }
 
-  -- what is taken up to an octet that is refused
-  pub taken-refused : (place : ℕ) (reason : Why) → Stops (record { place = place; why = reason }) → IsTaken size before piece (take (place + 1) (before ++ take count piece)) (record { used = place + 1 - length before; status = status.Refused (record { place = 4 + place; why = reason }) })
-  taken-refused place reason s = record {
-    within = omega (arith, s.later, s.inside);
-    contents =
-        (let n : place + 1 ≡ length before + (place + 1 - length before) = omega (arith, s.later) in ap (λ (k : ℕ). take k (before ++ take count piece)) n)
-        ∙ take-append-add before (take count piece) (place + 1 - length before)
-        ∙ ap (λ (l : List ℕ). before ++ l) (take-take (place + 1 - length before) count piece (omega (arith, s.later, s.inside)));
-    present = omega (arith, cut, s.inside);
-    decided = record {
-      offset = place;
-      place = refl;
-      judged = s.final.same (take (place + 1) (before ++ take count piece)) (omega (arith, cut, s.inside)) (take-take (suc place) (place + 1) (before ++ take count piece) (omega arith));
-      last = omega (arith, cut, s.inside, all);
-    };
-  }
-    where
-      cut : length (take (place + 1) (before ++ take count piece)) ≡ min (place + 1) (length (before ++ take count piece))
-      cut = length-take (place + 1) (before ++ take count piece)
+    -- what is taken up to an octet that is refused
+    pub taken-refused : (place : ℕ) (reason : Why) → Stops (record { place = place; why = reason }) → IsTaken messages size before piece (take (place + 1) (before ++ take count piece)) (record { used = place + 1 - length before; status = status.Refused (record { place = 4 + place; why = reason }) })
+    taken-refused place reason s = record {
+      within = omega (arith, s.later, s.inside);
+      contents =
+          (let n : place + 1 ≡ length before + (place + 1 - length before) = omega (arith, s.later) in ap (λ (k : ℕ). take k (before ++ take count piece)) n)
+          ∙ take-append-add before (take count piece) (place + 1 - length before)
+          ∙ ap (λ (l : List ℕ). before ++ l) (take-take (place + 1 - length before) count piece (omega (arith, s.later, s.inside)));
+      present = omega (arith, cut, s.inside);
+      decided = record {
+        offset = place;
+        place = refl;
+        judged = s.final.same (take (place + 1) (before ++ take count piece)) (omega (arith, cut, s.inside)) (take-take (suc place) (place + 1) (before ++ take count piece) (omega arith));
+        last = omega (arith, cut, s.inside, all);
+      };
+    }
+      where
+        cut : length (take (place + 1) (before ++ take count piece)) ≡ min (place + 1) (length (before ++ take count piece))
+        cut = length-take (place + 1) (before ++ take count piece)
 
-  pub taken-whole : size < 2 ^ 31 → AreOctets (before ++ take count piece) → verdict.Whole ≡ judgement size (before ++ take count piece) → IsTaken size before piece (before ++ take count piece) (record { used = count; status = status.Ready })
-  taken-whole short are e = record {
-    within = few;
-    contents = refl;
-    present = omega (arith, all);
-    decided = (sym e, (whole_is_message size (before ++ take count piece) short are (omega (arith, all)) (sym e)).all);
-  }
+    pub taken-whole : AreOctets (before ++ take count piece) → verdict.Whole ≡ judgement_by messages size (before ++ take count piece) → IsTaken messages size before piece (before ++ take count piece) (record { used = count; status = status.Ready })
+    taken-whole are e = record {
+      within = few;
+      contents = refl;
+      present = omega (arith, all);
+      decided = (sym e, (whole_is_one_of messages size (before ++ take count piece) are (omega (arith, all)) (sym e)).all);
+    }
 
-  -- nothing more of the piece is there, or the contents are complete
-  pub taken-open : 0 < size → count ≡ min (length piece) (size - length before) → verdict.Open ≡ judgement size (before ++ take count piece) → IsTaken size before piece (before ++ take count piece) (record { used = count; status = status.More })
-  taken-open some k e = record {
-    within = few;
-    contents = refl;
-    present = omega (arith, all);
-    decided = (
-      sym e,
-      elim (cases_lt count (length piece)) [
-        | inl h ↦ absurd (all_is_decided size (before ++ take count piece) some (omega (arith, all)) (sym e))
-        | inr h ↦ omega arith
-      ],
-    );
-  }
+    -- nothing more of the piece is there, or the contents are complete
+    pub taken-open : 0 < size → count ≡ min (length piece) (size - length before) → verdict.Open ≡ judgement_by messages size (before ++ take count piece) → IsTaken messages size before piece (before ++ take count piece) (record { used = count; status = status.More })
+    taken-open some k e = record {
+      within = few;
+      contents = refl;
+      present = omega (arith, all);
+      decided = (
+        sym e,
+        elim (cases_lt count (length piece)) [
+          | inl h ↦ absurd (all_is_decided messages size (before ++ take count piece) some (omega (arith, all)) (sym e))
+          | inr h ↦ omega arith
+        ],
+      );
+    }

@@ -1,8 +1,8 @@
--- What a decoder stands for, and what it answers.
+-- What a decoder by any messages stands for, and what it answers.
 use Rattle.std.specs.Prelude.{ℕ, ◌+◌, ◌≡◌, if◌then◌else◌, List, [], ◌∷◌, length, drop, Option, Some, None, is_some, Result, Ok, Err}
 use Rattle.krb_der.specs.declared.verdict.Refusal.{Refusal}
 use Rattle.krb_der.specs.declared.why.Why.TheVariants as why
-use Rattle.krb_msg.specs.Grammar.{messages}
+use Rattle.krb_msg.specs.Term.{Term}
 use Rattle.krb_msg.specs.Stream.{Frames, End, Boundary, Within, Refused, frames}
 use Rattle.krb_frame.specs.declared.decoder.Status.{Status}
 use Rattle.krb_frame.specs.declared.decoder.Status.TheVariants as status
@@ -13,8 +13,8 @@ pub record Decoding : Type 0 where
   pub octets : List ℕ
 
 -- the frames of these octets: the current one, where it is whole, and the end
-unfoldable pub found : Decoding → Frames
-found d = frames messages d.limit d.octets
+unfoldable pub found : List Term → Decoding → Frames
+found messages d = frames messages d.limit d.octets
 
 -- ready where there is a frame, refused where the end is so, and else more octets are needed
 abbrev pub status_at : List (List ℕ) → End → Status
@@ -23,20 +23,20 @@ status_at [] Boundary = status.More
 status_at [] (Within present) = status.More
 status_at [] (Refused place reason) = status.Refused (record { place = place; why = reason })
 
-abbrev pub status_of : Decoding → Status
-status_of d = status_at (found d).contents (found d).end
+abbrev pub status_of : List Term → Decoding → Status
+status_of messages d = status_at (found messages d).contents (found messages d).end
 
 abbrev pub first_of : List (List ℕ) → Option (List ℕ)
 first_of [] = None
 first_of (contents ∷ others) = Some contents
 
 -- the contents of the frame that is ready
-abbrev pub lent : Decoding → Option (List ℕ)
-lent d = first_of (found d).contents
+abbrev pub lent : List Term → Decoding → Option (List ℕ)
+lent messages d = first_of (found messages d).contents
 
 -- what is left where the frame that is ready is cleared, if one is
-abbrev pub after_next : Decoding → Decoding
-after_next d = if is_some (lent d) then record { limit = d.limit; octets = [] } else d
+abbrev pub after_next : List Term → Decoding → Decoding
+after_next messages d = if is_some (lent messages d) then record { limit = d.limit; octets = [] } else d
 
 -- what a stream that ends so is refused for
 abbrev pub finish_at : End → Result (Unit {0}) Refusal
@@ -44,8 +44,8 @@ finish_at Boundary = Ok tt
 finish_at (Within present) = Err (record { place = present; why = why.Truncated })
 finish_at (Refused place reason) = Err (record { place = place; why = reason })
 
-abbrev pub finish_of : Decoding → Result (Unit {0}) Refusal
-finish_of d = finish_at (found d).end
+abbrev pub finish_of : List Term → Decoding → Result (Unit {0}) Refusal
+finish_of messages d = finish_at (found messages d).end
 
 -- the contents of the current frame that are kept
 abbrev pub kept_contents : Decoding → List ℕ
@@ -59,5 +59,5 @@ AreOfOne octets [] (Refused place reason) = length octets ≡ place + 1
 AreOfOne octets (contents ∷ []) Boundary = drop 4 octets ≡ contents
 AreOfOne octets contents end = ⊥
 
-abbrev pub IsOfOneFrame : Decoding → Type 0
-IsOfOneFrame d = AreOfOne d.octets (found d).contents (found d).end
+abbrev pub IsOfOneFrame : List Term → Decoding → Type 0
+IsOfOneFrame messages d = AreOfOne d.octets (found messages d).contents (found messages d).end

@@ -3,13 +3,14 @@ use Rattle.std.specs.Prelude.{ℕ, ◌≡◌, ◌<◌, ◌^◌, ◌/◌, ◌%◌
 use Rattle.krb_der.specs.declared.verdict.Verdict.TheVariants.{Whole}
 use Rattle.krb_msg.specs.declared.message.Message.{Message}
 use Rattle.krb_msg.specs.declared.message.Kind.{Kind}
-use Rattle.krb_msg.specs.Judgement.{judgement}
+use Rattle.krb_msg.specs.Term.{Term}
+use Rattle.krb_msg.specs.Judgement.{judgement_by}
 use Rattle.krb_msg.specs.Views.{kind_of, message_der, IsInProfile}
 
--- the octets are judged to be one message
-pub record IsWholeFrame (octets : List ℕ) : Type 0 where
+-- the octets are judged to be one of some messages
+pub record IsWholeFrame (messages : List Term) (octets : List ℕ) : Type 0 where
   pub short : length octets < 2 ^ 31
-  pub whole : judgement (length octets) octets ≡ Whole
+  pub whole : judgement_by messages (length octets) octets ≡ Whole
 
 -- the octets are the DER of a message of this kind
 pub record AreOfKind (octets : List ℕ) (kind : Kind) : Type 0 where

@@ -1,28 +1,28 @@
--- What holds of all decoders and streams. Each is the contract of a function of the module `law`.
+-- What holds of all decoders by any messages, and of all streams. Each is the contract of a function of the module `law`.
 use Rattle.std.specs.Prelude.{ℕ, ◌+◌, ◌≡◌, ◌↔◌, if◌then◌else◌, List, [], ◌++◌, length, Some, None, is_some}
 use Rattle.krb_der.specs.declared.why.Why.{Why}
-use Rattle.krb_msg.specs.Grammar.{messages}
+use Rattle.krb_msg.specs.Term.{Term}
 use Rattle.krb_msg.specs.Stream.{Boundary, Within, Refused, ends, with_first, frames}
 use Rattle.krb_frame.specs.Decoding.{Decoding, found, status_of, lent, kept_contents}
 use Rattle.krb_frame.specs.Stands.{EndsWith, behind_frames, Stands}
 use Rattle.krb_frame.specs.declared.decoder.Status.TheVariants as status
 
 -- What a decoder has of a stream that it stands for.
-pub record HasOfStream (d : Decoding) (stream : List ℕ) (cleared : List (List ℕ)) : Type 0 where
+pub record HasOfStream (messages : List Term) (d : Decoding) (stream : List ℕ) (cleared : List (List ℕ)) : Type 0 where
   -- the frames of the stream are those that were cleared, and one more exactly where one is ready
-  pub found_all : frames messages d.limit stream ≡ behind_frames cleared (found d)
-  pub counted : length (frames messages d.limit stream).contents ≡ length cleared + (if is_some (lent d) then 1 else 0)
+  pub found_all : frames messages d.limit stream ≡ behind_frames cleared (found messages d)
+  pub counted : length (frames messages d.limit stream).contents ≡ length cleared + (if is_some (lent messages d) then 1 else 0)
   -- what is ready fills the end of the stream
-  pub ready : (contents : List ℕ) → lent d ≡ Some contents → (found d ≡ with_first contents (ends Boundary)) × (kept_contents d ≡ contents) × EndsWith contents stream
+  pub ready : (contents : List ℕ) → lent messages d ≡ Some contents → (found messages d ≡ with_first contents (ends Boundary)) × (kept_contents d ≡ contents) × EndsWith contents stream
   -- the decoder is refused exactly where the stream is
-  pub refused : (place : ℕ) (reason : Why) → ((frames messages d.limit stream).end ≡ Refused place reason) ↔ (status_of d ≡ status.Refused (record { place = place; why = reason }))
+  pub refused : (place : ℕ) (reason : Why) → ((frames messages d.limit stream).end ≡ Refused place reason) ↔ (status_of messages d ≡ status.Refused (record { place = place; why = reason }))
   -- between two frames it holds nothing of a next one, and within one the octets of that one, with which the stream ends
-  pub boundary : (frames messages d.limit stream).end ≡ Boundary → lent d ≡ None → d.octets ≡ []
+  pub boundary : (frames messages d.limit stream).end ≡ Boundary → lent messages d ≡ None → d.octets ≡ []
   pub within : (present : ℕ) → (frames messages d.limit stream).end ≡ Within present → (length d.octets ≡ present) × EndsWith d.octets stream
 
 abbrev pub StandingTells : Type 0
-StandingTells = (d : Decoding) (stream : List ℕ) (cleared : List (List ℕ)) → Stands d stream cleared → HasOfStream d stream cleared
+StandingTells = (messages : List Term) (d : Decoding) (stream : List ℕ) (cleared : List (List ℕ)) → Stands messages d stream cleared → HasOfStream messages d stream cleared
 
 -- Nothing behind a refusal is looked at: a stream that is refused is refused so, whatever comes.
 abbrev pub RefusalEnds : Type 0
-RefusalEnds = (d : Decoding) (stream more : List ℕ) (cleared : List (List ℕ)) (place : ℕ) (reason : Why) → Stands d stream cleared → (frames messages d.limit stream).end ≡ Refused place reason → frames messages d.limit (stream ++ more) ≡ frames messages d.limit stream
+RefusalEnds = (messages : List Term) (d : Decoding) (stream more : List ℕ) (cleared : List (List ℕ)) (place : ℕ) (reason : Why) → Stands messages d stream cleared → (frames messages d.limit stream).end ≡ Refused place reason → frames messages d.limit (stream ++ more) ≡ frames messages d.limit stream

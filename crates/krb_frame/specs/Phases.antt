@@ -1,10 +1,10 @@
--- What the parts of a decoder promise each other.
+-- What the parts of a decoder by any messages promise each other.
 use Rattle.std.specs.Prelude.{ℕ, zero, suc, ◌≡◌, ◌≢◌, ◌+◌, ◌-◌, ◌<◌, ◌≤◌, ◌^◌, ◌⊎◌, List, [], ◌++◌, length, take, min}
 use Rattle.krb_der.specs.Octets.{number}
 use Rattle.krb_der.specs.declared.verdict.Refusal.{Refusal}
 use Rattle.krb_der.specs.declared.verdict.Verdict.TheVariants as verdict
-use Rattle.krb_msg.specs.Grammar.{messages}
-use Rattle.krb_msg.specs.Judgement.{judgement}
+use Rattle.krb_msg.specs.Term.{Term}
+use Rattle.krb_msg.specs.Judgement.{judgement_by}
 use Rattle.krb_msg.specs.Stream.{End, Boundary, Within, Refused, ends, frames}
 use Rattle.krb_frame.specs.Decoding.{Decoding, status_of, IsOfOneFrame}
 use Rattle.krb_frame.specs.declared.decoder.Fed.{Fed}
@@ -14,25 +14,25 @@ use Rattle.krb_frame.specs.declared.decoder.Phase.{Phase}
 use Rattle.krb_frame.specs.declared.decoder.Phase.TheVariants as phase
 
 -- the last of the contents of a frame is refused
-pub record IsRefusedIn (size : ℕ) (contents : List ℕ) (refusal : Refusal) : Type 0 where
+pub record IsRefusedIn (messages : List Term) (size : ℕ) (contents : List ℕ) (refusal : Refusal) : Type 0 where
   pub offset : ℕ
   pub place : refusal.place ≡ 4 + offset
-  pub judged : judgement size contents ≡ verdict.Refused (record { place = offset; why = refusal.why })
+  pub judged : judgement_by messages size contents ≡ verdict.Refused (record { place = offset; why = refusal.why })
   pub last : length contents ≡ offset + 1
 
 -- what contents decide, of which so many octets of a piece were taken
-abbrev pub IsDecided : ℕ → List ℕ → List ℕ → ℕ → Status → Type 0
-IsDecided size contents piece count status.More = (judgement size contents ≡ verdict.Open) × (count ≡ length piece)
-IsDecided size contents piece count status.Ready = (judgement size contents ≡ verdict.Whole) × (length contents ≡ size)
-IsDecided size contents piece count (status.Refused refusal) = IsRefusedIn size contents refusal
-IsDecided size contents piece count status.Memory = (judgement size contents ≡ verdict.Open) × (count < length piece)
+abbrev pub IsDecided : List Term → ℕ → List ℕ → List ℕ → ℕ → Status → Type 0
+IsDecided messages size contents piece count status.More = (judgement_by messages size contents ≡ verdict.Open) × (count ≡ length piece)
+IsDecided messages size contents piece count status.Ready = (judgement_by messages size contents ≡ verdict.Whole) × (length contents ≡ size)
+IsDecided messages size contents piece count (status.Refused refusal) = IsRefusedIn messages size contents refusal
+IsDecided messages size contents piece count status.Memory = (judgement_by messages size contents ≡ verdict.Open) × (count < length piece)
 
 -- octets of a piece were taken behind the contents of a frame
-pub record IsTaken (size : ℕ) (before piece after : List ℕ) (fed : Fed) : Type 0 where
+pub record IsTaken (messages : List Term) (size : ℕ) (before piece after : List ℕ) (fed : Fed) : Type 0 where
   pub within : fed.used ≤ length piece
   pub contents : after ≡ before ++ take fed.used piece
   pub present : length after ≤ size
-  pub decided : IsDecided size after piece fed.used fed.status
+  pub decided : IsDecided messages size after piece fed.used fed.status
 
 -- the phase behind them
 abbrev pub phase_of : ℕ → Status → Phase
@@ -72,33 +72,33 @@ pub record HasPartOfLength (announced contents : List ℕ) (count : ℕ) : Type 
   pub none : contents ≡ []
 
 -- the contents are not all there
-pub record HasPart (limit : ℕ) (announced contents : List ℕ) (size : ℕ) : Type 0 where
+pub record HasPart (messages : List Term) (limit : ℕ) (announced contents : List ℕ) (size : ℕ) : Type 0 where
   pub accepted : IsAccepted limit announced size
   pub present : length contents ≤ size
-  pub undecided : judgement size contents ≡ verdict.Open
+  pub undecided : judgement_by messages size contents ≡ verdict.Open
 
 -- the frame is all there
-pub record HasFrame (limit : ℕ) (announced contents : List ℕ) : Type 0 where
+pub record HasFrame (messages : List Term) (limit : ℕ) (announced contents : List ℕ) : Type 0 where
   pub accepted : IsAccepted limit announced (length contents)
-  pub whole : judgement (length contents) contents ≡ verdict.Whole
+  pub whole : judgement_by messages (length contents) contents ≡ verdict.Whole
 
 -- the last octet is refused
-pub record HasRefused (limit : ℕ) (announced contents : List ℕ) (refusal : Refusal) : Type 0 where
+pub record HasRefused (messages : List Term) (limit : ℕ) (announced contents : List ℕ) (refusal : Refusal) : Type 0 where
   pub four : length announced ≡ 4
   pub found : frames messages limit (announced ++ contents) ≡ ends (Refused refusal.place refusal.why)
   pub last : 4 + length contents ≡ refusal.place + 1
   pub few : length contents ≤ limit
   pub short : length contents < 2 ^ 31
 
-abbrev pub IsAt : ℕ → List ℕ → List ℕ → Phase → Type 0
-IsAt limit announced contents (phase.Length count) = HasPartOfLength announced contents count
-IsAt limit announced contents (phase.Contents size) = HasPart limit announced contents size
-IsAt limit announced contents phase.Ready = HasFrame limit announced contents
-IsAt limit announced contents (phase.Refused refusal) = HasRefused limit announced contents refusal
+abbrev pub IsAt : List Term → ℕ → List ℕ → List ℕ → Phase → Type 0
+IsAt messages limit announced contents (phase.Length count) = HasPartOfLength announced contents count
+IsAt messages limit announced contents (phase.Contents size) = HasPart messages limit announced contents size
+IsAt messages limit announced contents phase.Ready = HasFrame messages limit announced contents
+IsAt messages limit announced contents (phase.Refused refusal) = HasRefused messages limit announced contents refusal
 
 -- what is judged with the last octet of a length
-pub record IsLengthJudged (limit : ℕ) (announced : List ℕ) (phase : Phase) : Type 0 where
-  pub at : IsAt limit announced [] phase
+pub record IsLengthJudged (messages : List Term) (limit : ℕ) (announced : List ℕ) (phase : Phase) : Type 0 where
+  pub at : IsAt messages limit announced [] phase
   pub all : length_present phase ≡ 4
 
 -- ---- what the parts of a feed do
@@ -108,13 +108,13 @@ pub record IsPut (before : List ℕ) (present : ℕ) (piece after : List ℕ) (c
   pub front : take (present + count) after ≡ take present before ++ take count piece
 
 -- octets of a length, if any is missing, were used
-pub record FeedsLength (old : Decoding) (piece : List ℕ) (new : Decoding) (used : ℕ) : Type 0 where
+pub record FeedsLength (messages : List Term) (old : Decoding) (piece : List ℕ) (new : Decoding) (used : ℕ) : Type 0 where
   pub within : used ≤ length piece
   pub same_limit : new.limit ≡ old.limit
   pub octets : new.octets ≡ old.octets ++ take used piece
-  pub again : status_of old ≢ status.More → used ≡ 0
+  pub again : status_of messages old ≢ status.More → used ≡ 0
   pub on : (used ≡ length piece) ⊎ (4 ≤ length new.octets)
-  pub one : IsOfOneFrame new
+  pub one : IsOfOneFrame messages new
 
 -- the status of a phase
 abbrev pub phase_status : Phase → Status

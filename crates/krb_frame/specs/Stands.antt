@@ -1,6 +1,6 @@
--- What a decoder has to do with the stream that it was fed.
+-- What a decoder by any messages has to do with the stream that it was fed.
 use Rattle.std.specs.Prelude.{ℕ, ◌≡◌, List, ◌++◌}
-use Rattle.krb_msg.specs.Grammar.{messages}
+use Rattle.krb_msg.specs.Term.{Term}
 use Rattle.krb_msg.specs.Stream.{Frames, frames}
 use Rattle.krb_frame.specs.Decoding.{Decoding, IsOfOneFrame}
 
@@ -14,7 +14,7 @@ pub record EndsWith (octets stream : List ℕ) : Type 0 where
   pub parts : stream ≡ before ++ octets
 
 -- A decoder used the octets of a stream, and the frames with these contents were cleared. Whatever comes next, the frames of the stream are these and then those of the octets that the decoder stands for.
-pub record Stands (d : Decoding) (stream : List ℕ) (cleared : List (List ℕ)) : Type 0 where
+pub record Stands (messages : List Term) (d : Decoding) (stream : List ℕ) (cleared : List (List ℕ)) : Type 0 where
   pub goes_on : (more : List ℕ) → frames messages d.limit (stream ++ more) ≡ behind_frames cleared (frames messages d.limit (d.octets ++ more))
   pub last : EndsWith d.octets stream
-  pub one : IsOfOneFrame d
+  pub one : IsOfOneFrame messages d

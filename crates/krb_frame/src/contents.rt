@@ -2,6 +2,7 @@
 
 ghost use Rattle.std.specs.Prelude.{◌≡◌, ◌<◌, ◌≤◌, ◌^◌, ◌++◌, length, take};
 ghost use Rattle.krb_der.specs.declared.verdict.Verdict.TheVariants.{Open};
+ghost use Rattle.krb_msg.specs.Grammar.{messages};
 ghost use Rattle.krb_msg.specs.Judgement.{judgement};
 ghost use Rattle.krb_frame.specs.Phases.{IsTaken};
 
@@ -17,7 +18,7 @@ pub(crate) fn take_contents(contents: &mut Vec<u8>, size: u32, piece: &[u8]) -> 
     requires short { size < 2 ^ 31 }
     requires present { length contents.old.items ≤ size }
     requires undecided { judgement size contents.old.items ≡ Open }
-    ensures { IsTaken size contents.old.items piece.now contents.new.items result }
+    ensures { IsTaken messages size contents.old.items piece.now contents.new.items result }
 {
     let before = contents.len();
     let count = piece.len().min(size as usize - before);

@@ -61,14 +61,16 @@ impl Model for Decoder {
 
     ghost Value = { Decoding };
 
+    ghost use Rattle.krb_msg.specs.Grammar.{messages};
     ghost use Rattle.krb_frame.specs.Phases.{octets_of, IsAt};
 
     ghost view = { λ d. record { limit = d.limit; octets = octets_of d.phase d.length d.contents.items } };
 
-    ghost invariant = { λ d. IsAt d.limit d.length d.contents.items d.phase };
+    ghost invariant = { λ d. IsAt messages d.limit d.length d.contents.items d.phase };
 }
 
 ghost use Rattle.std.specs.Prelude.{◌≡◌, ◌≤◌, ◌<◌, ◌⊎◌, ◌^◌, [], length};
+ghost use Rattle.krb_msg.specs.Grammar.{messages};
 ghost use Rattle.krb_frame.specs.Decoding.{lent, finish_at, finish_of, kept_contents};
 ghost use Rattle.krb_frame.specs.Stands.{Stands};
 ghost use Rattle.krb_frame.specs.Feeds.{Feeds, Clears};
@@ -79,7 +81,7 @@ impl Decoder {
     /// A decoder of a stream of which nothing came yet. It takes no memory.
     pub fn new(alloc: Global, limit: Limit) -> Decoder
         ensures nothing { result ≡ record { limit = limit; octets = [] } }
-        ensures stands { Stands result [] [] }
+        ensures stands { Stands messages result [] [] }
     {
         Decoder {
             limit,
@@ -97,7 +99,7 @@ impl Decoder {
     /// so again. Out of memory, the octets after those that were used may be fed again; the octets
     /// of a length take no memory.
     pub fn feed(&mut self, piece: &[u8]) -> Fed
-        ensures { Feeds self.old piece.now self.new result }
+        ensures { Feeds messages self.old piece.now self.new result }
     {
         let used = self.feed_length(piece);
         let fed = self.feed_contents(&piece[used..]);
@@ -109,7 +111,7 @@ impl Decoder {
 
     /// Uses octets of the length, as many as are missing and come, and judges it with its last one.
     fn feed_length(&mut self, piece: &[u8]) -> usize
-        ensures { FeedsLength self.old piece.now self.new result }
+        ensures { FeedsLength messages self.old piece.now self.new result }
     {
         let Phase::Length(present) = self.phase else {
             return 0;
@@ -126,7 +128,7 @@ impl Decoder {
     /// Uses octets of the contents, after a length.
     fn feed_contents(&mut self, piece: &[u8]) -> Fed
         requires { (piece.now ≡ []) ⊎ (4 ≤ length self.old.octets) }
-        ensures { Feeds self.old piece.now self.new result }
+        ensures { Feeds messages self.old piece.now self.new result }
     {
         let size = match self.phase {
             Phase::Length(_) => return answer(Status::More),
@@ -141,7 +143,7 @@ impl Decoder {
 
     /// The frame that is ready, borrowed.
     pub fn ready(&self) -> Option<Framed<'_>>
-        ensures { result ≡ lent self.now }
+        ensures { result ≡ lent messages self.now }
     {
         match self.phase {
             Phase::Ready => Some(Framed::new(self.contents.as_slice())),
@@ -152,7 +154,7 @@ impl Decoder {
     /// Clears the frame that is ready, so that the next one may be fed, and answers whether there
     /// was one. Where there was none nothing changes.
     pub fn next(&mut self) -> bool
-        ensures { Clears self.old self.new result }
+        ensures { Clears messages self.old self.new result }
     {
         let Phase::Ready = self.phase else {
             return false;
@@ -166,7 +168,7 @@ impl Decoder {
     /// ready; what was refused; and else `Truncated`, at the number of octets of the frame that
     /// are there, those of its length with them.
     pub fn finish(&self) -> Result<(), Refusal>
-        ensures { result ≡ finish_of self.now }
+        ensures { result ≡ finish_of messages self.now }
     {
         match self.phase {
             Phase::Length(present) => ended(present),
@@ -238,7 +240,7 @@ fn put_octets(length: &mut [u8; LENGTH_OCTETS], present: usize, piece: &[u8]) ->
 /// What the four octets of a length come to.
 fn judge_length(limit: Limit, announced: [u8; LENGTH_OCTETS]) -> Phase
     requires { length announced ≡ 4 }
-    ensures { IsLengthJudged limit announced result }
+    ensures { IsLengthJudged messages limit announced result }
 {
     let size = u32::from_be_bytes(announced);
     if size >= 1 << 31 {

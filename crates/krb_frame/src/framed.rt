@@ -14,23 +14,25 @@ pub struct Framed<'a> {
 
 impl<'a> Model for Framed<'a> {
     ghost use Rattle.std.specs.Prelude.{ℕ, List, length};
+    ghost use Rattle.krb_msg.specs.Grammar.{messages};
     ghost use Rattle.krb_frame.specs.Frame.{IsWholeFrame};
 
     ghost Value = { List ℕ };
 
     ghost view = { λ framed. framed.octets.now };
 
-    ghost invariant = { λ framed. IsWholeFrame framed.octets.now };
+    ghost invariant = { λ framed. IsWholeFrame messages framed.octets.now };
 }
 
 ghost use Rattle.std.specs.Prelude.{◌≡◌, IfOk};
+ghost use Rattle.krb_msg.specs.Grammar.{messages};
 ghost use Rattle.krb_frame.specs.Frame.{IsWholeFrame, AreOfKind};
 ghost use Rattle.krb_msg.specs.Views.{message_der};
 
 impl<'a> Framed<'a> {
     /// A frame of the octets of one message.
     pub(crate) fn new(octets: &'a [u8]) -> Framed<'a>
-        requires { IsWholeFrame octets.now }
+        requires { IsWholeFrame messages octets.now }
         ensures { result ≡ octets.now }
     {
         Framed { octets }

@@ -6,6 +6,7 @@ use Rattle.std.proofs.lemmas.Grind.{flat_map-append}
 use Rattle.std.proofs.Math.Seq.{take-add}
 use Rattle.std.specs.List.{flat_map}
 use Rattle.krb_der.specs.declared.verdict.Refusal.{Refusal}
+use Rattle.krb_msg.specs.Grammar.{messages}
 use Rattle.krb_msg.specs.Stream.{End, Boundary, Within, Refused}
 use Rattle.krb_msg.specs.Views.{message_der}
 use Rattle.krb_frame.specs.Decoding.{Decoding, found, status_at, status_of, first_of, lent}
@@ -27,10 +28,10 @@ ready_lent [] Boundary e = absurd cc
 ready_lent [] (Within present) e = absurd cc
 ready_lent [] (Refused place reason) e = absurd cc
 
-pub is_status : (old new : Decoding) (piece : List ℕ) (fed : Fed) (answer : Status) → Uses old piece new fed → fed.status ≡ answer → (status.Memory ≡ answer → ⊥) → status_of new ≡ answer
+pub is_status : (old new : Decoding) (piece : List ℕ) (fed : Fed) (answer : Status) → Uses messages old piece new fed → fed.status ≡ answer → (status.Memory ≡ answer → ⊥) → status_of messages new ≡ answer
 is_status old new piece fed answer f e never = by f.answer
   where
-    by : (fed.status ≡ status_of new) ⊎ ((fed.status ≡ status.Memory) × (status_of new ≡ status.More)) → status_of new ≡ answer
+    by : (fed.status ≡ status_of messages new) ⊎ ((fed.status ≡ status.Memory) × (status_of messages new ≡ status.More)) → status_of messages new ≡ answer
     by (inl s) = sym s ∙ e
     by (inr (m, n)) = absurd (never (sym m ∙ e))
 
@@ -43,14 +44,14 @@ memory_more e = cc
 memory_refused : (refusal : Refusal) → status.Memory ≡ status.Refused refusal → ⊥
 memory_refused refusal e = cc
 
-pub is_ready : (old new : Decoding) (piece : List ℕ) (fed : Fed) → Uses old piece new fed → fed.status ≡ status.Ready → status_of new ≡ status.Ready
+pub is_ready : (old new : Decoding) (piece : List ℕ) (fed : Fed) → Uses messages old piece new fed → fed.status ≡ status.Ready → status_of messages new ≡ status.Ready
 is_ready old new piece fed f e = is_status old new piece fed status.Ready f e memory_ready
 
-pub is_lent : (old new : Decoding) (piece : List ℕ) (fed : Fed) → Uses old piece new fed → fed.status ≡ status.Ready → IsSome (lent new)
-is_lent old new piece fed f e = ready_lent (found new).contents (found new).end (is_ready old new piece fed f e)
+pub is_lent : (old new : Decoding) (piece : List ℕ) (fed : Fed) → Uses messages old piece new fed → fed.status ≡ status.Ready → IsSome (lent messages new)
+is_lent old new piece fed f e = ready_lent (found messages new).contents (found messages new).end (is_ready old new piece fed f e)
 
 -- a frame ends with an octet
-pub some_used : (old new : Decoding) (piece : List ℕ) (fed : Fed) → Uses old piece new fed → status_of old ≡ status.More → fed.status ≡ status.Ready → 0 < fed.used
+pub some_used : (old new : Decoding) (piece : List ℕ) (fed : Fed) → Uses messages old piece new fed → status_of messages old ≡ status.More → fed.status ≡ status.Ready → 0 < fed.used
 some_used old new piece fed f w e = by fed.used refl
   where
     same : fed.used ≡ 0 → new ≡ old
@@ -60,22 +61,22 @@ some_used old new piece fed f w e = by fed.used refl
     no e = cc
 
     by : (n : ℕ) → fed.used ≡ n → 0 < fed.used
-    by zero z = absurd (no (sym w ∙ ap status_of (sym (same z)) ∙ is_ready old new piece fed f e))
+    by zero z = absurd (no (sym w ∙ ap (status_of messages) (sym (same z)) ∙ is_ready old new piece fed f e))
     by (suc n) z = omega arith
 
 -- what a piece gives that is used to its end, or refused
-pub goes_on : (lister : Lister) (old : Decoding) (piece rest : List ℕ) (fed : Fed) → length rest ≤ length piece → Uses old rest lister.decoder fed → fed.status ≡ status.More → Goes lister piece (length piece - length rest + fed.used) true
+pub goes_on : (lister : Lister) (old : Decoding) (piece rest : List ℕ) (fed : Fed) → length rest ≤ length piece → Uses messages old rest lister.decoder fed → fed.status ≡ status.More → Goes lister piece (length piece - length rest + fed.used) true
 goes_on lister old piece rest fed w f e = (omega (arith, w, f.all e), is_status old lister.decoder rest fed status.More f e memory_more)
 
-pub goes_no_more : (lister : Lister) (old : Decoding) (piece rest : List ℕ) (fed : Fed) (refusal : Refusal) → Uses old rest lister.decoder fed → fed.status ≡ status.Refused refusal → Goes lister piece (length piece - length rest + fed.used) false
+pub goes_no_more : (lister : Lister) (old : Decoding) (piece rest : List ℕ) (fed : Fed) (refusal : Refusal) → Uses messages old rest lister.decoder fed → fed.status ≡ status.Refused refusal → Goes lister piece (length piece - length rest + fed.used) false
 goes_no_more lister old piece rest fed refusal f e = (refusal, is_status old lister.decoder rest fed (status.Refused refusal) f e (memory_refused refusal))
 
 -- ---- a frame that is listed
-cleared_is : (old new : Decoding) (contents : List ℕ) → Clears old new true → lent old ≡ Some contents → new ≡ record { limit = old.limit; octets = [] }
+cleared_is : (old new : Decoding) (contents : List ℕ) → Clears messages old new true → lent messages old ≡ Some contents → new ≡ record { limit = old.limit; octets = [] }
 cleared_is old new contents c e = c.left ∙ ap (λ o. if is_some o then record { limit = old.limit; octets = [] } else old) e
 
-pub ready_waits : (old new : Lister) → ListsReady old new → status_of new.decoder ≡ status.More
-ready_waits old new l = ap status_of (cleared_is old.decoder new.decoder l.contents l.cleared l.is_ready) ∙ more-nothing old.decoder.limit
+pub ready_waits : (old new : Lister) → ListsReady old new → status_of messages new.decoder ≡ status.More
+ready_waits old new l = ap (status_of messages) (cleared_is old.decoder new.decoder l.contents l.cleared l.is_ready) ∙ more-nothing messages old.decoder.limit
 
 pub ready_limit : (old new : Lister) → ListsReady old new → new.decoder.limit ≡ old.decoder.limit
 ready_limit old new l = ap (λ d. d.limit) (cleared_is old.decoder new.decoder l.contents l.cleared l.is_ready)
@@ -84,7 +85,7 @@ HasListed-ready : (old new : Lister) → ListsReady old new → (stream written 
 HasListed-ready old new l stream written h = record {
   messages = h.messages ++ l.message ∷ [];
   stands =
-      subst (Stands new.decoder stream)
+      subst (Stands messages new.decoder stream)
       (ap (λ o. map message_der h.messages ++ o ∷ []) (sym l.form) ∙ sym (map-append message_der h.messages (l.message ∷ [])))
       (l.cleared.stands stream l.contents (map message_der h.messages) h.stands l.is_ready);
   lines =
@@ -100,11 +101,11 @@ pub record IsFed (initial : Lister) (piece rest : List ℕ) (now : Lister) : Typ
   pub place : rest ≡ drop (length piece - length rest) piece
   pub within : length rest ≤ length piece
   pub same_limit : now.decoder.limit ≡ initial.decoder.limit
-  pub waits : status_of now.decoder ≡ status.More
+  pub waits : status_of messages now.decoder ≡ status.More
   pub few : now.messages + length rest ≤ initial.messages + length piece
   pub listed : (stream written : List ℕ) → HasListed initial stream written → HasListed now (stream ++ take (length piece - length rest) piece) written
 
-pub IsFed-start : (lister : Lister) (piece : List ℕ) → status_of lister.decoder ≡ status.More → IsFed lister piece piece lister
+pub IsFed-start : (lister : Lister) (piece : List ℕ) → status_of messages lister.decoder ≡ status.More → IsFed lister piece piece lister
 IsFed-start lister piece w =
     let none : length piece - length piece ≡ 0 = omega arith in
     record {
@@ -124,7 +125,7 @@ together piece rest stream used e =
     ∙ ap (λ l. stream ++ l) (sym (take-add (length piece - length rest) used piece))
 
 -- the decoder used octets of the rest
-HasListed-used : (initial old new : Lister) (piece rest : List ℕ) (fed : Fed) → IsFed initial piece rest old → Uses old.decoder rest new.decoder fed → new.text ≡ old.text → new.messages ≡ old.messages → (stream written : List ℕ) → HasListed initial stream written → HasListed new (stream ++ take (length piece - length rest + fed.used) piece) written
+HasListed-used : (initial old new : Lister) (piece rest : List ℕ) (fed : Fed) → IsFed initial piece rest old → Uses messages old.decoder rest new.decoder fed → new.text ≡ old.text → new.messages ≡ old.messages → (stream written : List ℕ) → HasListed initial stream written → HasListed new (stream ++ take (length piece - length rest + fed.used) piece) written
 HasListed-used initial old new piece rest fed i f t n stream written h =
     let l = i.listed stream written h in
     subst (λ s. HasListed new s written) (together piece rest stream fed.used i.place)
@@ -135,7 +136,7 @@ HasListed-used initial old new piece rest fed i f t n stream written h =
       counted = n ∙ l.counted;
     })
 
-pub Feeds-made : (initial old new : Lister) (piece rest : List ℕ) (fed : Fed) → IsFed initial piece rest old → Uses old.decoder rest new.decoder fed → new.text ≡ old.text → new.messages ≡ old.messages → (goes_on : _) → Goes new piece (length piece - length rest + fed.used) goes_on → Feeds initial piece new goes_on
+pub Feeds-made : (initial old new : Lister) (piece rest : List ℕ) (fed : Fed) → IsFed initial piece rest old → Uses messages old.decoder rest new.decoder fed → new.text ≡ old.text → new.messages ≡ old.messages → (goes_on : _) → Goes new piece (length piece - length rest + fed.used) goes_on → Feeds initial piece new goes_on
 Feeds-made initial old new piece rest fed i f t n goes_on g = record {
   used = length piece - length rest + fed.used;
   within = omega (arith, i.within, f.within);
@@ -145,7 +146,7 @@ Feeds-made initial old new piece rest fed i f t n goes_on g = record {
   goes = g;
 }
 
-pub IsFed-ready : (initial old between new : Lister) (piece rest : List ℕ) (fed : Fed) → IsFed initial piece rest old → Uses old.decoder rest between.decoder fed → between.text ≡ old.text → between.messages ≡ old.messages → fed.status ≡ status.Ready → ListsReady between new → IsFed initial piece (drop fed.used rest) new
+pub IsFed-ready : (initial old between new : Lister) (piece rest : List ℕ) (fed : Fed) → IsFed initial piece rest old → Uses messages old.decoder rest between.decoder fed → between.text ≡ old.text → between.messages ≡ old.messages → fed.status ≡ status.Ready → ListsReady between new → IsFed initial piece (drop fed.used rest) new
 IsFed-ready initial old between new piece rest fed i f t n e l =
     let left : length piece - length (drop fed.used rest) ≡ length piece - length rest + fed.used = omega (arith, i.within, f.within, length-drop fed.used rest) in
     let some = some_used old.decoder between.decoder rest fed f i.waits e in

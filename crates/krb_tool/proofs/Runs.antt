@@ -29,7 +29,7 @@ pub record Runs (limit : ℕ) (had left held holds : Option (List ℕ)) (asks : 
   pub added : Appends held holds written
   pub same_limit : lister.decoder.limit ≡ limit
   pub listed : HasListed lister read written
-  pub waits : status_of lister.decoder ≡ status.More
+  pub waits : status_of messages lister.decoder ≡ status.More
   pub few : lister.messages ≤ 65536 * asks
 
 -- between two pieces the lister has no lines
@@ -47,7 +47,7 @@ pub record Ends (limit : ℕ) (had left held holds : Option (List ℕ)) (lister 
   pub same_limit : lister.decoder.limit ≡ limit
   pub listed : HasListed lister stream written
   pub same_frames : frames messages limit read ≡ frames messages limit stream
-  pub none : (found lister.decoder).contents ≡ []
+  pub none : (found messages lister.decoder).contents ≡ []
   pub stops : StopsInPiece limit read
 
 pub Waits-start : (limit : ℕ) (had held : Option (List ℕ)) (lister : Lister) → IsNewLister limit lister → Waits limit had had held held 0 lister
@@ -94,20 +94,20 @@ more_not_refused (first ∷ others) (Refused place reason) e = absurd cc
 -- what was read so far is not refused
 not_refused : (limit : ℕ) (had left held holds : Option (List ℕ)) (asks : ℕ) (lister : Lister) (r : Runs limit had left held holds asks lister) → IsNotRefused (end_of limit r.read)
 not_refused limit had left held holds asks lister r =
-    let same : end_of limit r.read ≡ (found lister.decoder).end = ap (λ l. end_of l r.read) (sym r.same_limit) ∙ ap (λ f. f.end) (found_of lister.decoder r.read (map message_der r.listed.messages) r.listed.stands) in
-    subst IsNotRefused (sym same) (more_not_refused (found lister.decoder).contents (found lister.decoder).end r.waits)
+    let same : end_of limit r.read ≡ (found messages lister.decoder).end = ap (λ l. end_of l r.read) (sym r.same_limit) ∙ ap (λ f. f.end) (found_of messages lister.decoder r.read (map message_der r.listed.messages) r.listed.stands) in
+    subst IsNotRefused (sym same) (more_not_refused (found messages lister.decoder).contents (found messages lister.decoder).end r.waits)
 
 -- a piece was read, and an octet of it is refused
-pub Ends-refused : (limit : ℕ) (had left left' held holds : Option (List ℕ)) (asks room : ℕ) (piece : List ℕ) (old new : Lister) (goes_on : _) → Waits limit had left held holds asks old → Gives left left' piece room → length piece ≤ 65536 → Feeds old piece new goes_on → goes_on ≡ false → (Ends limit had left' held holds new) × ((refusal : Refusal) × ((found new.decoder).end ≡ Refused refusal.place refusal.why))
+pub Ends-refused : (limit : ℕ) (had left left' held holds : Option (List ℕ)) (asks room : ℕ) (piece : List ℕ) (old new : Lister) (goes_on : _) → Waits limit had left held holds asks old → Gives left left' piece room → length piece ≤ 65536 → Feeds old piece new goes_on → goes_on ≡ false → (Ends limit had left' held holds new) × ((refusal : Refusal) × ((found messages new.decoder).end ≡ Refused refusal.place refusal.why))
 Ends-refused limit had left left' held holds asks room piece old new true w g short f e = absurd cc
 Ends-refused limit had left left' held holds asks room piece old new false w g short f e =
     let stream : List ℕ = w.runs.read ++ take f.used piece in
     let same : new.decoder.limit ≡ limit = f.same_limit ∙ w.runs.same_limit in
     let h : HasListed new (w.runs.read ++ take f.used piece) w.runs.written = f.listed w.runs.read w.runs.written w.runs.listed in
-    let r = refused_end (found new.decoder).contents (found new.decoder).end f.goes.0 f.goes.1 in
-    let refused : (frames messages new.decoder.limit (w.runs.read ++ take f.used piece)).end ≡ Refused f.goes.0.place f.goes.0.why = ap (λ x. x.end) (found_of new.decoder (w.runs.read ++ take f.used piece) (map message_der h.messages) h.stands) ∙ r.1 in
+    let r = refused_end (found messages new.decoder).contents (found messages new.decoder).end f.goes.0 f.goes.1 in
+    let refused : (frames messages new.decoder.limit (w.runs.read ++ take f.used piece)).end ≡ Refused f.goes.0.place f.goes.0.why = ap (λ x. x.end) (found_of messages new.decoder (w.runs.read ++ take f.used piece) (map message_der h.messages) h.stands) ∙ r.1 in
     let parts : (w.runs.read ++ take f.used piece) ++ drop f.used piece ≡ w.runs.read ++ piece = append_assoc w.runs.read (take f.used piece) (drop f.used piece) ∙ ap (λ l. w.runs.read ++ l) (take-append-drop f.used piece) in
-    let ends = refusal_ends new.decoder (w.runs.read ++ take f.used piece) (drop f.used piece) (map message_der h.messages) f.goes.0.place f.goes.0.why h.stands refused in (
+    let ends = refusal_ends messages new.decoder (w.runs.read ++ take f.used piece) (drop f.used piece) (map message_der h.messages) f.goes.0.place f.goes.0.why h.stands refused in (
       record {
         read = w.runs.read ++ piece;
         written = w.runs.written;
@@ -138,7 +138,7 @@ Waits-written limit had left held holds holds' asks old new r a o = record {
       lines = ap (λ t. (r.written ++ string_bytes old.text) ++ t) o.no_text ∙ append-nil (r.written ++ string_bytes old.text) ∙ r.listed.lines;
       counted = o.messages ∙ r.listed.counted;
     };
-    waits = ap status_of o.same_decoder ∙ r.waits;
+    waits = ap (status_of messages) o.same_decoder ∙ r.waits;
     few = omega (arith, o.messages, r.few);
   };
   no_text = o.no_text;
@@ -156,7 +156,7 @@ Ends-read limit had left left' held holds asks room piece lister w g none = reco
   same_limit = w.runs.same_limit;
   listed = w.runs.listed;
   same_frames = refl;
-  none = none_found (found lister.decoder).contents (found lister.decoder).end (λ e. no (sym w.runs.waits ∙ e));
+  none = none_found (found messages lister.decoder).contents (found messages lister.decoder).end (λ e. no (sym w.runs.waits ∙ e));
   stops = record { front = w.runs.read; piece = []; parts = sym (append-nil w.runs.read); goes_on = not_refused limit had left held holds asks lister w.runs; short = omega arith };
 }
   where
@@ -169,14 +169,14 @@ more_read contents (Within present) left e a = a
 more_read [] (Refused place reason) left e a = absurd cc
 more_read (first ∷ others) (Refused place reason) left e a = absurd cc
 
-pub AllIsRead-more : (lister : Lister) (left : Option (List ℕ)) → status_of lister.decoder ≡ status.More → IsAtEnd left → AllIsRead (found lister.decoder).end left
-AllIsRead-more lister left e a = more_read (found lister.decoder).contents (found lister.decoder).end left e a
+pub AllIsRead-more : (lister : Lister) (left : Option (List ℕ)) → status_of messages lister.decoder ≡ status.More → IsAtEnd left → AllIsRead (found messages lister.decoder).end left
+AllIsRead-more lister left e a = more_read (found messages lister.decoder).contents (found messages lister.decoder).end left e a
 
 pub AllIsRead-refused : (end : End) (refusal : Refusal) (left : Option (List ℕ)) → end ≡ Refused refusal.place refusal.why → AllIsRead end left
 AllIsRead-refused end refusal left e = subst (λ x. AllIsRead x left) (sym e) tt
 
 -- the line of the end was added and all lines written
-pub Lists-made : (limit : ℕ) (had left held holds holds' : Option (List ℕ)) (old new : Lister) (ended : RunEnd) → Ends limit had left held holds old → Finishes old new ended → Appends holds holds' (string_bytes new.text) → AllIsRead (found old.decoder).end left → Lists limit had left held holds' ended
+pub Lists-made : (limit : ℕ) (had left held holds holds' : Option (List ℕ)) (old new : Lister) (ended : RunEnd) → Ends limit had left held holds old → Finishes old new ended → Appends holds holds' (string_bytes new.text) → AllIsRead (found messages old.decoder).end left → Lists limit had left held holds' ended
 Lists-made limit had left held holds holds' old new ended r f a all = record {
   read = r.read;
   written = r.written ++ string_bytes new.text;
@@ -187,9 +187,9 @@ Lists-made limit had left held holds holds' old new ended r f a all = record {
     in_frames = sym (ap (λ f. f.contents) frames_read ∙ ap (λ c. map message_der r.listed.messages ++ c) r.none ∙ append-nil (map message_der r.listed.messages));
     lines =
         ap (λ l. r.written ++ l) f.lines
-        ∙ sym (append_assoc r.written (string_bytes old.text) (end_line old.messages (found old.decoder).end))
-        ∙ ap (λ l. l ++ end_line old.messages (found old.decoder).end) r.listed.lines
-        ∙ ap (λ n. flat_map message_line r.listed.messages ++ end_line n (found old.decoder).end) r.listed.counted
+        ∙ sym (append_assoc r.written (string_bytes old.text) (end_line old.messages (found messages old.decoder).end))
+        ∙ ap (λ l. l ++ end_line old.messages (found messages old.decoder).end) r.listed.lines
+        ∙ ap (λ n. flat_map message_line r.listed.messages ++ end_line n (found messages old.decoder).end) r.listed.counted
         ∙ ap (λ e. flat_map message_line r.listed.messages ++ end_line (length r.listed.messages) e) (sym end_is);
   };
   ended_so = f.ended_so ∙ ap run_end (sym end_is);
@@ -197,10 +197,10 @@ Lists-made limit had left held holds holds' old new ended r f a all = record {
   stops = r.stops;
 }
   where
-    frames_read : frames messages limit r.read ≡ behind_frames (map message_der r.listed.messages) (found old.decoder)
-    frames_read = r.same_frames ∙ ap (λ l. frames messages l r.stream) (sym r.same_limit) ∙ found_of old.decoder r.stream (map message_der r.listed.messages) r.listed.stands
+    frames_read : frames messages limit r.read ≡ behind_frames (map message_der r.listed.messages) (found messages old.decoder)
+    frames_read = r.same_frames ∙ ap (λ l. frames messages l r.stream) (sym r.same_limit) ∙ found_of messages old.decoder r.stream (map message_der r.listed.messages) r.listed.stands
 
-    end_is : end_of limit r.read ≡ (found old.decoder).end
+    end_is : end_of limit r.read ≡ (found messages old.decoder).end
     end_is = ap (λ f. f.end) frames_read
 
 -- a vector whose slice was written holds what the slice holds

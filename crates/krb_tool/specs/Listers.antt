@@ -3,6 +3,7 @@ use Rattle.std.specs.Prelude.{ℕ, ◌≡◌, ◌+◌, ◌≤◌, Bool, true, fa
 use Rattle.std.specs.List.{flat_map}
 use Rattle.krb_der.specs.declared.verdict.Refusal.{Refusal}
 use Rattle.krb_msg.specs.declared.message.Message.{Message}
+use Rattle.krb_msg.specs.Grammar.{messages as grammar}
 use Rattle.krb_msg.specs.Views.{message_der}
 use Rattle.krb_frame.specs.Decoding.{found, status_of, lent}
 use Rattle.krb_frame.specs.Stands.{Stands}
@@ -17,14 +18,14 @@ use Rattle.krb_tool.specs.declared.run.RunEnd.{RunEnd}
 -- The frames that the decoder cleared of a stream are messages. Their lines are in what was written and then in the text, and they are counted.
 pub record HasListed (lister : Lister) (stream written : List ℕ) : Type 0 where
   pub messages : List Message
-  pub stands : Stands lister.decoder stream (map message_der messages)
+  pub stands : Stands grammar lister.decoder stream (map message_der messages)
   pub lines : written ++ string_bytes lister.text ≡ flat_map message_line messages
   pub counted : lister.messages ≡ length messages
 
 -- nothing came yet
 pub record IsNewLister (limit : ℕ) (lister : Lister) : Type 0 where
   pub same_limit : lister.decoder.limit ≡ limit
-  pub waits : status_of lister.decoder ≡ status.More
+  pub waits : status_of grammar lister.decoder ≡ status.More
   pub none : lister.messages ≡ 0
   pub no_text : string_bytes lister.text ≡ []
   pub listed : HasListed lister [] []
@@ -32,17 +33,17 @@ pub record IsNewLister (limit : ℕ) (lister : Lister) : Type 0 where
 -- the line of the message that is ready was added, and its frame is cleared
 pub record ListsReady (old new : Lister) : Type 0 where
   pub contents : List ℕ
-  pub is_ready : lent old.decoder ≡ Some contents
+  pub is_ready : lent grammar old.decoder ≡ Some contents
   pub message : Message
   pub form : message_der message ≡ contents
   pub line : string_bytes new.text ≡ string_bytes old.text ++ message_line message
   pub counted : new.messages ≡ old.messages + 1
-  pub cleared : Clears old.decoder new.decoder true
+  pub cleared : Clears grammar old.decoder new.decoder true
 
 -- where the stream goes on all of a piece was used, and else an octet is refused
 abbrev pub Goes : Lister → List ℕ → ℕ → Bool → Type 0
-Goes lister piece used true = (used ≡ length piece) × (status_of lister.decoder ≡ status.More)
-Goes lister piece used false = (refusal : Refusal) × (status_of lister.decoder ≡ status.Refused refusal)
+Goes lister piece used true = (used ≡ length piece) × (status_of grammar lister.decoder ≡ status.More)
+Goes lister piece used false = (refusal : Refusal) × (status_of grammar lister.decoder ≡ status.Refused refusal)
 
 -- a piece came, and the frames that are whole now are listed
 pub record Feeds (old : Lister) (piece : List ℕ) (new : Lister) (goes_on : Bool) : Type 0 where
@@ -63,5 +64,5 @@ pub record IsWrittenOut (old new : Lister) : Type 0 where
 pub record Finishes (old new : Lister) (ended : RunEnd) : Type 0 where
   pub same_decoder : new.decoder ≡ old.decoder
   pub messages : new.messages ≡ old.messages
-  pub lines : string_bytes new.text ≡ string_bytes old.text ++ end_line old.messages (found old.decoder).end
-  pub ended_so : ended ≡ run_end (found old.decoder).end
+  pub lines : string_bytes new.text ≡ string_bytes old.text ++ end_line old.messages (found grammar old.decoder).end
+  pub ended_so : ended ≡ run_end (found grammar old.decoder).end

@@ -1,6 +1,7 @@
 //! The listing of a stream, as it grows.
 
 ghost use Rattle.std.specs.Prelude.{◌≡◌, ◌≢◌, ◌+◌, ◌<◌, ◌^◌, length, IfOk, OnOk, IsSome, string_bytes};
+ghost use Rattle.krb_msg.specs.Grammar.{messages};
 ghost use Rattle.krb_frame.specs.Decoding.{status_of, lent};
 ghost use Rattle.krb_frame.specs.declared.decoder.Status.TheVariants as status;
 ghost use Rattle.krb_tool.specs.Listers.{IsNewLister, ListsReady, Feeds, IsWrittenOut, Finishes};
@@ -36,7 +37,7 @@ impl Lister {
     /// Takes the next piece of the stream, adds the line of each frame that is whole now, and
     /// answers whether the stream goes on, which it does not where it is refused.
     pub(crate) fn feed(&mut self, piece: &[u8]) -> Result<bool, RunFault>
-        requires waits { status_of self.old.decoder ≡ status.More }
+        requires waits { status_of messages self.old.decoder ≡ status.More }
         requires few { self.old.messages + length piece.now < 2 ^ 64 }
         ensures { IfOk result (Feeds self.old piece.now self.new) }
     {
@@ -56,7 +57,7 @@ impl Lister {
     /// Adds the line of the frame that is ready, and clears it.
     fn list_ready(&mut self) -> Result<(), RunFault>
         requires few { self.old.messages + 1 < 2 ^ 64 }
-        requires ready { IsSome (lent self.old.decoder) }
+        requires ready { IsSome (lent messages self.old.decoder) }
         ensures { OnOk result (ListsReady self.old self.new) }
     {
         let Some(framed) = self.decoder.ready() else {

@@ -1,3 +1,4 @@
+use Rattle.krb_msg.specs.Grammar.{messages}
 use Rattle.std.proofs.Common.{refl, sym, ◌∙◌, subst, arith}
 use Rattle.krb_frame.proofs.Founds.{Announces, from_be_bytes-number, high, long, empty}
 use Rattle.krb_frame.proofs.decoder.judge_length.Goals as goal
@@ -5,17 +6,17 @@ use Rattle.krb_frame.proofs.decoder.judge_length.Goals as goal
 pub returns-then-size : goal.returns-then-size
 returns-then-size c =
     let a : Announces c.args.announced c.from_be_bytes-size.result = record { four = c.requires; is = sym (c.from_be_bytes-size.ensures ∙ from_be_bytes-number c.args.announced c.requires) } in
-    rw c.refused_length.ensures (record { at = high c.args.limit c.args.announced c.from_be_bytes-size.result a c.if-size.true; all = refl })
+    rw c.refused_length.ensures (record { at = high messages c.args.limit c.args.announced c.from_be_bytes-size.result a c.if-size.true; all = refl })
 
 pub returns-then-size-get : goal.returns-then-size-get
 returns-then-size-get c =
     let a : Announces c.args.announced c.from_be_bytes-size.result = record { four = c.requires; is = sym (c.from_be_bytes-size.ensures ∙ from_be_bytes-number c.args.announced c.requires) } in
-    rw c.refused_length-then-size-get.ensures (record { at = long c.args.limit c.args.announced c.from_be_bytes-size.result a (omega arith) (omega arith); all = refl })
+    rw c.refused_length-then-size-get.ensures (record { at = long messages c.args.limit c.args.announced c.from_be_bytes-size.result a (omega arith) (omega arith); all = refl })
 
 pub returns-then-size-eq0 : goal.returns-then-size-eq0
 returns-then-size-eq0 c =
     let a : Announces c.args.announced c.from_be_bytes-size.result = record { four = c.requires; is = sym (c.from_be_bytes-size.ensures ∙ from_be_bytes-number c.args.announced c.requires) } in
-    rw c.refused_length-then-size-eq0.ensures (record { at = empty c.args.limit c.args.announced (subst (Announces c.args.announced) c.if-size-eq0.true a); all = refl })
+    rw c.refused_length-then-size-eq0.ensures (record { at = empty messages c.args.limit c.args.announced (subst (Announces c.args.announced) c.if-size-eq0.true a); all = refl })
 
 pub returns-else-size-eq0 : goal.returns-else-size-eq0
 returns-else-size-eq0 c =

@@ -1,3 +1,4 @@
+use Rattle.krb_msg.specs.Grammar.{messages}
 use Rattle.krb_frame.proofs.Standing.{Feeds-both}
 use Rattle.std.proofs.lemmas.List.{take_rest}
 use Rattle.krb_frame.proofs.decoder.Decoder.feed.Goals as goal
@@ -5,4 +6,4 @@ use Rattle.krb_frame.proofs.decoder.Decoder.feed.Goals as goal
 pub returns : goal.returns
 returns c =
     let f = rw (take_rest c.args.piece.now c.feed_length-used.result) at c.feed_contents-fed.ensures in
-    Feeds-both c.args.self.now c.feed_length-used.new.self c.feed_contents-fed.new.self c.args.piece.now c.feed_length-used.result c.feed_contents-fed.result c.feed_length-used.ensures f
+    Feeds-both messages c.args.self.now c.feed_length-used.new.self c.feed_contents-fed.new.self c.args.piece.now c.feed_length-used.result c.feed_contents-fed.result c.feed_length-used.ensures f

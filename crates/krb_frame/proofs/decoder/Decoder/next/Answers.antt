@@ -1,3 +1,4 @@
+use Rattle.krb_msg.specs.Grammar.{messages}
 use Rattle.std.proofs.Common.{◌≡◌, sym, ◌∙◌, ap, subst}
 use Rattle.krb_frame.specs.Phases.{IsAt, octets_of}
 use Rattle.krb_frame.specs.declared.decoder.Phase.TheVariants as phase
@@ -8,12 +9,12 @@ use Rattle.krb_frame.proofs.decoder.Decoder.next.Goals as goal
 pub returns-in_default : goal.returns-in_default
 returns-in_default c =
     let d = c.self.inside in
-    rw (← c.self.view_is) (Clears-none (record { limit = d.limit; octets = octets_of d.phase d.length d.contents.items }) (lent-none d.limit d.length d.contents.items d.phase c.self.invariant c.in_default.not-Ready))
+    rw (← c.self.view_is) (Clears-none messages (record { limit = d.limit; octets = octets_of d.phase d.length d.contents.items }) (lent-none messages d.limit d.length d.contents.items d.phase c.self.invariant c.in_default.not-Ready))
 
 pub returns : goal.returns
 returns c =
     let d = c.self.inside in
-    let h = subst (IsAt d.limit d.length d.contents.items) c.in-Ready.is c.self.invariant in
-    let f = Clears-frame d.limit d.length d.contents.items c.clear.new.self.items h c.clear.ensures.items in
+    let h = subst (IsAt messages d.limit d.length d.contents.items) c.in-Ready.is c.self.invariant in
+    let f = Clears-frame messages d.limit d.length d.contents.items c.clear.new.self.items h c.clear.ensures.items in
     let old : record { limit = d.limit; octets = octets_of phase.Ready d.length d.contents.items } ≡ c.args.self.now = ap (λ p. record { limit = d.limit; octets = octets_of p d.length d.contents.items }) (sym c.in-Ready.is) ∙ c.self.view_is in
     rw (← old) f
