@@ -1,5 +1,5 @@
 -- The DER of the values of terms has the forms that are read.
-use Rattle.std.proofs.Common.{◌≡◌, ℕ, ◌+◌, ◌<◌, pos, true, not, Option, Some, None, List, [], ◌∷◌, ◌++◌, length, map, slice_index, refl, sym, ap, ◌∙◌, arith}
+use Rattle.std.proofs.Common.{◌≡◌, ℕ, ◌+◌, ◌<◌, pos, Bool, true, not, Option, Some, None, List, [], ◌∷◌, ◌++◌, length, map, slice_index, refl, sym, ap, ◌∙◌, arith}
 use Rattle.std.proofs.lemmas.Bool.{not-true, true≢false}
 use Rattle.std.proofs.lemmas.Int.{ints}
 use Rattle.std.specs.List.{flat_map, AllByRecursion}
@@ -27,7 +27,7 @@ are_fields values fit = record { values = values; fit = fit; form = refl }
 pub done : Gives (AreFields End) (λ contents. contents ≡ [])
 done contents f = f.form
 
-pub required : {node index : ℕ} {term : Term} {fields : Fields} {IsForm AreForm : List ℕ → Type 0} → Gives (IsDer term) IsForm → Gives (AreFields fields) AreForm → Gives (AreFields (Required (Tagged index term) fields)) (HasRequired (0xA0 + index) IsForm AreForm)
+pub required : {index : ℕ} {term : Term} {fields : Fields} {IsForm AreForm : List ℕ → Type 0} → Gives (IsDer term) IsForm → Gives (AreFields fields) AreForm → Gives (AreFields (Required (Tagged index term) fields)) (HasRequired (0xA0 + index) IsForm AreForm)
 required {term = term} {fields = fields} form behind contents f = record {
   octets = der term f.values.0;
   rest = der_of_fields fields f.values.1;
@@ -36,7 +36,7 @@ required {term = term} {fields = fields} form behind contents f = record {
   parts = f.form;
 }
 
-pub fixed : {node index of number : ℕ} {fields : Fields} {AreForm : List ℕ → Type 0} → Gives (AreFields fields) AreForm → Gives (AreFields (Required (Tagged node index (exactly of number)) fields)) (HasFixed (0xA0 + index) number AreForm)
+pub fixed : {index number : ℕ} {fields : Fields} {AreForm : List ℕ → Type 0} → Gives (AreFields fields) AreForm → Gives (AreFields (Required (Tagged index (exactly number)) fields)) (HasFixed (0xA0 + index) number AreForm)
 fixed {index = index} {number = number} {fields = fields} behind contents f =
     let e : f.values.0 ≡ pos number = omega (arith, ints, f.fit.0.0, f.fit.0.1) in
     record {
@@ -55,7 +55,7 @@ option_form : {term : Term} {IsForm : List ℕ → Type 0} → Gives (IsDer term
 option_form form None f = (None, tt, λ tag. refl)
 option_form {term = term} form (Some value) f = (Some (der term value), form (der term value) (is_der value f), λ tag. refl)
 
-pub optional : {node index : ℕ} {term : Term} {fields : Fields} {IsForm AreForm : List ℕ → Type 0} → not (may_begin (0xA0 + index) fields) ≡ true → Gives (IsDer term) IsForm → Gives (AreFields fields) AreForm → Gives (AreFields (Optional (Tagged index term) fields)) (HasOptional (0xA0 + index) IsForm AreForm)
+pub optional : {index : ℕ} {term : Term} {fields : Fields} {IsForm AreForm : List ℕ → Type 0} → not (may_begin (0xA0 + index) fields) ≡ true → Gives (IsDer term) IsForm → Gives (AreFields fields) AreForm → Gives (AreFields (Optional (Tagged index term) fields)) (HasOptional (0xA0 + index) IsForm AreForm)
 optional {index = index} {term = term} {fields = fields} apart form behind contents f =
     let o = option_form {term = term} form f.values.0 f.fit.0 in
     record {
@@ -80,13 +80,13 @@ parts_of : (term : Term) (values : List (Value term)) → flat_map (der term) va
 parts_of term [] = refl
 parts_of term (value ∷ values) = ap (λ octets. der term value ++ octets) (parts_of term values)
 
-pub listed : {node : ℕ} {term : Term} {IsForm : List ℕ → Type 0} → Gives (IsDer term) IsForm → Gives (IsDer (SequenceOf empty term)) (IsListed IsForm)
+pub listed : {empty : Bool} {term : Term} {IsForm : List ℕ → Type 0} → Gives (IsDer term) IsForm → Gives (IsDer (SequenceOf empty term)) (IsListed IsForm)
 listed {term = term} form octets f = record {
   contents = flat_map (der term) f.value;
-  listed = record { items = map (der term) f.value; forms = forms_of form f.value f.fits; begun = begun_of term f.value; parts = parts_of term f.value };
+  listed = record { items = map (der term) f.value; forms = forms_of form f.value f.fits.1; begun = begun_of term f.value; parts = parts_of term f.value };
   parts = f.form;
 }
 
 -- ---- messages
-pub tagged : {node number of : ℕ} {fields : Fields} {AreForm : List ℕ → Type 0} → Gives (AreFields fields) AreForm → Gives (IsDer (Application node number (Sequence of fields))) (IsTagged (0x60 + number) AreForm)
+pub tagged : {number : ℕ} {fields : Fields} {AreForm : List ℕ → Type 0} → Gives (AreFields fields) AreForm → Gives (IsDer (Application number (Sequence fields))) (IsTagged (0x60 + number) AreForm)
 tagged {fields = fields} form octets f = record { contents = der_of_fields fields f.value; fields = form (der_of_fields fields f.value) (are_fields f.value f.fits); parts = f.form }

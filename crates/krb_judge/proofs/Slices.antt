@@ -13,7 +13,9 @@ use Rattle.krb_msg.specs.Shape.{is_unambiguous}
 use Rattle.krb_msg.specs.Views.{kind_of, kind_term, kind_of_tag, message_value, message_der, IsInProfile}
 use Rattle.krb_msg.specs.Judgement.{judgement, term_judgement}
 use Rattle.krb_msg.specs.Laws.{AreMessage}
-use Rattle.krb_msg.proofs.Judged.{kind_of_tag-tag, whole_is_message, message_is_whole, whole_is_value, value_is_whole, value_is_decided, all_is_decided, der_tells}
+use Rattle.krb_msg.proofs.Judged.{kind_of_tag-tag, whole_is_message, message_is_whole, whole_is_value, value_is_whole, value_is_decided, der_tells}
+use Rattle.krb_msg.proofs.Grammars.{all_is_decided}
+use Rattle.krb_msg.specs.Grammar.{messages}
 use Rattle.krb_msg.proofs.Laws.{same_value}
 use Rattle.krb_msg.specs.Values.{der_is, der_begins}
 use Rattle.krb_judge.specs.Reads.{IsDer}
@@ -79,7 +81,7 @@ none_refused judge octets whole some short = none_chosen (nat_lt 2147483647 (len
 
 -- ---- messages
 pub whole_message : (octets : List ℕ) → refusal_of octets ≡ None → IsWholeSlice judgement octets
-whole_message octets = whole_slice judgement octets (λ some. all_is_decided (length octets) octets some refl)
+whole_message octets = whole_slice judgement octets (λ some. all_is_decided messages (length octets) octets some refl)
 
 pub message_in : (octets : List ℕ) → AreOctets octets → refusal_of octets ≡ None → AreMessage (length octets) octets
 message_in octets a e = let w = whole_message octets e in whole_is_message (length octets) octets w.short a (omega arith) w.whole

@@ -36,7 +36,7 @@ unfolding value_octets
 value_taken {term = term} s value e = item_taken s (der_is term value ∙ ap (item (tag_of term)) e)
 
 -- ---- a SEQUENCE of fields
-pub sequence_fields : {node : ℕ} {fields : Fields} {front inner rest : List ℕ} → StandsFirst (IsDer (Sequence fields)) front → IsSplit front inner rest → AreFields fields inner
+pub sequence_fields : {fields : Fields} {front inner rest : List ℕ} → StandsFirst (IsDer (Sequence fields)) front → IsSplit front inner rest → AreFields fields inner
 sequence_fields f s = record { values = f.form.value; fit = f.form.fits; form = contents_are f s }
 
 -- ---- a SEQUENCE OF
@@ -56,13 +56,13 @@ listed_taken s e = record {
 }
 
 -- ---- a SEQUENCE of fields in the tag of an application
-pub first_inner : {node number of : ℕ} {fields : Fields} {front : List ℕ} → StandsFirst (IsDer (Application node number (Sequence of fields))) front → HasInner front
+pub first_inner : {number : ℕ} {fields : Fields} {front : List ℕ} → StandsFirst (IsDer (Application number (Sequence fields))) front → HasInner front
 first_inner {number = number} {fields = fields} f = record { tag = 0x60 + number; inner_tag = 0x30; contents = der_of_fields fields f.form.value; rest = f.rest; parts = (first_item f).parts }
 
-pub application_fields : {node number of : ℕ} {fields : Fields} {front inner rest : List ℕ} → StandsFirst (IsDer (Application node number (Sequence of fields))) front → IsInner front inner rest → AreFields fields inner
+pub application_fields : {number : ℕ} {fields : Fields} {front inner rest : List ℕ} → StandsFirst (IsDer (Application number (Sequence fields))) front → IsInner front inner rest → AreFields fields inner
 application_fields {number = number} {fields = fields} f s = record { values = f.form.value; fit = f.form.fits; form = (s.parts (0x60 + number) 0x30 (der_of_fields fields f.form.value) f.rest (first_item f).parts).0 }
 
-pub application_taken : {node number of : ℕ} {fields : Fields} {front inner rest : List ℕ} → IsInner front inner rest → (values : Values fields) → item 0x30 (der_of_fields fields values) ≡ item 0x30 inner → IsTaken (IsDer (Application node number (Sequence of fields))) front (value_octets (Application node number (Sequence of fields)) values) rest
+pub application_taken : {number : ℕ} {fields : Fields} {front inner rest : List ℕ} → IsInner front inner rest → (values : Values fields) → item 0x30 (der_of_fields fields values) ≡ item 0x30 inner → IsTaken (IsDer (Application number (Sequence fields))) front (value_octets (Application number (Sequence fields)) values) rest
 unfolding value_octets
 application_taken {number = number} {fields = fields} s values e = record {
   parts = λ those behind f p.
@@ -92,7 +92,7 @@ pub taken_alone : {IsForm : List ℕ → Type 0} {octets taken rest : List ℕ} 
 taken_alone {octets = octets} f t = (t.parts octets [] f (sym (append-nil octets))).0
 
 -- ---- the scalars
-has_number : {node : ℕ} {low high : ℤ} {front : List ℕ} → negsuc 2147483647 ≤ℤ low → high ≤ℤ pos 4294967295 → StandsFirst (IsDer (Integer low high)) front → HasNumber front
+has_number : {low high : ℤ} {front : List ℕ} → negsuc 2147483647 ≤ℤ low → high ≤ℤ pos 4294967295 → StandsFirst (IsDer (Integer low high)) front → HasNumber front
 has_number a b f = record {
   number = f.form.value;
   rest = f.rest;
@@ -111,10 +111,10 @@ wide32_number f = has_number (omega (arith, ints)) (omega (arith, ints)) f
 pub micros_number : {front : List ℕ} → StandsFirst (IsDer microseconds) front → HasNumber front
 micros_number f = has_number (omega (arith, ints)) (omega (arith, ints)) f
 
-pub number_is : {node : ℕ} {low high number : ℤ} {front rest : List ℕ} (f : StandsFirst (IsDer (Integer low high)) front) → IsNumber front number rest → number ≡ f.form.value
+pub number_is : {low high number : ℤ} {front rest : List ℕ} (f : StandsFirst (IsDer (Integer low high)) front) → IsNumber front number rest → number ≡ f.form.value
 number_is f s = (s.parts f.form.value f.rest (f.parts ∙ behind_form f.rest f.form.form)).0
 
-pub number_taken : {node : ℕ} {low high number : ℤ} {front rest : List ℕ} → IsNumber front number rest → (taken : ℤ) → taken ≡ number → IsTaken (IsDer (Integer low high)) front (value_octets (Integer low high) taken) rest
+pub number_taken : {low high number : ℤ} {front rest : List ℕ} → IsNumber front number rest → (taken : ℤ) → taken ≡ number → IsTaken (IsDer (Integer low high)) front (value_octets (Integer low high) taken) rest
 unfolding value_octets
 number_taken s taken e = record {
   parts = λ those behind f p.

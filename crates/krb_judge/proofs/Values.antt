@@ -1,6 +1,6 @@
 -- A Ticket and METHOD-DATA that fill a slice.
 use Rattle.std.proofs.Common.{◌≡◌, ◌≢◌, ◌⊎◌, ◌↔◌, ℕ, ◌^◌, ◌<◌, inl, inr, List, map, length, None, Result, Ok, Err, IfOk, IsErrOf, refl, sym, ap, ◌∙◌, subst}
-use Rattle.std.specs.List.{flat_map, AllByRecursion}
+use Rattle.std.specs.List.{flat_map}
 use Rattle.krb_der.specs.Octets.{AreOctets}
 use Rattle.krb_der.specs.declared.verdict.Refusal.{Refusal}
 use Rattle.krb_der.specs.Octets.{item}
@@ -68,7 +68,7 @@ method_data_form items e = sym (ap (item 0x30) (flat_map-values (der pa_data) pa
 values_back : (items : List PaData) → map pa_data_of (map pa_data_value items) ≡ items
 values_back = map-back pa_data_value pa_data_of (λ p. refl)
 
-values_onto : (values : List (Value pa_data)) → AllByRecursion (Fits pa_data) values → map pa_data_value (map pa_data_of values) ≡ values
+values_onto : (values : Value method_data) → Fits method_data values → map pa_data_value (map pa_data_of values) ≡ values
 values_onto values f = map-back pa_data_of pa_data_value (λ p. refl) values
 
 pub are_of_method_data : {octets : List ℕ} (items : List PaData) → IsDer (term_at METHOD_DATA) octets × (length octets < 2 ^ 31) × (item_octets 0x30 (flat_map (λ padata. value_octets pa_data (pa_data_value padata)) items) ≡ octets) → AreOfMethodData octets items

@@ -1,7 +1,7 @@
 //! An item's tag and length octets (X.690, 8.1.2, 8.1.3 and 10.1).
 
-ghost use Rattle.std.specs.Prelude.{◌≡◌, ◌<◌, ◌≤◌, ◌∷◌, length, take, drop};
-ghost use Rattle.krb_msg.specs.Judgement.{head as head_from, long_head as long_head_from, fitting as fits};
+ghost use Rattle.std.specs.Prelude.{◌≡◌, ◌<◌, ◌≤◌, length, take, drop};
+ghost use Rattle.krb_msg.specs.Judgement.{head as head_from, short_head, long_head as long_head_from, fitting as fits};
 ghost use Rattle.krb_judge.specs.Outcomes.{head_of};
 
 use crate::judging::number::number;
@@ -30,7 +30,7 @@ pub(crate) fn read_head(room: u32, octets: &[u8]) -> Head
 
 /// A length by its first octet and those after it.
 fn first_length_octet(room: u32, octet: u8, rest: &[u8]) -> Head
-    ensures { head_of result ≡ head_from room (0 ∷ octet ∷ rest.now) }
+    ensures { head_of result ≡ short_head room octet rest.now }
 {
     if octet < 0x80 {
         fitting(room, 2, u64::from(octet))

@@ -1,4 +1,4 @@
-use Rattle.std.proofs.Common.{◌≡◌, ℕ, ◌+◌, ◌*◌, ◌<◌, ◌≤◌, length, drop, false}
+use Rattle.std.proofs.Common.{◌≡◌, ℕ, ◌+◌, ◌*◌, ◌≤◌, drop, false}
 use Rattle.krb_msg.specs.Shape.{depth, depth_of_fields}
 use Rattle.krb_msg.specs.Judgement.{item_outcome, fields_outcome, items_contents}
 use Rattle.krb_msg.specs.Nodes.{nodes, term_at}

@@ -16,7 +16,7 @@ returns-in-Ok-clause-found c = λ items f. (c.into_vec.ensures ∙ same_method_d
 
 pub returns-in-Ok-clause-refused : goal.returns-in-Ok-clause-refused
 returns-in-Ok-clause-refused c = λ r.
-    let same = refused_as method_data c.args.octets.now 39 method_data_node in
+    let same = refused_as method_data c.args.octets.now _ method_data_node in
     (λ e. absurd cc, λ e. let f = (c.in-Ok.ensures.refused r).1 (same ∙ e) in absurd cc)
 
 pub returns-in-Ok-clause-none : goal.returns-in-Ok-clause-none
@@ -27,7 +27,7 @@ returns-in-Err-clause-found c = λ items f. (tt, method_data_not_refused items f
 
 pub returns-in-Err-clause-refused : goal.returns-in-Err-clause-refused
 returns-in-Err-clause-refused c = λ r.
-    let same = refused_as method_data c.args.octets.now 39 method_data_node in
+    let same = refused_as method_data c.args.octets.now _ method_data_node in
     (λ e. sym same ∙ (c.in-Err.ensures.refused r).0 (same_error e), λ e. same_error ((c.in-Err.ensures.refused r).1 (same ∙ e)))
 
 pub returns-in-Err-clause-none : goal.returns-in-Err-clause-none

@@ -16,11 +16,11 @@ returns-clause-found c = λ t f.
     let octets = c.args.octets.now in
     found_or_memory c.parse_node.result t
     (IfOk-weaker c.parse_node.result _ _ (λ u g. same_ticket u t (are_of_ticket u g) f) c.parse_node.ensures.value)
-    (λ r e. let some = sym (ticket_not_refused t f) ∙ sym (refused_as ticket octets 16 ticket_node) ∙ (c.parse_node.ensures.refused r).0 e in absurd cc)
+    (λ r e. let some = sym (ticket_not_refused t f) ∙ sym (refused_as ticket octets _ ticket_node) ∙ (c.parse_node.ensures.refused r).0 e in absurd cc)
 
 pub returns-clause-refused : goal.returns-clause-refused
 returns-clause-refused c = λ r.
-    let same = refused_as ticket c.args.octets.now 16 ticket_node in
+    let same = refused_as ticket c.args.octets.now _ ticket_node in
     (λ e. sym same ∙ (c.parse_node.ensures.refused r).0 e, λ e. (c.parse_node.ensures.refused r).1 (same ∙ e))
 
 pub returns-clause-none : goal.returns-clause-none
