@@ -26,9 +26,12 @@ length-item tag contents = length_of_item tag contents
 pub complement-step : (n : ℕ) → 128 ≤ n → complement (spelled 128 n) ≡ complement (spelled 128 (n / 256)) ++ (255 - n % 256) ∷ []
 complement-step n h = rw (spelled-step 128 n (omega arith) h) (map_push (λ octet. 255 - octet) (spelled 128 (n / 256)) (n % 256))
 
+pub length-complement : (octets : List ℕ) → length (complement octets) ≡ length octets
+length-complement octets = length-map octets (λ octet. 255 - octet)
+
 pub length-integer_octets : (z : ℤ) → length (integer_octets z) ≡ length (spelled 128 (magnitude z))
 length-integer_octets (pos n) = refl
-length-integer_octets (negsuc n) = length-map (spelled 128 n) (λ octet. 255 - octet)
+length-integer_octets (negsuc n) = length-complement (spelled 128 n)
 
 -- saturated contents make a saturated item
 pub saturated-item_length : (n : ℕ) → saturated (item_length (saturated n)) ≡ saturated (item_length n)

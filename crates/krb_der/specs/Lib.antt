@@ -8,3 +8,4 @@ pub mod Tells
 pub mod Faults
 pub mod Fields
 pub mod Hex
+pub mod Puts

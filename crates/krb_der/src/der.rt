@@ -2,6 +2,7 @@
 
 ghost use Rattle.std.specs.Prelude.{◌≡◌, ◌+◌, ◌<◌, ◌≤◌, ◌++◌, ℕ, List, length};
 ghost use Rattle.std.specs.Vec.{vec_len, vec_capacity};
+ghost use Rattle.krb_der.specs.Puts.{Puts};
 ghost use Rattle.krb_der.specs.Sizes.{saturated};
 
 /// A type whose values have one DER form each (X.690, 10).
@@ -18,9 +19,7 @@ pub trait Der {
     fn put(&self, out: &mut Vec<u8>)
         requires short { length (der self.now) ≤ 2147483647 }
         requires room { vec_len out.old + length (der self.now) ≤ vec_capacity out.old }
-        ensures items { out.new.items ≡ out.old.items ++ der self.now }
-        ensures len { vec_len out.new ≡ vec_len out.old + length (der self.now) }
-        ensures capacity { vec_capacity out.new ≡ vec_capacity out.old };
+        ensures { Puts (der self.now) out.old out.new };
 
     /// Each value has octets.
     ghost begins: { (value : Self) → 0 < length (der value) };

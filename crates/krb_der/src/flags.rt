@@ -7,7 +7,7 @@ use std::marker::Model;
 /// A bit string (KerberosFlags of RFC 4120, 5.2.8; X.690, 8.6 and 11.2): octets, and how many low
 /// bits of the last one are unused, 0 to 7. These bits are clear, and where there are no octets
 /// none are unused. Contracts see the pair of the count and the list of the octets.
-#[derive(Drop, Debug)]
+#[derive(Debug, Drop)]
 pub struct Flags {
     unused: u8,
     octets: Vec<u8>,

@@ -2,6 +2,7 @@
 
 ghost use Rattle.std.specs.Prelude.{◌≡◌, ◌+◌, ◌<◌, ◌≤◌, ◌^◌, ◌++◌, ◌∷◌, length};
 ghost use Rattle.std.specs.Vec.{vec_len, vec_capacity};
+ghost use Rattle.krb_der.specs.Puts.{Puts};
 ghost use Rattle.krb_der.specs.Octets.{item, length_octets};
 ghost use Rattle.krb_der.specs.Sizes.{item_length, saturated};
 
@@ -35,9 +36,7 @@ pub(crate) fn add_sizes(size: u64, more: u64) -> u64
 /// of contents are to follow.
 pub fn put_header(out: &mut Vec<u8>, tag: u8, contents: u32)
     requires { vec_len out.old + (1 + length (length_octets contents)) ≤ vec_capacity out.old }
-    ensures items { out.new.items ≡ out.old.items ++ tag ∷ length_octets contents }
-    ensures len { vec_len out.new ≡ vec_len out.old + (1 + length (length_octets contents)) }
-    ensures capacity { vec_capacity out.new ≡ vec_capacity out.old }
+    ensures { Puts (tag ∷ length_octets contents) out.old out.new }
 {
     out.push_reserved(tag);
     if contents < 0x80 {
@@ -52,9 +51,7 @@ pub fn put_header(out: &mut Vec<u8>, tag: u8, contents: u32)
 /// Appends octets into room that is there.
 pub fn put_octets(out: &mut Vec<u8>, octets: &[u8])
     requires { vec_len out.old + length octets.now ≤ vec_capacity out.old }
-    ensures items { out.new.items ≡ out.old.items ++ octets.now }
-    ensures len { vec_len out.new ≡ vec_len out.old + length octets.now }
-    ensures capacity { vec_capacity out.new ≡ vec_capacity out.old }
+    ensures { Puts octets.now out.old out.new }
 {
     for octet in octets {
         out.push_reserved(*octet);
@@ -65,9 +62,7 @@ pub fn put_octets(out: &mut Vec<u8>, octets: &[u8])
 pub fn put_item(out: &mut Vec<u8>, tag: u8, contents: &[u8])
     requires short { length (item tag contents.now) ≤ 2147483647 }
     requires room { vec_len out.old + length (item tag contents.now) ≤ vec_capacity out.old }
-    ensures items { out.new.items ≡ out.old.items ++ item tag contents.now }
-    ensures len { vec_len out.new ≡ vec_len out.old + length (item tag contents.now) }
-    ensures capacity { vec_capacity out.new ≡ vec_capacity out.old }
+    ensures { Puts (item tag contents.now) out.old out.new }
 {
     put_header(out, tag, contents.len() as u32);
     put_octets(out, contents);

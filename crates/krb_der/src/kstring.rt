@@ -6,7 +6,7 @@ use std::marker::Model;
 
 /// A KerberosString (RFC 4120, 5.2.1): octets of any kind, as implementations send them. Contracts
 /// see them as their list.
-#[derive(Drop, Debug)]
+#[derive(Debug, Drop)]
 pub struct KString {
     octets: Vec<u8>,
 }

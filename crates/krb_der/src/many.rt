@@ -5,7 +5,7 @@ use crate::item::{add_sizes, item_size, put_header};
 use std::marker::Model;
 
 /// Any number of values, in order: a SEQUENCE OF (X.690, 8.10). Contracts see them as their list.
-#[derive(Drop, Debug)]
+#[derive(Debug, Drop)]
 pub struct Many<T> {
     values: Vec<T>,
 }
@@ -21,6 +21,7 @@ impl<T> Model for Many<T> {
 ghost use Rattle.std.specs.Prelude.{◌≡◌, ◌+◌, ◌≤◌, ◌++◌, length};
 ghost use Rattle.std.specs.List.{flat_map};
 ghost use Rattle.std.specs.Vec.{vec_len, vec_capacity};
+ghost use Rattle.krb_der.specs.Puts.{Puts};
 ghost use Rattle.std.specs.Cmp.Lexicographic.{pointwise, lists_per, lists_equiv};
 ghost use Rattle.krb_der.specs.Octets.{item};
 ghost use Rattle.krb_der.specs.Sizes.{saturated};
@@ -99,9 +100,7 @@ fn size_of_values<T: Der>(values: &[T]) -> u64
 fn put_values<T: Der>(out: &mut Vec<u8>, values: &[T])
     requires short { length (flat_map T.der values.now) ≤ 2147483647 }
     requires room { vec_len out.old + length (flat_map T.der values.now) ≤ vec_capacity out.old }
-    ensures items { out.new.items ≡ out.old.items ++ flat_map T.der values.now }
-    ensures len { vec_len out.new ≡ vec_len out.old + length (flat_map T.der values.now) }
-    ensures capacity { vec_capacity out.new ≡ vec_capacity out.old }
+    ensures { Puts (flat_map T.der values.now) out.old out.new }
 {
     for value in values {
         value.put(out);

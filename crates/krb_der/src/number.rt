@@ -2,6 +2,7 @@
 
 ghost use Rattle.std.specs.Prelude.{◌≡◌, ◌+◌, ◌<◌, ◌≤◌, ◌++◌, length};
 ghost use Rattle.std.specs.Vec.{vec_len, vec_capacity};
+ghost use Rattle.krb_der.specs.Puts.{Puts};
 ghost use Rattle.krb_der.specs.Octets.{spelled, complement, item, integer_octets};
 ghost use Rattle.krb_der.specs.Sizes.{magnitude as magnitude_of};
 
@@ -25,9 +26,7 @@ pub(crate) fn put_number(out: &mut Vec<u8>, bound: u64, number: u64)
     requires bound { 0 < bound }
     requires octets { bound ≤ 256 }
     requires room { vec_len out.old + length (spelled bound number) ≤ vec_capacity out.old }
-    ensures items { out.new.items ≡ out.old.items ++ spelled bound number }
-    ensures len { vec_len out.new ≡ vec_len out.old + length (spelled bound number) }
-    ensures capacity { vec_capacity out.new ≡ vec_capacity out.old }
+    ensures { Puts (spelled bound number) out.old out.new }
 {
     if number < bound {
         out.push_reserved(number as u8);
@@ -40,9 +39,7 @@ pub(crate) fn put_number(out: &mut Vec<u8>, bound: u64, number: u64)
 /// Appends the complements of the fewest octets that spell a number and begin below 128.
 fn put_complement(out: &mut Vec<u8>, number: u64)
     requires { vec_len out.old + length (spelled 128 number) ≤ vec_capacity out.old }
-    ensures items { out.new.items ≡ out.old.items ++ complement (spelled 128 number) }
-    ensures len { vec_len out.new ≡ vec_len out.old + length (spelled 128 number) }
-    ensures capacity { vec_capacity out.new ≡ vec_capacity out.old }
+    ensures { Puts (complement (spelled 128 number)) out.old out.new }
 {
     if number < 128 {
         out.push_reserved(255 - number as u8);
@@ -74,9 +71,7 @@ pub fn integer_size(number: i64) -> u64
 /// Appends the DER octets of an INTEGER into room that is there (X.690, 8.3).
 pub fn put_integer(out: &mut Vec<u8>, number: i64)
     requires { vec_len out.old + length (item 0x02 (integer_octets number)) ≤ vec_capacity out.old }
-    ensures items { out.new.items ≡ out.old.items ++ item 0x02 (integer_octets number) }
-    ensures len { vec_len out.new ≡ vec_len out.old + length (item 0x02 (integer_octets number)) }
-    ensures capacity { vec_capacity out.new ≡ vec_capacity out.old }
+    ensures { Puts (item 0x02 (integer_octets number)) out.old out.new }
 {
     let magnitude = magnitude(number);
     put_header(out, 0x02, number_size(128, magnitude) as u32);

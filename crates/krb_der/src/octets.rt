@@ -5,7 +5,7 @@ use crate::item::{item_size, put_item};
 use std::marker::Model;
 
 /// Octets, any number of any kind. Contracts see them as their list.
-#[derive(Drop, Debug)]
+#[derive(Debug, Drop)]
 pub struct Octets {
     octets: Vec<u8>,
 }
