@@ -5,6 +5,7 @@ ghost use Rattle.std.specs.Int.{w16, w32};
 ghost use Rattle.std.specs.Int.RustNames.{FitsSigned};
 ghost use Rattle.std.specs.List.{flat_map, AllByRecursion};
 ghost use Rattle.std.specs.Vec.{vec_len, vec_capacity};
+ghost use Rattle.krb_der.specs.Puts.{Puts};
 ghost use Rattle.krb_der.specs.Octets.{AreOctets};
 ghost use Rattle.krb_der.specs.Fields.{counted, signed, zeros, IsCounted};
 ghost use Rattle.krb_keytab.specs.declared.writing.KeytabFault.TheVariants.{Dirty, TooLong, Memory};
@@ -168,9 +169,7 @@ fn file_size(keytab: &Keytab) -> Result<u64, KeytabFault>
 fn put_counted(out: &mut Vec<u8>, octets: &[u8])
     requires short { length octets.now < 2 ^ 16 }
     requires room { vec_len out.old + length (counted w16 octets.now) ≤ vec_capacity out.old }
-    ensures items { out.new.items ≡ out.old.items ++ counted w16 octets.now }
-    ensures len { vec_len out.new ≡ vec_len out.old + length (counted w16 octets.now) }
-    ensures capacity { vec_capacity out.new ≡ vec_capacity out.old }
+    ensures { Puts (counted w16 octets.now) out.old out.new }
 {
     put_octets(out, &(octets.len() as u16).to_be_bytes());
     put_octets(out, octets);
@@ -180,9 +179,7 @@ fn put_counted(out: &mut Vec<u8>, octets: &[u8])
 fn put_components(out: &mut Vec<u8>, components: &[KString])
     requires short { any_long components.now ≡ false }
     requires room { vec_len out.old + length (flat_map (counted w16) components.now) ≤ vec_capacity out.old }
-    ensures items { out.new.items ≡ out.old.items ++ flat_map (counted w16) components.now }
-    ensures len { vec_len out.new ≡ vec_len out.old + length (flat_map (counted w16) components.now) }
-    ensures capacity { vec_capacity out.new ≡ vec_capacity out.old }
+    ensures { Puts (flat_map (counted w16) components.now) out.old out.new }
 {
     for component in components {
         put_counted(out, component.octets());
@@ -192,9 +189,7 @@ fn put_components(out: &mut Vec<u8>, components: &[KString])
 /// Appends `count` octets 00, into room that is there.
 fn put_zeros(out: &mut Vec<u8>, count: u32)
     requires { vec_len out.old + count ≤ vec_capacity out.old }
-    ensures items { out.new.items ≡ out.old.items ++ zeros count }
-    ensures len { vec_len out.new ≡ vec_len out.old + count }
-    ensures capacity { vec_capacity out.new ≡ vec_capacity out.old }
+    ensures { Puts (zeros count) out.old out.new }
 {
     for _ in 0..count {
         out.push_reserved(0);
@@ -205,9 +200,7 @@ fn put_zeros(out: &mut Vec<u8>, count: u32)
 fn put_content(out: &mut Vec<u8>, entry: &Entry)
     requires short { is_long_entry entry.now ≡ false }
     requires room { vec_len out.old + length (content_of entry.now) ≤ vec_capacity out.old }
-    ensures items { out.new.items ≡ out.old.items ++ content_of entry.now }
-    ensures len { vec_len out.new ≡ vec_len out.old + length (content_of entry.now) }
-    ensures capacity { vec_capacity out.new ≡ vec_capacity out.old }
+    ensures { Puts (content_of entry.now) out.old out.new }
 {
     let components = entry.components.as_slice();
     put_octets(out, &(components.len() as u16).to_be_bytes());
@@ -225,9 +218,7 @@ fn put_content(out: &mut Vec<u8>, entry: &Entry)
 fn put_record(out: &mut Vec<u8>, record: &Record)
     requires fault { record_fault «record».now ≡ None }
     requires room { vec_len out.old + length (written_record «record».now) ≤ vec_capacity out.old }
-    ensures items { out.new.items ≡ out.old.items ++ written_record «record».now }
-    ensures len { vec_len out.new ≡ vec_len out.old + length (written_record «record».now) }
-    ensures capacity { vec_capacity out.new ≡ vec_capacity out.old }
+    ensures { Puts (written_record «record».now) out.old out.new }
 {
     match record {
         Record::Entry(entry) => put_entry(out, entry),
@@ -239,9 +230,7 @@ fn put_record(out: &mut Vec<u8>, record: &Record)
 fn put_entry(out: &mut Vec<u8>, entry: &Entry)
     requires short { is_long_entry entry.now ≡ false }
     requires room { vec_len out.old + (4 + length (content_of entry.now)) ≤ vec_capacity out.old }
-    ensures items { out.new.items ≡ out.old.items ++ (signed w32 (pos (length (content_of entry.now))) ++ content_of entry.now) }
-    ensures len { vec_len out.new ≡ vec_len out.old + (4 + length (content_of entry.now)) }
-    ensures capacity { vec_capacity out.new ≡ vec_capacity out.old }
+    ensures { Puts (signed w32 (pos (length (content_of entry.now))) ++ content_of entry.now) out.old out.new }
 {
     // An entry whose parts are short enough has a size.
     let Some(size) = content_size(entry) else {
@@ -254,9 +243,7 @@ fn put_entry(out: &mut Vec<u8>, entry: &Entry)
 /// Appends a clean hole: its octets, all 00, after their negated number.
 fn put_hole(out: &mut Vec<u8>, hole: Hole)
     requires { vec_len out.old + (4 + hole.size) ≤ vec_capacity out.old }
-    ensures items { out.new.items ≡ out.old.items ++ (signed w32 (negated hole.size) ++ zeros hole.size) }
-    ensures len { vec_len out.new ≡ vec_len out.old + (4 + hole.size) }
-    ensures capacity { vec_capacity out.new ≡ vec_capacity out.old }
+    ensures { Puts (signed w32 (negated hole.size) ++ zeros hole.size) out.old out.new }
 {
     let size = hole.size();
     put_octets(out, &size.wrapping_neg().to_be_bytes());
@@ -267,9 +254,7 @@ fn put_hole(out: &mut Vec<u8>, hole: Hole)
 fn put_records(out: &mut Vec<u8>, records: &[Record])
     requires fault { records_fault records.now ≡ None }
     requires room { vec_len out.old + length (flat_map written_record records.now) ≤ vec_capacity out.old }
-    ensures items { out.new.items ≡ out.old.items ++ flat_map written_record records.now }
-    ensures len { vec_len out.new ≡ vec_len out.old + length (flat_map written_record records.now) }
-    ensures capacity { vec_capacity out.new ≡ vec_capacity out.old }
+    ensures { Puts (flat_map written_record records.now) out.old out.new }
 {
     for record in records {
         put_record(out, record);
