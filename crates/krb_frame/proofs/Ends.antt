@@ -16,7 +16,7 @@ use Rattle.krb_frame.specs.Stands.{Stands, EndsWith, behind_frames}
 use Rattle.krb_frame.specs.Laws.{HasOfStream}
 use Rattle.krb_frame.specs.declared.decoder.Status.TheVariants as status
 
--- ---- octets behind a refusal
+-- ---- octets after a refusal
 same_refused : (place other : ℕ) (reason same : Why) → ends (Refused place reason) ≡ ends (Refused other same) → Refused place reason ≡ Refused other same
 same_refused place other reason same e = ap (λ f. f.end) e
 

@@ -28,7 +28,7 @@ from_be_bytes-number (w ∷ x ∷ y ∷ z ∷ []) e = omega arith
 from_be_bytes-number (v ∷ w ∷ x ∷ y ∷ z ∷ rest) e = absurd (omega arith)
 
 -- ---- the octets of a length and contents
--- what stands in front of contents
+-- what comes before contents
 pub record Announces (announced : List ℕ) (size : ℕ) : Type 0 where
   pub four : length announced ≡ 4
   pub is : number announced ≡ size
@@ -127,7 +127,7 @@ module _ (messages : List Term) where
       frames-open messages limit (announced ++ contents) size (room announced contents size a) (number_of announced contents size a) (may_follow limit announced size h.accepted) opened
       ∙ ap (λ n. ends (Within n)) long
 
-  -- whatever comes behind a frame
+  -- whatever comes after a frame
   pub found-frame : (limit : ℕ) (announced contents more : List ℕ) → HasFrame messages limit announced contents → frames messages limit ((announced ++ contents) ++ more) ≡ with_first contents (frames messages limit more)
   found-frame limit announced contents more h = by (whole_outcome (message_outcome messages (length contents) contents) h.whole)
     where

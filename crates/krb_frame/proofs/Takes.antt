@@ -22,7 +22,7 @@ extended (Err error) held all kept e f = absurd cc
 
 -- ---- by any messages
 module _ (messages : List Term) where
-  -- a refusal stands behind the octets that left all open
+  -- a refusal is after the octets that left all open
   pub refused_later : (size : ℕ) (refusal : Refusal) (before piece : List ℕ) → length (before ++ piece) ≤ size → judgement_by messages size before ≡ verdict.Open → judgement_by messages size (before ++ piece) ≡ verdict.Refused refusal → length before ≤ refusal.place
   refused_later size refusal before piece l o e = elim (cases_lt refusal.place (length before)) [
     | inl h ↦
@@ -36,7 +36,7 @@ module _ (messages : List Term) where
     all : length (before ++ take count piece) ≡ length before + count
     all = omega (arith, length-append before (take count piece), length-take count piece)
 
-    -- where a refusal stands
+    -- where a refusal is
     pub record Stops (refusal : Refusal) : Type 0 where
       pub final : IsFinal messages size (before ++ take count piece) refusal.place refusal.why
       pub later : length before ≤ refusal.place

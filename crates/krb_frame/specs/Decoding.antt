@@ -51,7 +51,7 @@ finish_of messages d = finish_at (found messages d).end
 abbrev pub kept_contents : Decoding → List ℕ
 kept_contents d = drop 4 d.octets
 
--- the octets are of one frame alone: none is behind a whole frame, nor behind an octet that is refused
+-- the octets are of one frame alone: none is after a whole frame, nor after an octet that is refused
 abbrev pub AreOfOne : List ℕ → List (List ℕ) → End → Type 0
 AreOfOne octets [] Boundary = octets ≡ []
 AreOfOne octets [] (Within present) = length octets ≡ present

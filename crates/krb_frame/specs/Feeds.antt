@@ -7,7 +7,7 @@ use Rattle.krb_frame.specs.declared.decoder.Fed.{Fed}
 use Rattle.krb_frame.specs.declared.decoder.Status.{Status}
 use Rattle.krb_frame.specs.declared.decoder.Status.TheVariants as status
 
--- what a decoder is answered as: what it stands for, or that memory was refused where it needs more octets
+-- what a decoder is answered as: what it stands for, or out of memory where it needs more octets
 abbrev pub IsAnswer : List Term → Decoding → Status → Type 0
 IsAnswer messages d answer = (answer ≡ status_of messages d) ⊎ ((answer ≡ status.Memory) × (status_of messages d ≡ status.More))
 

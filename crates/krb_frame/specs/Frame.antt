@@ -23,6 +23,6 @@ pub record AreOfKind (octets : List ℕ) (kind : Kind) : Type 0 where
 abbrev pub frame_length : ℕ → List ℕ
 frame_length n = n / 16777216 ∷ n / 65536 % 256 ∷ n / 256 % 256 ∷ n % 256 ∷ []
 
--- octets behind their number
+-- octets after their number
 abbrev pub framed : List ℕ → List ℕ
 framed octets = frame_length (length octets) ++ octets

@@ -23,6 +23,6 @@ pub record HasOfStream (messages : List Term) (d : Decoding) (stream : List ℕ)
 abbrev pub StandingTells : Type 0
 StandingTells = (messages : List Term) (d : Decoding) (stream : List ℕ) (cleared : List (List ℕ)) → Stands messages d stream cleared → HasOfStream messages d stream cleared
 
--- Nothing behind a refusal is looked at: a stream that is refused is refused so, whatever comes.
+-- Nothing after a refusal is looked at: a stream that is refused is refused so, whatever comes.
 abbrev pub RefusalEnds : Type 0
 RefusalEnds = (messages : List Term) (d : Decoding) (stream more : List ℕ) (cleared : List (List ℕ)) (place : ℕ) (reason : Why) → Stands messages d stream cleared → (frames messages d.limit stream).end ≡ Refused place reason → frames messages d.limit (stream ++ more) ≡ frames messages d.limit stream

@@ -20,34 +20,34 @@ pub record IsRefusedIn (messages : List Term) (size : ℕ) (contents : List ℕ)
   pub judged : judgement_by messages size contents ≡ verdict.Refused (record { place = offset; why = refusal.why })
   pub last : length contents ≡ offset + 1
 
--- what contents decide, of which so many octets of a piece were taken
+-- what contents decide, of which a count of octets of a piece was taken
 abbrev pub IsDecided : List Term → ℕ → List ℕ → List ℕ → ℕ → Status → Type 0
 IsDecided messages size contents piece count status.More = (judgement_by messages size contents ≡ verdict.Open) × (count ≡ length piece)
 IsDecided messages size contents piece count status.Ready = (judgement_by messages size contents ≡ verdict.Whole) × (length contents ≡ size)
 IsDecided messages size contents piece count (status.Refused refusal) = IsRefusedIn messages size contents refusal
 IsDecided messages size contents piece count status.Memory = (judgement_by messages size contents ≡ verdict.Open) × (count < length piece)
 
--- octets of a piece were taken behind the contents of a frame
+-- octets of a piece were taken after the contents of a frame
 pub record IsTaken (messages : List Term) (size : ℕ) (before piece after : List ℕ) (fed : Fed) : Type 0 where
   pub within : fed.used ≤ length piece
   pub contents : after ≡ before ++ take fed.used piece
   pub present : length after ≤ size
   pub decided : IsDecided messages size after piece fed.used fed.status
 
--- the phase behind them
+-- the phase after them
 abbrev pub phase_of : ℕ → Status → Phase
 phase_of size status.More = phase.Contents size
 phase_of size status.Memory = phase.Contents size
 phase_of size status.Ready = phase.Ready
 phase_of size (status.Refused refusal) = phase.Refused refusal
 
--- the end of a stream that has so many octets of a frame
+-- the end of a stream that has a number of octets of a frame
 abbrev pub end_behind : ℕ → End
 end_behind zero = Boundary
 end_behind (suc present) = Within (suc present)
 
 -- ---- the fields of a decoder
--- so many octets of a length
+-- the number of octets of a length that are present
 abbrev pub length_present : Phase → ℕ
 length_present (phase.Length count) = count
 length_present (phase.Contents size) = 4
@@ -102,7 +102,7 @@ pub record IsLengthJudged (messages : List Term) (limit : ℕ) (announced : List
   pub all : length_present phase ≡ 4
 
 -- ---- what the parts of a feed do
--- octets of a length were put behind those that are there
+-- octets of a length were put after those that are there
 pub record IsPut (before : List ℕ) (present : ℕ) (piece after : List ℕ) (count : ℕ) : Type 0 where
   pub many : count ≡ min (4 - present) (length piece)
   pub front : take (present + count) after ≡ take present before ++ take count piece

@@ -1,4 +1,4 @@
--- What stands at the front of a stream's octets decides its frames, case by case.
+-- The front of a stream's octets decides its frames, case by case.
 use Rattle.std.proofs.Common.{◌≡◌, ℕ, ◌+◌, ◌^◌, ◌<◌, ◌≤◌, List, [], ◌∷◌, ◌++◌, length, take, drop, inl, inr, refl, ◌∙◌, ap, ap₂, arith, length-append, length-take, length-drop, le-ltb, lt-ltb, ne_eqb}
 use Rattle.std.proofs.lemmas.Bool.{cases_lt, lt-leb, le-leb}
 use Rattle.std.proofs.lemmas.List.{take-append-le, drop-append-le, drop-drop}
@@ -12,7 +12,7 @@ use Rattle.krb_msg.proofs.Messages.{message_outcome-decided}
 use Rattle.krb_msg.proofs.Streams.{frames_within-step, frames_within-short, frames_within-same, length_and-same, length-drop_two}
 
 module _ (messages : List Term) (limit : ℕ) where
-  -- behind the four octets of a length
+  -- after the four octets of a length
   pub frames-length : (octets : List ℕ) → 4 ≤ length octets → frames messages limit octets ≡ length_and messages limit (number (take 4 octets)) (drop 4 octets) (frames messages limit)
   unfolding frames
   frames-length [] h = absurd (omega arith)
@@ -64,7 +64,7 @@ module _ (messages : List Term) (limit : ℕ) where
   pub frames-done : (octets : List ℕ) (n count : ℕ) → 4 ≤ length octets → number (take 4 octets) ≡ n → MayFollow n → message_outcome messages n (take n (drop 4 octets)) ≡ Done count → frames messages limit octets ≡ with_first (take n (drop 4 octets)) (frames messages limit (drop n (drop 4 octets)))
   frames-done octets n count four e m o = frames-contents octets n (Done count) four e m o
 
-  -- and whatever comes behind a frame that is all there
+  -- and whatever comes after a frame that is all there
   pub frames-done_more : (octets more : List ℕ) (n count : ℕ) → 4 + n ≤ length octets → number (take 4 octets) ≡ n → MayFollow n → message_outcome messages n (take n (drop 4 octets)) ≡ Done count → frames messages limit (octets ++ more) ≡ with_first (take n (drop 4 octets)) (frames messages limit (drop (4 + n) octets ++ more))
   frames-done_more octets more n count all e m o =
       frames-done (octets ++ more) n count (omega (arith, length-append octets more)) (ap number front ∙ e) m (ap (message_outcome messages n) contents ∙ o)
@@ -85,7 +85,7 @@ module _ (messages : List Term) (limit : ℕ) where
       behind : drop n (drop 4 (octets ++ more)) ≡ drop (4 + n) octets ++ more
       behind = ap (drop n) after ∙ drop-append-le n (drop 4 octets) more within ∙ ap (λ l. l ++ more) (drop-drop n 4 octets)
 
--- what stands before the fourth octet of a length
+-- before the fourth octet of a length
 pub frames-short : (messages : List Term) (limit : ℕ) (octet : ℕ) (rest : List ℕ) → length (octet ∷ rest) < 4 → frames messages limit (octet ∷ rest) ≡ ends (Within (length (octet ∷ rest)))
 unfolding frames
 frames-short messages limit octet rest h = frames_within-short messages limit (length (octet ∷ rest)) octet rest h

@@ -84,7 +84,7 @@ head-long room tag k rest p q h =
     let e : 128 + k - 128 ≡ k = omega arith in
     rw e (grind (arith, nat_tests))
 
--- a length is read back, with any octets behind it
+-- a length is read back, with any octets after it
 pub head-length_octets : (room tag n : ℕ) (rest : List ℕ) → n < 2 ^ 32 → 1 + length (length_octets n) + n ≤ room → head room (tag ∷ (length_octets n ++ rest)) ≡ Got (1 + length (length_octets n)) n
 head-length_octets room tag n rest small fits = go (cases_lt n 128)
   where
@@ -179,7 +179,7 @@ HeadShown-two room tag octet rest found n f = record {
   sooner = λ k h. head-short room (take k (tag ∷ octet ∷ [])) (rw length-take (omega arith));
 }
 
--- two octets and so many of a long length show it
+-- two octets and the first n of a long length show it
 HeadShown-long : (room tag octet k : ℕ) (digits rest : List ℕ) (found : Head) → need_of_head found ≡ 2 + length digits → ((rest : List ℕ) → head room (tag ∷ octet ∷ rest) ≡ long_head room k rest) → ((rest : List ℕ) → long_head room k (digits ++ rest) ≡ found) → ((n : ℕ) → n < length digits → long_head room k (take n digits) ≡ Partial) → HeadShown room (tag ∷ octet ∷ (digits ++ rest)) found
 HeadShown-long room tag octet k digits rest found n f same sooner = record {
   front = tag ∷ octet ∷ digits;

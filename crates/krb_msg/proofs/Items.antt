@@ -39,9 +39,9 @@ module _ (room before : ℕ) (judge : List ℕ → Outcome) (empty : judge [] �
       let o : (other : List ℕ → Outcome) × (IsStable room before other) × (other [] ≡ Open) × ((rest : List ℕ) → judge (octet ∷ rest) ≡ other (octet ∷ rest)) = others octet in
       Shown-first o.0 octet octets outcome o.2 o.3 d (o.1 (octet ∷ octets) outcome fits (sym (o.3 octets) ∙ e) d)
 
--- ---- an item behind its tag
+-- ---- an item after its tag
 module _ (contents_of : ℕ → ℕ → List ℕ → Outcome) (term : Term) (room : ℕ) (sole : Bool) where
-  -- behind an accepted head
+  -- after an accepted head
   abbrev accepted : ℕ → ℕ → List ℕ → Outcome
   accepted header contents back =
       cond (sole && ltb (header + contents) room) (Bad (header - 1) why.Loose)
@@ -53,7 +53,7 @@ module _ (contents_of : ℕ → ℕ → List ℕ → Outcome) (term : Term) (roo
   headed-got : (octets : List ℕ) (header contents : ℕ) (s : HeadShown room octets (Got header contents)) (rest : List ℕ) → headed (s.front ++ rest) ≡ accepted header contents rest
   headed-got octets header contents s rest = rw (s.same rest, drop_at s.front rest header (sym s.reached))
 
-  -- the head alone shows what is refused behind it
+  -- the head alone shows what is refused after it
   Shown-head : (octets : List ℕ) (found : Head) (outcome : Outcome) (s : HeadShown room octets found) → need outcome ≡ length s.front → ((rest : List ℕ) → headed (s.front ++ rest) ≡ outcome) → Shown room 0 headed octets outcome
   Shown-head octets found outcome s n same = record {
     front = s.front;

@@ -18,7 +18,7 @@ pub item_outcome-der : (term : Term) → is_unambiguous term ≡ true → (value
 item_outcome-der term u value f small room sole rest within fills = item-accepted term u value f small room sole rest within fills
 
 -- ---- stable
--- An outcome shown by so many octets as it takes: it is the same with any others behind them, and none is shown by fewer.
+-- An outcome shown by just the octets that it takes: it is the same with any others after them, and none is shown by fewer.
 pub record Settles (room : ℕ) (judge : List ℕ → Outcome) (octets : List ℕ) (outcome : Outcome) : Type 0 where
   pub within : need outcome ≤ length octets
   pub same : (other : List ℕ) → length other ≤ room → take (need outcome) other ≡ take (need outcome) octets → judge other ≡ outcome
@@ -52,7 +52,7 @@ Settles-stable room judge stable octets outcome fits e d = Settles-shown room ju
 pub Settles-item_outcome : (term : Term) (room : ℕ) (sole : Bool) (octets : List ℕ) (outcome : Outcome) → length octets ≤ room → item_outcome term room sole octets ≡ outcome → IsDecided outcome → Settles room (item_outcome term room sole) octets outcome
 Settles-item_outcome term room sole = Settles-stable room (item_outcome term room sole) (IsStable-item_outcome term room sole)
 
--- a refusal stands at an octet that is there
+-- a refusal is at an octet that is there
 pub bad_within : (term : Term) (room : ℕ) (sole : Bool) (octets : List ℕ) (place : ℕ) (reason : Why) → length octets ≤ room → item_outcome term room sole octets ≡ Bad place reason → place < length octets
 bad_within term room sole octets place reason h e = (Settles-item_outcome term room sole octets (Bad place reason) h e tt).within
 

@@ -10,7 +10,7 @@ use Rattle.krb_msg.specs.Term.{IsTimeFrom}
 use Rattle.krb_msg.specs.Judgement.{Outcome, Open, Bad, Done, behind, then_after, is_padded, int_le, integer_contents, each_contents, text_octet, time_octet, bits_contents, any_contents}
 use Rattle.krb_msg.proofs.Leaves.{each-next, each-bad, each-open, each-done}
 
--- ---- parts behind others
+-- ---- parts after others
 pub done_from_behind : (before : ℕ) (outcome : Outcome) (total : ℕ) → behind before outcome ≡ Done total → (count : ℕ) × (outcome ≡ Done count) × (total ≡ before + count)
 done_from_behind before Open total e = absurd cc
 done_from_behind before (Bad offset reason) total e = absurd cc

@@ -48,7 +48,7 @@ sole-read term read value small =
     ap (λ octets. value_of term (opened octets).contents) (sym (append-nil (der term value)))
     ∙ first-read term read value [] (omega (arith, length-append (der term value) []))
 
--- ---- items one behind another
+-- ---- items one after another
 all_step : (bound : ℕ) (octets : List ℕ) → 0 < length octets → all_opened (suc bound) octets ≡ (opened octets).contents ∷ all_opened bound (opened octets).behind
 all_step bound [] p = absurd (omega arith)
 all_step bound (octet ∷ octets) p = refl

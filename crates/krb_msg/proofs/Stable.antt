@@ -1,4 +1,4 @@
--- What shows an outcome: a front of the octets, all of which it takes. More octets behind it change nothing.
+-- What shows an outcome: a front of the octets, all of which it takes. More octets after it change nothing.
 use Rattle.std.proofs.Common.{◌≡◌, ℕ, suc, ◌+◌, ◌-◌, ◌<◌, ◌≤◌, inl, inr, List, [], ◌∷◌, ◌++◌, length, take, drop, refl, sym, ◌∙◌, ap, subst, arith, append_assoc, length-append, suc-add, drop_at, length-take}
 use mathlib.Core.Path.{fun_ext}
 use Rattle.std.proofs.lemmas.Bool.{cases_lt}
@@ -17,7 +17,7 @@ IsDecided Open = ⊥
 IsDecided (Bad offset reason) = Unit {0}
 IsDecided (Done count) = Unit {0}
 
--- The front that shows an outcome of octets which stand behind others, in a room.
+-- The front that shows an outcome of octets that come after others, in a room.
 pub record Shown (room before : ℕ) (judge : List ℕ → Outcome) (octets : List ℕ) (outcome : Outcome) : Type 0 where
   pub front : List ℕ
   pub back : List ℕ
@@ -69,7 +69,7 @@ IsStable-refusal room before reason (octet ∷ octets) o fits e d =
     zero_from_lt_one : (k : ℕ) → k < 1 → k ≡ 0
     zero_from_lt_one k h = omega arith
 
--- ---- a judgement behind another
+-- ---- a judgement after another
 pub IsStable-behind : (room before : ℕ) (judge : List ℕ → Outcome) → IsStable room 0 judge → IsStable room before (λ octets. behind before (judge octets))
 IsStable-behind room before judge p octets outcome fits e d = go (judge octets) refl
   where
@@ -87,12 +87,12 @@ IsStable-behind room before judge p octets outcome fits e d = go (judge octets) 
 pub length_parts : {outcome : Outcome} {judge : List ℕ → Outcome} (octets : List ℕ) (room before : ℕ) (s : Shown room before judge octets outcome) → length octets ≡ length s.front + length s.back
 length_parts octets room before s = ap length s.parts ∙ length-append s.front s.back
 
--- ---- a judgement, and then another of the octets behind it
+-- ---- a judgement, and then another of the octets after it
 module _ (room before : ℕ) (one : List ℕ → Outcome) (next : ℕ → List ℕ → Outcome) where
   abbrev both : List ℕ → Outcome
   both octets = then_after before (one octets) (λ count. next count (drop count octets))
 
-  -- behind the front that shows the first
+  -- after the front that shows the first
   both-append : (octets : List ℕ) (count : ℕ) (s : Shown room 0 one octets (Done count)) (rest : List ℕ) → length (s.front ++ rest) ≤ room → both (s.front ++ rest) ≡ next count rest
   both-append octets count s rest h =
       let n : length s.front ≡ count = omega (arith, s.reached) in

@@ -1,4 +1,4 @@
--- The frames of a stream: each whole frame is a message behind its length, and the rest is judged by itself.
+-- The frames of a stream: each whole frame is a message after its length, and the rest is judged by itself.
 use Rattle.std.proofs.Common.{◌≡◌, ℕ, zero, suc, ◌+◌, ◌*◌, ◌/◌, ◌%◌, ◌^◌, ◌<◌, ◌≤◌, ◌⊎◌, inl, inr, true, false, ltb, leb, eqb, List, [], ◌∷◌, ◌++◌, length, take, drop, refl, sym, ◌∙◌, ap, subst, arith, le_refl, append_assoc, length-append, length-drop, length-take, le-ltb, lt-ltb, ne_eqb, drop_at, take-append-drop}
 use Rattle.std.proofs.lemmas.Bool.{cases_lt, cases_Bool, lt-leb, eqb-false, leb-false, ltb-false}
 use Rattle.std.proofs.lemmas.List.{take_at}
@@ -79,7 +79,7 @@ module _ (messages : List Term) (limit : ℕ) where
       b = suc (suc (suc (length (contents ++ rest))))
 
   -- ---- what the frames are
-  -- the frames found are messages, one behind another, and what is behind them is judged to be the end
+  -- the frames found are messages, one after another, and what is left after them is judged to be the end
   pub record IsParse (octets : List ℕ) (found : Frames) : Type 0 where
     pub tail : List ℕ
     pub parts : octets ≡ flat_map frame found.contents ++ tail
@@ -126,7 +126,7 @@ frame_parts (w ∷ x ∷ y ∷ z ∷ rest) a h =
     λ i. p i ∷ q i ∷ r i ∷ s i ∷ rest
 
 module _ (messages : List Term) (limit : ℕ) where
-  -- behind a length, if what is behind the frame is parsed
+  -- after a length, if what is left after the frame is parsed
   IsParse-length : (b : ℕ) (octets : List ℕ) → AreOctets octets → length octets ≤ suc b → 4 ≤ length octets → IsParse messages limit (drop (number (take 4 octets)) (drop 4 octets)) (frames_within b messages limit (drop (number (take 4 octets)) (drop 4 octets))) → IsParse messages limit octets (frames_within (suc b) messages limit octets)
   IsParse-length b octets a l h behind = by_tests (cases_Bool (leb (2 ^ 31) n)) (cases_Bool (ltb limit n)) (cases_Bool (eqb n 0))
     where

@@ -1,11 +1,12 @@
 -- Worked examples, computed by the definitions: octets in hexadecimal, and what they are.
-use Rattle.std.specs.Prelude.{ℕ, pos, negsuc, ◌≡◌, true, List, [], ◌∷◌, ◌++◌, take, Some, None, codes, refl}
+use Rattle.std.specs.Prelude.{ℕ, pos, negsuc, ◌≡◌, true, false, List, [], ◌∷◌, ◌++◌, take, Some, None, codes, refl}
 use Rattle.krb_der.specs.Hex.{hex}
 use Rattle.krb_der.specs.declared.why.Why.TheVariants as why
 use Rattle.krb_der.specs.declared.verdict.Verdict.TheVariants as verdict
 use Rattle.krb_msg.specs.declared.message.Message.{Message}
 use Rattle.krb_msg.specs.declared.message.Message.TheVariants as message
-use Rattle.krb_msg.specs.Grammar.{messages, ticket, ap_req, as_rep, tgs_rep, as_req, tgs_req, krb_error, method_data}
+use Rattle.krb_msg.specs.Term.{Text, Bits, SequenceOf}
+use Rattle.krb_msg.specs.Grammar.{messages, int32, kerberos_string, sequence_of, ticket, ap_req, as_rep, tgs_rep, as_req, tgs_req, krb_error, method_data}
 use Rattle.krb_msg.specs.Judgement.{Bad, Done, item_outcome, judgement}
 use Rattle.krb_msg.specs.Stream.{Frames, Boundary, Within, Refused, ends, frames}
 use Rattle.krb_msg.specs.Views.{message_der}
@@ -159,3 +160,35 @@ not_a_digit = refl
 
 method_data_whole : item_outcome method_data 13 true (hex (codes "300B3009A103020102A2020400")) ≡ Done 13
 method_data_whole = refl
+
+-- ---- what a profile narrows: a string's greatest octet, the least number of flags, and lists that may not be empty
+string_of_ascii : item_outcome (Text 0x7F) 3 true (hex (codes "1B017F")) ≡ Done 3
+string_of_ascii = refl
+
+string_with_a_high_octet : item_outcome (Text 0x7F) 4 true (hex (codes "1B024180")) ≡ Bad 3 why.Charset
+string_with_a_high_octet = refl
+
+string_of_any_octets : item_outcome kerberos_string 4 true (hex (codes "1B024180")) ≡ Done 4
+string_of_any_octets = refl
+
+thirty_two_flags : item_outcome (Bits 32) 7 true (hex (codes "03050000000000")) ≡ Done 7
+thirty_two_flags = refl
+
+-- four octets and the unused count are too short, whatever the count is
+too_few_octets_of_flags : item_outcome (Bits 32) 6 true (hex (codes "0304")) ≡ Bad 1 why.Size
+too_few_octets_of_flags = refl
+
+thirty_one_flags : item_outcome (Bits 32) 7 true (hex (codes "030501")) ≡ Bad 2 why.Bits
+thirty_one_flags = refl
+
+thirty_three_flags : item_outcome (Bits 32) 8 true (hex (codes "0306070000000000")) ≡ Done 8
+thirty_three_flags = refl
+
+empty_list : item_outcome (SequenceOf false int32) 2 true (hex (codes "3000")) ≡ Bad 1 why.Size
+empty_list = refl
+
+list_that_may_be_empty : item_outcome (sequence_of int32) 2 true (hex (codes "3000")) ≡ Done 2
+list_that_may_be_empty = refl
+
+list_of_one : item_outcome (SequenceOf false int32) 5 true (hex (codes "3003020101")) ≡ Done 5
+list_of_one = refl

@@ -9,19 +9,19 @@ use Rattle.krb_der.specs.declared.verdict.Verdict.TheVariants as verdict
 use Rattle.krb_msg.specs.Grammar.{messages}
 use Rattle.krb_msg.specs.Term.{Term, Fields, Integer, Text, Octets, Time, Bits, Sequence, SequenceOf, Tagged, Application, End, Required, Optional, tag_of}
 
--- Of an item, or of a container's contents: more octets are needed, the octet at an offset is refused, or so many octets complete it.
+-- Of an item, or of a container's contents: more octets are needed, the octet at an offset is refused, or a count of octets completes it.
 pub data Outcome : Type 0 where
   Open : Outcome
   Bad : (offset : ℕ) → (reason : Why) → Outcome
   Done : (count : ℕ) → Outcome
 
--- the outcome of a part behind so many octets
+-- the outcome of a part that comes after a number of octets
 abbrev pub behind : ℕ → Outcome → Outcome
 behind before Open = Open
 behind before (Bad offset reason) = Bad (before + offset) reason
 behind before (Done count) = Done (before + count)
 
--- where the part behind so many octets is done, goes on with its count of octets
+-- where the part that comes after a number of octets is done, goes on with its count of octets
 abbrev pub then_after : ℕ → Outcome → (ℕ → Outcome) → Outcome
 then_after before Open next = Open
 then_after before (Bad offset reason) next = Bad (before + offset) reason
@@ -140,7 +140,7 @@ item_with contents_of term room sole (octet ∷ octets) =
     (λ _. Bad 0 why.Tag)
 
 abbrev mutual
-  -- an item's contents of a length, behind its tag and length octets, from what is present of them
+  -- an item's contents of a length, after its tag and length octets, from what is present of them
   pub contents_outcome : Term → ℕ → ℕ → List ℕ → Outcome
   contents_outcome (Integer low high) before room octets = behind before (integer_contents low high room octets)
   contents_outcome (Text greatest) before room octets = behind before (each_contents (text_octet greatest) why.Charset room 0 octets)

@@ -42,7 +42,7 @@ pub record AreOneOf (messages : List Term) (n : ℕ) (octets : List ℕ) : Type 
 abbrev pub WholeIsOneOf : Type 0
 WholeIsOneOf = (messages : List Term) (n : ℕ) (octets : List ℕ) → AreOctets octets → length octets ≤ n → judgement_by messages n octets ≡ Whole → AreOneOf messages n octets
 
--- A refusal stands at an octet that is there. It is the same whatever follows that octet, and without that octet nothing is decided.
+-- A refusal is at an octet that is there. It is the same whatever follows that octet, and without that octet nothing is decided.
 pub record IsFinal (messages : List Term) (n : ℕ) (octets : List ℕ) (place : ℕ) (reason : Why) : Type 0 where
   pub within : place < length octets
   pub same : (other : List ℕ) → length other ≤ n → take (suc place) other ≡ take (suc place) octets → judgement_by messages n other ≡ Refused (record { place = place; why = reason })

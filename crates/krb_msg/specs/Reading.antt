@@ -7,7 +7,7 @@ use Rattle.krb_msg.specs.Views.{kind_term, kind_of_tag, message_of}
 use Rattle.krb_msg.specs.declared.message.Kind.{Kind}
 use Rattle.krb_msg.specs.declared.message.Message.{Message}
 
--- the contents of the first item, and what stands behind it
+-- the contents of the first item, and what is left after it
 pub record Opened : Type 0 where
   pub contents : List ℕ
   pub behind : List ℕ
@@ -19,7 +19,7 @@ opened_at other octets = record { contents = []; behind = [] }
 abbrev pub opened : List ℕ → Opened
 opened octets = opened_at (head (length octets) octets) octets
 
--- the contents of items one behind another; the first number bounds how many
+-- the contents of items one after another; the first number bounds how many
 abbrev pub all_opened : ℕ → List ℕ → List (List ℕ)
 all_opened bound [] = []
 all_opened zero (octet ∷ octets) = []

@@ -6,7 +6,7 @@ use Rattle.krb_der.specs.declared.why.Why.TheVariants as why
 use Rattle.krb_msg.specs.Term.{Term}
 use Rattle.krb_msg.specs.Judgement.{Outcome, Open, Bad, Done, message_outcome}
 
--- how a stream ends: between frames, within one of which so many octets are there, or refused
+-- how a stream ends: between frames, within one of which a number of octets are there, or refused
 pub data End : Type 0 where
   Boundary : End
   Within : (present : ℕ) → End
@@ -23,13 +23,13 @@ ends end = record { contents = []; end = end }
 abbrev pub with_first : List ℕ → Frames → Frames
 with_first first frames = record { contents = first ∷ frames.contents; end = frames.end }
 
--- a frame's contents: what is present, its outcome, and the frames behind it
+-- a frame's contents: what is present, its outcome, and the frames after it
 abbrev pub frame_and : Outcome → List ℕ → Frames → Frames
 frame_and Open present rest = ends (Within (4 + length present))
 frame_and (Bad offset reason) present rest = ends (Refused (4 + offset) reason)
 frame_and (Done count) present rest = with_first present rest
 
--- behind a length that is accepted
+-- after a length that is accepted
 abbrev pub frame_of : List Term → ℕ → List ℕ → (List ℕ → Frames) → Frames
 frame_of messages n octets frames = frame_and (message_outcome messages n (take n octets)) (take n octets) (frames (drop n octets))
 
