@@ -7,7 +7,7 @@ use Rattle.std.specs.Option.{option_map}
 use Rattle.std.specs.Fmt.{decimal, signed_decimal, digit_glyph, digits, digits_onto}
 use Rattle.krb_der.specs.Octets.{AreOctets}
 use Rattle.krb_der.specs.Scalars.{IsTimeFrom}
-use Rattle.krb_msg.specs.Grammar.{principal_name, kdc_req_body, ap_req, krb_error, ticket}
+use Rattle.krb_msg.specs.Grammar.{kerberos_string, principal_name, kdc_req_body, ap_req, krb_error, ticket}
 use Rattle.krb_msg.specs.Term.{Fits, IfPresent}
 use Rattle.krb_msg.specs.Notes.{notes_of}
 use Rattle.krb_msg.specs.Views.{IsInProfile, principal_name_value, ticket_value, kdc_req_body_value, ap_req_value, krb_error_value}
@@ -136,18 +136,23 @@ unfolding principal_text
 principal components realm h k =
     join (join (all_joined (codes "\\-") (codes "/") escape AreOctets (word (codes "\\-") refl) (word (codes "/") refl) escaped components h) (word (codes "@") refl)) (escaped realm k)
 
+-- a string of the profile is octets
+names_octets : (names : List (List ℕ)) → AllByRecursion (Fits kerberos_string) names → AllAreOctets names
+names_octets [] fit = tt
+names_octets (name ∷ names) fit = (fit.0.0, names_octets names fit.1)
+
 named : (realm : List ℕ) (name : PrincipalName) → AreOctets realm → Fits principal_name (principal_name_value name) → Prints (in_realm realm name)
-named realm name h fit = principal name.name realm fit.1.0 h
+named realm name h fit = principal name.name realm (names_octets name.name fit.1.0.1) h
 
 optional_name : (realm : List ℕ) (name : Option PrincipalName) → AreOctets realm → IfPresent (Fits principal_name) (option_map principal_name_value name) → Prints (or_dash (in_realm realm) name)
 optional_name realm None h fit = word (codes "-") refl
 optional_name realm (Some name) h fit = named realm name h fit
 
-client : (name : Option PrincipalName) (realm : Option (List ℕ)) → IfPresent (Fits principal_name) (option_map principal_name_value name) → IfPresent AreOctets realm → Prints (client_text name realm)
+client : (name : Option PrincipalName) (realm : Option (List ℕ)) → IfPresent (Fits principal_name) (option_map principal_name_value name) → IfPresent (Fits kerberos_string) realm → Prints (client_text name realm)
 client None None h k = word (codes "-") refl
 client None (Some realm) h k = word (codes "-") refl
 client (Some name) None h k = word (codes "-") refl
-client (Some name) (Some realm) h k = named realm name k h
+client (Some name) (Some realm) h k = named realm name k.0 h
 
 pub sealed : (v : EncryptedData) → Prints (sealed_text v)
 sealed v = join (join (join (join (signed v.etype) (word (codes ":") refl)) (always signed_decimal signed v.kvno)) (word (codes ":") refl)) (number (length v.cipher))
@@ -181,9 +186,9 @@ kdc_req : (name : List ℕ) (m : KdcReq) → Prints name → Fits kdc_req_body (
 unfolding kdc_req_text
 kdc_req name m start (options, (cname, (realm, (sname, (from, (till, (rtime, rest))))))) =
     add (add (add (add (add (add (add (add (add (add (add (add (add start
-    (codes "realm") refl (escaped m.body.realm realm))
-    (codes "client") refl (optional_name m.body.realm m.body.cname realm cname))
-    (codes "server") refl (optional_name m.body.realm m.body.sname realm sname))
+    (codes "realm") refl (escaped m.body.realm realm.0))
+    (codes "client") refl (optional_name m.body.realm m.body.cname realm.0 cname))
+    (codes "server") refl (optional_name m.body.realm m.body.sname realm.0 sname))
     (codes "options") refl (flags m.body.kdc_options options.1))
     (codes "from") refl (optional (λ t. t) (IsTimeFrom 14) time m.body.from from))
     (codes "till") refl (time m.body.till till))
@@ -196,7 +201,7 @@ kdc_req name m start (options, (cname, (realm, (sname, (from, (till, (rtime, res
     (codes "tickets") refl (always count_text count m.body.additional_tickets)
 
 of_ticket : (t : Ticket) → Fits ticket (ticket_value t) → Prints (in_realm t.realm t.sname)
-of_ticket t fit = named t.realm t.sname fit.1.0 fit.1.1.0
+of_ticket t fit = named t.realm t.sname fit.1.0.0 fit.1.1.0
 
 kdc_rep : (name : List ℕ) (m : KdcRep) → Prints name → AreOctets m.crealm → Fits principal_name (principal_name_value m.cname) → Fits ticket (ticket_value m.ticket) → Prints (kdc_rep_text name m)
 unfolding kdc_rep_text
@@ -227,12 +232,12 @@ error_line m (version, (type, (ctime, (cusec, (stime, (susec, (error_code, (crea
     add (add (add (add (add (add (add (add (add (add (word (codes "KRB-ERROR") refl)
     (codes "code") refl (code m.error_code))
     (codes "client") refl (client m.cname m.crealm cname crealm))
-    (codes "server") refl (named m.realm m.sname realm sname))
+    (codes "server") refl (named m.realm m.sname realm.0 sname))
     (codes "ctime") refl (optional (λ t. t) (IsTimeFrom 14) time m.ctime ctime))
     (codes "cusec") refl (always decimal number m.cusec))
     (codes "stime") refl (time m.stime stime))
     (codes "susec") refl (number m.susec))
-    (codes "text") refl (optional quoted_text AreOctets quoted m.e_text text))
+    (codes "text") refl (optional quoted_text (Fits kerberos_string) (λ octets fit. quoted octets fit.0) m.e_text text))
     (codes "data") refl (always count_text count m.e_data))
     (codes "methods") refl (methods m.error_code m.e_data)
 
@@ -241,9 +246,9 @@ notes m before = add before (codes "notes") refl (list decimal number _)
 
 line : (m : Message) → IsInProfile m → Prints (message_text m)
 line (message.AsReq m) good = notes (message.AsReq m) (kdc_req (codes "AS-REQ") m (word (codes "AS-REQ") refl) good.fits.1.1.1.0)
-line (message.AsRep m) good = notes (message.AsRep m) (kdc_rep (codes "AS-REP") m (word (codes "AS-REP") refl) good.fits.1.1.1.0 good.fits.1.1.1.1.0 good.fits.1.1.1.1.1.0)
+line (message.AsRep m) good = notes (message.AsRep m) (kdc_rep (codes "AS-REP") m (word (codes "AS-REP") refl) good.fits.1.1.1.0.0 good.fits.1.1.1.1.0 good.fits.1.1.1.1.1.0)
 line (message.TgsReq m) good = notes (message.TgsReq m) (kdc_req (codes "TGS-REQ") m (word (codes "TGS-REQ") refl) good.fits.1.1.1.0)
-line (message.TgsRep m) good = notes (message.TgsRep m) (kdc_rep (codes "TGS-REP") m (word (codes "TGS-REP") refl) good.fits.1.1.1.0 good.fits.1.1.1.1.0 good.fits.1.1.1.1.1.0)
+line (message.TgsRep m) good = notes (message.TgsRep m) (kdc_rep (codes "TGS-REP") m (word (codes "TGS-REP") refl) good.fits.1.1.1.0.0 good.fits.1.1.1.1.0 good.fits.1.1.1.1.1.0)
 line (message.ApReq m) good = notes (message.ApReq m) (ap_req_line m good.fits)
 line (message.ApRep m) good = notes (message.ApRep m) (ap_rep_line m)
 line (message.KrbError m) good = notes (message.KrbError m) (error_line m good.fits)
