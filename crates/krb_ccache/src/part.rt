@@ -6,6 +6,7 @@ ghost use Rattle.std.specs.Int.{w8, w16, w32, to_be_bytes};
 ghost use Rattle.std.specs.Int.RustNames.{FitsSigned};
 ghost use Rattle.std.specs.List.{flat_map, list_any, AllByRecursion};
 ghost use Rattle.std.specs.Vec.{vec_len, vec_capacity};
+ghost use Rattle.krb_der.specs.Puts.{Puts};
 ghost use Rattle.krb_der.specs.Octets.{AreOctets};
 ghost use Rattle.krb_der.specs.Fields.{signed, counted, IsCounted};
 ghost use Rattle.krb_ccache.specs.Writing.{is_long16, is_long32, held};
@@ -37,9 +38,7 @@ pub(crate) trait Part {
     fn put(&self, out: &mut Vec<u8>)
         requires short { is_long self.now ≡ false }
         requires room { vec_len out.old + length (octets self.now) ≤ vec_capacity out.old }
-        ensures items { out.new.items ≡ out.old.items ++ octets self.now }
-        ensures len { vec_len out.new ≡ vec_len out.old + length (octets self.now) }
-        ensures capacity { vec_capacity out.new ≡ vec_capacity out.old };
+        ensures { Puts (octets self.now) out.old out.new };
 }
 
 /// Two numbers of octets together, held at `GREATEST + 1`.
@@ -355,9 +354,7 @@ fn size_of_each<P: Part>(items: &[P]) -> Option<u64>
 fn put_each<P: Part>(out: &mut Vec<u8>, items: &[P])
     requires short { list_any P.is_long items.now ≡ false }
     requires room { vec_len out.old + length (flat_map P.octets items.now) ≤ vec_capacity out.old }
-    ensures items { out.new.items ≡ out.old.items ++ flat_map P.octets items.now }
-    ensures len { vec_len out.new ≡ vec_len out.old + length (flat_map P.octets items.now) }
-    ensures capacity { vec_capacity out.new ≡ vec_capacity out.old }
+    ensures { Puts (flat_map P.octets items.now) out.old out.new }
 {
     for item in items {
         item.put(out);
