@@ -4,6 +4,7 @@
 
 ghost use Rattle.std.specs.Prelude.{◌≡◌, ◌+◌, ◌≤◌, ◌++◌, ◌∷◌, [], ℕ, pos, List, length};
 ghost use Rattle.std.specs.Vec.{vec_len, vec_capacity};
+ghost use Rattle.krb_der.specs.Puts.{Puts};
 ghost use Rattle.krb_der.specs.Octets.{item, integer_octets, octets_of_option};
 ghost use Rattle.krb_der.specs.Sizes.{saturated};
 
@@ -25,9 +26,7 @@ pub trait Encoding {
     fn put(&self, out: &mut Vec<u8>)
         requires short { length (octets self.now) ≤ 2147483647 }
         requires room { vec_len out.old + length (octets self.now) ≤ vec_capacity out.old }
-        ensures items { out.new.items ≡ out.old.items ++ octets self.now }
-        ensures len { vec_len out.new ≡ vec_len out.old + length (octets self.now) }
-        ensures capacity { vec_capacity out.new ≡ vec_capacity out.old };
+        ensures { Puts (octets self.now) out.old out.new };
 }
 
 /// No field more.
