@@ -12,7 +12,7 @@ use Rattle.krb_msg.specs.Stream.{Frames, End, Boundary, Within, Refused, ends, w
 use Rattle.krb_msg.proofs.Fronts.{MayFollow, frames-high, frames-long, frames-empty, frames-open, frames-bad, frames-done, frames-short, frames-nil}
 use Rattle.krb_msg.proofs.Grammars.{refused_outcome, refusal_is_final}
 use Rattle.krb_frame.specs.Decoding.{Decoding, found, status_at, first_of, AreOfOne}
-use Rattle.krb_frame.specs.Stands.{Stands, EndsWith, behind_frames}
+use Rattle.krb_frame.specs.Stands.{Stands, EndsWith, after_frames}
 use Rattle.krb_frame.specs.Laws.{HasOfStream}
 use Rattle.krb_frame.specs.declared.decoder.Status.TheVariants as status
 
@@ -141,12 +141,12 @@ module _ (messages : List Term) where
     is_within (first ∷ []) (Refused place reason) present a e = absurd a
     is_within (first ∷ second ∷ others) end present a e = absurd a
 
-  pub found_of : (d : Decoding) (stream : List ℕ) (cleared : List (List ℕ)) → Stands messages d stream cleared → frames messages d.limit stream ≡ behind_frames cleared (found messages d)
+  pub found_of : (d : Decoding) (stream : List ℕ) (cleared : List (List ℕ)) → Stands messages d stream cleared → frames messages d.limit stream ≡ after_frames cleared (found messages d)
   unfolding found
   found_of d stream cleared s =
       ap (frames messages d.limit) (sym (append-nil stream))
       ∙ s.goes_on []
-      ∙ ap (λ l. behind_frames cleared (frames messages d.limit l)) (append-nil d.octets)
+      ∙ ap (λ l. after_frames cleared (frames messages d.limit l)) (append-nil d.octets)
 
   pub standing_tells : (d : Decoding) (stream : List ℕ) (cleared : List (List ℕ)) → Stands messages d stream cleared → HasOfStream messages d stream cleared
   standing_tells d stream cleared s = record {
@@ -163,7 +163,7 @@ module _ (messages : List Term) where
     within = λ present e. (is_within d.octets (found messages d).contents (found messages d).end present s.one (sym end ∙ e), s.last);
   }
     where
-      all : frames messages d.limit stream ≡ behind_frames cleared (found messages d)
+      all : frames messages d.limit stream ≡ after_frames cleared (found messages d)
       all = found_of d stream cleared s
 
       end : (frames messages d.limit stream).end ≡ (found messages d).end
@@ -185,4 +185,4 @@ module _ (messages : List Term) where
       let t = standing_tells d stream cleared s in
       let r = refused_end (found messages d).contents (found messages d).end (record { place = place; why = reason }) ((t.refused place reason).0 e) in
       let f : found messages d ≡ ends (Refused place reason) = λ i. record { contents = r.0 i; end = r.1 i } in
-      s.goes_on more ∙ ap (behind_frames cleared) (refused_more d.limit d.octets more place reason f ∙ sym f) ∙ sym t.found_all
+      s.goes_on more ∙ ap (after_frames cleared) (refused_more d.limit d.octets more place reason f ∙ sym f) ∙ sym t.found_all

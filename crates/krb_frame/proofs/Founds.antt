@@ -11,8 +11,8 @@ use Rattle.krb_msg.specs.Judgement.{Open, Bad, Done, message_outcome, judgement_
 use Rattle.krb_msg.specs.Stream.{Frames, Boundary, Within, Refused, ends, with_first, frames}
 use Rattle.krb_msg.proofs.Fronts.{MayFollow, frames-high, frames-long, frames-empty, frames-open, frames-bad, frames-done_more, frames-short, frames-nil}
 use Rattle.krb_msg.proofs.Grammars.{whole_outcome, refused_outcome, open_outcome}
-use Rattle.krb_frame.specs.Decoding.{Decoding, found, status_at, status_of, first_of, lent, finish_at, finish_of, AreOfOne, IsOfOneFrame}
-use Rattle.krb_frame.specs.Phases.{end_behind, octets_of, IsRefusedIn, IsTaken, phase_of, IsAccepted, HasPartOfLength, HasPart, HasFrame, HasRefused, IsAt, phase_status}
+use Rattle.krb_frame.specs.Decoding.{Decoding, found, status_at, status_of, first_of, borrowed, finish_at, finish_of, AreOfOne, IsOfOneFrame}
+use Rattle.krb_frame.specs.Phases.{end_after, octets_of, IsRefusedIn, IsTaken, phase_of, IsAccepted, HasPartOfLength, HasPart, HasFrame, HasRefused, IsAt, phase_status}
 use Rattle.krb_frame.specs.declared.decoder.Phase.{Phase}
 use Rattle.krb_frame.specs.declared.decoder.Phase.TheVariants as phase
 use Rattle.krb_frame.specs.declared.decoder.Status.{Status}
@@ -44,12 +44,12 @@ announces limit announced size a = record { four = a.four; is = a.is }
 
 -- the frames of the octets that a phase holds
 abbrev pub frames_at : Phase → List ℕ → Frames
-frames_at (phase.Length count) contents = ends (end_behind count)
+frames_at (phase.Length count) contents = ends (end_after count)
 frames_at (phase.Contents size) contents = ends (Within (4 + length contents))
 frames_at phase.Ready contents = with_first contents (ends Boundary)
 frames_at (phase.Refused refusal) contents = ends (Refused refusal.place refusal.why)
 
-pub end-some : (present : ℕ) → 0 < present → end_behind present ≡ Within present
+pub end-some : (present : ℕ) → 0 < present → end_after present ≡ Within present
 end-some zero h = absurd (omega arith)
 end-some (suc present) h = refl
 
@@ -62,13 +62,13 @@ length_of-part announced contents count h = omega (arith, h.part, h.four, ap len
 
 -- ---- what a decoder is answered as
 -- the octets that a phase holds are of one frame
-one-end : (octets : List ℕ) (count : ℕ) → length octets ≡ count → AreOfOne octets [] (end_behind count)
+one-end : (octets : List ℕ) (count : ℕ) → length octets ≡ count → AreOfOne octets [] (end_after count)
 one-end [] zero e = refl
 one-end [] (suc count) e = e
 one-end (octet ∷ octets) zero e = absurd (omega arith)
 one-end (octet ∷ octets) (suc count) e = e
 
-status-end : (count : ℕ) → status_at [] (end_behind count) ≡ status.More
+status-end : (count : ℕ) → status_at [] (end_after count) ≡ status.More
 status-end zero = refl
 status-end (suc count) = refl
 
@@ -78,7 +78,7 @@ status-at (phase.Contents size) contents = refl
 status-at phase.Ready contents = refl
 status-at (phase.Refused refusal) contents = refl
 
--- ---- what is lent, kept and answered at the end
+-- ---- what is borrowed, kept and answered at the end
 none_ready : (p : Phase) (contents : List ℕ) → (p ≡ phase.Ready → ⊥) → first_of (frames_at p contents).contents ≡ None
 none_ready (phase.Length count) contents n = refl
 none_ready (phase.Contents size) contents n = refl
@@ -150,14 +150,14 @@ module _ (messages : List Term) where
           frames-done_more messages limit (announced ++ contents) more (length contents) count (omega (arith, all)) (number_of announced contents (length contents) a) (may_follow limit announced (length contents) h.accepted) (ap (message_outcome messages (length contents)) there ∙ d)
           ∙ ap₂ (λ c r. with_first c (frames messages limit r)) there none
 
-  found-short : (limit : ℕ) (octets : List ℕ) → length octets < 4 → frames messages limit octets ≡ ends (end_behind (length octets))
+  found-short : (limit : ℕ) (octets : List ℕ) → length octets < 4 → frames messages limit octets ≡ ends (end_after (length octets))
   found-short limit [] h = frames-nil messages limit
   found-short limit (octet ∷ octets) h = frames-short messages limit octet octets h
 
   pub found-at : (limit : ℕ) (announced contents : List ℕ) (p : Phase) → IsAt messages limit announced contents p → frames messages limit (octets_of p announced contents) ≡ frames_at p contents
   found-at limit announced contents (phase.Length count) h =
       let n : length (take count announced ++ contents) ≡ count = length_of-part announced contents count h in
-      found-short limit (take count announced ++ contents) (omega (arith, h.part)) ∙ ap (λ k. ends (end_behind k)) n
+      found-short limit (take count announced ++ contents) (omega (arith, h.part)) ∙ ap (λ k. ends (end_after k)) n
   found-at limit announced contents (phase.Contents size) h =
       ap (frames messages limit) (four_octets announced contents h.accepted.four) ∙ found-part limit announced contents size h
   found-at limit announced contents phase.Ready h =
@@ -191,13 +191,13 @@ module _ (messages : List Term) where
   unfolding found
   more-nothing limit = ap (λ f. status_at f.contents f.end) (frames-nil messages limit)
 
-  pub lent-none : (limit : ℕ) (announced contents : List ℕ) (p : Phase) → IsAt messages limit announced contents p → (p ≡ phase.Ready → ⊥) → lent messages (record { limit = limit; octets = octets_of p announced contents }) ≡ None
+  pub borrowed-none : (limit : ℕ) (announced contents : List ℕ) (p : Phase) → IsAt messages limit announced contents p → (p ≡ phase.Ready → ⊥) → borrowed messages (record { limit = limit; octets = octets_of p announced contents }) ≡ None
   unfolding found
-  lent-none limit announced contents p h n = ap (λ f. first_of f.contents) (found-at limit announced contents p h) ∙ none_ready p contents n
+  borrowed-none limit announced contents p h n = ap (λ f. first_of f.contents) (found-at limit announced contents p h) ∙ none_ready p contents n
 
-  pub lent-ready : (limit : ℕ) (announced contents : List ℕ) (p : Phase) → IsAt messages limit announced contents p → p ≡ phase.Ready → lent messages (record { limit = limit; octets = octets_of p announced contents }) ≡ Some contents
+  pub borrowed-ready : (limit : ℕ) (announced contents : List ℕ) (p : Phase) → IsAt messages limit announced contents p → p ≡ phase.Ready → borrowed messages (record { limit = limit; octets = octets_of p announced contents }) ≡ Some contents
   unfolding found
-  lent-ready limit announced contents p h e = ap (λ f. first_of f.contents) (found-at limit announced contents p h ∙ ap (λ q. frames_at q contents) e)
+  borrowed-ready limit announced contents p h e = ap (λ f. first_of f.contents) (found-at limit announced contents p h ∙ ap (λ q. frames_at q contents) e)
 
   pub finish-at : (limit : ℕ) (announced contents : List ℕ) (p : Phase) → IsAt messages limit announced contents p → finish_of messages (record { limit = limit; octets = octets_of p announced contents }) ≡ finish_at (frames_at p contents).end
   unfolding found

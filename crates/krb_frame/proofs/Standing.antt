@@ -5,8 +5,8 @@ use Rattle.std.proofs.Math.Seq.{take-add}
 use Rattle.std.specs.Prelude.{is_some}
 use Rattle.krb_msg.specs.Term.{Term}
 use Rattle.krb_msg.specs.Stream.{with_first, frames}
-use Rattle.krb_frame.specs.Decoding.{Decoding, status_of, lent, IsOfOneFrame}
-use Rattle.krb_frame.specs.Stands.{Stands, behind_frames}
+use Rattle.krb_frame.specs.Decoding.{Decoding, status_of, borrowed, IsOfOneFrame}
+use Rattle.krb_frame.specs.Stands.{Stands, after_frames}
 use Rattle.krb_frame.specs.Feeds.{IsAnswer, Feeds, Clears}
 use Rattle.krb_frame.specs.Phases.{octets_of, length_present, IsDecided, IsTaken, phase_of, HasPartOfLength, HasPart, HasFrame, IsAt, IsPut, FeedsLength, phase_status}
 use Rattle.krb_frame.specs.declared.decoder.Phase.{Phase}
@@ -14,7 +14,7 @@ use Rattle.krb_frame.specs.declared.decoder.Phase.TheVariants as phase
 use Rattle.krb_frame.specs.declared.decoder.Fed.{Fed}
 use Rattle.krb_frame.specs.declared.decoder.Status.{Status}
 use Rattle.krb_frame.specs.declared.decoder.Status.TheVariants as status
-use Rattle.krb_frame.proofs.Founds.{Comes, comes, one-nothing, found-frame, four_octets, lent-ready, length_of-part, taken-at}
+use Rattle.krb_frame.proofs.Founds.{Comes, comes, one-nothing, found-frame, four_octets, borrowed-ready, length_of-part, taken-at}
 
 -- less than a length is there
 pub none-fed : (announced contents piece : List ℕ) (count : ℕ) → HasPartOfLength announced contents count → (piece ≡ []) ⊎ (4 ≤ length (take count announced ++ contents)) → piece ≡ []
@@ -42,8 +42,8 @@ module _ (messages : List Term) where
         ap (frames messages new.limit) (append_assoc stream used more)
         ∙ ap (λ n. frames messages n (stream ++ (used ++ more))) l
         ∙ s.goes_on (used ++ more)
-        ∙ ap (λ n. behind_frames cleared (frames messages n (old.octets ++ (used ++ more)))) (sym l)
-        ∙ ap (λ r. behind_frames cleared (frames messages new.limit r)) (sym (append_assoc old.octets used more) ∙ ap (λ r. r ++ more) (sym o));
+        ∙ ap (λ n. after_frames cleared (frames messages n (old.octets ++ (used ++ more)))) (sym l)
+        ∙ ap (λ r. after_frames cleared (frames messages new.limit r)) (sym (append_assoc old.octets used more) ∙ ap (λ r. r ++ more) (sym o));
     last = record { before = s.last.before; parts = ap (λ r. r ++ used) s.last.parts ∙ append_assoc s.last.before old.octets used ∙ ap (λ r. s.last.before ++ r) (sym o) };
     one = one;
   }
@@ -53,7 +53,7 @@ module _ (messages : List Term) where
   Stands-cleared limit octets contents first stream cleared s = record {
     goes_on = λ more.
         s.goes_on more
-        ∙ ap (behind_frames cleared) (first more)
+        ∙ ap (after_frames cleared) (first more)
         ∙ ap (λ l. record { contents = l; end = (frames messages limit more).end }) (sym (append_assoc cleared (contents ∷ []) (frames messages limit more).contents));
     last = record { before = stream; parts = sym (append-nil stream) };
     one = one-nothing messages limit;
@@ -197,7 +197,7 @@ module _ (messages : List Term) where
           (omega (arith, e, a.0), a.1 ∙ s)
 
   -- ---- a frame that is cleared
-  pub Clears-none : (d : Decoding) → lent messages d ≡ None → Clears messages d d false
+  pub Clears-none : (d : Decoding) → borrowed messages d ≡ None → Clears messages d d false
   Clears-none d e = record {
     is_ready = sym (ap is_some e);
     left = rw e refl;
@@ -210,7 +210,7 @@ module _ (messages : List Term) where
   pub Clears-frame : (limit : ℕ) (announced contents after : List ℕ) → HasFrame messages limit announced contents → after ≡ [] → Clears messages (record { limit = limit; octets = take 4 announced ++ contents }) (record { limit = limit; octets = after }) true
   Clears-frame limit announced contents after h e =
       let d : Decoding = record { limit = limit; octets = take 4 announced ++ contents } in
-      let there : lent messages d ≡ Some contents = lent-ready messages limit announced contents phase.Ready h refl in
+      let there : borrowed messages d ≡ Some contents = borrowed-ready messages limit announced contents phase.Ready h refl in
       let first : (more : List ℕ) → frames messages limit ((take 4 announced ++ contents) ++ more) ≡ with_first contents (frames messages limit more) =
       λ more. ap (λ l. frames messages limit (l ++ more)) (four_octets announced contents h.accepted.four) ∙ found-frame messages limit announced contents more h in
       record {

@@ -31,12 +31,12 @@ first_of [] = None
 first_of (contents ∷ others) = Some contents
 
 -- the contents of the frame that is ready
-abbrev pub lent : List Term → Decoding → Option (List ℕ)
-lent messages d = first_of (found messages d).contents
+abbrev pub borrowed : List Term → Decoding → Option (List ℕ)
+borrowed messages d = first_of (found messages d).contents
 
 -- what is left where the frame that is ready is cleared, if one is
 abbrev pub after_next : List Term → Decoding → Decoding
-after_next messages d = if is_some (lent messages d) then record { limit = d.limit; octets = [] } else d
+after_next messages d = if is_some (borrowed messages d) then record { limit = d.limit; octets = [] } else d
 
 -- what a stream that ends so is refused for
 abbrev pub finish_at : End → Result (Unit {0}) Refusal

@@ -1,7 +1,7 @@
 -- What the calls of a decoder by any messages do.
 use Rattle.std.specs.Prelude.{ℕ, ◌≡◌, ◌≢◌, ◌<◌, ◌≤◌, ◌⊎◌, Bool, List, [], ◌∷◌, ◌++◌, length, take, Some, is_some}
 use Rattle.krb_msg.specs.Term.{Term}
-use Rattle.krb_frame.specs.Decoding.{Decoding, status_of, lent, after_next}
+use Rattle.krb_frame.specs.Decoding.{Decoding, status_of, borrowed, after_next}
 use Rattle.krb_frame.specs.Stands.{Stands}
 use Rattle.krb_frame.specs.declared.decoder.Fed.{Fed}
 use Rattle.krb_frame.specs.declared.decoder.Status.{Status}
@@ -28,7 +28,7 @@ pub record Feeds (messages : List Term) (old : Decoding) (piece : List ℕ) (new
 
 -- A decoder was asked to clear the frame that is ready.
 pub record Clears (messages : List Term) (old new : Decoding) (answer : Bool) : Type 0 where
-  pub is_ready : answer ≡ is_some (lent messages old)
+  pub is_ready : answer ≡ is_some (borrowed messages old)
   pub left : new ≡ after_next messages old
   -- one frame more is cleared
-  pub stands : (stream contents : List ℕ) (cleared : List (List ℕ)) → Stands messages old stream cleared → lent messages old ≡ Some contents → Stands messages new stream (cleared ++ contents ∷ [])
+  pub stands : (stream contents : List ℕ) (cleared : List (List ℕ)) → Stands messages old stream cleared → borrowed messages old ≡ Some contents → Stands messages new stream (cleared ++ contents ∷ [])

@@ -3,21 +3,21 @@ use Rattle.std.specs.Prelude.{ℕ, ◌+◌, ◌≡◌, ◌↔◌, if◌then◌el
 use Rattle.krb_der.specs.declared.why.Why.{Why}
 use Rattle.krb_msg.specs.Term.{Term}
 use Rattle.krb_msg.specs.Stream.{Boundary, Within, Refused, ends, with_first, frames}
-use Rattle.krb_frame.specs.Decoding.{Decoding, found, status_of, lent, kept_contents}
-use Rattle.krb_frame.specs.Stands.{EndsWith, behind_frames, Stands}
+use Rattle.krb_frame.specs.Decoding.{Decoding, found, status_of, borrowed, kept_contents}
+use Rattle.krb_frame.specs.Stands.{EndsWith, after_frames, Stands}
 use Rattle.krb_frame.specs.declared.decoder.Status.TheVariants as status
 
 -- What a decoder has of a stream that it stands for.
 pub record HasOfStream (messages : List Term) (d : Decoding) (stream : List ℕ) (cleared : List (List ℕ)) : Type 0 where
   -- the frames of the stream are those that were cleared, and one more exactly where one is ready
-  pub found_all : frames messages d.limit stream ≡ behind_frames cleared (found messages d)
-  pub counted : length (frames messages d.limit stream).contents ≡ length cleared + (if is_some (lent messages d) then 1 else 0)
+  pub found_all : frames messages d.limit stream ≡ after_frames cleared (found messages d)
+  pub counted : length (frames messages d.limit stream).contents ≡ length cleared + (if is_some (borrowed messages d) then 1 else 0)
   -- what is ready fills the end of the stream
-  pub ready : (contents : List ℕ) → lent messages d ≡ Some contents → (found messages d ≡ with_first contents (ends Boundary)) × (kept_contents d ≡ contents) × EndsWith contents stream
+  pub ready : (contents : List ℕ) → borrowed messages d ≡ Some contents → (found messages d ≡ with_first contents (ends Boundary)) × (kept_contents d ≡ contents) × EndsWith contents stream
   -- the decoder is refused exactly where the stream is
   pub refused : (place : ℕ) (reason : Why) → ((frames messages d.limit stream).end ≡ Refused place reason) ↔ (status_of messages d ≡ status.Refused (record { place = place; why = reason }))
   -- between two frames it holds nothing of a next one, and within one the octets of that one, with which the stream ends
-  pub boundary : (frames messages d.limit stream).end ≡ Boundary → lent messages d ≡ None → d.octets ≡ []
+  pub boundary : (frames messages d.limit stream).end ≡ Boundary → borrowed messages d ≡ None → d.octets ≡ []
   pub within : (present : ℕ) → (frames messages d.limit stream).end ≡ Within present → (length d.octets ≡ present) × EndsWith d.octets stream
 
 abbrev pub StandingTells : Type 0

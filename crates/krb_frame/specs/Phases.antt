@@ -42,9 +42,9 @@ phase_of size status.Ready = phase.Ready
 phase_of size (status.Refused refusal) = phase.Refused refusal
 
 -- the end of a stream that has a number of octets of a frame
-abbrev pub end_behind : ℕ → End
-end_behind zero = Boundary
-end_behind (suc present) = Within (suc present)
+abbrev pub end_after : ℕ → End
+end_after zero = Boundary
+end_after (suc present) = Within (suc present)
 
 -- ---- the fields of a decoder
 -- the number of octets of a length that are present

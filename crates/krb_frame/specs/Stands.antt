@@ -5,8 +5,8 @@ use Rattle.krb_msg.specs.Stream.{Frames, frames}
 use Rattle.krb_frame.specs.Decoding.{Decoding, IsOfOneFrame}
 
 -- contents of frames before others
-abbrev pub behind_frames : List (List ℕ) → Frames → Frames
-behind_frames cleared found = record { contents = cleared ++ found.contents; end = found.end }
+abbrev pub after_frames : List (List ℕ) → Frames → Frames
+after_frames cleared found = record { contents = cleared ++ found.contents; end = found.end }
 
 -- the last octets of a stream
 pub record EndsWith (octets stream : List ℕ) : Type 0 where
@@ -15,6 +15,6 @@ pub record EndsWith (octets stream : List ℕ) : Type 0 where
 
 -- A decoder used the octets of a stream, and the frames with these contents were cleared. Whatever comes next, the frames of the stream are these and then those of the octets that the decoder stands for.
 pub record Stands (messages : List Term) (d : Decoding) (stream : List ℕ) (cleared : List (List ℕ)) : Type 0 where
-  pub goes_on : (more : List ℕ) → frames messages d.limit (stream ++ more) ≡ behind_frames cleared (frames messages d.limit (d.octets ++ more))
+  pub goes_on : (more : List ℕ) → frames messages d.limit (stream ++ more) ≡ after_frames cleared (frames messages d.limit (d.octets ++ more))
   pub last : EndsWith d.octets stream
   pub one : IsOfOneFrame messages d

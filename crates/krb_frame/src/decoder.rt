@@ -71,10 +71,10 @@ impl Model for Decoder {
 
 ghost use Rattle.std.specs.Prelude.{◌≡◌, ◌≤◌, ◌<◌, ◌⊎◌, ◌^◌, [], length};
 ghost use Rattle.krb_msg.specs.Grammar.{messages};
-ghost use Rattle.krb_frame.specs.Decoding.{lent, finish_at, finish_of, kept_contents};
+ghost use Rattle.krb_frame.specs.Decoding.{borrowed, finish_at, finish_of, kept_contents};
 ghost use Rattle.krb_frame.specs.Stands.{Stands};
 ghost use Rattle.krb_frame.specs.Feeds.{Feeds, Clears};
-ghost use Rattle.krb_frame.specs.Phases.{end_behind, phase_of, IsLengthJudged, IsPut, FeedsLength};
+ghost use Rattle.krb_frame.specs.Phases.{end_after, phase_of, IsLengthJudged, IsPut, FeedsLength};
 ghost use Rattle.krb_frame.specs.declared.decoder.Phase.TheVariants as phase;
 
 impl Decoder {
@@ -143,7 +143,7 @@ impl Decoder {
 
     /// The frame that is ready, borrowed.
     pub fn ready(&self) -> Option<Framed<'_>>
-        ensures { result ≡ lent messages self.now }
+        ensures { result ≡ borrowed messages self.now }
     {
         match self.phase {
             Phase::Ready => Some(Framed::new(self.contents.as_slice())),
@@ -197,7 +197,7 @@ fn answer(status: Status) -> Fed
 /// What is refused of a stream that ends after `seen` octets of a frame.
 fn ended(seen: usize) -> Result<(), Refusal>
     requires { seen < 2 ^ 32 }
-    ensures { result ≡ finish_at (end_behind seen) }
+    ensures { result ≡ finish_at (end_after seen) }
 {
     if seen == 0 {
         return Ok(());

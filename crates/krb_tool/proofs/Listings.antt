@@ -9,7 +9,7 @@ use Rattle.krb_der.specs.declared.verdict.Refusal.{Refusal}
 use Rattle.krb_msg.specs.Grammar.{messages}
 use Rattle.krb_msg.specs.Stream.{End, Boundary, Within, Refused}
 use Rattle.krb_msg.specs.Views.{message_der}
-use Rattle.krb_frame.specs.Decoding.{Decoding, found, status_at, status_of, first_of, lent}
+use Rattle.krb_frame.specs.Decoding.{Decoding, found, status_at, status_of, first_of, borrowed}
 use Rattle.krb_frame.specs.Stands.{Stands}
 use Rattle.krb_frame.specs.Feeds.{Clears}
 use Rattle.krb_frame.specs.Feeds.{Feeds as Uses}
@@ -22,11 +22,11 @@ use Rattle.krb_tool.specs.Listers.{HasListed, ListsReady, Goes, Feeds}
 use Rattle.krb_tool.specs.declared.listing.Lister.{Lister}
 
 -- ---- what a decoder's answer tells
-ready_lent : (contents : List (List ℕ)) (end : End) → status_at contents end ≡ status.Ready → IsSome (first_of contents)
-ready_lent (first ∷ others) end e = refl
-ready_lent [] Boundary e = absurd cc
-ready_lent [] (Within present) e = absurd cc
-ready_lent [] (Refused place reason) e = absurd cc
+ready_borrowed : (contents : List (List ℕ)) (end : End) → status_at contents end ≡ status.Ready → IsSome (first_of contents)
+ready_borrowed (first ∷ others) end e = refl
+ready_borrowed [] Boundary e = absurd cc
+ready_borrowed [] (Within present) e = absurd cc
+ready_borrowed [] (Refused place reason) e = absurd cc
 
 pub is_status : (old new : Decoding) (piece : List ℕ) (fed : Fed) (answer : Status) → Uses messages old piece new fed → fed.status ≡ answer → (status.Memory ≡ answer → ⊥) → status_of messages new ≡ answer
 is_status old new piece fed answer f e never = by f.answer
@@ -47,8 +47,8 @@ memory_refused refusal e = cc
 pub is_ready : (old new : Decoding) (piece : List ℕ) (fed : Fed) → Uses messages old piece new fed → fed.status ≡ status.Ready → status_of messages new ≡ status.Ready
 is_ready old new piece fed f e = is_status old new piece fed status.Ready f e memory_ready
 
-pub is_lent : (old new : Decoding) (piece : List ℕ) (fed : Fed) → Uses messages old piece new fed → fed.status ≡ status.Ready → IsSome (lent messages new)
-is_lent old new piece fed f e = ready_lent (found messages new).contents (found messages new).end (is_ready old new piece fed f e)
+pub is_borrowed : (old new : Decoding) (piece : List ℕ) (fed : Fed) → Uses messages old piece new fed → fed.status ≡ status.Ready → IsSome (borrowed messages new)
+is_borrowed old new piece fed f e = ready_borrowed (found messages new).contents (found messages new).end (is_ready old new piece fed f e)
 
 -- a frame ends with an octet
 pub some_used : (old new : Decoding) (piece : List ℕ) (fed : Fed) → Uses messages old piece new fed → status_of messages old ≡ status.More → fed.status ≡ status.Ready → 0 < fed.used
@@ -72,7 +72,7 @@ pub goes_no_more : (lister : Lister) (old : Decoding) (piece rest : List ℕ) (f
 goes_no_more lister old piece rest fed refusal f e = (refusal, is_status old lister.decoder rest fed (status.Refused refusal) f e (memory_refused refusal))
 
 -- ---- a frame that is listed
-cleared_is : (old new : Decoding) (contents : List ℕ) → Clears messages old new true → lent messages old ≡ Some contents → new ≡ record { limit = old.limit; octets = [] }
+cleared_is : (old new : Decoding) (contents : List ℕ) → Clears messages old new true → borrowed messages old ≡ Some contents → new ≡ record { limit = old.limit; octets = [] }
 cleared_is old new contents c e = c.left ∙ ap (λ o. if is_some o then record { limit = old.limit; octets = [] } else old) e
 
 pub ready_waits : (old new : Lister) → ListsReady old new → status_of messages new.decoder ≡ status.More

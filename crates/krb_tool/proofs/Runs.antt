@@ -10,7 +10,7 @@ use Rattle.krb_msg.specs.Grammar.{messages}
 use Rattle.krb_msg.specs.Stream.{End, Boundary, Within, Refused, frames}
 use Rattle.krb_msg.specs.Views.{message_der}
 use Rattle.krb_frame.specs.Decoding.{found, status_at, status_of}
-use Rattle.krb_frame.specs.Stands.{behind_frames}
+use Rattle.krb_frame.specs.Stands.{after_frames}
 use Rattle.krb_frame.specs.declared.decoder.Status.TheVariants as status
 use Rattle.krb_frame.proofs.Ends.{none_found, refused_end, found_of, refusal_ends}
 use Rattle.krb_list.specs.Messages.{message_line}
@@ -197,7 +197,7 @@ Lists-made limit had left held holds holds' old new ended r f a all = record {
   stops = r.stops;
 }
   where
-    frames_read : frames messages limit r.read ≡ behind_frames (map message_der r.listed.messages) (found messages old.decoder)
+    frames_read : frames messages limit r.read ≡ after_frames (map message_der r.listed.messages) (found messages old.decoder)
     frames_read = r.same_frames ∙ ap (λ l. frames messages l r.stream) (sym r.same_limit) ∙ found_of messages old.decoder r.stream (map message_der r.listed.messages) r.listed.stands
 
     end_is : end_of limit r.read ≡ (found messages old.decoder).end

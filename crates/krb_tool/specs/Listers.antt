@@ -5,7 +5,7 @@ use Rattle.krb_der.specs.declared.verdict.Refusal.{Refusal}
 use Rattle.krb_msg.specs.declared.message.Message.{Message}
 use Rattle.krb_msg.specs.Grammar.{messages as grammar}
 use Rattle.krb_msg.specs.Views.{message_der}
-use Rattle.krb_frame.specs.Decoding.{found, status_of, lent}
+use Rattle.krb_frame.specs.Decoding.{found, status_of, borrowed}
 use Rattle.krb_frame.specs.Stands.{Stands}
 use Rattle.krb_frame.specs.Feeds.{Clears}
 use Rattle.krb_frame.specs.declared.decoder.Status.TheVariants as status
@@ -33,7 +33,7 @@ pub record IsNewLister (limit : ℕ) (lister : Lister) : Type 0 where
 -- the line of the message that is ready was added, and its frame is cleared
 pub record ListsReady (old new : Lister) : Type 0 where
   pub contents : List ℕ
-  pub is_ready : lent grammar old.decoder ≡ Some contents
+  pub is_ready : borrowed grammar old.decoder ≡ Some contents
   pub message : Message
   pub form : message_der message ≡ contents
   pub line : string_bytes new.text ≡ string_bytes old.text ++ message_line message

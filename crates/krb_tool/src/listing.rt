@@ -2,7 +2,7 @@
 
 ghost use Rattle.std.specs.Prelude.{◌≡◌, ◌≢◌, ◌+◌, ◌<◌, ◌^◌, length, IfOk, OnOk, IsSome, string_bytes};
 ghost use Rattle.krb_msg.specs.Grammar.{messages};
-ghost use Rattle.krb_frame.specs.Decoding.{status_of, lent};
+ghost use Rattle.krb_frame.specs.Decoding.{status_of, borrowed};
 ghost use Rattle.krb_frame.specs.declared.decoder.Status.TheVariants as status;
 ghost use Rattle.krb_tool.specs.Listers.{IsNewLister, ListsReady, Feeds, IsWrittenOut, Finishes};
 
@@ -57,7 +57,7 @@ impl Lister {
     /// Adds the line of the frame that is ready, and clears it.
     fn list_ready(&mut self) -> Result<(), RunFault>
         requires few { self.old.messages + 1 < 2 ^ 64 }
-        requires ready { IsSome (lent messages self.old.decoder) }
+        requires ready { IsSome (borrowed messages self.old.decoder) }
         ensures { OnOk result (ListsReady self.old self.new) }
     {
         let Some(framed) = self.decoder.ready() else {

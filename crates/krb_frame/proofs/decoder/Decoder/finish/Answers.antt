@@ -1,7 +1,7 @@
 use Rattle.krb_msg.specs.Grammar.{messages}
 use Rattle.std.proofs.Common.{◌≡◌, ◌+◌, length, sym, ◌∙◌, ap, arith}
 use Rattle.krb_frame.specs.Decoding.{finish_at}
-use Rattle.krb_frame.specs.Phases.{end_behind}
+use Rattle.krb_frame.specs.Phases.{end_after}
 use Rattle.krb_frame.proofs.Founds.{frames_at, finish-at, end-some}
 use Rattle.krb_frame.proofs.decoder.Decoder.finish.Goals as goal
 
@@ -14,7 +14,7 @@ pub returns-in-Contents : goal.returns-in-Contents
 returns-in-Contents c =
     let d = c.self.inside in
     let n : 4 + c.len.result ≡ 4 + length d.contents.items = omega arith in
-    rw (← c.self.view_is) (c.ended-in-Contents.ensures ∙ ap (λ k. finish_at (end_behind k)) n ∙ ap finish_at (end-some (4 + length d.contents.items) (omega arith)) ∙ sym (finish-at messages d.limit d.length d.contents.items d.phase c.self.invariant ∙ ap (λ p. finish_at (frames_at p d.contents.items).end) c.in-Contents.is))
+    rw (← c.self.view_is) (c.ended-in-Contents.ensures ∙ ap (λ k. finish_at (end_after k)) n ∙ ap finish_at (end-some (4 + length d.contents.items) (omega arith)) ∙ sym (finish-at messages d.limit d.length d.contents.items d.phase c.self.invariant ∙ ap (λ p. finish_at (frames_at p d.contents.items).end) c.in-Contents.is))
 
 pub returns-in-Ready : goal.returns-in-Ready
 returns-in-Ready c =

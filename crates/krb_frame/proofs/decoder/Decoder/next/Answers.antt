@@ -2,14 +2,14 @@ use Rattle.krb_msg.specs.Grammar.{messages}
 use Rattle.std.proofs.Common.{◌≡◌, sym, ◌∙◌, ap, subst}
 use Rattle.krb_frame.specs.Phases.{IsAt, octets_of}
 use Rattle.krb_frame.specs.declared.decoder.Phase.TheVariants as phase
-use Rattle.krb_frame.proofs.Founds.{lent-none}
+use Rattle.krb_frame.proofs.Founds.{borrowed-none}
 use Rattle.krb_frame.proofs.Standing.{Clears-none, Clears-frame}
 use Rattle.krb_frame.proofs.decoder.Decoder.next.Goals as goal
 
 pub returns-in_default : goal.returns-in_default
 returns-in_default c =
     let d = c.self.inside in
-    rw (← c.self.view_is) (Clears-none messages (record { limit = d.limit; octets = octets_of d.phase d.length d.contents.items }) (lent-none messages d.limit d.length d.contents.items d.phase c.self.invariant c.in_default.not-Ready))
+    rw (← c.self.view_is) (Clears-none messages (record { limit = d.limit; octets = octets_of d.phase d.length d.contents.items }) (borrowed-none messages d.limit d.length d.contents.items d.phase c.self.invariant c.in_default.not-Ready))
 
 pub returns : goal.returns
 returns c =
