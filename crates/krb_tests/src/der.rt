@@ -1,10 +1,15 @@
 //! Values and their octets, worked out by hand from X.690 and RFC 4120.
 
+use krb_ccache::CcacheFault;
 use krb_der::{
-    Der, Flags, Int32, KString, KerberosTime, Many, Micros, Octets, Why, Wide32, why_number,
-    why_text,
+    Der, FileFault, FileWhy, Flags, Int32, KString, KerberosTime, Many, Memory, Micros, Octets,
+    Refusal, Why, Wide32, why_number, why_text,
 };
+use krb_judge::ParseFault;
+use krb_keytab::KeytabFault;
+use krb_msg::EncodeFault;
 use std::alloc::Global;
+use std::error::Error;
 use std::process::Abort;
 use std::test::Fail;
 
@@ -135,5 +140,73 @@ fn puts_lengths_in_their_shortest_form(rt: HostRuntime) -> Result<(), Fail> {
         wanted.extend_from_slice(contents.as_slice())?;
         same_octets(&rt, alloc, &Octets::new(contents), wanted.as_slice())?;
     }
+    Ok(())
+}
+
+/// Whether an error shows this text.
+fn shows<E: Error>(alloc: Global, error: E, text: &str) -> Result<bool, Fail> {
+    let shown = format!(in alloc; "{error}")?;
+    Ok(shown.as_str() == text)
+}
+
+#[test]
+fn shows_faults(rt: HostRuntime) -> Result<(), Fail> {
+    let alloc = rt.alloc();
+    let refusal = Refusal {
+        place: 12,
+        why: Why::Range,
+    };
+    assert!(rt; shows(alloc, refusal, "refused at 12: Range")?);
+    assert!(rt; shows(alloc, Memory, "out of memory")?);
+    assert!(rt; shows(alloc, ParseFault::Refused(refusal), "refused at 12: Range")?);
+    assert!(rt; shows(alloc, ParseFault::Memory, "out of memory")?);
+    let refused = FileFault::Refused {
+        place: 4294967296,
+        why: FileWhy::Truncated,
+    };
+    assert!(rt; shows(alloc, refused, "refused at 4294967296: Truncated")?);
+    assert!(rt; shows(alloc, FileFault::Read, "a read failed")?);
+    assert!(rt; shows(alloc, FileFault::Memory, "out of memory")?);
+    Ok(())
+}
+
+// What follows is promised by no contract.
+#[test]
+fn shows_faults_of_writing(rt: HostRuntime) -> Result<(), Fail> {
+    let alloc = rt.alloc();
+    assert!(rt; shows(alloc, EncodeFault::TooLong, "too long")?);
+    assert!(rt; shows(alloc, EncodeFault::Memory, "out of memory")?);
+    assert!(rt; shows(alloc, KeytabFault::Dirty, "a hole is not clean")?);
+    assert!(rt; shows(alloc, KeytabFault::TooLong, "too long")?);
+    assert!(rt; shows(alloc, KeytabFault::Memory, "out of memory")?);
+    assert!(rt; shows(alloc, CcacheFault::TooLong, "too long")?);
+    assert!(rt; shows(alloc, CcacheFault::Memory, "out of memory")?);
+    Ok(())
+}
+
+#[test]
+fn compares_by_what_is_held(rt: HostRuntime) -> Result<(), Fail> {
+    let alloc = rt.alloc();
+    let mut wide = Vec::with_capacity(alloc, 16)?;
+    wide.push(0x41)?;
+    let wide = KString::new(wide);
+    let realm = KString::new(b"A".to_vec(alloc)?);
+    assert_eq!(rt; wide, realm);
+    assert_ne!(rt; wide, KString::new(b"B".to_vec(alloc)?));
+    assert_ne!(rt; flags(alloc, 1, &[0x40])?, flags(alloc, 2, &[0x40])?);
+    assert_ne!(rt;
+        Octets::new([1, 2].to_vec(alloc)?),
+        Octets::new([1].to_vec(alloc)?)
+    );
+    let types = Many::new(vec![in alloc; Int32::new(18), Int32::new(17)]?);
+    assert_ne!(rt;
+        types,
+        Many::new(vec![in alloc; Int32::new(17), Int32::new(18)]?)
+    );
+    let shown = format!(in alloc; "{types:?}")?;
+    assert_eq!(rt;
+        shown.as_str(),
+        "Many { values: [Int32 { number: 18 }, Int32 { number: 17 }] }"
+    );
     Ok(())
 }

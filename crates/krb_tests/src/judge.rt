@@ -200,6 +200,24 @@ fn reads_messages(rt: HostRuntime) -> Result<(), Fail> {
     Ok(())
 }
 
+#[test]
+fn compares_and_shows_messages(rt: HostRuntime) -> Result<(), Fail> {
+    let alloc = rt.alloc();
+    let octets = contents(alloc, AP_REP)?;
+    let message = parse(alloc, octets.as_slice()).ok().ok_or("an AP-REP")?;
+    let same = parse(alloc, octets.as_slice()).ok().ok_or("an AP-REP")?;
+    let octets = contents(alloc, AP_REQ)?;
+    let other = parse(alloc, octets.as_slice()).ok().ok_or("an AP-REQ")?;
+    assert!(rt; message == same);
+    assert!(rt; message != other);
+    let shown = format!(in alloc; "{message:?}")?;
+    assert_eq!(rt;
+        shown.as_str(),
+        "ApRep(ApRep { enc_part: EncryptedData { etype: Int32 { number: 18 }, kvno: None, cipher: Octets { octets: [222, 173, 190, 239] } } })"
+    );
+    Ok(())
+}
+
 /// How many PA-DATA octets are, if each of them has the type 2 and is empty.
 fn methods(alloc: Global, octets: &[u8]) -> Option<usize> {
     match parse_method_data(alloc, octets) {
