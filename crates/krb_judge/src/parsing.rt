@@ -211,13 +211,5 @@ pub fn whole_kind(octets: &[u8]) -> Kind
 fn kind(tag: u8) -> Kind
     ensures { result ≡ kind_of_tag tag }
 {
-    match tag {
-        0x6A => Kind::AsReq,
-        0x6B => Kind::AsRep,
-        0x6C => Kind::TgsReq,
-        0x6D => Kind::TgsRep,
-        0x6E => Kind::ApReq,
-        0x6F => Kind::ApRep,
-        _ => Kind::KrbError,
-    }
+    Kind::of_tag(tag).unwrap_or(Kind::KrbError)
 }

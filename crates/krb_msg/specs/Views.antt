@@ -1,6 +1,6 @@
 -- The types of this crate as values of their terms, and back. The numbers that a message fixes are in the value and not in the type.
-use Rattle.std.specs.Prelude.{ℕ, ℤ, pos, negsuc, ◌^◌, ◌<◌, ◌==◌, if◌then◌else◌, List, length, map}
-use Rattle.std.specs.Option.{option_map}
+use Rattle.std.specs.Prelude.{ℕ, ℤ, pos, negsuc, ◌+◌, ◌^◌, ◌<◌, ◌==◌, if◌then◌else◌, List, length, map, codes, Option, Some, None}
+use Rattle.std.specs.Option.{option_map, unwrap_or}
 use Rattle.krb_msg.specs.declared.encrypted_data.EncryptedData.{EncryptedData}
 use Rattle.krb_msg.specs.declared.principal_name.PrincipalName.{PrincipalName}
 use Rattle.krb_msg.specs.declared.pa_data.PaData.{PaData}
@@ -231,6 +231,41 @@ kind_of (message.ApReq m) = kind.ApReq
 kind_of (message.ApRep m) = kind.ApRep
 kind_of (message.KrbError m) = kind.KrbError
 
+-- the number of a kind: its msg-type, and the APPLICATION tag of its messages (RFC 4120, 5.10)
+abbrev pub kind_number : Kind → ℕ
+kind_number kind.AsReq = 10
+kind_number kind.AsRep = 11
+kind_number kind.TgsReq = 12
+kind_number kind.TgsRep = 13
+kind_number kind.ApReq = 14
+kind_number kind.ApRep = 15
+kind_number kind.KrbError = 30
+
+-- the octet with which its messages begin
+abbrev pub kind_tag : Kind → ℕ
+kind_tag kind = 0x60 + kind_number kind
+
+abbrev pub kind_name : Kind → List ℕ
+kind_name kind.AsReq = codes "AS-REQ"
+kind_name kind.AsRep = codes "AS-REP"
+kind_name kind.TgsReq = codes "TGS-REQ"
+kind_name kind.TgsRep = codes "TGS-REP"
+kind_name kind.ApReq = codes "AP-REQ"
+kind_name kind.ApRep = codes "AP-REP"
+kind_name kind.KrbError = codes "KRB-ERROR"
+
+-- the kind whose messages begin with a tag
+abbrev pub kind_with_tag : ℕ → Option Kind
+kind_with_tag tag =
+    if tag == kind_tag kind.AsReq then Some kind.AsReq
+    else if tag == kind_tag kind.AsRep then Some kind.AsRep
+    else if tag == kind_tag kind.TgsReq then Some kind.TgsReq
+    else if tag == kind_tag kind.TgsRep then Some kind.TgsRep
+    else if tag == kind_tag kind.ApReq then Some kind.ApReq
+    else if tag == kind_tag kind.ApRep then Some kind.ApRep
+    else if tag == kind_tag kind.KrbError then Some kind.KrbError
+    else None
+
 abbrev pub kind_term : Kind → Term
 kind_term kind.AsReq = as_req
 kind_term kind.AsRep = as_rep
@@ -242,14 +277,7 @@ kind_term kind.KrbError = krb_error
 
 -- the kind whose messages begin with a tag, and any where none do
 abbrev pub kind_of_tag : ℕ → Kind
-kind_of_tag tag =
-    if tag == 0x6A then kind.AsReq
-    else if tag == 0x6B then kind.AsRep
-    else if tag == 0x6C then kind.TgsReq
-    else if tag == 0x6D then kind.TgsRep
-    else if tag == 0x6E then kind.ApReq
-    else if tag == 0x6F then kind.ApRep
-    else kind.KrbError
+kind_of_tag tag = unwrap_or (kind_with_tag tag) kind.KrbError
 
 abbrev pub message_value : (m : Message) → Value (kind_term (kind_of m))
 message_value (message.AsReq m) = kdc_req_value 10 m

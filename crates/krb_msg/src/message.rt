@@ -1,7 +1,7 @@
 //! Messages.
 
 ghost use Rattle.std.specs.Prelude.{◌≡◌};
-ghost use Rattle.krb_msg.specs.Views.{kind_of};
+ghost use Rattle.krb_msg.specs.Views.{kind_of, kind_number, kind_tag, kind_name, kind_with_tag};
 
 use crate::ap_rep::ApRep;
 use crate::ap_req::ApReq;
@@ -60,6 +60,68 @@ impl Message {
             Message::ApReq(_) => Kind::ApReq,
             Message::ApRep(_) => Kind::ApRep,
             Message::KrbError(_) => Kind::KrbError,
+        }
+    }
+}
+
+impl Kind {
+    /// The number of the kind: its msg-type, and that of its `[APPLICATION]` (RFC 4120, 5.10).
+    pub fn number(self) -> u8
+        ensures { result ≡ kind_number self }
+    {
+        match self {
+            Kind::AsReq => 10,
+            Kind::AsRep => 11,
+            Kind::TgsReq => 12,
+            Kind::TgsRep => 13,
+            Kind::ApReq => 14,
+            Kind::ApRep => 15,
+            Kind::KrbError => 30,
+        }
+    }
+
+    /// The tag octet with which its messages begin.
+    pub fn tag(self) -> u8
+        ensures { result ≡ kind_tag self }
+    {
+        0x60 + self.number()
+    }
+
+    /// Its name in RFC 4120.
+    pub fn name(self) -> &'static str
+        ensures { result.now ≡ kind_name self }
+    {
+        match self {
+            Kind::AsReq => "AS-REQ",
+            Kind::AsRep => "AS-REP",
+            Kind::TgsReq => "TGS-REQ",
+            Kind::TgsRep => "TGS-REP",
+            Kind::ApReq => "AP-REQ",
+            Kind::ApRep => "AP-REP",
+            Kind::KrbError => "KRB-ERROR",
+        }
+    }
+
+    /// The kind whose messages begin with a tag octet.
+    pub fn of_tag(tag: u8) -> Option<Kind>
+        ensures { result ≡ kind_with_tag tag }
+    {
+        if tag == Kind::AsReq.tag() {
+            Some(Kind::AsReq)
+        } else if tag == Kind::AsRep.tag() {
+            Some(Kind::AsRep)
+        } else if tag == Kind::TgsReq.tag() {
+            Some(Kind::TgsReq)
+        } else if tag == Kind::TgsRep.tag() {
+            Some(Kind::TgsRep)
+        } else if tag == Kind::ApReq.tag() {
+            Some(Kind::ApReq)
+        } else if tag == Kind::ApRep.tag() {
+            Some(Kind::ApRep)
+        } else if tag == Kind::KrbError.tag() {
+            Some(Kind::KrbError)
+        } else {
+            None
         }
     }
 }
