@@ -15,6 +15,8 @@ use Rattle.krb_msg.specs.declared.ap_req.ApReq.{ApReq}
 use Rattle.krb_msg.specs.declared.ap_rep.ApRep.{ApRep}
 use Rattle.krb_msg.specs.declared.krb_error.KrbError.{KrbError}
 use Rattle.krb_msg.specs.declared.message.Message.{Message}
+use Rattle.krb_msg.specs.declared.message.Kind.TheVariants as kind
+use Rattle.krb_msg.specs.Views.{kind_name}
 use Rattle.krb_msg.specs.declared.message.Message.TheVariants as message
 use Rattle.krb_judge.specs.Parses.{method_data_refusal}
 use Rattle.krb_der.specs.declared.verdict.Refusal.{Refusal}
@@ -147,13 +149,13 @@ krb_error_text name m =
 
 -- the name of a message, and its fields but the notes
 abbrev pub fields_text : Message → List ℕ
-fields_text (message.AsReq m) = kdc_req_text (codes "AS-REQ") m
-fields_text (message.AsRep m) = kdc_rep_text (codes "AS-REP") m
-fields_text (message.TgsReq m) = kdc_req_text (codes "TGS-REQ") m
-fields_text (message.TgsRep m) = kdc_rep_text (codes "TGS-REP") m
-fields_text (message.ApReq m) = ap_req_text (codes "AP-REQ") m
-fields_text (message.ApRep m) = ap_rep_text (codes "AP-REP") m
-fields_text (message.KrbError m) = krb_error_text (codes "KRB-ERROR") m
+fields_text (message.AsReq m) = kdc_req_text (kind_name kind.AsReq) m
+fields_text (message.AsRep m) = kdc_rep_text (kind_name kind.AsRep) m
+fields_text (message.TgsReq m) = kdc_req_text (kind_name kind.TgsReq) m
+fields_text (message.TgsRep m) = kdc_rep_text (kind_name kind.TgsRep) m
+fields_text (message.ApReq m) = ap_req_text (kind_name kind.ApReq) m
+fields_text (message.ApRep m) = ap_rep_text (kind_name kind.ApRep) m
+fields_text (message.KrbError m) = krb_error_text (kind_name kind.KrbError) m
 
 abbrev pub message_text : Message → List ℕ
 message_text m = fields_text m ++ field (codes "notes") (notes_text (notes_of m))

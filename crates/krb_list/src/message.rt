@@ -65,35 +65,15 @@ fn put_ap_rep(line: &mut String, rep: &ApRep) -> Result<(), AllocError>
 fn put_fields(line: &mut String, message: &Message) -> Result<(), Memory>
     ensures { OnOk result (string_bytes line.new ≡ string_bytes line.old ++ fields_text message.now) }
 {
+    line.push_str(message.kind().name())?;
     match message {
-        Message::AsReq(req) => {
-            line.push_str("AS-REQ")?;
-            put_kdc_req(line, req)?;
-        }
-        Message::AsRep(rep) => {
-            line.push_str("AS-REP")?;
-            put_kdc_rep(line, rep)?;
-        }
-        Message::TgsReq(req) => {
-            line.push_str("TGS-REQ")?;
-            put_kdc_req(line, req)?;
-        }
-        Message::TgsRep(rep) => {
-            line.push_str("TGS-REP")?;
-            put_kdc_rep(line, rep)?;
-        }
-        Message::ApReq(req) => {
-            line.push_str("AP-REQ")?;
-            put_ap_req(line, req)?;
-        }
-        Message::ApRep(rep) => {
-            line.push_str("AP-REP")?;
-            put_ap_rep(line, rep)?;
-        }
-        Message::KrbError(error) => {
-            line.push_str("KRB-ERROR")?;
-            put_krb_error(line, error)?;
-        }
+        Message::AsReq(req) => put_kdc_req(line, req)?,
+        Message::AsRep(rep) => put_kdc_rep(line, rep)?,
+        Message::TgsReq(req) => put_kdc_req(line, req)?,
+        Message::TgsRep(rep) => put_kdc_rep(line, rep)?,
+        Message::ApReq(req) => put_ap_req(line, req)?,
+        Message::ApRep(rep) => put_ap_rep(line, rep)?,
+        Message::KrbError(error) => put_krb_error(line, error)?,
     }
     Ok(())
 }
