@@ -26,7 +26,7 @@ pub fn item_size(contents: u64) -> u64
 }
 
 /// Two numbers of octets together; 2147483648 where there are more.
-pub(crate) fn add_sizes(size: u64, more: u64) -> u64
+pub fn add_sizes(size: u64, more: u64) -> u64
     ensures { result ≡ saturated (size + more) }
 {
     size.saturating_add(more).min(TOO_LONG)

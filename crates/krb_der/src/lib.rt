@@ -1,5 +1,5 @@
 //! DER (ITU-T X.690), for any protocol: why octets are refused and where, the numbers and octets
-//! that values hold, how a value is put as octets ([`Der`], [`Encoding`]), and, in `specs/`, how
+//! that values hold, how a value is put as octets ([`Der`]), and, in `specs/`, how
 //! numbers, lengths and items are spelled in octets.
 //!
 //! `Numbers`, `Items` and `Tells` of `specs/` define nothing: they prove the laws of [`Der`].
@@ -11,7 +11,6 @@
 #![tactic(auto)]
 
 mod der;
-mod encoding;
 mod field;
 mod file;
 mod flags;
@@ -29,12 +28,11 @@ mod why;
 mod wide32;
 
 pub use der::Der;
-pub use encoding::{Encoding, End, Fixed, Optional, Required, Sequence, Tagged};
 pub use field::Source;
 pub use file::{FileFault, FileWhy, file_why_number, file_why_text};
 pub use flags::{Flags, last_or_zero};
 pub use int32::Int32;
-pub use item::{TOO_LONG, item_size, put_header, put_item, put_octets};
+pub use item::{TOO_LONG, add_sizes, item_size, put_header, put_item, put_octets};
 pub use kerberos_time::KerberosTime;
 pub use kstring::KString;
 pub use many::Many;

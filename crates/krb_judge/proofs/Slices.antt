@@ -18,7 +18,7 @@ use Rattle.krb_msg.proofs.Grammars.{all_is_decided}
 use Rattle.krb_msg.specs.Grammar.{messages}
 use Rattle.krb_msg.proofs.Laws.{same_value}
 use Rattle.krb_msg.specs.Values.{der_is, der_begins}
-use Rattle.krb_judge.specs.Reads.{IsDer}
+use Rattle.krb_msg.specs.Reads.{IsDer}
 use Rattle.krb_judge.specs.Parses.{refused, refusal_by, refusal_of, AreOf, AreOfValue, HasNoMessage}
 
 -- ---- the kind

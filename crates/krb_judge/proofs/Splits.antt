@@ -10,7 +10,7 @@ use Rattle.krb_judge.specs.Outcomes.{head_of}
 use Rattle.krb_judge.specs.declared.judging.head.Head.{Head as Found}
 use Rattle.krb_judge.specs.declared.judging.head.Head.TheVariants as found
 use Rattle.krb_judge.proofs.Within.{rest_taken}
-use Rattle.krb_judge.specs.Reads.{HasItem, HasInner, HasNumber, IsSplit, IsInner, IsNumber}
+use Rattle.krb_msg.specs.Reads.{HasItem, HasNumber, IsSplit, IsNumber}
 
 -- ---- an item
 pub head_of_item : (octets : List ℕ) (tag : ℕ) (contents rest : List ℕ) → length octets < 2 ^ 31 → octets ≡ item tag contents ++ rest → head (length octets) octets ≡ Got (1 + length (length_octets (length contents))) (length contents)
@@ -48,29 +48,6 @@ is_split octets front rest header size h e f r =
       contents_within = rw g (rw (length-take, length-drop) (omega arith));
       rest_within = rw s (rw (length-drop, length-drop) (omega arith));
     }
-
--- octets that are an item, and its contents
-pub has_item : {octets : List ℕ} (tag : ℕ) (inner : List ℕ) → octets ≡ item tag inner → HasItem octets
-has_item {octets = octets} tag inner e = record { tag = tag; contents = inner; rest = []; parts = e ∙ sym (append-nil (item tag inner)) }
-
-pub inner_of : {octets contents rest : List ℕ} → IsSplit octets contents rest → (tag : ℕ) (inner : List ℕ) → octets ≡ item tag inner → contents ≡ inner
-inner_of s tag inner e = (s.parts tag inner [] (e ∙ sym (append-nil (item tag inner)))).0
-
--- ---- an item in a tag
-pub tag_item : {octets : List ℕ} → HasInner octets → HasItem octets
-tag_item f = record { tag = f.tag; contents = item f.inner_tag f.contents; rest = f.rest; parts = f.parts }
-
-pub inner_item : {octets tagged rest : List ℕ} → HasInner octets → IsSplit octets tagged rest → HasItem tagged
-inner_item f s = has_item f.inner_tag f.contents (s.parts f.tag (item f.inner_tag f.contents) f.rest f.parts).0
-
-pub is_inner : {octets tagged rest contents none : List ℕ} → IsSplit octets tagged rest → IsSplit tagged contents none → IsInner octets contents rest
-is_inner s t = record {
-  parts = λ tag inner_tag inner behind p.
-      let q = s.parts tag (item inner_tag inner) behind p in
-      (inner_of t inner_tag inner q.0, q.1);
-  contents_within = omega (arith, s.contents_within, t.contents_within);
-  rest_within = s.rest_within;
-}
 
 -- ---- an INTEGER
 pub number_item : {octets : List ℕ} → HasNumber octets → HasItem octets

@@ -12,14 +12,12 @@ use Rattle.krb_msg.specs.Nodes.{nodes, term_in, term_at}
 use Rattle.krb_judge.specs.declared.parsing.TheConstants.{TICKET, METHOD_DATA}
 use Rattle.krb_msg.specs.Views.{ticket_value, ticket_of, pa_data_value, pa_data_of}
 use Rattle.krb_msg.specs.Told.{map-back}
-use Rattle.krb_msg.proofs.Fields.{flat_map-values}
 use Rattle.krb_msg.proofs.Judged.{ticket_value-of}
 use Rattle.krb_msg.specs.Judgement.{term_judgement}
-use Rattle.krb_judge.specs.Reads.{value_octets, item_octets, IsDer, IsListed}
+use Rattle.krb_msg.specs.Reads.{IsDer}
 use Rattle.krb_judge.specs.Parses.{refusal_by, ticket_refusal, method_data_refusal, AreOfTicket, AreOfMethodData}
 use Rattle.krb_judge.specs.declared.parsing.ParseFault.{ParseFault}
 use Rattle.krb_judge.specs.declared.parsing.ParseFault.TheVariants as fault
-use Rattle.krb_judge.proofs.Forms.{Gives, listed, same}
 use Rattle.krb_judge.proofs.Slices.{are_of_value, same_of_value, value_not_refused, no_value}
 
 -- the nodes
@@ -38,15 +36,8 @@ found_or_memory (Err (fault.Refused r)) a e h = absurd (h r refl)
 found_or_memory (Err fault.Memory) a e h = inr refl
 
 -- ---- a Ticket
-pub ticket_forms : Gives (IsDer (term_at TICKET)) (IsDer ticket)
-ticket_forms octets f = subst (λ term. IsDer term octets) ticket_node f
-
-ticket_form : (t : Ticket) {octets : List ℕ} → value_octets ticket (ticket_value t) ≡ octets → der ticket (ticket_value t) ≡ octets
-unfolding value_octets
-ticket_form t e = e
-
-pub are_of_ticket : {octets : List ℕ} (t : Ticket) → IsDer (term_at TICKET) octets × (length octets < 2 ^ 31) × (value_octets ticket (ticket_value t) ≡ octets) → AreOfTicket octets t
-are_of_ticket {octets = octets} t (f, short, e) = are_of_value ticket refl ticket_value ticket_of (λ t. refl) ticket_value-of t (ticket_forms octets f) short (ticket_form t e)
+pub are_of_ticket : {octets : List ℕ} (t : Ticket) → IsDer ticket octets × (length octets < 2 ^ 31) × (der ticket (ticket_value t) ≡ octets) → AreOfTicket octets t
+are_of_ticket t (f, short, e) = are_of_value ticket refl ticket_value ticket_of (λ t. refl) ticket_value-of t f short e
 
 pub same_ticket : {octets : List ℕ} (t u : Ticket) → AreOfTicket octets t → AreOfTicket octets u → t ≡ u
 same_ticket t u f g = same_of_value ticket refl ticket_value ticket_of (λ t. refl) ticket_value-of t u f.form g.form
@@ -58,21 +49,14 @@ pub no_ticket : (octets : List ℕ) → AreOctets octets → ((t : Ticket) → A
 no_ticket = no_value ticket refl ticket_value ticket_of (λ t. refl) ticket_value-of
 
 -- ---- METHOD-DATA
-pub method_data_forms : Gives (IsDer (term_at METHOD_DATA)) (IsListed (IsDer pa_data))
-method_data_forms octets f = listed (same _) octets (subst (λ term. IsDer term octets) method_data_node f)
-
-method_data_form : (items : List PaData) {octets : List ℕ} → item_octets 0x30 (flat_map (λ padata. value_octets pa_data (pa_data_value padata)) items) ≡ octets → der method_data (map pa_data_value items) ≡ octets
-unfolding value_octets item_octets
-method_data_form items e = sym (ap (item 0x30) (flat_map-values (der pa_data) pa_data_value items)) ∙ e
-
 values_back : (items : List PaData) → map pa_data_of (map pa_data_value items) ≡ items
 values_back = map-back pa_data_value pa_data_of (λ p. refl)
 
 values_onto : (values : Value method_data) → Fits method_data values → map pa_data_value (map pa_data_of values) ≡ values
 values_onto values f = map-back pa_data_of pa_data_value (λ p. refl) values
 
-pub are_of_method_data : {octets : List ℕ} (items : List PaData) → IsDer (term_at METHOD_DATA) octets × (length octets < 2 ^ 31) × (item_octets 0x30 (flat_map (λ padata. value_octets pa_data (pa_data_value padata)) items) ≡ octets) → AreOfMethodData octets items
-are_of_method_data {octets = octets} items (f, short, e) = are_of_value method_data refl (map pa_data_value) (map pa_data_of) values_back values_onto items (subst (λ term. IsDer term octets) method_data_node f) short (method_data_form items e)
+pub are_of_method_data : {octets : List ℕ} (items : List PaData) → IsDer method_data octets × (length octets < 2 ^ 31) × (der method_data (map pa_data_value items) ≡ octets) → AreOfMethodData octets items
+are_of_method_data items (f, short, e) = are_of_value method_data refl (map pa_data_value) (map pa_data_of) values_back values_onto items f short e
 
 pub same_method_data : {octets : List ℕ} (items others : List PaData) → AreOfMethodData octets items → AreOfMethodData octets others → items ≡ others
 same_method_data items others f g = same_of_value method_data refl (map pa_data_value) (map pa_data_of) values_back values_onto items others f.form g.form

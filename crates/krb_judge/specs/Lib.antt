@@ -1,4 +1,3 @@
 pub mod Outcomes
-pub mod Reads
 pub mod Parses
 pub mod Faults

@@ -1,28 +1,26 @@
 //! The message that octets are.
 
-mod fields;
-mod scalars;
 mod split;
-mod types;
 
-ghost use Rattle.std.specs.Prelude.{◌≡◌, ◌≢◌, ◌^◌, ◌<◌, ◌↔◌, ◌⊎◌, ℕ, List, IfOk, IsErrOf, Ok, Err, Some, None, length};
+ghost use Rattle.std.specs.Prelude.{◌≡◌, ◌≢◌, ◌^◌, ◌<◌, ◌↔◌, ◌⊎◌, true, List, IfOk, IsErrOf, Ok, Err, Some, None, length};
 ghost use Rattle.krb_der.specs.declared.verdict.Verdict.TheVariants.{Whole};
 ghost use Rattle.krb_msg.specs.Judgement.{judgement, term_judgement};
 ghost use Rattle.krb_msg.specs.Nodes.{term_at};
 ghost use Rattle.krb_msg.specs.Table.{IsNode};
 ghost use Rattle.krb_msg.specs.Views.{kind_of_tag, message_der};
 ghost use Rattle.krb_judge.specs.Faults.{parse_fault_text};
-ghost use Rattle.krb_judge.specs.Reads.{IsDer};
+ghost use Rattle.krb_msg.specs.Reads.{IsDer};
+ghost use Rattle.krb_msg.specs.Shape.{is_unambiguous};
+ghost use Rattle.krb_msg.specs.Term.{der};
 ghost use Rattle.krb_judge.specs.Parses.{refusal_by, refusal_of as refusal_in, ticket_refusal, method_data_refusal, judged_as, IsKnown, AreOf, AreOfKind, AreOfTicket, AreOfMethodData, HasNoMessage};
 ghost use Rattle.krb_judge.specs.declared.parsing.ParseFault.TheVariants as fault;
 
 use crate::judging::{judge, judge_node};
-use crate::parsing::fields::Decode;
-use crate::parsing::types::{kdc_rep, kdc_req};
+use crate::parsing::split::Slice;
 use krb_der::{Many, Memory, Refusal, Verdict, Why};
 use krb_msg::grammar::Row;
-use krb_msg::{ApRep, ApReq, Kind, KrbError, Message, PaData, Ticket};
-use std::alloc::{AllocError, AllocFailed, Global};
+use krb_msg::{Decode, Kind, Message, PaData, Ticket, decode, decode_whole};
+use std::alloc::{AllocError, Global};
 use std::error::Error;
 use std::fmt;
 
@@ -47,14 +45,6 @@ impl From<AllocError> for ParseFault {
     ghost from_gives = { λ _ e. e ≡ fault.Memory };
 
     fn from(_error: AllocError) -> ParseFault {
-        ParseFault::Memory
-    }
-}
-
-impl<T: Drop> From<AllocFailed<T>> for ParseFault {
-    ghost from_gives = { λ _ e. e ≡ fault.Memory };
-
-    fn from(_error: AllocFailed<T>) -> ParseFault {
         ParseFault::Memory
     }
 }
@@ -131,16 +121,14 @@ pub fn parse_method_data(alloc: Global, octets: &[u8]) -> Result<Vec<PaData>, Pa
 /// The value whose octets these are, as an item of a node's term.
 fn parse_node<T: Decode>(alloc: Global, node: u16, octets: &[u8]) -> Result<T, ParseFault>
     requires known { IsNode node }
-    requires form { (those : List ℕ) → IsDer (term_at node) those → T.IsForm those }
-    ensures value { IfOk result (λ value. IsDer (term_at node) octets.now × (length octets.now < 2 ^ 31) × (T.octets value ≡ octets.now)) }
-    ensures refused { (r : Refusal) → IsErrOf result (fault.Refused r) ↔ (refusal_by (term_judgement (term_at node)) octets.now ≡ Some r) }
+    requires term { term_at node ≡ T.term }
+    requires unambiguous { is_unambiguous T.term ≡ true }
+    ensures value { IfOk result (λ value. IsDer T.term octets.now × (length octets.now < 2 ^ 31) × (der T.term (T.value value) ≡ octets.now)) }
+    ensures refused { (r : Refusal) → IsErrOf result (fault.Refused r) ↔ (refusal_by (term_judgement T.term) octets.now ≡ Some r) }
 {
     match refusal_of(Expected::Node(node), octets) {
         Some(refusal) => Err(ParseFault::Refused(refusal)),
-        None => {
-            let (value, _) = T::decode(alloc, octets)?;
-            Ok(value)
-        }
+        None => Ok(decode_whole(alloc, Slice { octets })?),
     }
 }
 
@@ -187,15 +175,7 @@ pub fn parse_whole(alloc: Global, octets: &[u8]) -> Result<Message, Memory>
     requires whole { judgement (length octets.now) octets.now ≡ Whole }
     ensures { IfOk result (λ m. message_der m ≡ octets.now) }
 {
-    match kind(octets[0]) {
-        Kind::AsReq => Ok(Message::AsReq(kdc_req::<0x6A, 10>(alloc, octets)?)),
-        Kind::AsRep => Ok(Message::AsRep(kdc_rep::<0x6B, 11>(alloc, octets)?)),
-        Kind::TgsReq => Ok(Message::TgsReq(kdc_req::<0x6C, 12>(alloc, octets)?)),
-        Kind::TgsRep => Ok(Message::TgsRep(kdc_rep::<0x6D, 13>(alloc, octets)?)),
-        Kind::ApReq => Ok(Message::ApReq(ApReq::decode(alloc, octets)?.0)),
-        Kind::ApRep => Ok(Message::ApRep(ApRep::decode(alloc, octets)?.0)),
-        Kind::KrbError => Ok(Message::KrbError(KrbError::decode(alloc, octets)?.0)),
-    }
+    Ok(decode(alloc, kind(octets[0]), Slice { octets })?)
 }
 
 /// The kind of the message whose octets these are, which [`judge`] found whole. It takes no memory.

@@ -19,8 +19,8 @@ use Rattle.std.specs.List.{AllByRecursion}
 use Rattle.krb_msg.specs.Grammar.{messages, sequence_of, ticket, principal_name, kdc_req_body, microseconds, krb_error}
 use Rattle.krb_msg.specs.Shape.{IsOneOf, IsGrammar}
 use Rattle.krb_msg.specs.Judgement.{judgement}
-use Rattle.krb_msg.specs.Views.{kind_of, kind_term, kind_of_tag, message_value, message_of, message_der, pa_data_value, pa_data_of, principal_name_value, principal_name_of, host_address_value, host_address_of, encrypted_data_value, encrypted_data_of, ticket_value, ticket_of, kdc_req_body_value, kdc_req_body_of, KdcReqValue, kdc_req_value, kdc_req_of, KdcRepValue, kdc_rep_value, kdc_rep_of, micros_of, krb_error_value, krb_error_of, ap_req_of, ap_rep_of, IsInProfile}
-use Rattle.krb_msg.specs.Told.{option-back, list-back, kdc_req_body-back, krb_error-back}
+use Rattle.krb_msg.specs.Views.{kind_of, kind_term, kind_of_tag, message_value, message_of, message_der, pa_data_value, pa_data_of, principal_name_value, principal_name_of, host_address_value, host_address_of, encrypted_data_value, encrypted_data_of, ticket_value, ticket_of, kdc_req_body_value, kdc_req_body_of, KdcReqValue, kdc_req_value, kdc_req_of, KdcRepValue, kdc_rep_value, kdc_rep_of, micros_of, krb_error_value, krb_error_of, ap_req_of, ap_rep_of, IsInProfile, kdc_req_body-back, krb_error-back}
+use Rattle.krb_msg.specs.Told.{option-back, list-back}
 use Rattle.krb_msg.specs.Laws.{AreOneOf, AreMessage}
 use Rattle.krb_der.specs.Items.{same_from_cons}
 use Rattle.krb_msg.specs.Values.{der-append}

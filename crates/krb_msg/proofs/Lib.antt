@@ -18,7 +18,7 @@ pub mod Judged
 pub mod Fitting
 pub mod Fronts
 pub mod Table
-pub mod Fields
+pub mod Layouts
 pub mod Noted
 pub mod Read
 pub mod MessageRead

@@ -12,3 +12,4 @@ pub mod Table
 pub mod Examples
 pub mod Values
 pub mod Told
+pub mod Reads

@@ -1,5 +1,5 @@
 -- The types of this crate as values of their terms, and back. The numbers that a message fixes are in the value and not in the type.
-use Rattle.std.specs.Prelude.{ℕ, ℤ, pos, negsuc, ◌+◌, ◌^◌, ◌<◌, ◌==◌, if◌then◌else◌, List, length, map, codes, Option, Some, None}
+use Rattle.std.specs.Prelude.{ℕ, ℤ, pos, negsuc, ◌≡◌, refl, ◌+◌, ◌^◌, ◌<◌, ◌==◌, if◌then◌else◌, List, length, map, codes, Option, Some, None}
 use Rattle.std.specs.Option.{option_map, unwrap_or}
 use Rattle.krb_msg.specs.declared.encrypted_data.EncryptedData.{EncryptedData}
 use Rattle.krb_msg.specs.declared.principal_name.PrincipalName.{PrincipalName}
@@ -16,9 +16,8 @@ use Rattle.krb_msg.specs.declared.message.Message.{Message}
 use Rattle.krb_msg.specs.declared.message.Message.TheVariants as message
 use Rattle.krb_msg.specs.declared.message.Kind.{Kind}
 use Rattle.krb_msg.specs.declared.message.Kind.TheVariants as kind
-use Rattle.krb_der.specs.Octets.{item}
 use Rattle.krb_msg.specs.Term.{Term, Value, der, Fits}
-use Rattle.krb_msg.specs.Values.{contents}
+use Rattle.krb_msg.specs.Told.{option-back, list-back}
 use Rattle.krb_msg.specs.Grammar.{encrypted_data, principal_name, pa_data, ticket, host_address, kdc_req_body, as_req, as_rep, tgs_req, tgs_rep, ap_req, ap_rep, krb_error}
 
 abbrev pub encrypted_data_value : EncryptedData → Value encrypted_data
@@ -186,40 +185,21 @@ krb_error_of (pvno, (msg_type, (ctime, (cusec, (stime, (susec, (error_code, (cre
   e_data = e_data;
 }
 
--- ---- the one DER form of the types that have one by themselves
-abbrev pub encrypted_data_der : EncryptedData → List ℕ
-encrypted_data_der e = der encrypted_data (encrypted_data_value e)
+-- ---- values and back
+pub kdc_req_body-back : (b : KdcReqBody) → kdc_req_body_of (kdc_req_body_value b) ≡ b
+kdc_req_body-back b = λ i. record b {
+  cname = option-back principal_name_value principal_name_of (λ p. refl) b.cname i;
+  sname = option-back principal_name_value principal_name_of (λ p. refl) b.sname i;
+  addresses = list-back host_address_value host_address_of (λ a. refl) b.addresses i;
+  enc_authorization_data = option-back encrypted_data_value encrypted_data_of (λ e. refl) b.enc_authorization_data i;
+  additional_tickets = list-back ticket_value ticket_of (λ t. refl) b.additional_tickets i;
+}
 
-abbrev pub principal_name_der : PrincipalName → List ℕ
-principal_name_der p = der principal_name (principal_name_value p)
-
-abbrev pub pa_data_der : PaData → List ℕ
-pa_data_der p = der pa_data (pa_data_value p)
-
-abbrev pub ticket_der : Ticket → List ℕ
-ticket_der t = der ticket (ticket_value t)
-
-abbrev pub ap_req_der : ApReq → List ℕ
-ap_req_der m = der ap_req (ap_req_value m)
-
-abbrev pub ap_rep_der : ApRep → List ℕ
-ap_rep_der m = der ap_rep (ap_rep_value m)
-
-abbrev pub host_address_der : HostAddress → List ℕ
-host_address_der a = der host_address (host_address_value a)
-
-abbrev pub kdc_req_body_der : KdcReqBody → List ℕ
-kdc_req_body_der b = der kdc_req_body (kdc_req_body_value b)
-
-abbrev pub krb_error_der : KrbError → List ℕ
-krb_error_der m = der krb_error (krb_error_value m)
-
--- a KDC-REQ and a KDC-REP under the tag of a message, with the message's type
-abbrev pub kdc_req_octets : ℕ → ℕ → KdcReq → List ℕ
-kdc_req_octets tag message_type m = item tag (contents as_req (kdc_req_value message_type m))
-
-abbrev pub kdc_rep_octets : ℕ → ℕ → KdcRep → List ℕ
-kdc_rep_octets tag message_type m = item tag (contents as_rep (kdc_rep_value message_type m))
+pub krb_error-back : (m : KrbError) → krb_error_of (krb_error_value m) ≡ m
+krb_error-back m = λ i. record m {
+  cusec = option-back pos micros_of (λ n. refl) m.cusec i;
+  cname = option-back principal_name_value principal_name_of (λ p. refl) m.cname i;
+}
 
 -- ---- messages of any kind
 abbrev pub kind_of : Message → Kind

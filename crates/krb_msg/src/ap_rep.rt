@@ -1,11 +1,17 @@
 //! AP-REP.
 
-ghost use Rattle.std.specs.Prelude.{◌≡◌};
-ghost use Rattle.krb_msg.specs.Views.{ap_rep_der};
-ghost use Rattle.krb_msg.specs.Told.{ap_rep_begins, ap_rep_told};
+ghost use Rattle.std.specs.Prelude.{◌≡◌, refl};
+ghost use Rattle.krb_msg.specs.Term.{der};
+ghost use Rattle.krb_msg.specs.Grammar.{ap_rep};
+ghost use Rattle.krb_msg.specs.Views.{ap_rep_value, ap_rep_of};
+ghost use Rattle.krb_msg.specs.Told.{begins, told};
 
 use crate::encrypted_data::EncryptedData;
-use krb_der::{Der, Encoding, End, Fixed, Required, Sequence, Tagged};
+use crate::fields::{Application, Borrowed, Encode, End, Fixed, Held, Owned, Required, Sequence};
+use crate::item::{Decode, Item};
+use crate::source::Source;
+use krb_der::Der;
+use std::alloc::{AllocError, Global};
 
 /// The reply of an application server (RFC 4120, 5.5.2). Its version and its message type are
 /// fixed, and so not kept.
@@ -15,36 +21,56 @@ pub struct ApRep {
     pub enc_part: EncryptedData,
 }
 
-type Layout<'a> = Tagged<Sequence<Fixed<Fixed<Required<'a, EncryptedData, End>>>>>;
+/// Its fields.
+type Layout<H> = Application<
+    15,
+    Sequence<Fixed<0, 5, Fixed<1, 15, Required<2, Held<H, EncryptedData>, End>>>>,
+>;
 
 impl ApRep {
-    /// What its octets are made of.
-    fn encoding(&self) -> Layout<'_>
-        ensures { ⟦<Layout<'static> as Encoding>⟧.octets result ≡ ap_rep_der self.now }
+    /// The fields, borrowed.
+    fn layout(&self) -> Layout<Borrowed<'_>>
+        ensures { ⟦<Layout<Borrowed<'static>> as Encode>⟧.value result ≡ ap_rep_value self.now }
     {
-        Tagged(
-            0x6F,
-            Sequence(Fixed(
-                0xA0,
-                5,
-                Fixed(0xA1, 15, Required(0xA2, &self.enc_part, End)),
-            )),
-        )
+        Application(Sequence(Fixed(Fixed(Required(&self.enc_part, End)))))
+    }
+
+    /// The value of its fields.
+    fn from_layout(layout: Layout<Owned>) -> ApRep
+        ensures { ap_rep_value result ≡ ⟦<Layout<Owned> as Decode>⟧.value layout }
+    {
+        let Application(Sequence(Fixed(Fixed(Required(enc_part, End))))) = layout;
+        ApRep { enc_part }
     }
 }
 
 impl Der for ApRep {
-    ghost der = { ap_rep_der };
+    ghost der = { λ it. der ap_rep (ap_rep_value it) };
 
     fn size(&self) -> u64 {
-        self.encoding().size()
+        self.layout().size()
     }
 
     fn put(&self, out: &mut Vec<u8>) {
-        self.encoding().put(out);
+        self.layout().put(out);
     }
 
-    ghost begins = { ap_rep_begins };
+    ghost begins = { begins ap_rep ap_rep_value };
 
-    ghost tells = { ap_rep_told };
+    ghost tells = { told ap_rep refl ap_rep_value ap_rep_of (λ it. refl) };
+}
+
+impl Decode for ApRep {
+    ghost term = { ap_rep };
+
+    ghost value = { ap_rep_value };
+
+    fn decode<S: Source>(alloc: Global, front: S) -> Result<(ApRep, S), AllocError> {
+        let (layout, rest) = Layout::<Owned>::decode(alloc, front)?;
+        Ok((ApRep::from_layout(layout), rest))
+    }
+}
+
+impl Item for ApRep {
+    ghost form = { λ it. refl };
 }

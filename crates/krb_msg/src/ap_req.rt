@@ -1,12 +1,18 @@
 //! AP-REQ.
 
-ghost use Rattle.std.specs.Prelude.{◌≡◌};
-ghost use Rattle.krb_msg.specs.Views.{ap_req_der};
-ghost use Rattle.krb_msg.specs.Told.{ap_req_begins, ap_req_told};
+ghost use Rattle.std.specs.Prelude.{◌≡◌, refl};
+ghost use Rattle.krb_msg.specs.Term.{der};
+ghost use Rattle.krb_msg.specs.Grammar.{ap_req};
+ghost use Rattle.krb_msg.specs.Views.{ap_req_value, ap_req_of};
+ghost use Rattle.krb_msg.specs.Told.{begins, told};
 
 use crate::encrypted_data::EncryptedData;
+use crate::fields::{Application, Borrowed, Encode, End, Fixed, Held, Owned, Required, Sequence};
+use crate::item::{Decode, Item};
+use crate::source::Source;
 use crate::ticket::Ticket;
-use krb_der::{Der, Encoding, End, Fixed, Flags, Required, Sequence, Tagged};
+use krb_der::{Der, Flags};
+use std::alloc::{AllocError, Global};
 
 /// What a client sends an application server (RFC 4120, 5.5.1). Its version and its message type
 /// are fixed, and so not kept.
@@ -20,48 +26,81 @@ pub struct ApReq {
     pub authenticator: EncryptedData,
 }
 
-type Layout<'a> = Tagged<
+/// Its fields.
+type Layout<H> = Application<
+    14,
     Sequence<
-        Fixed<Fixed<Required<'a, Flags, Required<'a, Ticket, Required<'a, EncryptedData, End>>>>>,
+        Fixed<
+            0,
+            5,
+            Fixed<
+                1,
+                14,
+                Required<
+                    2,
+                    Held<H, Flags>,
+                    Required<3, Held<H, Ticket>, Required<4, Held<H, EncryptedData>, End>>,
+                >,
+            >,
+        >,
     >,
 >;
 
 impl ApReq {
-    /// What its octets are made of.
-    fn encoding(&self) -> Layout<'_>
-        ensures { ⟦<Layout<'static> as Encoding>⟧.octets result ≡ ap_req_der self.now }
+    /// The fields, borrowed.
+    fn layout(&self) -> Layout<Borrowed<'_>>
+        ensures { ⟦<Layout<Borrowed<'static>> as Encode>⟧.value result ≡ ap_req_value self.now }
     {
-        Tagged(
-            0x6E,
-            Sequence(Fixed(
-                0xA0,
-                5,
-                Fixed(
-                    0xA1,
-                    14,
-                    Required(
-                        0xA2,
-                        &self.ap_options,
-                        Required(0xA3, &self.ticket, Required(0xA4, &self.authenticator, End)),
-                    ),
-                ),
-            )),
-        )
+        Application(Sequence(Fixed(Fixed(Required(
+            &self.ap_options,
+            Required(&self.ticket, Required(&self.authenticator, End)),
+        )))))
+    }
+
+    /// The value of its fields.
+    fn from_layout(layout: Layout<Owned>) -> ApReq
+        ensures { ap_req_value result ≡ ⟦<Layout<Owned> as Decode>⟧.value layout }
+    {
+        let Application(
+            Sequence(
+                Fixed(Fixed(Required(ap_options, Required(ticket, Required(authenticator, End))))),
+            ),
+        ) = layout;
+        ApReq {
+            ap_options,
+            ticket,
+            authenticator,
+        }
     }
 }
 
 impl Der for ApReq {
-    ghost der = { ap_req_der };
+    ghost der = { λ it. der ap_req (ap_req_value it) };
 
     fn size(&self) -> u64 {
-        self.encoding().size()
+        self.layout().size()
     }
 
     fn put(&self, out: &mut Vec<u8>) {
-        self.encoding().put(out);
+        self.layout().put(out);
     }
 
-    ghost begins = { ap_req_begins };
+    ghost begins = { begins ap_req ap_req_value };
 
-    ghost tells = { ap_req_told };
+    ghost tells = { told ap_req refl ap_req_value ap_req_of (λ it. refl) };
+}
+
+impl Decode for ApReq {
+    ghost term = { ap_req };
+
+    ghost value = { ap_req_value };
+
+    fn decode<S: Source>(alloc: Global, front: S) -> Result<(ApReq, S), AllocError> {
+        let (layout, rest) = Layout::<Owned>::decode(alloc, front)?;
+        Ok((ApReq::from_layout(layout), rest))
+    }
+}
+
+impl Item for ApReq {
+    ghost form = { λ it. refl };
 }

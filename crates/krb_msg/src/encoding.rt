@@ -2,12 +2,13 @@
 
 ghost use Rattle.std.specs.Prelude.{◌≡◌, ◌+◌, ◌<◌, ◌≤◌, ◌++◌, ◌↔◌, length, min, IfOk, IfSome, IsNone, IsErrOf};
 ghost use Rattle.std.specs.Vec.{vec_len, vec_capacity};
+ghost use Rattle.krb_der.specs.Puts.{Puts};
 ghost use Rattle.krb_der.specs.Sizes.{saturated};
 ghost use Rattle.krb_msg.specs.Views.{message_der};
 ghost use Rattle.krb_msg.specs.declared.encoding.EncodeFault.TheVariants.{Memory};
 
 use crate::message::Message;
-use krb_der::{Der, Encoding, TOO_LONG};
+use krb_der::{Der, TOO_LONG};
 use std::alloc::{AllocError, Global};
 use thiserror::Error;
 
@@ -62,10 +63,10 @@ fn octets_of(message: &Message) -> u64
     ensures { result ≡ saturated (length (message_der message.now)) }
 {
     match message {
-        Message::AsReq(req) => req.encoding(0x6A, 10).size(),
-        Message::AsRep(rep) => rep.encoding(0x6B, 11).size(),
-        Message::TgsReq(req) => req.encoding(0x6C, 12).size(),
-        Message::TgsRep(rep) => rep.encoding(0x6D, 13).size(),
+        Message::AsReq(req) => req.size::<10>(),
+        Message::AsRep(rep) => rep.size::<11>(),
+        Message::TgsReq(req) => req.size::<12>(),
+        Message::TgsRep(rep) => rep.size::<13>(),
         Message::ApReq(req) => req.size(),
         Message::ApRep(rep) => rep.size(),
         Message::KrbError(error) => error.size(),
@@ -77,15 +78,13 @@ fn octets_of(message: &Message) -> u64
 pub fn put(message: &Message, out: &mut Vec<u8>)
     requires short { length (message_der message.now) ≤ 2147483647 }
     requires room { vec_len out.old + length (message_der message.now) ≤ vec_capacity out.old }
-    ensures items { out.new.items ≡ out.old.items ++ message_der message.now }
-    ensures len { vec_len out.new ≡ vec_len out.old + length (message_der message.now) }
-    ensures capacity { vec_capacity out.new ≡ vec_capacity out.old }
+    ensures { Puts (message_der message.now) out.old out.new }
 {
     match message {
-        Message::AsReq(req) => req.encoding(0x6A, 10).put(out),
-        Message::AsRep(rep) => rep.encoding(0x6B, 11).put(out),
-        Message::TgsReq(req) => req.encoding(0x6C, 12).put(out),
-        Message::TgsRep(rep) => rep.encoding(0x6D, 13).put(out),
+        Message::AsReq(req) => req.put::<10>(out),
+        Message::AsRep(rep) => rep.put::<11>(out),
+        Message::TgsReq(req) => req.put::<12>(out),
+        Message::TgsRep(rep) => rep.put::<13>(out),
         Message::ApReq(req) => req.put(out),
         Message::ApRep(rep) => rep.put(out),
         Message::KrbError(error) => error.put(out),

@@ -1,10 +1,16 @@
 //! EncryptedData.
 
-ghost use Rattle.krb_msg.specs.Views.{encrypted_data_der};
-ghost use Rattle.krb_msg.specs.Told.{encrypted_data_begins, encrypted_data_told};
-ghost use Rattle.std.specs.Prelude.{◌≡◌};
+ghost use Rattle.std.specs.Prelude.{◌≡◌, refl};
+ghost use Rattle.krb_msg.specs.Term.{der};
+ghost use Rattle.krb_msg.specs.Grammar.{encrypted_data};
+ghost use Rattle.krb_msg.specs.Views.{encrypted_data_value, encrypted_data_of};
+ghost use Rattle.krb_msg.specs.Told.{begins, told};
 
-use krb_der::{Der, Encoding, End, Int32, Octets, Optional, Required, Sequence, Wide32};
+use crate::fields::{Borrowed, Encode, End, Held, Optional, Owned, Required, Sequence};
+use crate::item::{Decode, Item};
+use crate::source::Source;
+use krb_der::{Der, Int32, Octets, Wide32};
+use std::alloc::{AllocError, Global};
 
 /// What is sealed (RFC 4120, 5.2.9). Its cipher is never opened.
 #[derive(PartialEq, Eq, Debug, Drop)]
@@ -17,33 +23,62 @@ pub struct EncryptedData {
     pub cipher: Octets,
 }
 
-type Layout<'a> = Sequence<Required<'a, Int32, Optional<'a, Wide32, Required<'a, Octets, End>>>>;
+/// Its fields.
+type Layout<H> = Sequence<
+    Required<0, Held<H, Int32>, Optional<1, Held<H, Wide32>, Required<2, Held<H, Octets>, End>>>,
+>;
 
 impl EncryptedData {
-    /// What its octets are made of.
-    fn encoding(&self) -> Layout<'_>
-        ensures { ⟦<Layout<'static> as Encoding>⟧.octets result ≡ encrypted_data_der self.now }
+    /// The fields, borrowed.
+    fn layout(&self) -> Layout<Borrowed<'_>>
+        ensures { ⟦<Layout<Borrowed<'static>> as Encode>⟧.value result ≡ encrypted_data_value self.now }
     {
         Sequence(Required(
-            0xA0,
             &self.etype,
-            Optional(0xA1, &self.kvno, Required(0xA2, &self.cipher, End)),
+            Optional(self.kvno.as_ref(), Required(&self.cipher, End)),
         ))
+    }
+
+    /// The value of its fields.
+    fn from_layout(layout: Layout<Owned>) -> EncryptedData
+        ensures { encrypted_data_value result ≡ ⟦<Layout<Owned> as Decode>⟧.value layout }
+    {
+        let Sequence(Required(etype, Optional(kvno, Required(cipher, End)))) = layout;
+        EncryptedData {
+            etype,
+            kvno,
+            cipher,
+        }
     }
 }
 
 impl Der for EncryptedData {
-    ghost der = { encrypted_data_der };
+    ghost der = { λ it. der encrypted_data (encrypted_data_value it) };
 
     fn size(&self) -> u64 {
-        self.encoding().size()
+        self.layout().size()
     }
 
     fn put(&self, out: &mut Vec<u8>) {
-        self.encoding().put(out);
+        self.layout().put(out);
     }
 
-    ghost begins = { encrypted_data_begins };
+    ghost begins = { begins encrypted_data encrypted_data_value };
 
-    ghost tells = { encrypted_data_told };
+    ghost tells = { told encrypted_data refl encrypted_data_value encrypted_data_of (λ it. refl) };
+}
+
+impl Decode for EncryptedData {
+    ghost term = { encrypted_data };
+
+    ghost value = { encrypted_data_value };
+
+    fn decode<S: Source>(alloc: Global, front: S) -> Result<(EncryptedData, S), AllocError> {
+        let (layout, rest) = Layout::<Owned>::decode(alloc, front)?;
+        Ok((EncryptedData::from_layout(layout), rest))
+    }
+}
+
+impl Item for EncryptedData {
+    ghost form = { λ it. refl };
 }

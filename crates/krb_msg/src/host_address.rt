@@ -1,10 +1,16 @@
 //! HostAddress.
 
-ghost use Rattle.std.specs.Prelude.{◌≡◌};
-ghost use Rattle.krb_msg.specs.Views.{host_address_der};
-ghost use Rattle.krb_msg.specs.Told.{host_address_begins, host_address_told};
+ghost use Rattle.std.specs.Prelude.{◌≡◌, refl};
+ghost use Rattle.krb_msg.specs.Term.{der};
+ghost use Rattle.krb_msg.specs.Grammar.{host_address};
+ghost use Rattle.krb_msg.specs.Views.{host_address_value, host_address_of};
+ghost use Rattle.krb_msg.specs.Told.{begins, told};
 
-use krb_der::{Der, Encoding, End, Int32, Octets, Required, Sequence};
+use crate::fields::{Borrowed, Encode, End, Held, Owned, Required, Sequence};
+use crate::item::{Decode, Item};
+use crate::source::Source;
+use krb_der::{Der, Int32, Octets};
+use std::alloc::{AllocError, Global};
 
 /// The address of a host (RFC 4120, 5.2.5). What it means is not looked into.
 #[derive(PartialEq, Eq, Debug, Drop)]
@@ -15,29 +21,53 @@ pub struct HostAddress {
     pub address: Octets,
 }
 
-type Layout<'a> = Sequence<Required<'a, Int32, Required<'a, Octets, End>>>;
+/// Its fields.
+type Layout<H> = Sequence<Required<0, Held<H, Int32>, Required<1, Held<H, Octets>, End>>>;
 
 impl HostAddress {
-    /// What its octets are made of.
-    fn encoding(&self) -> Layout<'_>
-        ensures { ⟦<Layout<'static> as Encoding>⟧.octets result ≡ host_address_der self.now }
+    /// The fields, borrowed.
+    fn layout(&self) -> Layout<Borrowed<'_>>
+        ensures { ⟦<Layout<Borrowed<'static>> as Encode>⟧.value result ≡ host_address_value self.now }
     {
-        Sequence(Required(0xA0, &self.addr_type, Required(0xA1, &self.address, End)))
+        Sequence(Required(&self.addr_type, Required(&self.address, End)))
+    }
+
+    /// The value of its fields.
+    fn from_layout(layout: Layout<Owned>) -> HostAddress
+        ensures { host_address_value result ≡ ⟦<Layout<Owned> as Decode>⟧.value layout }
+    {
+        let Sequence(Required(addr_type, Required(address, End))) = layout;
+        HostAddress { addr_type, address }
     }
 }
 
 impl Der for HostAddress {
-    ghost der = { host_address_der };
+    ghost der = { λ it. der host_address (host_address_value it) };
 
     fn size(&self) -> u64 {
-        self.encoding().size()
+        self.layout().size()
     }
 
     fn put(&self, out: &mut Vec<u8>) {
-        self.encoding().put(out);
+        self.layout().put(out);
     }
 
-    ghost begins = { host_address_begins };
+    ghost begins = { begins host_address host_address_value };
 
-    ghost tells = { host_address_told };
+    ghost tells = { told host_address refl host_address_value host_address_of (λ it. refl) };
+}
+
+impl Decode for HostAddress {
+    ghost term = { host_address };
+
+    ghost value = { host_address_value };
+
+    fn decode<S: Source>(alloc: Global, front: S) -> Result<(HostAddress, S), AllocError> {
+        let (layout, rest) = Layout::<Owned>::decode(alloc, front)?;
+        Ok((HostAddress::from_layout(layout), rest))
+    }
+}
+
+impl Item for HostAddress {
+    ghost form = { λ it. refl };
 }

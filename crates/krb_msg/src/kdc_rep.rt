@@ -1,13 +1,27 @@
 //! KDC-REP.
 
-ghost use Rattle.std.specs.Prelude.{◌≡◌};
-ghost use Rattle.krb_msg.specs.Views.{kdc_rep_octets};
+ghost use Rattle.std.specs.Prelude.{◌≡◌, ◌+◌, ◌^◌, ◌<◌, ◌≤◌, ◌++◌, true, IfOk, length};
+ghost use Rattle.std.specs.Vec.{vec_len, vec_capacity};
+ghost use Rattle.krb_der.specs.Puts.{Puts};
+ghost use Rattle.krb_der.specs.Sizes.{saturated};
+ghost use Rattle.krb_msg.specs.Shape.{has_octet_tags};
+ghost use Rattle.krb_msg.specs.Term.{Application as ApplicationTerm, der};
+ghost use Rattle.krb_msg.specs.Grammar.{kdc_rep};
+ghost use Rattle.krb_msg.specs.Reads.{IsDer};
+ghost use Rattle.krb_msg.specs.Views.{kdc_rep_value};
 
+use crate::decoding::decode_whole;
 use crate::encrypted_data::EncryptedData;
+use crate::fields::{
+    Application, Borrowed, Encode, End, Fixed, Held, Optional, Owned, Required, Sequence,
+};
+use crate::item::Decode;
 use crate::pa_data::PaData;
 use crate::principal_name::PrincipalName;
+use crate::source::Source;
 use crate::ticket::Ticket;
-use krb_der::{Encoding, End, Fixed, KString, Many, Optional, Required, Sequence, Tagged};
+use krb_der::{KString, Many};
+use std::alloc::{AllocError, Global};
 
 /// What a KDC answers (RFC 4120, 5.4.2): the contents of an AS-REP or a TGS-REP. Their version and
 /// their message type are fixed, and so not kept; so a KDC-REP has octets only as one or the other.
@@ -25,20 +39,26 @@ pub struct KdcRep {
     pub enc_part: EncryptedData,
 }
 
-pub(crate) type Layout<'a> = Tagged<
+/// Its fields, in a message whose number and whose message type are `N`.
+type Layout<H, const N: u8> = Application<
+    N,
     Sequence<
         Fixed<
+            0,
+            5,
             Fixed<
+                1,
+                N,
                 Optional<
-                    'a,
-                    Many<PaData>,
+                    2,
+                    Held<H, Many<PaData>>,
                     Required<
-                        'a,
-                        KString,
+                        3,
+                        Held<H, KString>,
                         Required<
-                            'a,
-                            PrincipalName,
-                            Required<'a, Ticket, Required<'a, EncryptedData, End>>,
+                            4,
+                            Held<H, PrincipalName>,
+                            Required<5, Held<H, Ticket>, Required<6, Held<H, EncryptedData>, End>>,
                         >,
                     >,
                 >,
@@ -48,33 +68,78 @@ pub(crate) type Layout<'a> = Tagged<
 >;
 
 impl KdcRep {
-    /// What its octets are made of under the tag of a message, whose type is the number in it.
-    pub(crate) fn encoding(&self, tag: u8, message_type: u8) -> Layout<'_>
-        ensures { ⟦<Layout<'static> as Encoding>⟧.octets result ≡ kdc_rep_octets tag message_type self.now }
+    /// The fields, borrowed.
+    fn layout<const N: u8>(&self) -> Layout<Borrowed<'_>, N>
+        ensures { ⟦<Layout<Borrowed<'static>, N> as Encode>⟧.value result ≡ kdc_rep_value N self.now }
     {
-        Tagged(
-            tag,
-            Sequence(Fixed(
-                0xA0,
-                5,
+        Application(Sequence(Fixed(Fixed(Optional(
+            self.padata.as_ref(),
+            Required(
+                &self.crealm,
+                Required(
+                    &self.cname,
+                    Required(&self.ticket, Required(&self.enc_part, End)),
+                ),
+            ),
+        )))))
+    }
+
+    /// The value of its fields.
+    fn from_layout<const N: u8>(layout: Layout<Owned, N>) -> KdcRep
+        ensures { kdc_rep_value N result ≡ ⟦<Layout<Owned, N> as Decode>⟧.value layout.entry }
+    {
+        let Application(
+            Sequence(
                 Fixed(
-                    0xA1,
-                    message_type,
-                    Optional(
-                        0xA2,
-                        &self.padata,
-                        Required(
-                            0xA3,
-                            &self.crealm,
+                    Fixed(
+                        Optional(
+                            padata,
                             Required(
-                                0xA4,
-                                &self.cname,
-                                Required(0xA5, &self.ticket, Required(0xA6, &self.enc_part, End)),
+                                crealm,
+                                Required(cname, Required(ticket, Required(enc_part, End))),
                             ),
                         ),
                     ),
                 ),
-            )),
-        )
+            ),
+        ) = layout;
+        KdcRep {
+            padata,
+            crealm,
+            cname,
+            ticket,
+            enc_part,
+        }
+    }
+
+    /// The number of DER octets in a message; 2147483648 where there are more.
+    pub(crate) fn size<const N: u8>(&self) -> u64
+        ensures { result ≡ saturated (length (der (ApplicationTerm N (kdc_rep N)) (kdc_rep_value N self.now))) }
+    {
+        self.layout::<N>().size()
+    }
+
+    /// Appends the DER octets in a message, at most 2147483647 of them, into room that is there. It
+    /// takes no memory.
+    pub(crate) fn put<const N: u8>(&self, out: &mut Vec<u8>)
+        requires tags { has_octet_tags (ApplicationTerm N (kdc_rep N)) ≡ true }
+        requires short { length (der (ApplicationTerm N (kdc_rep N)) (kdc_rep_value N self.now)) ≤ 2147483647 }
+        requires room { vec_len out.old + length (der (ApplicationTerm N (kdc_rep N)) (kdc_rep_value N self.now)) ≤ vec_capacity out.old }
+        ensures { Puts (der (ApplicationTerm N (kdc_rep N)) (kdc_rep_value N self.now)) out.old out.new }
+    {
+        self.layout::<N>().put(out);
+    }
+
+    /// The value in the message of a number and a message type whose octets these are.
+    pub(crate) fn decode<const N: u8, S: Source>(
+        alloc: Global,
+        octets: S,
+    ) -> Result<KdcRep, AllocError>
+        requires short { length (S.octets octets) < 2 ^ 31 }
+        requires form { IsDer (ApplicationTerm N (kdc_rep N)) (S.octets octets) }
+        ensures { IfOk result (λ value. der (ApplicationTerm N (kdc_rep N)) (kdc_rep_value N value) ≡ S.octets octets) }
+    {
+        let layout = decode_whole::<Layout<Owned, N>, S>(alloc, octets)?;
+        Ok(KdcRep::from_layout(layout))
     }
 }

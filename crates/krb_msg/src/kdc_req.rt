@@ -1,11 +1,25 @@
 //! KDC-REQ.
 
-ghost use Rattle.std.specs.Prelude.{◌≡◌};
-ghost use Rattle.krb_msg.specs.Views.{kdc_req_octets};
+ghost use Rattle.std.specs.Prelude.{◌≡◌, ◌+◌, ◌^◌, ◌<◌, ◌≤◌, ◌++◌, true, IfOk, length};
+ghost use Rattle.std.specs.Vec.{vec_len, vec_capacity};
+ghost use Rattle.krb_der.specs.Puts.{Puts};
+ghost use Rattle.krb_der.specs.Sizes.{saturated};
+ghost use Rattle.krb_msg.specs.Shape.{has_octet_tags};
+ghost use Rattle.krb_msg.specs.Term.{Application as ApplicationTerm, der};
+ghost use Rattle.krb_msg.specs.Grammar.{kdc_req};
+ghost use Rattle.krb_msg.specs.Reads.{IsDer};
+ghost use Rattle.krb_msg.specs.Views.{kdc_req_value};
 
+use crate::decoding::decode_whole;
+use crate::fields::{
+    Application, Borrowed, Encode, End, Fixed, Held, Optional, Owned, Required, Sequence,
+};
+use crate::item::Decode;
 use crate::kdc_req_body::KdcReqBody;
 use crate::pa_data::PaData;
-use krb_der::{Encoding, End, Fixed, Many, Optional, Required, Sequence, Tagged};
+use crate::source::Source;
+use krb_der::Many;
+use std::alloc::{AllocError, Global};
 
 /// What a client sends a KDC (RFC 4120, 5.4.1): the contents of an AS-REQ or a TGS-REQ. Their
 /// version and their message type are fixed, and so not kept; so a KDC-REQ has octets only as one or
@@ -18,26 +32,65 @@ pub struct KdcReq {
     pub body: KdcReqBody,
 }
 
-pub(crate) type Layout<'a> = Tagged<
-    Sequence<Fixed<Fixed<Optional<'a, Many<PaData>, Required<'a, KdcReqBody, End>>>>>,
+/// Its fields, in a message whose number and whose message type are `N`.
+type Layout<H, const N: u8> = Application<
+    N,
+    Sequence<
+        Fixed<
+            1,
+            5,
+            Fixed<2, N, Optional<3, Held<H, Many<PaData>>, Required<4, Held<H, KdcReqBody>, End>>>,
+        >,
+    >,
 >;
 
 impl KdcReq {
-    /// What its octets are made of under the tag of a message, whose type is the number in it.
-    pub(crate) fn encoding(&self, tag: u8, message_type: u8) -> Layout<'_>
-        ensures { ⟦<Layout<'static> as Encoding>⟧.octets result ≡ kdc_req_octets tag message_type self.now }
+    /// The fields, borrowed.
+    fn layout<const N: u8>(&self) -> Layout<Borrowed<'_>, N>
+        ensures { ⟦<Layout<Borrowed<'static>, N> as Encode>⟧.value result ≡ kdc_req_value N self.now }
     {
-        Tagged(
-            tag,
-            Sequence(Fixed(
-                0xA1,
-                5,
-                Fixed(
-                    0xA2,
-                    message_type,
-                    Optional(0xA3, &self.padata, Required(0xA4, &self.body, End)),
-                ),
-            )),
-        )
+        Application(Sequence(Fixed(Fixed(Optional(
+            self.padata.as_ref(),
+            Required(&self.body, End),
+        )))))
+    }
+
+    /// The value of its fields.
+    fn from_layout<const N: u8>(layout: Layout<Owned, N>) -> KdcReq
+        ensures { kdc_req_value N result ≡ ⟦<Layout<Owned, N> as Decode>⟧.value layout.entry }
+    {
+        let Application(Sequence(Fixed(Fixed(Optional(padata, Required(body, End)))))) = layout;
+        KdcReq { padata, body }
+    }
+
+    /// The number of DER octets in a message; 2147483648 where there are more.
+    pub(crate) fn size<const N: u8>(&self) -> u64
+        ensures { result ≡ saturated (length (der (ApplicationTerm N (kdc_req N)) (kdc_req_value N self.now))) }
+    {
+        self.layout::<N>().size()
+    }
+
+    /// Appends the DER octets in a message, at most 2147483647 of them, into room that is there. It
+    /// takes no memory.
+    pub(crate) fn put<const N: u8>(&self, out: &mut Vec<u8>)
+        requires tags { has_octet_tags (ApplicationTerm N (kdc_req N)) ≡ true }
+        requires short { length (der (ApplicationTerm N (kdc_req N)) (kdc_req_value N self.now)) ≤ 2147483647 }
+        requires room { vec_len out.old + length (der (ApplicationTerm N (kdc_req N)) (kdc_req_value N self.now)) ≤ vec_capacity out.old }
+        ensures { Puts (der (ApplicationTerm N (kdc_req N)) (kdc_req_value N self.now)) out.old out.new }
+    {
+        self.layout::<N>().put(out);
+    }
+
+    /// The value in the message of a number and a message type whose octets these are.
+    pub(crate) fn decode<const N: u8, S: Source>(
+        alloc: Global,
+        octets: S,
+    ) -> Result<KdcReq, AllocError>
+        requires short { length (S.octets octets) < 2 ^ 31 }
+        requires form { IsDer (ApplicationTerm N (kdc_req N)) (S.octets octets) }
+        ensures { IfOk result (λ value. der (ApplicationTerm N (kdc_req N)) (kdc_req_value N value) ≡ S.octets octets) }
+    {
+        let layout = decode_whole::<Layout<Owned, N>, S>(alloc, octets)?;
+        Ok(KdcReq::from_layout(layout))
     }
 }

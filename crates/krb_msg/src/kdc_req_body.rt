@@ -1,17 +1,23 @@
 //! KDC-REQ-BODY.
 
-ghost use Rattle.std.specs.Prelude.{◌≡◌};
-ghost use Rattle.krb_msg.specs.Views.{kdc_req_body_der};
-ghost use Rattle.krb_msg.specs.Told.{kdc_req_body_begins, kdc_req_body_told};
+ghost use Rattle.std.specs.Prelude.{◌≡◌, refl};
+ghost use Rattle.krb_msg.specs.Term.{der};
+ghost use Rattle.krb_msg.specs.Grammar.{kdc_req_body};
+ghost use Rattle.krb_msg.specs.Views.{kdc_req_body_value, kdc_req_body_of, kdc_req_body-back};
+ghost use Rattle.krb_msg.specs.Told.{begins, told};
 
 use crate::encrypted_data::EncryptedData;
-use crate::host_address::HostAddress;
-use crate::principal_name::PrincipalName;
-use crate::ticket::Ticket;
-use krb_der::{
-    Der, Encoding, End, Flags, Int32, KString, KerberosTime, Many, Optional, Required, Sequence,
-    Wide32,
+use crate::fields::{
+    Borrowed, Cut, DecodeFields, Encode, EncodeFields, End, Held, Optional, Owned, Required,
+    Sequence,
 };
+use crate::host_address::HostAddress;
+use crate::item::{Decode, Item};
+use crate::principal_name::PrincipalName;
+use crate::source::Source;
+use crate::ticket::Ticket;
+use krb_der::{Der, Flags, Int32, KString, KerberosTime, Many, Wide32};
+use std::alloc::{AllocError, Global};
 
 /// What a client asks a KDC for (RFC 4120, 5.4.1).
 #[derive(PartialEq, Eq, Debug, Drop)]
@@ -42,37 +48,24 @@ pub struct KdcReqBody {
     pub additional_tickets: Option<Many<Ticket>>,
 }
 
-type Tail<'a> = Optional<
-    'a,
-    Many<HostAddress>,
-    Optional<'a, EncryptedData, Optional<'a, Many<Ticket>, End>>,
->;
-
-type Layout<'a> = Sequence<
+/// Its fields.
+type Layout<H> = Sequence<
     Required<
-        'a,
-        Flags,
+        0,
+        Held<H, Flags>,
         Optional<
-            'a,
-            PrincipalName,
+            1,
+            Held<H, PrincipalName>,
             Required<
-                'a,
-                KString,
+                2,
+                Held<H, KString>,
                 Optional<
-                    'a,
-                    PrincipalName,
+                    3,
+                    Held<H, PrincipalName>,
                     Optional<
-                        'a,
-                        KerberosTime,
-                        Required<
-                            'a,
-                            KerberosTime,
-                            Optional<
-                                'a,
-                                KerberosTime,
-                                Required<'a, Wide32, Required<'a, Many<Int32>, Tail<'a>>>,
-                            >,
-                        >,
+                        4,
+                        Held<H, KerberosTime>,
+                        Required<5, Held<H, KerberosTime>, Cut<Rest<H>>>,
                     >,
                 >,
             >,
@@ -80,44 +73,155 @@ type Layout<'a> = Sequence<
     >,
 >;
 
+/// Its fields from the end of the renewable life on.
+type Rest<H> = Optional<
+    6,
+    Held<H, KerberosTime>,
+    Required<
+        7,
+        Held<H, Wide32>,
+        Required<
+            8,
+            Held<H, Many<Int32>>,
+            Optional<
+                9,
+                Held<H, Many<HostAddress>>,
+                Optional<10, Held<H, EncryptedData>, Optional<11, Held<H, Many<Ticket>>, End>>,
+            >,
+        >,
+    >,
+>;
+
 impl KdcReqBody {
-    /// What its octets are made of.
-    fn encoding(&self) -> Layout<'_>
-        ensures { ⟦<Layout<'static> as Encoding>⟧.octets result ≡ kdc_req_body_der self.now }
+    /// The fields, borrowed.
+    fn layout(&self) -> Layout<Borrowed<'_>>
+        ensures { ⟦<Layout<Borrowed<'static>> as Encode>⟧.value result ≡ kdc_req_body_value self.now }
     {
-        let tickets = Optional(0xAB, &self.additional_tickets, End);
-        let tail = Optional(
-            0xA9,
-            &self.addresses,
-            Optional(0xAA, &self.enc_authorization_data, tickets),
+        let rest = Optional(
+            self.rtime.as_ref(),
+            Required(
+                &self.nonce,
+                Required(
+                    &self.etype,
+                    Optional(
+                        self.addresses.as_ref(),
+                        Optional(
+                            self.enc_authorization_data.as_ref(),
+                            Optional(self.additional_tickets.as_ref(), End),
+                        ),
+                    ),
+                ),
+            ),
         );
-        let numbers = Required(0xA7, &self.nonce, Required(0xA8, &self.etype, tail));
-        let times = Optional(
-            0xA4,
-            &self.from,
-            Required(0xA5, &self.till, Optional(0xA6, &self.rtime, numbers)),
-        );
-        let names = Optional(
-            0xA1,
-            &self.cname,
-            Required(0xA2, &self.realm, Optional(0xA3, &self.sname, times)),
-        );
-        Sequence(Required(0xA0, &self.kdc_options, names))
+        Sequence(Required(
+            &self.kdc_options,
+            Optional(
+                self.cname.as_ref(),
+                Required(
+                    &self.realm,
+                    Optional(
+                        self.sname.as_ref(),
+                        Optional(self.from.as_ref(), Required(&self.till, Cut(rest))),
+                    ),
+                ),
+            ),
+        ))
+    }
+
+    /// The value of its fields.
+    fn from_layout(layout: Layout<Owned>) -> KdcReqBody
+        ensures { kdc_req_body_value result ≡ ⟦<Layout<Owned> as Decode>⟧.value layout }
+    {
+        let Sequence(
+            Required(
+                kdc_options,
+                Optional(
+                    cname,
+                    Required(realm, Optional(sname, Optional(from, Required(till, Cut(rest))))),
+                ),
+            ),
+        ) = layout;
+        let Optional(
+            rtime,
+            Required(
+                nonce,
+                Required(
+                    etype,
+                    Optional(
+                        addresses,
+                        Optional(enc_authorization_data, Optional(additional_tickets, End)),
+                    ),
+                ),
+            ),
+        ) = rest;
+        KdcReqBody {
+            kdc_options,
+            cname,
+            realm,
+            sname,
+            from,
+            till,
+            rtime,
+            nonce,
+            etype,
+            addresses,
+            enc_authorization_data,
+            additional_tickets,
+        }
+    }
+}
+
+impl<'a> EncodeFields for Cut<Rest<Borrowed<'a>>> {
+    ghost fields = { ⟦<Rest<Borrowed<'static>> as EncodeFields>⟧.fields };
+
+    ghost values = { λ cut. ⟦<Rest<Borrowed<'static>> as EncodeFields>⟧.values cut.0 };
+
+    fn size(&self) -> u64 {
+        self.0.size()
+    }
+
+    fn put(&self, out: &mut Vec<u8>) {
+        self.0.put(out);
+    }
+}
+
+impl DecodeFields for Cut<Rest<Owned>> {
+    ghost fields = { ⟦<Rest<Owned> as DecodeFields>⟧.fields };
+
+    ghost values = { λ cut. ⟦<Rest<Owned> as DecodeFields>⟧.values cut.0 };
+
+    fn read<S: Source>(alloc: Global, contents: S) -> Result<Cut<Rest<Owned>>, AllocError> {
+        Ok(Cut(Rest::<Owned>::read(alloc, contents)?))
     }
 }
 
 impl Der for KdcReqBody {
-    ghost der = { kdc_req_body_der };
+    ghost der = { λ it. der kdc_req_body (kdc_req_body_value it) };
 
     fn size(&self) -> u64 {
-        self.encoding().size()
+        self.layout().size()
     }
 
     fn put(&self, out: &mut Vec<u8>) {
-        self.encoding().put(out);
+        self.layout().put(out);
     }
 
-    ghost begins = { kdc_req_body_begins };
+    ghost begins = { begins kdc_req_body kdc_req_body_value };
 
-    ghost tells = { kdc_req_body_told };
+    ghost tells = { told kdc_req_body refl kdc_req_body_value kdc_req_body_of kdc_req_body-back };
+}
+
+impl Decode for KdcReqBody {
+    ghost term = { kdc_req_body };
+
+    ghost value = { kdc_req_body_value };
+
+    fn decode<S: Source>(alloc: Global, front: S) -> Result<(KdcReqBody, S), AllocError> {
+        let (layout, rest) = Layout::<Owned>::decode(alloc, front)?;
+        Ok((KdcReqBody::from_layout(layout), rest))
+    }
+}
+
+impl Item for KdcReqBody {
+    ghost form = { λ it. refl };
 }

@@ -1,14 +1,20 @@
 //! KRB-ERROR.
 
-ghost use Rattle.std.specs.Prelude.{◌≡◌};
-ghost use Rattle.krb_msg.specs.Views.{krb_error_der};
-ghost use Rattle.krb_msg.specs.Told.{krb_error_begins, krb_error_told};
+ghost use Rattle.std.specs.Prelude.{◌≡◌, refl};
+ghost use Rattle.krb_msg.specs.Term.{der};
+ghost use Rattle.krb_msg.specs.Grammar.{krb_error};
+ghost use Rattle.krb_msg.specs.Views.{krb_error_value, krb_error_of, krb_error-back};
+ghost use Rattle.krb_msg.specs.Told.{begins, told};
 
-use crate::principal_name::PrincipalName;
-use krb_der::{
-    Der, Encoding, End, Fixed, Int32, KString, KerberosTime, Micros, Octets, Optional, Required,
-    Sequence, Tagged,
+use crate::fields::{
+    Application, Borrowed, Cut, DecodeFields, Encode, EncodeFields, End, Fixed, Held, Optional,
+    Owned, Required, Sequence,
 };
+use crate::item::{Decode, Item};
+use crate::principal_name::PrincipalName;
+use crate::source::Source;
+use krb_der::{Der, Int32, KString, KerberosTime, Micros, Octets};
+use std::alloc::{AllocError, Global};
 
 /// The message of an error (RFC 4120, 5.9.1). Its version and its message type are fixed, and so not
 /// kept.
@@ -38,34 +44,30 @@ pub struct KrbError {
     pub e_data: Option<Octets>,
 }
 
-type Names<'a> = Optional<
-    'a,
-    KString,
-    Optional<
-        'a,
-        PrincipalName,
-        Required<
-            'a,
-            KString,
-            Required<'a, PrincipalName, Optional<'a, KString, Optional<'a, Octets, End>>>,
-        >,
-    >,
->;
-
-type Layout<'a> = Tagged<
+/// Its fields.
+type Layout<H> = Application<
+    30,
     Sequence<
         Fixed<
+            0,
+            5,
             Fixed<
+                1,
+                30,
                 Optional<
-                    'a,
-                    KerberosTime,
+                    2,
+                    Held<H, KerberosTime>,
                     Optional<
-                        'a,
-                        Micros,
+                        3,
+                        Held<H, Micros>,
                         Required<
-                            'a,
-                            KerberosTime,
-                            Required<'a, Micros, Required<'a, Int32, Names<'a>>>,
+                            4,
+                            Held<H, KerberosTime>,
+                            Required<
+                                5,
+                                Held<H, Micros>,
+                                Required<6, Held<H, Int32>, Cut<Names<H>>>,
+                            >,
                         >,
                     >,
                 >,
@@ -74,36 +76,148 @@ type Layout<'a> = Tagged<
     >,
 >;
 
+/// Its fields from the names on.
+type Names<H> = Optional<
+    7,
+    Held<H, KString>,
+    Optional<
+        8,
+        Held<H, PrincipalName>,
+        Required<
+            9,
+            Held<H, KString>,
+            Required<
+                10,
+                Held<H, PrincipalName>,
+                Optional<11, Held<H, KString>, Optional<12, Held<H, Octets>, End>>,
+            >,
+        >,
+    >,
+>;
+
 impl KrbError {
-    /// What its octets are made of.
-    fn encoding(&self) -> Layout<'_>
-        ensures { ⟦<Layout<'static> as Encoding>⟧.octets result ≡ krb_error_der self.now }
+    /// The fields, borrowed.
+    fn layout(&self) -> Layout<Borrowed<'_>>
+        ensures { ⟦<Layout<Borrowed<'static>> as Encode>⟧.value result ≡ krb_error_value self.now }
     {
-        let texts = Optional(0xAB, &self.e_text, Optional(0xAC, &self.e_data, End));
-        let server = Required(0xA9, &self.realm, Required(0xAA, &self.sname, texts));
-        let names = Optional(0xA7, &self.crealm, Optional(0xA8, &self.cname, server));
-        let numbers = Required(0xA5, &self.susec, Required(0xA6, &self.error_code, names));
-        let times = Optional(
-            0xA2,
-            &self.ctime,
-            Optional(0xA3, &self.cusec, Required(0xA4, &self.stime, numbers)),
+        let rest = Optional(
+            self.crealm.as_ref(),
+            Optional(
+                self.cname.as_ref(),
+                Required(
+                    &self.realm,
+                    Required(
+                        &self.sname,
+                        Optional(self.e_text.as_ref(), Optional(self.e_data.as_ref(), End)),
+                    ),
+                ),
+            ),
         );
-        Tagged(0x7E, Sequence(Fixed(0xA0, 5, Fixed(0xA1, 30, times))))
+        Application(Sequence(Fixed(Fixed(Optional(
+            self.ctime.as_ref(),
+            Optional(
+                self.cusec.as_ref(),
+                Required(
+                    &self.stime,
+                    Required(&self.susec, Required(&self.error_code, Cut(rest))),
+                ),
+            ),
+        )))))
+    }
+
+    /// The value of its fields.
+    fn from_layout(layout: Layout<Owned>) -> KrbError
+        ensures { krb_error_value result ≡ ⟦<Layout<Owned> as Decode>⟧.value layout }
+    {
+        let Application(
+            Sequence(
+                Fixed(
+                    Fixed(
+                        Optional(
+                            ctime,
+                            Optional(
+                                cusec,
+                                Required(stime, Required(susec, Required(error_code, Cut(rest)))),
+                            ),
+                        ),
+                    ),
+                ),
+            ),
+        ) = layout;
+        let Optional(
+            crealm,
+            Optional(
+                cname,
+                Required(realm, Required(sname, Optional(e_text, Optional(e_data, End)))),
+            ),
+        ) = rest;
+        KrbError {
+            ctime,
+            cusec,
+            stime,
+            susec,
+            error_code,
+            crealm,
+            cname,
+            realm,
+            sname,
+            e_text,
+            e_data,
+        }
+    }
+}
+
+impl<'a> EncodeFields for Cut<Names<Borrowed<'a>>> {
+    ghost fields = { ⟦<Names<Borrowed<'static>> as EncodeFields>⟧.fields };
+
+    ghost values = { λ cut. ⟦<Names<Borrowed<'static>> as EncodeFields>⟧.values cut.0 };
+
+    fn size(&self) -> u64 {
+        self.0.size()
+    }
+
+    fn put(&self, out: &mut Vec<u8>) {
+        self.0.put(out);
+    }
+}
+
+impl DecodeFields for Cut<Names<Owned>> {
+    ghost fields = { ⟦<Names<Owned> as DecodeFields>⟧.fields };
+
+    ghost values = { λ cut. ⟦<Names<Owned> as DecodeFields>⟧.values cut.0 };
+
+    fn read<S: Source>(alloc: Global, contents: S) -> Result<Cut<Names<Owned>>, AllocError> {
+        Ok(Cut(Names::<Owned>::read(alloc, contents)?))
     }
 }
 
 impl Der for KrbError {
-    ghost der = { krb_error_der };
+    ghost der = { λ it. der krb_error (krb_error_value it) };
 
     fn size(&self) -> u64 {
-        self.encoding().size()
+        self.layout().size()
     }
 
     fn put(&self, out: &mut Vec<u8>) {
-        self.encoding().put(out);
+        self.layout().put(out);
     }
 
-    ghost begins = { krb_error_begins };
+    ghost begins = { begins krb_error krb_error_value };
 
-    ghost tells = { krb_error_told };
+    ghost tells = { told krb_error refl krb_error_value krb_error_of krb_error-back };
+}
+
+impl Decode for KrbError {
+    ghost term = { krb_error };
+
+    ghost value = { krb_error_value };
+
+    fn decode<S: Source>(alloc: Global, front: S) -> Result<(KrbError, S), AllocError> {
+        let (layout, rest) = Layout::<Owned>::decode(alloc, front)?;
+        Ok((KrbError::from_layout(layout), rest))
+    }
+}
+
+impl Item for KrbError {
+    ghost form = { λ it. refl };
 }

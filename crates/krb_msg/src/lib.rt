@@ -10,10 +10,13 @@
 
 mod ap_rep;
 mod ap_req;
+mod decoding;
 mod encoding;
 mod encrypted_data;
+mod fields;
 pub mod grammar;
 mod host_address;
+mod item;
 mod kdc_rep;
 mod kdc_req;
 mod kdc_req_body;
@@ -23,13 +26,17 @@ mod message;
 mod notes;
 mod pa_data;
 mod principal_name;
+mod scalars;
+mod source;
 mod ticket;
 
 pub use ap_rep::ApRep;
 pub use ap_req::ApReq;
+pub use decoding::{decode, decode_whole};
 pub use encoding::{EncodeFault, encode, put, size};
 pub use encrypted_data::EncryptedData;
 pub use host_address::HostAddress;
+pub use item::{Decode, Item};
 pub use kdc_rep::KdcRep;
 pub use kdc_req::KdcReq;
 pub use kdc_req_body::KdcReqBody;
@@ -38,4 +45,5 @@ pub use message::{Kind, Message};
 pub use notes::{Notes, notes_of};
 pub use pa_data::PaData;
 pub use principal_name::PrincipalName;
+pub use source::Source;
 pub use ticket::Ticket;

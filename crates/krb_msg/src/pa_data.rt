@@ -1,10 +1,16 @@
 //! PA-DATA.
 
-ghost use Rattle.std.specs.Prelude.{◌≡◌};
-ghost use Rattle.krb_msg.specs.Views.{pa_data_der};
-ghost use Rattle.krb_msg.specs.Told.{pa_data_begins, pa_data_told};
+ghost use Rattle.std.specs.Prelude.{◌≡◌, refl};
+ghost use Rattle.krb_msg.specs.Term.{der};
+ghost use Rattle.krb_msg.specs.Grammar.{pa_data};
+ghost use Rattle.krb_msg.specs.Views.{pa_data_value, pa_data_of};
+ghost use Rattle.krb_msg.specs.Told.{begins, told};
 
-use krb_der::{Der, Encoding, End, Int32, Octets, Required, Sequence};
+use crate::fields::{Borrowed, Encode, End, Held, Owned, Required, Sequence};
+use crate::item::{Decode, Item};
+use crate::source::Source;
+use krb_der::{Der, Int32, Octets};
+use std::alloc::{AllocError, Global};
 
 /// Pre-authentication data (RFC 4120, 5.2.7). What it means is not looked into.
 #[derive(PartialEq, Eq, Debug, Drop)]
@@ -15,33 +21,56 @@ pub struct PaData {
     pub padata_value: Octets,
 }
 
-type Layout<'a> = Sequence<Required<'a, Int32, Required<'a, Octets, End>>>;
+/// Its fields.
+type Layout<H> = Sequence<Required<1, Held<H, Int32>, Required<2, Held<H, Octets>, End>>>;
 
 impl PaData {
-    /// What its octets are made of.
-    fn encoding(&self) -> Layout<'_>
-        ensures { ⟦<Layout<'static> as Encoding>⟧.octets result ≡ pa_data_der self.now }
+    /// The fields, borrowed.
+    fn layout(&self) -> Layout<Borrowed<'_>>
+        ensures { ⟦<Layout<Borrowed<'static>> as Encode>⟧.value result ≡ pa_data_value self.now }
     {
-        Sequence(Required(
-            0xA1,
-            &self.padata_type,
-            Required(0xA2, &self.padata_value, End),
-        ))
+        Sequence(Required(&self.padata_type, Required(&self.padata_value, End)))
+    }
+
+    /// The value of its fields.
+    fn from_layout(layout: Layout<Owned>) -> PaData
+        ensures { pa_data_value result ≡ ⟦<Layout<Owned> as Decode>⟧.value layout }
+    {
+        let Sequence(Required(padata_type, Required(padata_value, End))) = layout;
+        PaData {
+            padata_type,
+            padata_value,
+        }
     }
 }
 
 impl Der for PaData {
-    ghost der = { pa_data_der };
+    ghost der = { λ it. der pa_data (pa_data_value it) };
 
     fn size(&self) -> u64 {
-        self.encoding().size()
+        self.layout().size()
     }
 
     fn put(&self, out: &mut Vec<u8>) {
-        self.encoding().put(out);
+        self.layout().put(out);
     }
 
-    ghost begins = { pa_data_begins };
+    ghost begins = { begins pa_data pa_data_value };
 
-    ghost tells = { pa_data_told };
+    ghost tells = { told pa_data refl pa_data_value pa_data_of (λ it. refl) };
+}
+
+impl Decode for PaData {
+    ghost term = { pa_data };
+
+    ghost value = { pa_data_value };
+
+    fn decode<S: Source>(alloc: Global, front: S) -> Result<(PaData, S), AllocError> {
+        let (layout, rest) = Layout::<Owned>::decode(alloc, front)?;
+        Ok((PaData::from_layout(layout), rest))
+    }
+}
+
+impl Item for PaData {
+    ghost form = { λ it. refl };
 }

@@ -1,10 +1,16 @@
 //! PrincipalName.
 
-ghost use Rattle.std.specs.Prelude.{◌≡◌};
-ghost use Rattle.krb_msg.specs.Views.{principal_name_der};
-ghost use Rattle.krb_msg.specs.Told.{principal_name_begins, principal_name_told};
+ghost use Rattle.std.specs.Prelude.{◌≡◌, refl};
+ghost use Rattle.krb_msg.specs.Term.{der};
+ghost use Rattle.krb_msg.specs.Grammar.{principal_name};
+ghost use Rattle.krb_msg.specs.Views.{principal_name_value, principal_name_of};
+ghost use Rattle.krb_msg.specs.Told.{begins, told};
 
-use krb_der::{Der, Encoding, End, Int32, KString, Many, Required, Sequence};
+use crate::fields::{Borrowed, Encode, End, Held, Owned, Required, Sequence};
+use crate::item::{Decode, Item};
+use crate::source::Source;
+use krb_der::{Der, Int32, KString, Many};
+use std::alloc::{AllocError, Global};
 
 /// The name of a principal within a realm (RFC 4120, 5.2.2).
 #[derive(PartialEq, Eq, Debug, Drop)]
@@ -15,29 +21,53 @@ pub struct PrincipalName {
     pub name: Many<KString>,
 }
 
-type Layout<'a> = Sequence<Required<'a, Int32, Required<'a, Many<KString>, End>>>;
+/// Its fields.
+type Layout<H> = Sequence<Required<0, Held<H, Int32>, Required<1, Held<H, Many<KString>>, End>>>;
 
 impl PrincipalName {
-    /// What its octets are made of.
-    fn encoding(&self) -> Layout<'_>
-        ensures { ⟦<Layout<'static> as Encoding>⟧.octets result ≡ principal_name_der self.now }
+    /// The fields, borrowed.
+    fn layout(&self) -> Layout<Borrowed<'_>>
+        ensures { ⟦<Layout<Borrowed<'static>> as Encode>⟧.value result ≡ principal_name_value self.now }
     {
-        Sequence(Required(0xA0, &self.name_type, Required(0xA1, &self.name, End)))
+        Sequence(Required(&self.name_type, Required(&self.name, End)))
+    }
+
+    /// The value of its fields.
+    fn from_layout(layout: Layout<Owned>) -> PrincipalName
+        ensures { principal_name_value result ≡ ⟦<Layout<Owned> as Decode>⟧.value layout }
+    {
+        let Sequence(Required(name_type, Required(name, End))) = layout;
+        PrincipalName { name_type, name }
     }
 }
 
 impl Der for PrincipalName {
-    ghost der = { principal_name_der };
+    ghost der = { λ it. der principal_name (principal_name_value it) };
 
     fn size(&self) -> u64 {
-        self.encoding().size()
+        self.layout().size()
     }
 
     fn put(&self, out: &mut Vec<u8>) {
-        self.encoding().put(out);
+        self.layout().put(out);
     }
 
-    ghost begins = { principal_name_begins };
+    ghost begins = { begins principal_name principal_name_value };
 
-    ghost tells = { principal_name_told };
+    ghost tells = { told principal_name refl principal_name_value principal_name_of (λ it. refl) };
+}
+
+impl Decode for PrincipalName {
+    ghost term = { principal_name };
+
+    ghost value = { principal_name_value };
+
+    fn decode<S: Source>(alloc: Global, front: S) -> Result<(PrincipalName, S), AllocError> {
+        let (layout, rest) = Layout::<Owned>::decode(alloc, front)?;
+        Ok((PrincipalName::from_layout(layout), rest))
+    }
+}
+
+impl Item for PrincipalName {
+    ghost form = { λ it. refl };
 }

@@ -1,13 +1,38 @@
-//! Items taken off the front of octets that are known to begin with them.
+//! Slices in which items are found.
 
 ghost use Rattle.std.specs.Prelude.{◌^◌, ◌<◌, length};
-ghost use Rattle.krb_judge.specs.Reads.{HasItem, HasInner, HasNumber, IsSplit, IsInner, IsNumber};
+ghost use Rattle.krb_msg.specs.Reads.{HasItem, HasNumber, IsSplit, IsNumber};
 
 use crate::judging::head::{Head, read_head};
 use crate::judging::number::integer_value;
+use krb_msg::Source;
 
-/// The contents of the first item, and what stands after it (X.690, 8.1).
-pub(crate) fn split_item(octets: &[u8]) -> (&[u8], &[u8])
+/// A slice of octets.
+#[derive(Clone, Copy)]
+pub(crate) struct Slice<'a> {
+    pub(crate) octets: &'a [u8],
+}
+
+impl<'a> Source for Slice<'a> {
+    ghost octets = { λ slice. slice.octets.now };
+
+    fn as_slice(&self) -> &[u8] {
+        self.octets
+    }
+
+    fn split_item(self) -> (Slice<'a>, Slice<'a>) {
+        let (contents, rest) = split_item(self.octets);
+        (Slice { octets: contents }, Slice { octets: rest })
+    }
+
+    fn split_integer(self) -> (i64, Slice<'a>) {
+        let (number, rest) = split_integer(self.octets);
+        (number, Slice { octets: rest })
+    }
+}
+
+/// The contents of the first item, and what follows it (X.690, 8.1).
+fn split_item(octets: &[u8]) -> (&[u8], &[u8])
     requires short { length octets.now < 2 ^ 31 }
     requires form { HasItem octets.now }
     ensures { IsSplit octets.now result.0.now result.1.now }
@@ -18,19 +43,8 @@ pub(crate) fn split_item(octets: &[u8]) -> (&[u8], &[u8])
     }
 }
 
-/// The contents of the item in a tag, and what stands after the tag's item.
-pub(crate) fn split_inner(octets: &[u8]) -> (&[u8], &[u8])
-    requires short { length octets.now < 2 ^ 31 }
-    requires form { HasInner octets.now }
-    ensures { IsInner octets.now result.0.now result.1.now }
-{
-    let (tagged, rest) = split_item(octets);
-    let (contents, _) = split_item(tagged);
-    (contents, rest)
-}
-
-/// The number of the INTEGER that stands first, and what stands after it.
-pub(crate) fn split_integer(octets: &[u8]) -> (i64, &[u8])
+/// The number of the INTEGER that stands first, and what follows it.
+fn split_integer(octets: &[u8]) -> (i64, &[u8])
     requires short { length octets.now < 2 ^ 31 }
     requires form { HasNumber octets.now }
     ensures { IsNumber octets.now result.0 result.1.now }

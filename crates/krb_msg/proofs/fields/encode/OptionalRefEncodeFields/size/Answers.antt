@@ -1,0 +1,15 @@
+use Rattle.std.proofs.Common.{◌∙◌, ◌+◌, ap, length}
+use Rattle.krb_der.specs.Octets.{item}
+use Rattle.krb_der.specs.Sizes.{saturated}
+use Rattle.krb_der.proofs.Sizes.{saturated-item, saturated-append}
+use Rattle.krb_msg.specs.Term.{der, der_of_fields}
+use Rattle.krb_msg.proofs.fields.encode.OptionalRefEncodeFields.size.Goals as goal
+
+pub returns-in-Some : goal.returns-in-Some
+returns-in-Some g c =
+    let list = c.args.self.now in
+    let octets = der g.T.Decode.term (g.T.Decode.value c.in-Some.value.now) in
+    rw c.in-Some.is
+    (saturated-append c.add_sizes.result c.item_size.result c.size-in-Some.result (item (0xA0 + g.row.INDEX) octets) (der_of_fields g.F.EncodeFields.fields (g.F.EncodeFields.values list.1)) c.add_sizes.ensures
+    (saturated-item (0xA0 + g.row.INDEX) c.size.result c.item_size.result octets (c.size.ensures ∙ ap (λ l. saturated (length l)) (g.met.T.Item.form c.in-Some.value.now)) c.item_size.ensures)
+    c.size-in-Some.ensures)

@@ -1,0 +1,45 @@
+//! Messages from octets.
+
+ghost use Rattle.std.specs.Prelude.{◌≡◌, ◌^◌, ◌<◌, true, IfOk, length};
+ghost use Rattle.krb_msg.specs.Views.{kind_term, message_der};
+ghost use Rattle.krb_msg.specs.Term.{der};
+ghost use Rattle.krb_msg.specs.Shape.{is_unambiguous};
+ghost use Rattle.krb_msg.specs.Reads.{IsDer};
+
+use crate::ap_rep::ApRep;
+use crate::ap_req::ApReq;
+use crate::item::Decode;
+use crate::kdc_rep::KdcRep;
+use crate::kdc_req::KdcReq;
+use crate::krb_error::KrbError;
+use crate::message::{Kind, Message};
+use crate::source::Source;
+use std::alloc::{AllocError, Global};
+
+/// The message of a kind whose octets these are. Nothing is judged again.
+pub fn decode<S: Source>(alloc: Global, kind: Kind, octets: S) -> Result<Message, AllocError>
+    requires short { length (S.octets octets) < 2 ^ 31 }
+    requires form { IsDer (kind_term kind) (S.octets octets) }
+    ensures { IfOk result (λ message. message_der message ≡ S.octets octets) }
+{
+    match kind {
+        Kind::AsReq => Ok(Message::AsReq(KdcReq::decode::<10, S>(alloc, octets)?)),
+        Kind::AsRep => Ok(Message::AsRep(KdcRep::decode::<11, S>(alloc, octets)?)),
+        Kind::TgsReq => Ok(Message::TgsReq(KdcReq::decode::<12, S>(alloc, octets)?)),
+        Kind::TgsRep => Ok(Message::TgsRep(KdcRep::decode::<13, S>(alloc, octets)?)),
+        Kind::ApReq => Ok(Message::ApReq(decode_whole(alloc, octets)?)),
+        Kind::ApRep => Ok(Message::ApRep(decode_whole(alloc, octets)?)),
+        Kind::KrbError => Ok(Message::KrbError(decode_whole(alloc, octets)?)),
+    }
+}
+
+/// The value whose octets these are. Nothing is judged again.
+pub fn decode_whole<T: Decode, S: Source>(alloc: Global, octets: S) -> Result<T, AllocError>
+    requires short { length (S.octets octets) < 2 ^ 31 }
+    requires unambiguous { is_unambiguous T.term ≡ true }
+    requires form { IsDer T.term (S.octets octets) }
+    ensures { IfOk result (λ value. der T.term (T.value value) ≡ S.octets octets) }
+{
+    let (value, _) = T::decode(alloc, octets)?;
+    Ok(value)
+}

@@ -1,0 +1,62 @@
+//! The fields of a type, said once as a type like
+//! `Sequence<Required<0, Int32, Optional<1, Wide32, End>>>`, by which its values are encoded and decoded
+//! (X.690, 8.9 and 8.14).
+
+mod decode;
+mod encode;
+
+pub use decode::DecodeFields;
+pub use encode::{Encode, EncodeFields};
+use std::marker::PhantomData;
+
+/// No field more.
+#[derive(Drop)]
+pub struct End;
+
+/// The field `[INDEX]`, and the fields after it.
+#[derive(Drop)]
+pub struct Required<const INDEX: u8, T, F>(pub T, pub F);
+
+/// The field `[INDEX]`, which may be left out, and the fields after it.
+#[derive(Drop)]
+pub struct Optional<const INDEX: u8, T, F>(pub Option<T>, pub F);
+
+/// The field `[INDEX]`, which is always this number, and the fields after it.
+#[derive(Drop)]
+pub struct Fixed<const INDEX: u8, const NUMBER: u8, F>(pub F);
+
+/// The fields from one on, as a type of their own: lists are cut so, because they nest no deeper than
+/// a proof of them stays short.
+#[derive(Drop)]
+pub struct Cut<F>(pub F);
+
+/// A SEQUENCE of fields.
+#[derive(Drop)]
+pub struct Sequence<F>(pub F);
+
+/// An item in `[APPLICATION NUMBER]`.
+#[derive(Drop)]
+pub struct Application<const NUMBER: u8, E>(pub E);
+
+/// How a list of fields holds their values: as [`Owned`] or [`Borrowed`] does.
+pub trait Hold<T> {
+    /// What holds a value.
+    type Of;
+}
+
+/// What holds a value of `T` in a list of fields.
+pub type Held<H, T> = <H as Hold<T>>::Of;
+
+/// Each value itself, as a list of fields is decoded.
+pub struct Owned;
+
+/// Each value borrowed, as a list of fields is encoded.
+pub struct Borrowed<'a>(PhantomData<&'a u8>);
+
+impl<T> Hold<T> for Owned {
+    type Of = T;
+}
+
+impl<'a, T: 'a> Hold<T> for Borrowed<'a> {
+    type Of = &'a T;
+}

@@ -1,0 +1,168 @@
+//! The scalars (RFC 4120, 5.2) and lists as items.
+
+ghost use Rattle.std.specs.Prelude.{◌≡◌, ◌^◌, ◌<◌, true, pos, IfOk, length, map, refl};
+ghost use Rattle.krb_msg.specs.Shape.{is_unambiguous};
+ghost use Rattle.krb_msg.specs.Grammar.{int32, wide32, microseconds, kerberos_string, octet_string, kerberos_time, kerberos_flags, sequence_of};
+ghost use Rattle.krb_msg.specs.Reads.{AreItems, AreItemsRead};
+ghost use Rattle.krb_msg.specs.Told.{many_form};
+
+use crate::item::{Decode, Item};
+use crate::source::Source;
+use krb_der::{Flags, Int32, KString, KerberosTime, Many, Micros, Octets, Wide32};
+use std::alloc::{AllocError, Global};
+
+impl Decode for Int32 {
+    ghost term = { int32 };
+
+    ghost value = { λ number. number };
+
+    fn decode<S: Source>(_alloc: Global, front: S) -> Result<(Int32, S), AllocError> {
+        let (number, rest) = front.split_integer();
+        Ok((Int32::new(number as i32), rest))
+    }
+}
+
+impl Item for Int32 {
+    ghost form = { λ number. refl };
+}
+
+impl Decode for Wide32 {
+    ghost term = { wide32 };
+
+    ghost value = { λ number. number };
+
+    fn decode<S: Source>(_alloc: Global, front: S) -> Result<(Wide32, S), AllocError> {
+        let (number, rest) = front.split_integer();
+        match Wide32::new(number) {
+            Some(wide) => Ok((wide, rest)),
+            None => unreachable!(),
+        }
+    }
+}
+
+impl Item for Wide32 {
+    ghost form = { λ number. refl };
+}
+
+impl Decode for Micros {
+    ghost term = { microseconds };
+
+    ghost value = { λ number. pos number };
+
+    fn decode<S: Source>(_alloc: Global, front: S) -> Result<(Micros, S), AllocError> {
+        let (number, rest) = front.split_integer();
+        match Micros::new(number as u32) {
+            Some(micros) => Ok((micros, rest)),
+            None => unreachable!(),
+        }
+    }
+}
+
+impl Item for Micros {
+    ghost form = { λ number. refl };
+}
+
+impl Decode for KString {
+    ghost term = { kerberos_string };
+
+    ghost value = { λ octets. octets };
+
+    fn decode<S: Source>(alloc: Global, front: S) -> Result<(KString, S), AllocError> {
+        let (contents, rest) = front.split_item();
+        Ok((KString::new(contents.as_slice().to_vec(alloc)?), rest))
+    }
+}
+
+impl Item for KString {
+    ghost form = { λ octets. refl };
+}
+
+impl Decode for Octets {
+    ghost term = { octet_string };
+
+    ghost value = { λ octets. octets };
+
+    fn decode<S: Source>(alloc: Global, front: S) -> Result<(Octets, S), AllocError> {
+        let (contents, rest) = front.split_item();
+        Ok((Octets::new(contents.as_slice().to_vec(alloc)?), rest))
+    }
+}
+
+impl Item for Octets {
+    ghost form = { λ octets. refl };
+}
+
+impl Decode for KerberosTime {
+    ghost term = { kerberos_time };
+
+    ghost value = { λ octets. octets };
+
+    fn decode<S: Source>(_alloc: Global, front: S) -> Result<(KerberosTime, S), AllocError> {
+        let (contents, rest) = front.split_item();
+        let Some((octets, _)) = contents.as_slice().split_first_chunk::<15>() else {
+            unreachable!()
+        };
+        match KerberosTime::new(*octets) {
+            Some(time) => Ok((time, rest)),
+            None => unreachable!(),
+        }
+    }
+}
+
+impl Item for KerberosTime {
+    ghost form = { λ octets. refl };
+}
+
+impl Decode for Flags {
+    ghost term = { kerberos_flags };
+
+    ghost value = { λ bits. bits };
+
+    fn decode<S: Source>(alloc: Global, front: S) -> Result<(Flags, S), AllocError> {
+        let (contents, rest) = front.split_item();
+        let Some((unused, bits)) = contents.as_slice().split_first() else {
+            unreachable!()
+        };
+        match Flags::new(*unused, bits.to_vec(alloc)?) {
+            Some(flags) => Ok((flags, rest)),
+            None => unreachable!(),
+        }
+    }
+}
+
+impl Item for Flags {
+    ghost form = { λ bits. refl };
+}
+
+/// A SEQUENCE OF (X.690, 8.10). The list grows as its items are read.
+impl<T: Item> Decode for Many<T> {
+    ghost term = { sequence_of T.term };
+
+    ghost value = { λ values. map T.value values };
+
+    fn decode<S: Source>(alloc: Global, front: S) -> Result<(Many<T>, S), AllocError> {
+        let (contents, rest) = front.split_item();
+        Ok((items(alloc, contents)?, rest))
+    }
+}
+
+impl<T: Item> Item for Many<T> {
+    ghost form = { many_form T.der T.term T.value T.form };
+}
+
+/// The values of items, one after another.
+fn items<T: Item, S: Source>(alloc: Global, contents: S) -> Result<Many<T>, AllocError>
+    requires short { length (S.octets contents) < 2 ^ 31 }
+    requires unambiguous { is_unambiguous T.term ≡ true }
+    requires form { AreItems T.term (S.octets contents) }
+    ensures { IfOk result (λ values. AreItemsRead T.term (S.octets contents) (map T.value values)) }
+{
+    let mut values = Vec::new(alloc);
+    let mut rest = contents;
+    'items: while !rest.as_slice().is_empty() {
+        let (value, left) = T::decode(alloc, rest)?;
+        values.push(value)?;
+        rest = left;
+    }
+    Ok(Many::new(values))
+}
