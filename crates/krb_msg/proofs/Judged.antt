@@ -26,6 +26,7 @@ use Rattle.krb_der.specs.Items.{same_from_cons}
 use Rattle.krb_msg.specs.Values.{der-append}
 use Rattle.krb_msg.proofs.Laws.{same_value}
 use Rattle.krb_msg.proofs.Grammars.{whole_is_one_of, unambiguous_message, one_of_is_whole, refusal_is_none_of}
+pub use Rattle.krb_msg.specs.MessageTold.{kind_of_tag-tag, message_comes_back, der_tells}
 pub use Rattle.krb_msg.proofs.Grammars.{whole_outcome, refused_outcome, open_outcome, whole_is_value, value_is_whole, value_is_decided}
 
 -- ---- the grammar
@@ -51,31 +52,6 @@ kind_of_one_of term (inr (inr (inr (inr (inl e))))) = (kind.ApReq, e)
 kind_of_one_of term (inr (inr (inr (inr (inr (inl e)))))) = (kind.ApRep, e)
 kind_of_one_of term (inr (inr (inr (inr (inr (inr (inl e))))))) = (kind.KrbError, e)
 kind_of_one_of term (inr (inr (inr (inr (inr (inr (inr none))))))) = absurd none
-
-pub kind_of_tag-tag : (k : Kind) → kind_of_tag (tag_of (kind_term k)) ≡ k
-kind_of_tag-tag kind.AsReq = refl
-kind_of_tag-tag kind.AsRep = refl
-kind_of_tag-tag kind.TgsReq = refl
-kind_of_tag-tag kind.TgsRep = refl
-kind_of_tag-tag kind.ApReq = refl
-kind_of_tag-tag kind.ApRep = refl
-kind_of_tag-tag kind.KrbError = refl
-
--- ---- values and back
-kdc_req-back : (n : ℕ) (m : KdcReq) → kdc_req_of (kdc_req_value n m) ≡ m
-kdc_req-back n m = λ i. record { padata = list-back pa_data_value pa_data_of (λ p. refl) m.padata i; body = kdc_req_body-back m.body i }
-
-kdc_rep-back : (n : ℕ) (m : KdcRep) → kdc_rep_of (kdc_rep_value n m) ≡ m
-kdc_rep-back n m = λ i. record m { padata = list-back pa_data_value pa_data_of (λ p. refl) m.padata i }
-
-pub message_comes_back : (m : Message) → message_of (kind_of m) (message_value m) ≡ m
-message_comes_back (message.AsReq m) = ap message.AsReq (kdc_req-back 10 m)
-message_comes_back (message.AsRep m) = ap message.AsRep (kdc_rep-back 11 m)
-message_comes_back (message.TgsReq m) = ap message.TgsReq (kdc_req-back 12 m)
-message_comes_back (message.TgsRep m) = ap message.TgsRep (kdc_rep-back 13 m)
-message_comes_back (message.ApReq m) = refl
-message_comes_back (message.ApRep m) = refl
-message_comes_back (message.KrbError m) = ap message.KrbError (krb_error-back m)
 
 exactly_one : (k : ℕ) (z : ℤ) → pos k ≤ℤ z → z ≤ℤ pos k → pos k ≡ z
 exactly_one k z low high = omega (arith, ints)
@@ -192,24 +168,3 @@ message_is_whole m p = one_of_is_whole messages messages_are_grammar (kind_term 
 pub refusal_is_right : (n : ℕ) (octets : List ℕ) (place : ℕ) (reason : Why) → length octets ≤ n → judgement n octets ≡ verdict.Refused (record { place = place; why = reason }) → (m : Message) → IsInProfile m → length (message_der m) ≡ n → take (suc place) (message_der m) ≡ take (suc place) octets → ⊥
 refusal_is_right n octets place reason l e m p same begins =
     refusal_is_none_of messages messages_are_grammar n octets place reason l e (kind_term (kind_of m)) (kind_is_one_of (kind_of m)) (message_value m) p.fits (omega (arith, p.short)) same begins
-
-same_kind : (k l : Kind) → tag_of (kind_term k) ≡ tag_of (kind_term l) → k ≡ l
-same_kind k l e = sym (kind_of_tag-tag k) ∙ ap kind_of_tag e ∙ kind_of_tag-tag l
-
--- what an equation of octets tells, where the other message is of a kind
-abbrev Tells : (m : Message) (x y : List ℕ) → Kind → Type 0
-Tells m x y k = (v : Value (kind_term k)) → message_der m ++ x ≡ der (kind_term k) v ++ y → (message_of (kind_of m) (message_value m) ≡ message_of k v) × (x ≡ y)
-
-pub der_tells : (m other : Message) (x y : List ℕ) → message_der m ++ x ≡ message_der other ++ y → (m ≡ other) × (x ≡ y)
-der_tells m other x y e =
-    let p : (message_of (kind_of m) (message_value m) ≡ message_of (kind_of other) (message_value other)) × (x ≡ y) = at_kind (kind_of other) (same_kind (kind_of m) (kind_of other) tags) (message_value other) e in
-    (sym (message_comes_back m) ∙ p.0 ∙ message_comes_back other, p.1)
-  where
-    tags : tag_of (kind_term (kind_of m)) ≡ tag_of (kind_term (kind_of other))
-    tags = (same_from_cons _ _ _ _ (sym (der-append (kind_term (kind_of m)) (message_value m) x) ∙ e ∙ der-append (kind_term (kind_of other)) (message_value other) y)).0
-
-    at_same : Tells m x y (kind_of m)
-    at_same v e = let s : (message_value m ≡ v) × (x ≡ y) = same_value (kind_term (kind_of m)) (unambiguous_message messages messages_are_grammar (kind_term (kind_of m)) (kind_is_one_of (kind_of m))) (message_value m) v x y e in (ap (message_of (kind_of m)) s.0, s.1)
-
-    at_kind : (k : Kind) → kind_of m ≡ k → Tells m x y k
-    at_kind k same = subst (Tells m x y) same at_same

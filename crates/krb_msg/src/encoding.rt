@@ -5,6 +5,7 @@ ghost use Rattle.std.specs.Vec.{vec_len, vec_capacity};
 ghost use Rattle.krb_der.specs.Puts.{Puts};
 ghost use Rattle.krb_der.specs.Sizes.{saturated};
 ghost use Rattle.krb_msg.specs.Views.{message_der};
+ghost use Rattle.krb_msg.specs.MessageTold.{message_begins, der_tells};
 ghost use Rattle.krb_msg.specs.declared.encoding.EncodeFault.TheVariants.{Memory};
 
 use crate::message::Message;
@@ -89,4 +90,20 @@ pub fn put(message: &Message, out: &mut Vec<u8>)
         Message::ApRep(rep) => rep.put(out),
         Message::KrbError(error) => error.put(out),
     }
+}
+
+impl Der for Message {
+    ghost der = { message_der };
+
+    fn size(&self) -> u64 {
+        octets_of(self)
+    }
+
+    fn put(&self, out: &mut Vec<u8>) {
+        put(self, out);
+    }
+
+    ghost begins = { message_begins };
+
+    ghost tells = { der_tells };
 }
