@@ -1,6 +1,6 @@
 //! The grammar of `specs/Grammar` as a table, from which octets are judged.
 
-ghost use Rattle.std.specs.Prelude.{◌≡◌, map};
+ghost use Rattle.std.specs.Prelude.{◌≡◌, length, map};
 ghost use Rattle.krb_msg.specs.Term.{tag_of as term_tag};
 ghost use Rattle.krb_msg.specs.Grammar.{messages};
 ghost use Rattle.krb_msg.specs.Nodes.{nodes, term_at};
@@ -196,8 +196,8 @@ macro_rules! node {
 /// How many rows the table has.
 pub const NODES: usize = 109;
 
-/// A row for each term of the grammar, in the order of [`Row`].
-static GRAMMAR: [Node; NODES] = [
+/// A row for each term of the grammar, in the order of [`Row`]. That they are, [`row_at`] says.
+pub static GRAMMAR: [Node; NODES] = [
     // basic types, and lists of one type
     node!(Integer, -2147483648, 2147483647, 4),
     node!(Integer, -2147483648, 4294967295, 5),
@@ -334,9 +334,10 @@ pub static MESSAGES: [u16; 7] = [
     Row::KrbError as u16,
 ];
 
-/// The messages that are judged are those of the grammar.
+/// The table has a row for each term, and the messages that are judged are those of the grammar.
 pub fn tables()
-    ensures { map term_at MESSAGES ≡ messages }
+    ensures rows { length nodes ≡ NODES }
+    ensures judged { map term_at MESSAGES ≡ messages }
 {}
 
 /// The row of a node, in rows that are those of the terms.
@@ -349,9 +350,9 @@ fn row_in(rows: &[Node], node: u16) -> Node
     rows[node as usize]
 }
 
-/// The row of a node.
+/// The row of a node in [`GRAMMAR`], which is that of its term.
 #[inline(always)]
-fn row_at(node: u16) -> Node
+pub fn row_at(node: u16) -> Node
     requires { IsNode node }
     ensures { IsRowOf nodes result (term_at node) }
 {
