@@ -43,7 +43,7 @@ fuzz: build
 
 # Octets per second: of the listing of streams, of a keytab and of a cache, and of messages parsed and encoded.
 bench: build
-	cd crates/krb_again && rt run < stdin > /dev/null
+	cd crates/krb_roundtrip && rt run < stdin > /dev/null
 	bench/stream
 	bench/keytab
 	bench/ccache

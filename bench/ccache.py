@@ -66,7 +66,7 @@ def credential(each):
 
 
 def ccache(credentials):
-    """A file of so many credentials, and its size."""
+    """A file of this many credentials, and its size."""
     file = tempfile.NamedTemporaryFile(suffix=".ccache")
     header = b"\x05\x04" + struct.pack(">HHHII", 12, 1, 8, 0, 0)
     size = file.write(header + principal(b"EXAMPLE.ORG", b"user"))

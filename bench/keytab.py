@@ -33,7 +33,7 @@ def entry(number):
 
 
 def keytab(entries):
-    """A file of so many entries, and its size."""
+    """A file of this many entries, and its size."""
     file = tempfile.NamedTemporaryFile(suffix=".keytab")
     octets = b"\x05\x02" + b"".join(entry(number) for number in range(entries))
     file.write(octets)

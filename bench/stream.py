@@ -1,5 +1,5 @@
 """Times bin/krbls on streams of framed messages, beside cat, in 8 MiB of address space: real messages
-of six kinds, and AP-REPs. Then what krb_again does with streams: to parse their messages, and to encode
+of six kinds, and AP-REPs. Then what krb_roundtrip does with streams: to parse their messages, and to encode
 them again, beside a memcpy of the same octets."""
 
 import ctypes
@@ -10,13 +10,13 @@ import tempfile
 from timing import best_of, best_run, rate
 
 KRBLS = ["bash", "-c", "ulimit -v 8192; exec bin/krbls stream"]
-AGAIN = "crates/krb_again/out/krb_again"
+AGAIN = "crates/krb_roundtrip/out/krb_roundtrip"
 MIXED_OCTETS = 64 << 20
 LARGE_OCTETS = 8192
 
 
 def repeated(frames, count):
-    """A file of so many times some frames."""
+    """A file of this many times some frames."""
     stream = tempfile.NamedTemporaryFile()
     piece = max(1, (1 << 20) // len(frames))
     for done in range(0, count, piece):
@@ -26,7 +26,7 @@ def repeated(frames, count):
 
 
 def mixed_frames():
-    """The real messages of tests/streams that are no AP-REPs, one behind another, and how many they
+    """The real messages of tests/streams that are no AP-REPs, one after another, and how many they
     are. The few large ones, which are almost all cipher, are left out."""
     frames, messages = b"", 0
     for path in sorted(pathlib.Path("tests/streams").glob("*.stream")):
@@ -39,13 +39,13 @@ def mixed_frames():
 
 
 def copy_seconds(size):
-    """The seconds of a memcpy of so many octets, into memory that was used before."""
+    """The seconds of a memcpy of n octets, into memory that was used before."""
     source, copy = ctypes.create_string_buffer(size), ctypes.create_string_buffer(size)
     return best_of(5, lambda: ctypes.memmove(copy, source, size))
 
 
 def time_listing(name, frames, messages, count):
-    """Prints what it takes to list so many times some frames."""
+    """Prints what it takes to list this many times some frames."""
     size, messages = count * len(frames), count * messages
     with repeated(frames, count) as stream:
         listing = best_run(KRBLS, stream.name)
@@ -57,7 +57,7 @@ def time_listing(name, frames, messages, count):
 
 
 def time_again(name, frames, messages, count):
-    """Prints what it takes to parse the messages of so many times some frames, and to encode them."""
+    """Prints what it takes to parse the messages of this many times some frames, and to encode them."""
     size, messages = count * len(frames), count * messages
     with repeated(frames, count) as stream:
         cutting = best_run([AGAIN, "frames"], stream.name)

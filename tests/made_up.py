@@ -242,7 +242,7 @@ class FileMaker:
         self.messages = Maker(dice, faults)
 
     def number(self, size):
-        """Any number of so many octets, often one near a bound."""
+        """Any number of n octets, often one near a bound."""
         bound = 256**size
         near = [0, 1, 2, bound // 2 - 1, bound // 2, bound - 1]
         return self.dice.choice([*near, *[self.dice.randrange(bound)] * 6]).to_bytes(size, "big")

@@ -9,8 +9,8 @@ use Rattle.krb_der.proofs.Steps.{IsFault, IsFault-then, Moved, Steps, Steps-then
 use Rattle.krb_ccache.specs.declared.value.Ccache.{Ccache}
 use Rattle.krb_ccache.specs.declared.value.Credential.{Credential}
 use Rattle.krb_ccache.specs.declared.value.FilePrincipal.{FilePrincipal}
-use Rattle.krb_ccache.specs.Reading.{principal_at, typed_at, typed_list_at, credential_from, credential_at, header_field_at, header_fields_at, header_at, Start, start_at, started, Items, items_behind, all_items, credentials_behind, read}
-use Rattle.krb_ccache.proofs.Items.{items_behind-fault}
+use Rattle.krb_ccache.specs.Reading.{principal_at, typed_at, typed_list_at, credential_from, credential_at, header_field_at, header_fields_at, header_at, Start, start_at, started, Items, items_after, all_items, credentials_after, read}
+use Rattle.krb_ccache.proofs.Items.{items_after-fault}
 
 pub Steps-principal : Steps principal_at
 Steps-principal = Steps-then (signed_at w32) _ (Steps-signed w32) (λ name_type. Steps-then (names_at w32) _ (Steps-names w32) (λ names. Steps-gives (record { name_type = name_type; realm = names.realm; components = names.components })))
@@ -82,15 +82,15 @@ all_items-err {A} found f e =
     no : done found.items ≡ failed (List A) f → ⊥
     no e = cc
 
-credentials-fault : (s : Source) (f : Fault) → credentials_behind s ≡ Err f → IsFault (limited None) s f
-credentials-fault s f e = items_behind-fault credential_at Steps-credential None s f (all_items-err (items_behind credential_at None s) f e)
+credentials-fault : (s : Source) (f : Fault) → credentials_after s ≡ Err f → IsFault (limited None) s f
+credentials-fault s f e = items_after-fault credential_at Steps-credential None s f (all_items-err (items_after credential_at None s) f e)
 
 abbrev made : Start → List Credential → Ccache
 made start credentials = record { header = start.header; principal = start.principal; credentials = credentials }
 
 pub read-fault : (file : List ℕ) (f : Fault) → read file ≡ Err f → (f.place ≤ length file) × (f.why ≡ why.TooLong → ⊥)
 read-fault file f e =
-    elim (onward-err (started file) (λ start. onward (credentials_behind start.1) (λ credentials. done (made start.0 credentials))) f e) [
+    elim (onward-err (started file) (λ start. onward (credentials_after start.1) (λ credentials. done (made start.0 credentials))) f e) [
       | inl a ↦ is_fault (Steps-start.faults (limited None) (source_of file) f a)
       | inr a ↦
           is_fault (IsFault-then (limited None) (source_of file) a.0.1 f (Steps-start.moves (limited None) (source_of file) a.0.0 a.0.1 a.1)
@@ -100,9 +100,9 @@ read-fault file f e =
     is_fault : IsFault (limited None) (source_of file) f → (f.place ≤ length file) × (f.why ≡ why.TooLong → ⊥)
     is_fault p = (omega (arith, p.upto), p.limited refl)
 
-    only : (start : Start × Source) → onward (credentials_behind start.1) (λ credentials. done (made start.0 credentials)) ≡ failed Ccache f → credentials_behind start.1 ≡ Err f
+    only : (start : Start × Source) → onward (credentials_after start.1) (λ credentials. done (made start.0 credentials)) ≡ failed Ccache f → credentials_after start.1 ≡ Err f
     only start e =
-        elim (onward-err (credentials_behind start.1) (λ credentials. done (made start.0 credentials)) f e) [
+        elim (onward-err (credentials_after start.1) (λ credentials. done (made start.0 credentials)) f e) [
           | inl a ↦ a
           | inr a ↦ absurd (no (made start.0 a.0) a.2)
         ]

@@ -7,7 +7,7 @@ use Rattle.krb_der.specs.Octets.{when, AreOctets}
 use Rattle.krb_der.specs.Fields.{Source, Fault, limited, Reader, is_empty}
 use Rattle.krb_der.proofs.Fields.{at, done, ok_is, err_is, onward-ok, Took, Reads}
 use Rattle.krb_der.proofs.Steps.{IsFault, IsFault-then, Moved, Steps}
-use Rattle.krb_ccache.specs.Reading.{Items, no_items, item_and, items_within, items_behind, all_items}
+use Rattle.krb_ccache.specs.Reading.{Items, no_items, item_and, items_within, items_after, all_items}
 use Rattle.krb_ccache.proofs.Headers.{inside_file}
 
 module _ {A : Type 0} (item_at : Reader A) where
@@ -23,8 +23,8 @@ module _ {A : Type 0} (item_at : Reader A) where
       let s = at place (octet ∷ octets) in
       items-fault-step (items_within bound item_at limit) limit s f (λ t. items-fault steps bound limit t.place t.octets f) (item_at (limited limit) s) (λ x t h. steps.moves (limited limit) s x t h) (λ g h. steps.faults (limited limit) s g h) e
 
-  pub items_behind-fault : Steps item_at → (limit : Option ℕ) (s : Source) (f : Fault) → (items_behind item_at limit s).end ≡ Err f → IsFault (limited limit) s f
-  items_behind-fault steps limit s f e = items-fault steps (length s.octets) limit s.place s.octets f e
+  pub items_after-fault : Steps item_at → (limit : Option ℕ) (s : Source) (f : Fault) → (items_after item_at limit s).end ≡ Err f → IsFault (limited limit) s f
+  items_after-fault steps limit s f e = items-fault steps (length s.octets) limit s.place s.octets f e
 
 module _ {A : Type 0} (item_at : Reader A) (spell : A → List ℕ) (Fits : A → Type 0) (laws : Reads item_at spell Fits) (some : (v : A) → 0 < length (spell v)) where
   pub record Found (s : Source) (found : List A) (k : ℕ) : Type 0 where
@@ -88,12 +88,12 @@ module _ {A : Type 0} (item_at : Reader A) (spell : A → List ℕ) (Fits : A �
       let a = onward-ok found.end (λ k. done found.items) vs e in
       (a.0, a.1, ok_is found.items vs a.2)
 
-  pub all-sound : (limit : Option ℕ) (s : Source) (vs : List A) → AreOctets s.octets → all_items (items_behind item_at limit s) ≡ Ok vs → (s.octets ≡ flat_map spell vs) × AllByRecursion Fits vs
+  pub all-sound : (limit : Option ℕ) (s : Source) (vs : List A) → AreOctets s.octets → all_items (items_after item_at limit s) ≡ Ok vs → (s.octets ≡ flat_map spell vs) × AllByRecursion Fits vs
   all-sound limit s vs fits e =
-      let found = items_behind item_at limit s in
+      let found = items_after item_at limit s in
       let a = all_items-ok found vs e in
       let f = items-sound (length s.octets) limit s.place s.octets a.0 fits (omega arith) a.1 in
       subst (λ (x : List A). (s.octets ≡ flat_map spell x) × AllByRecursion Fits x) a.2 (f.parts, f.fits)
 
-  pub all-again : (vs : List A) (place : ℕ) → AllByRecursion Fits vs → all_items (items_behind item_at None (at place (flat_map spell vs))) ≡ Ok vs
+  pub all-again : (vs : List A) (place : ℕ) → AllByRecursion Fits vs → all_items (items_after item_at None (at place (flat_map spell vs))) ≡ Ok vs
   all-again vs place fits = ap all_items (items-again vs (length (flat_map spell vs)) place fits (omega arith))

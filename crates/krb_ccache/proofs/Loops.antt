@@ -7,13 +7,13 @@ use Rattle.krb_der.specs.Octets.{when}
 use Rattle.krb_der.proofs.Loops.{with_front, regroup as fields-regroup}
 use Rattle.krb_der.specs.declared.file.FileFault.{FileFault}
 use Rattle.krb_der.specs.declared.file.FileFault.TheVariants as faults
-use Rattle.krb_ccache.specs.Reading.{Items, with_first, items_behind, all_items, header_field_at, header_fields_at}
+use Rattle.krb_ccache.specs.Reading.{Items, with_first, items_after, all_items, header_field_at, header_fields_at}
 use Rattle.krb_ccache.specs.declared.value.HeaderField.{HeaderField}
 use Rattle.krb_ccache.proofs.Faults.{Steps-header_field}
-use Rattle.krb_ccache.proofs.Stepwise.{Shortens, Shortens-header_field, behind-item, behind-fault, behind-end}
+use Rattle.krb_ccache.proofs.Stepwise.{Shortens, Shortens-header_field, after-item, after-fault, after-end}
 
 module _ {A : Type 0} where
-  -- what was read before, and what stands behind it
+  -- what was read before, and what stands after it
   abbrev pub before : List A → Items A → Items A
   before front found = record { items = front ++ found.items; end = found.end }
 
@@ -24,21 +24,21 @@ module _ {A : Type 0} where
   ended k items = Ok items
 
 module _ {A : Type 0} (item_at : Reader A) (shortens : Shortens item_at) where
-  pub goes_on : (front : List A) (s t : Source) (x : A) (total : Items A) → is_empty s.octets ≡ false → item_at (limited None) s ≡ Ok (x, t) → before front (items_behind item_at None s) ≡ total → before (front ++ x ∷ []) (items_behind item_at None t) ≡ total
+  pub goes_on : (front : List A) (s t : Source) (x : A) (total : Items A) → is_empty s.octets ≡ false → item_at (limited None) s ≡ Ok (x, t) → before front (items_after item_at None s) ≡ total → before (front ++ x ∷ []) (items_after item_at None t) ≡ total
   goes_on front s t x total some e so_far =
-      sym (ap (before front) (behind-item item_at shortens None s x t some e) ∙ regroup front x (items_behind item_at None t)) ∙ so_far
+      sym (ap (before front) (after-item item_at shortens None s x t some e) ∙ regroup front x (items_after item_at None t)) ∙ so_far
 
-  pub is_done : (front : List A) (s : Source) (total : Items A) → is_empty s.octets ≡ true → before front (items_behind item_at None s) ≡ total → all_items total ≡ Ok front
+  pub is_done : (front : List A) (s : Source) (total : Items A) → is_empty s.octets ≡ true → before front (items_after item_at None s) ≡ total → all_items total ≡ Ok front
   is_done front s total none so_far =
-      ap all_items (sym so_far ∙ ap (before front) (behind-end item_at shortens None s none))
+      ap all_items (sym so_far ∙ ap (before front) (after-end item_at shortens None s none))
       ∙ ap (ended s.place) (append-nil front)
 
-  pub ends : (e : FileFault) (front : List A) (s : Source) (total : Items A) → is_empty s.octets ≡ false → Fails e (item_at (limited None) s) → before front (items_behind item_at None s) ≡ total → Fails e (all_items total)
+  pub ends : (e : FileFault) (front : List A) (s : Source) (total : Items A) → is_empty s.octets ≡ false → Fails e (item_at (limited None) s) → before front (items_after item_at None s) ≡ total → Fails e (all_items total)
   ends faults.Memory front s total some h so_far = tt
   ends faults.Read front s total some h so_far = absurd h
   ends (faults.Refused place why) front s total some h so_far =
       let fault : Fault = record { place = place; why = why } in
-      ap all_items (sym so_far ∙ ap (before front) (behind-fault item_at shortens None s fault some h))
+      ap all_items (sym so_far ∙ ap (before front) (after-fault item_at shortens None s fault some h))
 
 -- ---- the fields of a header
 field-moves : (bounds : Bounds) (s t : Source) (f : HeaderField) → header_field_at bounds s ≡ Ok (f, t) → s.place < t.place

@@ -1,10 +1,10 @@
 -- The credentials of a file, one at a time: what a reader has left decides the rest.
 use Rattle.std.proofs.Common.{◌≡◌, ℕ, zero, suc, ◌<◌, ◌≤◌, true, false, Option, None, Result, Ok, Err, List, [], ◌∷◌, length, refl, sym, ◌∙◌, ap, subst, arith, length-drop}
 use Rattle.std.specs.Int.{Width, w16, w32, byte_len, from_be_bytes}
-use Rattle.krb_der.specs.Fields.{Source, Fault, Bounds, limited, Reader, ◌>>=◌, is_empty, signed_at, names_at, number_at, counted_at, piece_at}
+use Rattle.krb_der.specs.Fields.{Source, Fault, Bounds, limited, Reader, ◌>>=◌, is_empty, signed_at, names_at, number_at, counted_at, next_octets_at}
 use Rattle.krb_der.proofs.Fields.{at, ok_is, onward-ok, piece-ok}
 use Rattle.krb_der.proofs.Steps.{Steps, Steps-then, Steps-gives, Steps-names, Steps-number, Steps-counted, Moved-shorter, signed-shorter}
-use Rattle.krb_ccache.specs.Reading.{principal_at, credential_at, header_field_at, Items, no_items, with_first, item_and, items_within, items_behind}
+use Rattle.krb_ccache.specs.Reading.{principal_at, credential_at, header_field_at, Items, no_items, with_first, item_and, items_within, items_after}
 use Rattle.krb_ccache.proofs.Faults.{Steps-principal, Steps-from_key}
 
 -- a reader that takes at least one octet
@@ -23,7 +23,7 @@ Shortens-then {A} {B} reader next first others = record {
 Shortens-number : (w : Width) → 0 < byte_len w → Shortens (number_at w)
 Shortens-number w some = record {
   shorter = λ bounds s v t e.
-      let a = onward-ok (piece_at None (byte_len w) bounds s) (λ p. Ok (from_be_bytes w p.0, p.1)) (v, t) e in
+      let a = onward-ok (next_octets_at None (byte_len w) bounds s) (λ p. Ok (from_be_bytes w p.0, p.1)) (v, t) e in
       let p = piece-ok None (byte_len w) bounds s a.0.1 a.0.0 a.1 in
       let same : a.0.1 ≡ t = ap (λ (x : ℕ × Source). x.1) (ok_is (from_be_bytes w a.0.0, a.0.1) (v, t) a.2) in
       subst (λ (x : Source). length x.octets < length s.octets) (sym p.source ∙ same) (omega (arith, length-drop (byte_len w) s.octets, p.long, some));
@@ -55,30 +55,30 @@ module _ {A : Type 0} (item_at : Reader A) (shortens : Shortens item_at) where
       let s = at place (octet ∷ octets) in
       item_and-same (item_at (limited limit) s) (items_within b item_at limit) (items_within c item_at limit) (λ x t e. items_within-same b c limit t.place t.octets (omega (arith, shortens.shorter (limited limit) s x t e)) (omega (arith, shortens.shorter (limited limit) s x t e)))
 
-  behind-step : (limit : Option ℕ) (place octet : ℕ) (octets : List ℕ) → items_behind item_at limit (at place (octet ∷ octets)) ≡ item_and (item_at (limited limit) (at place (octet ∷ octets))) (items_behind item_at limit)
-  behind-step limit place octet octets =
+  after-step : (limit : Option ℕ) (place octet : ℕ) (octets : List ℕ) → items_after item_at limit (at place (octet ∷ octets)) ≡ item_and (item_at (limited limit) (at place (octet ∷ octets))) (items_after item_at limit)
+  after-step limit place octet octets =
       let s = at place (octet ∷ octets) in
       items_within-same (length s.octets) (suc (length s.octets)) limit place s.octets (omega arith) (omega arith)
-      ∙ item_and-same (item_at (limited limit) s) (items_within (length s.octets) item_at limit) (items_behind item_at limit)
+      ∙ item_and-same (item_at (limited limit) s) (items_within (length s.octets) item_at limit) (items_after item_at limit)
       (λ x t e. items_within-same (length s.octets) (length t.octets) limit t.place t.octets (omega (arith, shortens.shorter (limited limit) s x t e)) (omega arith))
 
   -- the end of the file, an item, or the fault
-  pub behind-end : (limit : Option ℕ) (s : Source) → is_empty s.octets ≡ true → items_behind item_at limit s ≡ no_items (Ok s.place)
-  behind-end limit s none = go s.place s.octets none
+  pub after-end : (limit : Option ℕ) (s : Source) → is_empty s.octets ≡ true → items_after item_at limit s ≡ no_items (Ok s.place)
+  after-end limit s none = go s.place s.octets none
     where
-      go : (place : ℕ) (octets : List ℕ) → is_empty octets ≡ true → items_behind item_at limit (at place octets) ≡ no_items (Ok place)
+      go : (place : ℕ) (octets : List ℕ) → is_empty octets ≡ true → items_after item_at limit (at place octets) ≡ no_items (Ok place)
       go place [] none = refl
       go place (octet ∷ octets) none = absurd cc
 
-  behind-some : (limit : Option ℕ) (s : Source) → is_empty s.octets ≡ false → items_behind item_at limit s ≡ item_and (item_at (limited limit) s) (items_behind item_at limit)
-  behind-some limit s some = go s.place s.octets some
+  after-some : (limit : Option ℕ) (s : Source) → is_empty s.octets ≡ false → items_after item_at limit s ≡ item_and (item_at (limited limit) s) (items_after item_at limit)
+  after-some limit s some = go s.place s.octets some
     where
-      go : (place : ℕ) (octets : List ℕ) → is_empty octets ≡ false → items_behind item_at limit (at place octets) ≡ item_and (item_at (limited limit) (at place octets)) (items_behind item_at limit)
+      go : (place : ℕ) (octets : List ℕ) → is_empty octets ≡ false → items_after item_at limit (at place octets) ≡ item_and (item_at (limited limit) (at place octets)) (items_after item_at limit)
       go place [] some = absurd cc
-      go place (octet ∷ octets) some = behind-step limit place octet octets
+      go place (octet ∷ octets) some = after-step limit place octet octets
 
-  pub behind-item : (limit : Option ℕ) (s : Source) (x : A) (t : Source) → is_empty s.octets ≡ false → item_at (limited limit) s ≡ Ok (x, t) → items_behind item_at limit s ≡ with_first x (items_behind item_at limit t)
-  behind-item limit s x t some e = behind-some limit s some ∙ ap (λ (r : Result (A × Source) Fault). item_and r (items_behind item_at limit)) e
+  pub after-item : (limit : Option ℕ) (s : Source) (x : A) (t : Source) → is_empty s.octets ≡ false → item_at (limited limit) s ≡ Ok (x, t) → items_after item_at limit s ≡ with_first x (items_after item_at limit t)
+  after-item limit s x t some e = after-some limit s some ∙ ap (λ (r : Result (A × Source) Fault). item_and r (items_after item_at limit)) e
 
-  pub behind-fault : (limit : Option ℕ) (s : Source) (f : Fault) → is_empty s.octets ≡ false → item_at (limited limit) s ≡ Err f → items_behind item_at limit s ≡ no_items (Err f)
-  behind-fault limit s f some e = behind-some limit s some ∙ ap (λ (r : Result (A × Source) Fault). item_and r (items_behind item_at limit)) e
+  pub after-fault : (limit : Option ℕ) (s : Source) (f : Fault) → is_empty s.octets ≡ false → item_at (limited limit) s ≡ Err f → items_after item_at limit s ≡ no_items (Err f)
+  after-fault limit s f some e = after-some limit s some ∙ ap (λ (r : Result (A × Source) Fault). item_and r (items_after item_at limit)) e

@@ -106,8 +106,8 @@ empty_read = refl
 abbrev field : ℕ → List ℕ → HeaderField
 field tag value = record { tag = tag; value = value }
 
-offset_behind_others : offset (record { fields = field 1 (7 ∷ []) ∷ field 2 (hex (codes "00000000 00000000")) ∷ field 1 (hex (codes "FFFFFFFF 00000002")) ∷ [] }) ≡ Some (negsuc 0, pos 2)
-offset_behind_others = refl
+offset_after_others : offset (record { fields = field 1 (7 ∷ []) ∷ field 2 (hex (codes "00000000 00000000")) ∷ field 1 (hex (codes "FFFFFFFF 00000002")) ∷ [] }) ≡ Some (negsuc 0, pos 2)
+offset_after_others = refl
 
 offset_none : offset (record { fields = field 1 (7 ∷ []) ∷ [] }) ≡ None
 offset_none = refl

@@ -115,9 +115,9 @@ items_within zero item_at limit source = no_items (Ok source.place)
 items_within (suc bound) item_at limit source =
     when (is_empty source.octets) (λ _. no_items (Ok source.place)) (λ _. item_and (item_at (limited limit) source) (items_within bound item_at limit))
 
--- what stands behind a place where an item begins, or where the file ends
-abbrev pub items_behind : {A : Type 0} → Reader A → Option ℕ → Source → Items A
-items_behind item_at limit source = items_within (length source.octets) item_at limit source
+-- what stands after a place where an item begins, or where the file ends
+abbrev pub items_after : {A : Type 0} → Reader A → Option ℕ → Source → Items A
+items_after item_at limit source = items_within (length source.octets) item_at limit source
 
 -- all of them, where none is at fault
 abbrev pub all_items : {A : Type 0} → Items A → Result (List A) Fault
@@ -125,9 +125,9 @@ all_items found = onward found.end (λ size. Ok found.items)
 
 -- ---- a file
 
--- the credentials behind the start
-abbrev pub credentials_behind : Source → Result (List Credential) Fault
-credentials_behind source = all_items (items_behind credential_at None source)
+-- the credentials after the start
+abbrev pub credentials_after : Source → Result (List Credential) Fault
+credentials_after source = all_items (items_after credential_at None source)
 
 abbrev pub started : List ℕ → Result (Start × Source) Fault
 started file = start_at (limited None) (source_of file)
@@ -136,5 +136,5 @@ started file = start_at (limited None) (source_of file)
 abbrev pub read : List ℕ → Result Ccache Fault
 read file =
     onward (started file) (λ start.
-    onward (credentials_behind start.1) (λ credentials.
+    onward (credentials_after start.1) (λ credentials.
     Ok (record { header = start.0.header; principal = start.0.principal; credentials = credentials })))

@@ -27,7 +27,7 @@ pub record PrincipalFits (p : FilePrincipal) : Type 0 where
 
 -- ---- addresses and authorization data
 
--- a kind, and octets behind their number
+-- a kind, and octets after their number
 abbrev pub typed : Typed → List ℕ
 typed t = to_be_bytes w16 t.kind ++ counted w32 t.octets
 
@@ -90,7 +90,7 @@ header_field f = to_be_bytes w16 f.tag ++ counted w16 f.value
 abbrev pub header_fields : List HeaderField → List ℕ
 header_fields fields = flat_map header_field fields
 
--- the fields, behind the number of their octets
+-- the fields, after the number of their octets
 abbrev pub header : Header → List ℕ
 header h = counted w16 (header_fields h.fields)
 

@@ -5,7 +5,7 @@ ghost use Rattle.std.specs.Int.{w32};
 ghost use Rattle.krb_der.specs.Fields.{Gives, IsFaultIn, ended, limited, within, times, counted_at};
 ghost use Rattle.krb_ccache.specs.declared.value.Ccache.{Ccache as CcacheValue};
 ghost use Rattle.krb_ccache.specs.Spelling.{CcacheSpells};
-ghost use Rattle.krb_ccache.specs.Reading.{principal_at, typed_at, typed_list_at, credential_from, credential_at, header_field_at, header_fields_at, header_at, credentials_behind, read};
+ghost use Rattle.krb_ccache.specs.Reading.{principal_at, typed_at, typed_list_at, credential_from, credential_at, header_field_at, header_fields_at, header_at, credentials_after, read};
 
 use crate::value::{Ccache, Credential, FilePrincipal, Header, HeaderField, Typed};
 use krb_der::{FileFault, KString, Many, Octets, Source};
@@ -38,9 +38,9 @@ fn components<'a>(
     let mut components = Vec::new(alloc);
     let mut rest = source;
     for _ in 0..count {
-        let (component, behind) = string(alloc, rest)?;
+        let (component, after) = string(alloc, rest)?;
         components.push(component)?;
-        rest = behind;
+        rest = after;
     }
     Ok((Many::new(components), rest))
 }
@@ -84,9 +84,9 @@ fn typed_items<'a>(
     let mut items = Vec::new(alloc);
     let mut rest = source;
     for _ in 0..count {
-        let (item, behind) = typed(alloc, rest)?;
+        let (item, after) = typed(alloc, rest)?;
         items.push(item)?;
-        rest = behind;
+        rest = after;
     }
     Ok((Many::new(items), rest))
 }
@@ -151,14 +151,14 @@ fn credential<'a>(alloc: Global, source: Source<'a>) -> Result<(Credential, Sour
 
 /// The credentials up to the end of the file.
 fn credentials(alloc: Global, source: Source<'_>) -> Result<Many<Credential>, FileFault>
-    ensures { Gives (λ credentials. credentials) result (credentials_behind source.entry) }
+    ensures { Gives (λ credentials. credentials) result (credentials_after source.entry) }
 {
     let mut credentials = Vec::new(alloc);
     let mut rest = source;
     'credentials: while !rest.is_empty() {
-        let (credential, behind) = credential(alloc, rest)?;
+        let (credential, after) = credential(alloc, rest)?;
         credentials.push(credential)?;
-        rest = behind;
+        rest = after;
     }
     Ok(Many::new(credentials))
 }
@@ -189,9 +189,9 @@ fn header_fields<'a>(
     let mut fields = Vec::new(alloc);
     let mut rest = source;
     'fields: while rest.place() < end {
-        let (field, behind) = header_field(alloc, end, rest)?;
+        let (field, after) = header_field(alloc, end, rest)?;
         fields.push(field)?;
-        rest = behind;
+        rest = after;
     }
     Ok((Many::new(fields), rest))
 }

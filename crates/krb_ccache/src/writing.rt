@@ -218,8 +218,8 @@ impl Ccache {
         ensures fits { ⟦<CcacheLayout<'static> as Part>⟧.Fits result → CcacheFits self.now }
     {
         let credentials = Each(self.credentials.as_slice());
-        let behind_version = Then(&self.header, Then(&self.principal, credentials));
-        Then(5, Then(4, behind_version))
+        let after_version = Then(&self.header, Then(&self.principal, credentials));
+        Then(5, Then(4, after_version))
     }
 }
 

@@ -45,7 +45,7 @@ fn judged(octets: &[u8], open: usize) -> Option<Answer>
     refusal.map(Answer::Refused)
 }
 
-/// What `parse` answers. `None` where memory was refused, or where a message has other octets.
+/// What `parse` answers. `None` when out of memory, or where a message has other octets.
 fn parsed(alloc: Global, octets: &[u8]) -> Option<Answer> {
     match parse(alloc, octets) {
         Ok(message) => match encode(alloc, &message) {

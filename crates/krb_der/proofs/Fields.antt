@@ -11,10 +11,10 @@ use Rattle.std.specs.List.{flat_map, AllByRecursion}
 use Rattle.std.specs.Int.{Width, w8, w16, w32, byte_len, from_be_bytes, to_be_bytes, cast_signed, cast_unsigned}
 use Rattle.std.specs.Int.RustNames.{FitsSigned}
 use Rattle.krb_der.specs.Octets.{when, AreOctets}
-use Rattle.krb_der.specs.Fields.{signed, counted, Names, names, bound_of, IsCounted, AreNames, Source, Fault, Bounds, Reader, onward, ◌>>=◌, gives, refused, passes, piece_at, octets_at, number_at, signed_at, counted_at, times, names_at, is_one_of, expect, version_at}
+use Rattle.krb_der.specs.Fields.{signed, counted, Names, names, bound_of, IsCounted, AreNames, Source, Fault, Bounds, Reader, onward, ◌>>=◌, gives, refused, passes, next_octets_at, octets_at, number_at, signed_at, counted_at, times, names_at, is_one_of, expect, version_at}
 use Rattle.krb_der.specs.declared.file.FileWhy.{FileWhy}
 use Rattle.krb_der.specs.declared.file.FileWhy.TheVariants as why
-use Rattle.krb_der.specs.Numbers.{AreOctets-take, AreOctets-drop}
+use Rattle.krb_der.specs.inner.Numbers.{AreOctets-take, AreOctets-drop}
 
 abbrev pub at : ℕ → List ℕ → Source
 at place octets = record { place = place; octets = octets }
@@ -92,7 +92,7 @@ Reads-as reader spell other Fits Others laws same there back = record {
       subst (λ (w : List ℕ). Inside bounds (place + length w) → reader bounds (at place (w ++ rest)) ≡ Ok (v, at (place + length w) rest)) (same v) (laws.again bounds place rest v (back v fits) free) inside;
 }
 
--- ---- so many octets
+-- ---- n octets
 pub record IsPiece (limit : Option ℕ) (size : ℕ) (bounds : Bounds) (s t : Source) (taken : List ℕ) : Type 0 where
   pub inside : Inside bounds (s.place + size)
   pub under : passes size limit ≡ false
@@ -100,7 +100,7 @@ pub record IsPiece (limit : Option ℕ) (size : ℕ) (bounds : Bounds) (s t : So
   pub octets : taken ≡ take size s.octets
   pub source : t ≡ at (s.place + size) (drop size s.octets)
 
-pub piece-ok : (limit : Option ℕ) (size : ℕ) (bounds : Bounds) (s t : Source) (octets : List ℕ) → piece_at limit size bounds s ≡ Ok (octets, t) → IsPiece limit size bounds s t octets
+pub piece-ok : (limit : Option ℕ) (size : ℕ) (bounds : Bounds) (s t : Source) (octets : List ℕ) → next_octets_at limit size bounds s ≡ Ok (octets, t) → IsPiece limit size bounds s t octets
 piece-ok limit size bounds s t octets e =
     let a = when-err_ok (passes (s.place + size) bounds.end) _ (λ _. when (passes size limit) (λ _. refused s why.TooLong) (λ _. when (ltb (length s.octets) size) (λ _. refused s why.Truncated) (λ _. Ok (take size s.octets, at (s.place + size) (drop size s.octets))))) (octets, t) e in
     let b = when-err_ok (passes size limit) _ (λ _. when (ltb (length s.octets) size) (λ _. refused s why.Truncated) (λ _. Ok (take size s.octets, at (s.place + size) (drop size s.octets)))) (octets, t) a.1 in
@@ -127,7 +127,7 @@ piece-took limit size bounds s t octets fits p =
       AreOctets-take size s.octets fits,
     )
 
-pub piece-again : (limit : Option ℕ) (bounds : Bounds) (place : ℕ) (octets rest : List ℕ) → limit ≡ None → Inside bounds (place + length octets) → piece_at limit (length octets) bounds (at place (octets ++ rest)) ≡ Ok (octets, at (place + length octets) rest)
+pub piece-again : (limit : Option ℕ) (bounds : Bounds) (place : ℕ) (octets rest : List ℕ) → limit ≡ None → Inside bounds (place + length octets) → next_octets_at limit (length octets) bounds (at place (octets ++ rest)) ≡ Ok (octets, at (place + length octets) rest)
 piece-again limit bounds place octets rest free inside =
     let long : ltb (length (octets ++ rest)) (length octets) ≡ false = le-ltb _ _ (omega (arith, length-append octets rest)) in
     rw (inside.inside, free, long, take_at octets rest (length octets) refl, drop_at octets rest (length octets) refl)
@@ -177,15 +177,15 @@ wide32 = record {
 
 number-sound : (w : Width) → IsWide w → (bounds : Bounds) (s t : Source) (n : ℕ) → AreOctets s.octets → Inside bounds s.place → number_at w bounds s ≡ Ok (n, t) → Took bounds (to_be_bytes w n) s t × (n < bound_of w)
 number-sound w wide bounds s t n fits inside e =
-    let a = onward-ok (piece_at None (byte_len w) bounds s) (λ p. Ok (from_be_bytes w p.0, p.1)) (n, t) e in
+    let a = onward-ok (next_octets_at None (byte_len w) bounds s) (λ p. Ok (from_be_bytes w p.0, p.1)) (n, t) e in
     let took = piece-took None (byte_len w) bounds s a.0.1 a.0.0 fits (piece-ok None (byte_len w) bounds s a.0.1 a.0.0 a.1) in
     let whole : Took bounds (to_be_bytes w (from_be_bytes w a.0.0)) s a.0.1 = rw (wide.back a.0.0 took.1 took.2) took.0 in
     subst (λ (p : ℕ × Source). Took bounds (to_be_bytes w p.0) s p.1 × (p.0 < bound_of w)) (ok_is (from_be_bytes w a.0.0, a.0.1) (n, t) a.2) (whole, wide.below a.0.0 took.2)
 
 number-again : (w : Width) → IsWide w → (bounds : Bounds) (place : ℕ) (rest : List ℕ) (n : ℕ) → n < bound_of w → Inside bounds (place + length (to_be_bytes w n)) → number_at w bounds (at place (to_be_bytes w n ++ rest)) ≡ Ok (n, at (place + length (to_be_bytes w n)) rest)
 number-again w wide bounds place rest n lt inside =
-    let p : piece_at None (byte_len w) bounds (at place (to_be_bytes w n ++ rest)) ≡ Ok (to_be_bytes w n, at (place + length (to_be_bytes w n)) rest) =
-    subst (λ (k : ℕ). piece_at None k bounds (at place (to_be_bytes w n ++ rest)) ≡ Ok (to_be_bytes w n, at (place + length (to_be_bytes w n)) rest)) (wide.len n) (piece-again None bounds place (to_be_bytes w n) rest refl inside) in
+    let p : next_octets_at None (byte_len w) bounds (at place (to_be_bytes w n ++ rest)) ≡ Ok (to_be_bytes w n, at (place + length (to_be_bytes w n)) rest) =
+    subst (λ (k : ℕ). next_octets_at None k bounds (at place (to_be_bytes w n ++ rest)) ≡ Ok (to_be_bytes w n, at (place + length (to_be_bytes w n)) rest)) (wide.len n) (piece-again None bounds place (to_be_bytes w n) rest refl inside) in
     ap (λ (r : Result (List ℕ × Source) Fault). onward r (λ p. done (from_be_bytes w p.0, p.1))) p ∙ ap (λ (k : ℕ). done (k, at (place + length (to_be_bytes w n)) rest)) (wide.again n lt)
 
 pub Reads-number : (w : Width) → IsWide w → Reads (number_at w) (to_be_bytes w) (λ n. n < bound_of w)
@@ -216,7 +216,7 @@ Reads-signed = record {
   again = λ bounds place rest z fits free inside. signed-again bounds place rest z fits inside;
 }
 
--- ---- octets behind their number
+-- ---- octets after their number
 counted-sound : (w : Width) → IsWide w → (bounds : Bounds) (s t : Source) (octets : List ℕ) → AreOctets s.octets → Inside bounds s.place → counted_at w bounds s ≡ Ok (octets, t) → Took bounds (counted w octets) s t × IsCounted w octets
 counted-sound w wide bounds s t octets fits inside e =
     let a = onward-ok (number_at w bounds s) (λ p. octets_at p.0 bounds p.1) (octets, t) e in
@@ -240,7 +240,7 @@ counted-again w wide bounds place rest octets fits free inside =
 pub Reads-counted : (w : Width) → IsWide w → Reads (counted_at w) (counted w) (IsCounted w)
 Reads-counted w wide = record { sound = counted-sound w wide; again = counted-again w wide }
 
--- ---- so many items
+-- ---- n items
 module _ {A : Type 0} (item_at : Reader A) (spell : A → List ℕ) (Fits : A → Type 0) (laws : Reads item_at spell Fits) where
   pub times-sound : (n : ℕ) (bounds : Bounds) (s t : Source) (vs : List A) → AreOctets s.octets → Inside bounds s.place → times n item_at bounds s ≡ Ok (vs, t) → Took bounds (flat_map spell vs) s t × (length vs ≡ n) × AllByRecursion Fits vs
   times-sound zero bounds s t vs fits inside e =
@@ -327,7 +327,7 @@ module _ (fields : Fields) (X : Type 0) (make : Values fields → X) (parts : X 
         ∙ ap (λ (y : X). done (y, at (place + length (spell_fields fields (parts x))) rest)) (make_parts x);
   }
 
--- ---- a realm and components behind their number
+-- ---- a realm and components after their number
 module _ (w : Width) (wide : IsWide w) where
   abbrev count_and_realm : Fields
   count_and_realm = Field ℕ (number_at w) (to_be_bytes w) (λ n. n < bound_of w) (Reads-number w wide) (Field (List ℕ) (counted_at w) (counted w) (IsCounted w) (Reads-counted w wide) End)
@@ -432,7 +432,7 @@ module _ (fields : Fields) (X : Type 0) (next : Values fields → Reader X) (fro
         ∙ ap (λ (k : ℕ). done (x, at k rest)) places;
   }
 
--- ---- items behind their number
+-- ---- items after their number
 module _ (w : Width) (wide : IsWide w) {A : Type 0} (item_at : Reader A) (spell : A → List ℕ) (Fits : A → Type 0) (laws : Reads item_at spell Fits) where
   abbrev count_field : Fields
   count_field = Field ℕ (number_at w) (to_be_bytes w) (λ n. n < bound_of w) (Reads-number w wide) End

@@ -4,8 +4,8 @@ use Rattle.std.proofs.lemmas.Bool.{cases_lt}
 use Rattle.std.proofs.lemmas.List.{length-map, map_push}
 use Rattle.krb_der.specs.Octets.{spelled, complement, integer_octets, item}
 use Rattle.krb_der.specs.Sizes.{item_length, saturated, magnitude}
-use Rattle.krb_der.specs.Numbers.{spelled-step}
-use Rattle.krb_der.specs.Items.{length_octets-short, length_octets-long, length-item as length_of_item}
+use Rattle.krb_der.specs.inner.Numbers.{spelled-step}
+use Rattle.krb_der.specs.inner.Items.{length_octets-short, length_octets-long, length-item as length_of_item}
 
 pub item_length-short : (n : ℕ) → n < 128 → item_length n ≡ n + 2
 unfolding item_length

@@ -2,10 +2,8 @@ pub mod Octets
 pub mod Reasons
 pub mod Scalars
 pub mod Sizes
-pub mod Numbers
-pub mod Items
-pub mod Tells
 pub mod Faults
 pub mod Fields
 pub mod Hex
 pub mod Puts
+pub mod inner

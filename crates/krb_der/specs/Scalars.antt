@@ -9,7 +9,7 @@ IsWide32 number = (negsuc 2147483647 ≤ℤ number) × (number ≤ℤ pos 429496
 abbrev pub IsMicros : ℕ → Type 0
 IsMicros number = number ≤ 999999
 
--- so many digits and a Z; a KerberosTime has fourteen (RFC 4120, 5.2.3)
+-- n digits and a Z; a KerberosTime has fourteen (RFC 4120, 5.2.3)
 abbrev pub IsTimeFrom : ℕ → List ℕ → Type 0
 IsTimeFrom zero (last ∷ []) = last ≡ 90
 IsTimeFrom (suc digits) (digit ∷ octets) = (48 ≤ digit) × (digit ≤ 57) × IsTimeFrom digits octets

@@ -2,7 +2,7 @@
 use Rattle.std.specs.Prelude.{ℕ, ◌+◌, ℤ, pos, negsuc, min, length}
 use Rattle.krb_der.specs.Octets.{length_octets}
 
--- the octets of an item whose contents are so many: the tag, the length and these (X.690 8.1.1)
+-- the octets of an item whose contents are n: the tag, the length and these (X.690 8.1.1)
 unfoldable pub item_length : ℕ → ℕ
 item_length contents = 1 + length (length_octets contents) + contents
 

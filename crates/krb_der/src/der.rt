@@ -25,5 +25,5 @@ pub trait Der {
     ghost begins: { (value : Self) → 0 < length (der value) };
 
     /// Different values have different octets, and no value's octets begin another's.
-    ghost tells: { (value other : Self) (rest more : List ℕ) → der value ++ rest ≡ der other ++ more → (value ≡ other) × (rest ≡ more) };
+    ghost prefix_free: { (value other : Self) (rest more : List ℕ) → der value ++ rest ≡ der other ++ more → (value ≡ other) × (rest ≡ more) };
 }

@@ -24,7 +24,7 @@ impl<'a> Model for Source<'a> {
 
 ghost use Rattle.std.specs.Prelude.{◌≡◌, ◌+◌, ◌^◌, ◌<◌, None, Some};
 ghost use Rattle.std.specs.Int.{w8, w16, w32};
-ghost use Rattle.krb_der.specs.Fields.{Gives, source_of, is_empty, ended, piece_at, number_at, signed_at, counted_at, rest_at, is_one_of, expect, version_at};
+ghost use Rattle.krb_der.specs.Fields.{Gives, source_of, is_empty, ended, next_octets_at, number_at, signed_at, counted_at, rest_at, is_one_of, expect, version_at};
 
 impl<'a> Source<'a> {
     /// A whole file.
@@ -72,9 +72,9 @@ impl<'a> Source<'a> {
 
     /// The next `size` octets. Overrun where they pass the end of what they stand in, and else
     /// Truncated where they are not there.
-    fn piece(self, end: Option<u64>, size: u64) -> Result<(&'a [u8], Source<'a>), FileFault>
+    fn next_octets(self, end: Option<u64>, size: u64) -> Result<(&'a [u8], Source<'a>), FileFault>
         requires { self.place + size < 2 ^ 64 }
-        ensures { Gives (λ taken. (taken.0.now, taken.1)) result (piece_at None size (ended end) self.entry) }
+        ensures { Gives (λ taken. (taken.0.now, taken.1)) result (next_octets_at None size (ended end) self.entry) }
     {
         let Source { place, octets } = self;
         if end.is_some_and(|end| end < place + size) {
@@ -98,10 +98,10 @@ impl<'a> Source<'a> {
     /// `end`, where the entry or the header that it stands in ends, is Overrun, and else one that
     /// passes the end of the file Truncated. So are the other fields.
     pub fn octets(self, end: Option<u64>, size: u32) -> Result<(&'a [u8], Source<'a>), FileFault>
-        ensures { Gives (λ taken. (taken.0.now, taken.1)) result (piece_at None size (ended end) self.entry) }
+        ensures { Gives (λ taken. (taken.0.now, taken.1)) result (next_octets_at None size (ended end) self.entry) }
     {
         let size = u64::from(size);
-        self.piece(end, size)
+        self.next_octets(end, size)
     }
 
     /// What is left up to `end`.
@@ -109,7 +109,7 @@ impl<'a> Source<'a> {
         ensures { Gives (λ taken. (taken.0.now, taken.1)) result (rest_at (ended (Some end)) self.entry) }
     {
         let size = end.saturating_sub(self.place);
-        self.piece(Some(end), size)
+        self.next_octets(Some(end), size)
     }
 
     /// A number of 8 bits.

@@ -32,7 +32,7 @@ ghost use Rattle.std.specs.Cmp.Rules.{comparing};
 ghost use Rattle.std.specs.Cmp.Lexicographic.{pointwise};
 ghost use Rattle.std.proofs.Common.{rules};
 ghost use Rattle.krb_der.specs.Octets.{AreBits, item, last_or_zero as last_of};
-ghost use Rattle.krb_der.specs.Tells.{item_begins, same_bits};
+ghost use Rattle.krb_der.specs.inner.PrefixFree.{item_begins, same_bits};
 ghost use Rattle.krb_der.specs.Scalars.{has_bit};
 
 impl Flags {
@@ -118,7 +118,7 @@ impl Der for Flags {
 
     ghost begins = { λ bits. item_begins 0x03 (bits.0 ∷ bits.1) };
 
-    ghost tells = { same_bits };
+    ghost prefix_free = { same_bits };
 }
 
 /// The last octet, or 0 where there is none.

@@ -22,7 +22,7 @@ impl Model for Int32 {
 
 ghost use Rattle.std.specs.Prelude.{◌≡◌};
 ghost use Rattle.krb_der.specs.Octets.{item, integer_octets};
-ghost use Rattle.krb_der.specs.Tells.{item_begins, same_integer};
+ghost use Rattle.krb_der.specs.inner.PrefixFree.{item_begins, same_integer};
 
 impl Int32 {
     /// The Int32 of a number.
@@ -54,5 +54,5 @@ impl Der for Int32 {
 
     ghost begins = { λ number. item_begins 0x02 (integer_octets number) };
 
-    ghost tells = { same_integer };
+    ghost prefix_free = { same_integer };
 }

@@ -31,7 +31,7 @@ ghost use Rattle.std.specs.Char.{is_ascii_digit};
 ghost use Rattle.std.specs.List.{list_all};
 ghost use Rattle.krb_der.specs.Scalars.{IsTimeFrom};
 ghost use Rattle.krb_der.specs.Octets.{item};
-ghost use Rattle.krb_der.specs.Tells.{item_begins, same_octets};
+ghost use Rattle.krb_der.specs.inner.PrefixFree.{item_begins, same_octets};
 
 impl KerberosTime {
     /// The time of fourteen digits and a `Z`, and `None` of any other octets.
@@ -70,7 +70,7 @@ impl Der for KerberosTime {
 
     ghost begins = { λ octets. item_begins 0x18 octets };
 
-    ghost tells = { same_octets 0x18 };
+    ghost prefix_free = { same_octets 0x18 };
 }
 
 /// Whether all octets are ASCII digits.

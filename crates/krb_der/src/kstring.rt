@@ -24,7 +24,7 @@ ghost use Rattle.std.specs.Prelude.{nat_eq};
 ghost use Rattle.std.specs.Cmp.{partial_equiv_from_equiv};
 ghost use Rattle.std.specs.Cmp.Lexicographic.{pointwise, nat_list_eq_equiv};
 ghost use Rattle.krb_der.specs.Octets.{item};
-ghost use Rattle.krb_der.specs.Tells.{item_begins, same_octets};
+ghost use Rattle.krb_der.specs.inner.PrefixFree.{item_begins, same_octets};
 
 impl KString {
     /// The string of a vector of octets, which is moved and not copied.
@@ -79,5 +79,5 @@ impl Der for KString {
 
     ghost begins = { λ octets. item_begins 0x1B octets };
 
-    ghost tells = { same_octets 0x1B };
+    ghost prefix_free = { same_octets 0x1B };
 }

@@ -25,7 +25,7 @@ ghost use Rattle.krb_der.specs.Puts.{Puts};
 ghost use Rattle.std.specs.Cmp.Lexicographic.{pointwise, lists_per, lists_equiv};
 ghost use Rattle.krb_der.specs.Octets.{item};
 ghost use Rattle.krb_der.specs.Sizes.{saturated};
-ghost use Rattle.krb_der.specs.Tells.{item_begins, same_many};
+ghost use Rattle.krb_der.specs.inner.PrefixFree.{item_begins, same_many};
 
 impl<T> Many<T> {
     /// The values of a vector, which is moved and not copied.
@@ -82,7 +82,7 @@ impl<T: Der> Der for Many<T> {
 
     ghost begins = { λ values. item_begins 0x30 (flat_map T.der values) };
 
-    ghost tells = { same_many T.der T.begins T.tells };
+    ghost prefix_free = { same_many T.der T.begins T.prefix_free };
 }
 
 /// The number of DER octets of all the values; 2147483648 where there are more.

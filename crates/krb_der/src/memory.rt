@@ -1,4 +1,4 @@
-//! The answer where memory was refused.
+//! The answer when out of memory.
 
 ghost use Rattle.std.specs.Prelude.{Some, codes};
 

@@ -27,7 +27,7 @@ ghost use Rattle.std.specs.Prelude.{◌≡◌, ◌↔◌, IsSome, IfSome};
 ghost use Rattle.krb_der.specs.Scalars.{IsMicros};
 ghost use Rattle.std.specs.Prelude.{pos};
 ghost use Rattle.krb_der.specs.Octets.{item, integer_octets};
-ghost use Rattle.krb_der.specs.Tells.{item_begins, same_natural};
+ghost use Rattle.krb_der.specs.inner.PrefixFree.{item_begins, same_natural};
 
 impl Micros {
     /// The greatest of them, 999999.
@@ -68,5 +68,5 @@ impl Der for Micros {
 
     ghost begins = { λ number. item_begins 0x02 (integer_octets (pos number)) };
 
-    ghost tells = { same_natural };
+    ghost prefix_free = { same_natural };
 }

@@ -23,7 +23,7 @@ ghost use Rattle.std.specs.Prelude.{nat_eq};
 ghost use Rattle.std.specs.Cmp.{partial_equiv_from_equiv};
 ghost use Rattle.std.specs.Cmp.Lexicographic.{pointwise, nat_list_eq_equiv};
 ghost use Rattle.krb_der.specs.Octets.{item};
-ghost use Rattle.krb_der.specs.Tells.{item_begins, same_octets};
+ghost use Rattle.krb_der.specs.inner.PrefixFree.{item_begins, same_octets};
 
 impl Octets {
     /// The octets of a vector, which is moved and not copied.
@@ -78,5 +78,5 @@ impl Der for Octets {
 
     ghost begins = { λ octets. item_begins 0x04 octets };
 
-    ghost tells = { same_octets 0x04 };
+    ghost prefix_free = { same_octets 0x04 };
 }

@@ -27,7 +27,7 @@ impl Model for Wide32 {
 ghost use Rattle.std.specs.Prelude.{◌≡◌, ◌↔◌, IsSome, IfSome};
 ghost use Rattle.krb_der.specs.Scalars.{IsWide32};
 ghost use Rattle.krb_der.specs.Octets.{item, integer_octets};
-ghost use Rattle.krb_der.specs.Tells.{item_begins, same_integer};
+ghost use Rattle.krb_der.specs.inner.PrefixFree.{item_begins, same_integer};
 
 impl Wide32 {
     /// The least of them, -2147483648.
@@ -71,5 +71,5 @@ impl Der for Wide32 {
 
     ghost begins = { λ number. item_begins 0x02 (integer_octets number) };
 
-    ghost tells = { same_integer };
+    ghost prefix_free = { same_integer };
 }

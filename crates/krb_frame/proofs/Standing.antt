@@ -8,7 +8,7 @@ use Rattle.krb_msg.specs.Stream.{with_first, frames}
 use Rattle.krb_frame.specs.Decoding.{Decoding, status_of, borrowed, IsOfOneFrame}
 use Rattle.krb_frame.specs.Stands.{Stands, after_frames}
 use Rattle.krb_frame.specs.Feeds.{IsAnswer, Feeds, Clears}
-use Rattle.krb_frame.specs.Phases.{octets_of, length_present, IsDecided, IsTaken, phase_of, HasPartOfLength, HasPart, HasFrame, IsAt, IsPut, FeedsLength, phase_status}
+use Rattle.krb_frame.specs.inner.Phases.{octets_of, length_present, IsDecided, IsTaken, phase_of, HasPartOfLength, HasPart, HasFrame, IsAt, IsPut, FeedsLength, phase_status}
 use Rattle.krb_frame.specs.declared.decoder.Phase.{Phase}
 use Rattle.krb_frame.specs.declared.decoder.Phase.TheVariants as phase
 use Rattle.krb_frame.specs.declared.decoder.Fed.{Fed}

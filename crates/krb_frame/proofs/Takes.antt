@@ -13,7 +13,7 @@ use Rattle.krb_msg.specs.Judgement.{judgement_by}
 use Rattle.krb_msg.specs.Laws.{IsFinal}
 use Rattle.krb_msg.proofs.Grammars.{refusal_is_final, all_is_decided, whole_is_one_of}
 use Rattle.krb_frame.specs.declared.decoder.Status.TheVariants as status
-use Rattle.krb_frame.specs.Phases.{IsTaken}
+use Rattle.krb_frame.specs.inner.Phases.{IsTaken}
 
 -- what a vector holds that was extended
 pub extended : {A B : Type 0} (r : Result A B) (held all kept : List ℕ) → held ≡ (if is_ok r then all else kept) → false ≡ is_err r → held ≡ all

@@ -2,5 +2,5 @@ pub mod Decoding
 pub mod Stands
 pub mod Feeds
 pub mod Frame
-pub mod Phases
 pub mod Laws
+pub mod inner

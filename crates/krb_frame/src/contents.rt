@@ -4,7 +4,7 @@ ghost use Rattle.std.specs.Prelude.{◌≡◌, ◌<◌, ◌≤◌, ◌^◌, ◌+
 ghost use Rattle.krb_der.specs.declared.verdict.Verdict.TheVariants.{Open};
 ghost use Rattle.krb_msg.specs.Grammar.{messages};
 ghost use Rattle.krb_msg.specs.Judgement.{judgement};
-ghost use Rattle.krb_frame.specs.Phases.{IsTaken};
+ghost use Rattle.krb_frame.specs.inner.Phases.{IsTaken};
 
 use crate::decoder::{Fed, LENGTH_OCTETS, Status};
 use krb_der::{Refusal, Verdict};

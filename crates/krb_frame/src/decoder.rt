@@ -62,7 +62,7 @@ impl Model for Decoder {
     ghost Value = { Decoding };
 
     ghost use Rattle.krb_msg.specs.Grammar.{messages};
-    ghost use Rattle.krb_frame.specs.Phases.{octets_of, IsAt};
+    ghost use Rattle.krb_frame.specs.inner.Phases.{octets_of, IsAt};
 
     ghost view = { λ d. record { limit = d.limit; octets = octets_of d.phase d.length d.contents.items } };
 
@@ -74,7 +74,7 @@ ghost use Rattle.krb_msg.specs.Grammar.{messages};
 ghost use Rattle.krb_frame.specs.Decoding.{borrowed, finish_at, finish_of, kept_contents};
 ghost use Rattle.krb_frame.specs.Stands.{Stands};
 ghost use Rattle.krb_frame.specs.Feeds.{Feeds, Clears};
-ghost use Rattle.krb_frame.specs.Phases.{end_after, phase_of, IsLengthJudged, IsPut, FeedsLength};
+ghost use Rattle.krb_frame.specs.inner.Phases.{end_after, phase_of, IsLengthJudged, IsPut, FeedsLength};
 ghost use Rattle.krb_frame.specs.declared.decoder.Phase.TheVariants as phase;
 
 impl Decoder {

@@ -13,11 +13,11 @@ use Rattle.krb_msg.specs.Shape.{is_unambiguous}
 use Rattle.krb_msg.specs.Views.{kind_of, kind_term, kind_of_tag, message_value, message_der, IsInProfile}
 use Rattle.krb_msg.specs.Judgement.{judgement, term_judgement}
 use Rattle.krb_msg.specs.Laws.{AreMessage}
-use Rattle.krb_msg.proofs.Judged.{kind_of_tag-tag, whole_is_message, message_is_whole, whole_is_value, value_is_whole, value_is_decided, der_tells}
+use Rattle.krb_msg.proofs.Judged.{kind_of_tag-tag, whole_is_message, message_is_whole, whole_is_value, value_is_whole, value_is_decided, der_is_prefix_free}
 use Rattle.krb_msg.proofs.Grammars.{all_is_decided}
 use Rattle.krb_msg.specs.Grammar.{messages}
 use Rattle.krb_msg.proofs.Laws.{same_value}
-use Rattle.krb_msg.specs.Values.{der_is, der_begins}
+use Rattle.krb_msg.specs.inner.Values.{der_is, der_begins}
 use Rattle.krb_msg.specs.Reads.{IsDer}
 use Rattle.krb_judge.specs.Parses.{refused, refusal_by, refusal_of, AreOf, AreOfValue, HasNoMessage}
 
@@ -40,7 +40,7 @@ kind_of_octets m e =
 
 -- ---- the message
 pub same_message : {octets : List ℕ} (m other : Message) → message_der m ≡ octets → message_der other ≡ octets → m ≡ other
-same_message m other e f = (der_tells m other [] [] (ap (λ l. l ++ []) (e ∙ sym f))).0
+same_message m other e f = (der_is_prefix_free m other [] [] (ap (λ l. l ++ []) (e ∙ sym f))).0
 
 pub are_of : {octets : List ℕ} (m : Message) → AreMessage (length octets) octets → message_der m ≡ octets → AreOf octets m
 are_of m w e = record { in_profile = subst IsInProfile (same_message w.message m w.form e) w.in_profile; form = e }

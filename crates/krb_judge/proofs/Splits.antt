@@ -2,11 +2,11 @@
 use Rattle.std.proofs.Common.{◌≡◌, ℕ, ◌+◌, ◌-◌, ◌^◌, ◌<◌, ◌≤◌, ℤ, List, [], ◌++◌, length, take, drop, refl, sym, ap, ◌∙◌, arith, append-nil, length-append, length-take, length-drop, drop_at, one-add}
 use Rattle.std.proofs.lemmas.List.{take_at}
 use Rattle.krb_der.specs.Octets.{item, length_octets, integer_octets, integer_value}
-use Rattle.krb_der.specs.Numbers.{length-integer_octets-le, integer_value-integer_octets}
-use Rattle.krb_der.specs.Items.{length-item, item-append}
+use Rattle.krb_der.specs.inner.Numbers.{length-integer_octets-le, integer_value-integer_octets}
+use Rattle.krb_der.specs.inner.Items.{length-item, item-append}
 use Rattle.krb_msg.specs.Judgement.{Got, head}
 use Rattle.krb_msg.proofs.Heads.{head-length_octets}
-use Rattle.krb_judge.specs.Outcomes.{head_of}
+use Rattle.krb_judge.specs.inner.Outcomes.{head_of}
 use Rattle.krb_judge.specs.declared.judging.head.Head.{Head as Found}
 use Rattle.krb_judge.specs.declared.judging.head.Head.TheVariants as found
 use Rattle.krb_judge.proofs.Within.{rest_taken}
@@ -19,8 +19,8 @@ head_of_item octets tag contents rest h e =
     ap (head (length octets)) (e ∙ item-append tag contents rest)
     ∙ head-length_octets (length octets) tag (length contents) (contents ++ rest) (omega arith) (omega arith)
 
-behind_header : (octets : List ℕ) (tag : ℕ) (contents rest : List ℕ) → octets ≡ item tag contents ++ rest → drop (1 + length (length_octets (length contents))) octets ≡ contents ++ rest
-behind_header octets tag contents rest e =
+after_header : (octets : List ℕ) (tag : ℕ) (contents rest : List ℕ) → octets ≡ item tag contents ++ rest → drop (1 + length (length_octets (length contents))) octets ≡ contents ++ rest
+after_header octets tag contents rest e =
     rw (e ∙ item-append tag contents rest, one-add (length (length_octets (length contents))))
     (drop_at (length_octets (length contents)) (contents ++ rest) (length (length_octets (length contents))) refl)
 
@@ -32,11 +32,11 @@ not_got (found.Got h s) header size n e = n h s refl
 got_parts : (a b c d : ℕ) → Got a b ≡ Got c d → (a ≡ c) × (b ≡ d)
 got_parts a b c d e = (cc, cc)
 
-split_parts : (octets : List ℕ) (header size tag : ℕ) (inner behind : List ℕ) → length octets < 2 ^ 31 → Got header size ≡ head (length octets) octets → octets ≡ item tag inner ++ behind → (take size (drop header octets) ≡ inner) × (drop size (drop header octets) ≡ behind)
-split_parts octets header size tag inner behind h e f =
-    let p : (header ≡ 1 + length (length_octets (length inner))) × (size ≡ length inner) = got_parts _ _ _ _ (e ∙ head_of_item octets tag inner behind h f) in
-    let d : drop header octets ≡ inner ++ behind = ap (λ n. drop n octets) p.0 ∙ behind_header octets tag inner behind f in
-    (ap (take size) d ∙ take_at inner behind size (sym p.1), ap (drop size) d ∙ drop_at inner behind size (sym p.1))
+split_parts : (octets : List ℕ) (header size tag : ℕ) (inner after : List ℕ) → length octets < 2 ^ 31 → Got header size ≡ head (length octets) octets → octets ≡ item tag inner ++ after → (take size (drop header octets) ≡ inner) × (drop size (drop header octets) ≡ after)
+split_parts octets header size tag inner after h e f =
+    let p : (header ≡ 1 + length (length_octets (length inner))) × (size ≡ length inner) = got_parts _ _ _ _ (e ∙ head_of_item octets tag inner after h f) in
+    let d : drop header octets ≡ inner ++ after = ap (λ n. drop n octets) p.0 ∙ after_header octets tag inner after f in
+    (ap (take size) d ∙ take_at inner after size (sym p.1), ap (drop size) d ∙ drop_at inner after size (sym p.1))
 
 pub is_split : (octets front rest : List ℕ) (header size : ℕ) → length octets < 2 ^ 31 → Got header size ≡ head (length octets) octets → front ≡ take size (take (length octets - header) (drop header octets)) → rest ≡ drop size (take (length octets - header) (drop header octets)) → IsSplit octets front rest
 is_split octets front rest header size h e f r =
@@ -44,7 +44,7 @@ is_split octets front rest header size h e f r =
     let g : front ≡ take size (drop header octets) = f ∙ ap (take size) d in
     let s : rest ≡ drop size (drop header octets) = r ∙ ap (drop size) d in
     record {
-      parts = λ tag inner behind p. let q : (take size (drop header octets) ≡ inner) × (drop size (drop header octets) ≡ behind) = split_parts octets header size tag inner behind h e p in (g ∙ q.0, s ∙ q.1);
+      parts = λ tag inner after p. let q : (take size (drop header octets) ≡ inner) × (drop size (drop header octets) ≡ after) = split_parts octets header size tag inner after h e p in (g ∙ q.0, s ∙ q.1);
       contents_within = rw g (rw (length-take, length-drop) (omega arith));
       rest_within = rw s (rw (length-drop, length-drop) (omega arith));
     }
@@ -58,8 +58,8 @@ number_short f s = omega (arith, ap length (s.parts 0x02 (integer_octets f.numbe
 
 pub is_number : {octets contents rest : List ℕ} (number : ℤ) → IsSplit octets contents rest → number ≡ integer_value contents → IsNumber octets number rest
 is_number number s e = record {
-  parts = λ spelled behind p.
-      let q = s.parts 0x02 (integer_octets spelled) behind p in
+  parts = λ spelled after p.
+      let q = s.parts 0x02 (integer_octets spelled) after p in
       (e ∙ ap integer_value q.0 ∙ integer_value-integer_octets spelled, q.1);
   rest_within = s.rest_within;
 }

@@ -11,7 +11,7 @@ use Rattle.krb_msg.specs.Grammar.{ticket, method_data, pa_data}
 use Rattle.krb_msg.specs.Nodes.{nodes, term_in, term_at}
 use Rattle.krb_judge.specs.declared.parsing.TheConstants.{TICKET, METHOD_DATA}
 use Rattle.krb_msg.specs.Views.{ticket_value, ticket_of, pa_data_value, pa_data_of}
-use Rattle.krb_msg.specs.Told.{map-back}
+use Rattle.krb_msg.specs.inner.Told.{map-back}
 use Rattle.krb_msg.proofs.Judged.{ticket_value-of}
 use Rattle.krb_msg.specs.Judgement.{term_judgement}
 use Rattle.krb_msg.specs.Reads.{IsDer}
@@ -29,7 +29,7 @@ pub method_data_node : term_at METHOD_DATA ≡ method_data
 unfolding term_in nodes
 method_data_node = refl
 
--- what is not refused is there, but for want of memory
+-- what is not refused is there, but for out of memory
 pub found_or_memory : {A : Type 0} (result : Result A ParseFault) (a : A) → IfOk result (λ b. b ≡ a) → ((r : Refusal) → IsErrOf result (fault.Refused r) → ⊥) → (result ≡ Ok a) ⊎ (result ≡ Err fault.Memory)
 found_or_memory (Ok b) a e h = inl (ap Ok e)
 found_or_memory (Err (fault.Refused r)) a e h = absurd (h r refl)

@@ -8,7 +8,7 @@ use Rattle.krb_der.specs.Octets.{AreOctets}
 use Rattle.krb_der.specs.declared.why.Why.TheVariants as why
 use Rattle.krb_msg.specs.Term.{Term, Fields, Text, Octets, SequenceOf, Tagged, Application}
 use Rattle.krb_msg.specs.Shape.{depth_of_fields}
-use Rattle.krb_msg.specs.Judgement.{Outcome, Bad, Done, behind, then_after, any_contents, only_contents, item_outcome, items_contents, fields_outcome}
+use Rattle.krb_msg.specs.Judgement.{Outcome, Bad, Done, after, then_after, any_contents, only_contents, item_outcome, items_contents, fields_outcome}
 use Rattle.krb_msg.specs.Nodes.{nodes, term_at}
 use Rattle.krb_msg.specs.Table.{IsFormOf, IsSlot, with_slot, fields_from}
 use Rattle.krb_msg.specs.declared.grammar.Form.{Form}
@@ -18,7 +18,7 @@ use Rattle.krb_msg.specs.declared.grammar.Slot.TheVariants as slot
 use Rattle.krb_msg.proofs.Laws.{bad_within, done_within}
 use Rattle.krb_msg.proofs.TermsDecided.{item-count, contents-count}
 use Rattle.krb_judge.specs.declared.judging.Left.{Left}
-use Rattle.krb_judge.specs.Outcomes.{IsLeft, IsNext, outcome_in, sized_outcome}
+use Rattle.krb_judge.specs.inner.Outcomes.{IsLeft, IsNext, outcome_in, sized_outcome}
 use Rattle.krb_judge.proofs.Leaves.{text-any}
 
 pub refused : (term : Term) (room : ℕ) (sole : Bool) (octets : List ℕ) (offset : ℕ) (reason : Why) → length octets ≤ room → Bad offset reason ≡ item_outcome term room sole octets → offset < length octets
@@ -31,15 +31,15 @@ pub taken : (term : Term) (room : ℕ) (sole : Bool) (octets : List ℕ) (count 
 taken term room sole octets count h e = done_within term room sole octets count h (sym e)
 
 -- ---- forms
-text_of : (term : Term) → IsFormOf nodes form.Text term → (before size : ℕ) (octets : List ℕ) → AreOctets octets → sized_outcome term before size octets ≡ behind before (any_contents size octets)
-text_of (Text greatest) h before size octets a = rw h (ap (behind before) (text-any why.Charset size octets a))
+text_of : (term : Term) → IsFormOf nodes form.Text term → (before size : ℕ) (octets : List ℕ) → AreOctets octets → sized_outcome term before size octets ≡ after before (any_contents size octets)
+text_of (Text greatest) h before size octets a = rw h (ap (after before) (text-any why.Charset size octets a))
 text_of term h before size octets a = absurd h
 
-octets_of : (term : Term) → IsFormOf nodes form.Octets term → (before size : ℕ) (octets : List ℕ) → sized_outcome term before size octets ≡ behind before (any_contents size octets)
+octets_of : (term : Term) → IsFormOf nodes form.Octets term → (before size : ℕ) (octets : List ℕ) → sized_outcome term before size octets ≡ after before (any_contents size octets)
 octets_of Octets h before size octets = refl
 octets_of term h before size octets = absurd h
 
-pub string_of : (it : Form) (term : Term) → (it ≡ form.Text) ⊎ (it ≡ form.Octets) → IsFormOf nodes it term → (before size : ℕ) (octets : List ℕ) → AreOctets octets → sized_outcome term before size octets ≡ behind before (any_contents size octets)
+pub string_of : (it : Form) (term : Term) → (it ≡ form.Text) ⊎ (it ≡ form.Octets) → IsFormOf nodes it term → (before size : ℕ) (octets : List ℕ) → AreOctets octets → sized_outcome term before size octets ≡ after before (any_contents size octets)
 string_of it term (inl e) h before size octets a = text_of term (rw e at h) before size octets a
 string_of it term (inr e) h before size octets a = octets_of term (rw e at h) before size octets
 

@@ -1,3 +1,3 @@
-pub mod Outcomes
 pub mod Parses
 pub mod Faults
+pub mod inner

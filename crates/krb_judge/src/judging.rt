@@ -15,7 +15,7 @@ ghost use Rattle.krb_msg.specs.Term.{End};
 ghost use Rattle.krb_msg.specs.Judgement.{judgement, term_judgement, verdict_of, only_contents, item_outcome, fields_outcome, items_contents};
 ghost use Rattle.krb_msg.specs.Nodes.{nodes, term_at};
 ghost use Rattle.krb_msg.specs.Table.{IsNode, IsSlot, fields_from};
-ghost use Rattle.krb_judge.specs.Outcomes.{outcome_of, outcome_in, sized_outcome, IsLeft, IsDue, IsStep};
+ghost use Rattle.krb_judge.specs.inner.Outcomes.{outcome_of, outcome_in, sized_outcome, IsLeft, IsDue, IsStep};
 
 use crate::judging::head::{Head, part, read_head};
 use crate::judging::leaf::{bits, integer, string, time};

@@ -80,7 +80,7 @@ const METHOD_DATA: u16 = Row::MethodData as u16;
 
 /// The message that octets are, or why they are none. A slice of more than 2147483647 octets is
 /// `TooLong` at 0, an empty one `Empty` at 0; else [`judge`] refuses it. A refusal is decided
-/// before any growth.
+/// before memory is taken.
 pub fn parse(alloc: Global, octets: &[u8]) -> Result<Message, ParseFault>
     ensures message { IfOk result (AreOf octets.now) }
     ensures found { (m : Message) → AreOf octets.now m → (result ≡ Ok m) ⊎ (result ≡ Err fault.Memory) }

@@ -8,34 +8,34 @@ use Rattle.krb_keytab.specs.declared.value.Keytab.{Keytab}
 use Rattle.krb_keytab.specs.declared.value.Record.{Record}
 use Rattle.krb_keytab.specs.declared.value.Stop.{Stop}
 use Rattle.krb_keytab.specs.declared.reading.Next.TheVariants as nexts
-use Rattle.krb_keytab.specs.Reading.{record_at, Items, with_first, items_behind, keytab_of_items}
-use Rattle.krb_keytab.proofs.Stepwise.{record-shorter, behind-item, behind-done, behind-fault}
+use Rattle.krb_keytab.specs.Reading.{record_at, Items, with_first, items_after, keytab_of_items}
+use Rattle.krb_keytab.proofs.Stepwise.{record-shorter, after-item, after-done, after-fault}
 
--- what was read before, and what stands behind it
+-- what was read before, and what stands after it
 abbrev pub before : List Record → Items → Items
 before front items = record { records = front ++ items.records; end = items.end }
 
 regroup : (front : List Record) (r : Record) (items : Items) → before front (with_first r items) ≡ before (front ++ r ∷ []) items
 regroup front r items = ap (λ (rs : List Record). let it : Items = record { records = rs; end = items.end } in it) (sym (append_assoc front (r ∷ []) items.records))
 
-pub goes_on : (front : List Record) (s t : Source) (r : Record) (total : Items) → record_at (limited None) s ≡ Ok (nexts.Item r, t) → before front (items_behind None s) ≡ total → before (front ++ r ∷ []) (items_behind None t) ≡ total
+pub goes_on : (front : List Record) (s t : Source) (r : Record) (total : Items) → record_at (limited None) s ≡ Ok (nexts.Item r, t) → before front (items_after None s) ≡ total → before (front ++ r ∷ []) (items_after None t) ≡ total
 goes_on front s t r total e so_far =
-    sym (ap (before front) (behind-item None s t r e) ∙ regroup front r (items_behind None t)) ∙ so_far
+    sym (ap (before front) (after-item None s t r e) ∙ regroup front r (items_after None t)) ∙ so_far
 
 abbrev ended : List Record → Stop → ℕ → Result (Keytab × ℕ) Fault
 ended records stop k = Ok (record { records = records; stop = stop }, k)
 
-pub is_done : (front : List Record) (s t : Source) (stop : Stop) (total : Items) → record_at (limited None) s ≡ Ok (nexts.Done stop, t) → before front (items_behind None s) ≡ total → keytab_of_items total ≡ Ok (record { records = front; stop = stop }, t.place)
+pub is_done : (front : List Record) (s t : Source) (stop : Stop) (total : Items) → record_at (limited None) s ≡ Ok (nexts.Done stop, t) → before front (items_after None s) ≡ total → keytab_of_items total ≡ Ok (record { records = front; stop = stop }, t.place)
 is_done front s t stop total e so_far =
-    ap keytab_of_items (sym so_far ∙ ap (before front) (behind-done None s t stop e))
+    ap keytab_of_items (sym so_far ∙ ap (before front) (after-done None s t stop e))
     ∙ ap (λ (rs : List Record). ended rs stop t.place) (append-nil front)
 
-pub ends : (e : FileFault) (front : List Record) (s : Source) (total : Items) → Fails e (record_at (limited None) s) → before front (items_behind None s) ≡ total → Fails e (keytab_of_items total)
+pub ends : (e : FileFault) (front : List Record) (s : Source) (total : Items) → Fails e (record_at (limited None) s) → before front (items_after None s) ≡ total → Fails e (keytab_of_items total)
 ends faults.Memory front s total h so_far = tt
 ends faults.Read front s total h so_far = absurd h
 ends (faults.Refused place why) front s total h so_far =
     let fault : Fault = record { place = place; why = why } in
-    ap keytab_of_items (sym so_far ∙ ap (before front) (behind-fault None s fault h))
+    ap keytab_of_items (sym so_far ∙ ap (before front) (after-fault None s fault h))
 
 pub shorter : (s t : Source) (r : Record) → record_at (limited None) s ≡ Ok (nexts.Item r, t) → length t.octets < length s.octets
 shorter s t r e = record-shorter None s.place s.octets r t e

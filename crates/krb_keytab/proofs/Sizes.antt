@@ -6,7 +6,7 @@ use Rattle.std.proofs.lemmas.List.Concat.{flat_map-append, flat_map-cons}
 use Rattle.std.specs.List.{flat_map}
 use Rattle.std.specs.Int.{w16}
 use Rattle.krb_der.specs.Fields.{counted, zeros}
-use Rattle.krb_keytab.specs.Rooms.{Room}
+use Rattle.krb_keytab.specs.Holes.{HoleModel}
 use Rattle.krb_keytab.specs.declared.value.Entry.{Entry}
 use Rattle.krb_keytab.specs.declared.value.Record.{Record}
 use Rattle.krb_keytab.specs.declared.value.Record.TheVariants as records
@@ -36,7 +36,7 @@ zeros-more (suc n) = simp unary_clauses (ap (λ (l : List ℕ). 0 ∷ l) (simp u
 pub size-entry : (r : Record) (e : Entry) → r ≡ records.Entry e → length (written_record r) ≡ 4 + length (entry e)
 size-entry r e is = ap (λ (r : Record). length (written_record r)) is ∙ omega arith
 
-pub size-hole : (r : Record) (hole : Room) → r ≡ records.Hole hole → length (written_record r) ≡ 4 + hole.size
+pub size-hole : (r : Record) (hole : HoleModel) → r ≡ records.Hole hole → length (written_record r) ≡ 4 + hole.size
 size-hole r hole is = ap (λ (r : Record). length (written_record r)) is ∙ omega (arith, length-zeros hole.size)
 
 -- ---- records in order

@@ -37,6 +37,6 @@ spells-written v can = (flat_map written_record v.records, records-written v.rec
 pub read-written : (v : Keytab) → AllByRecursion CanWrite v.records → read (written v) ≡ Ok (v, length (written v))
 read-written v can = ap read (sym (append-nil (written v))) ∙ read-again v (written v) [] (spells-written v can) (λ _. refl)
 
--- what three parts make, put one behind another
-pub octets_written : (v : Keytab) (none front behind whole : List ℕ) → none ≡ [] → front ≡ none ++ 5 ∷ 2 ∷ [] → behind ≡ front ++ flat_map written_record v.records → whole ≡ behind ++ stop_octets v.stop → whole ≡ written v
-octets_written v none front behind whole a b c d = rw (d, c, b, a) refl
+-- what three parts make, put one after another
+pub octets_written : (v : Keytab) (none front after whole : List ℕ) → none ≡ [] → front ≡ none ++ 5 ∷ 2 ∷ [] → after ≡ front ++ flat_map written_record v.records → whole ≡ after ++ stop_octets v.stop → whole ≡ written v
+octets_written v none front after whole a b c d = rw (d, c, b, a) refl

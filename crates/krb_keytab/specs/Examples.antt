@@ -13,7 +13,7 @@ use Rattle.krb_keytab.specs.Spelling.{kvno, masked}
 use Rattle.krb_keytab.specs.Reading.{items, read}
 use Rattle.krb_keytab.specs.Writing.{written, write_fault}
 
--- ---- an entry of h@A, a hole of eight octets, and a record of length 0, with two octets behind it
+-- ---- an entry of h@A, a hole of eight octets, and a record of length 0, with two octets after it
 abbrev keytab_octets : List ℕ
 keytab_octets = hex (codes "0502 0000001B 0001 000141 000168 00000001 386D4380 02 0012 0002ABCD 00000102 FFFFFFF8 0000000000000000 00000000 DEAD")
 

@@ -1,4 +1,4 @@
-pub mod Rooms
+pub mod Holes
 pub mod Spelling
 pub mod Reading
 pub mod Writing

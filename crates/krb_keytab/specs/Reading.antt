@@ -2,7 +2,7 @@
 use Rattle.std.specs.Prelude.{ℕ, zero, suc, ℤ, pos, negsuc, List, [], ◌∷◌, length, Option, None, Result, Ok, Err}
 use Rattle.std.specs.Int.{w8, w16, w32}
 use Rattle.krb_der.specs.Octets.{when}
-use Rattle.krb_der.specs.Fields.{Source, source_of, Fault, limited, Reader, ◌>>=◌, gives, piece_at, rest_at, is_empty, number_at, signed_at, counted_at, names_at, within, version_at}
+use Rattle.krb_der.specs.Fields.{Source, source_of, Fault, limited, Reader, ◌>>=◌, gives, next_octets_at, rest_at, is_empty, number_at, signed_at, counted_at, names_at, within, version_at}
 use Rattle.krb_keytab.specs.declared.value.Keytab.{Keytab}
 use Rattle.krb_keytab.specs.declared.value.Record.{Record}
 use Rattle.krb_keytab.specs.declared.value.Record.TheVariants as records
@@ -26,14 +26,14 @@ entry_at = do
   rest ← rest_at
   gives (record { realm = names.realm; components = names.components; name_type = name_type; time = time; vno8 = vno8; enctype = enctype; key = key; rest = rest })
 
--- behind a record's length: zero is the stop, an entry has so many octets, a hole the negated number
+-- after a record's length: zero is the stop, an entry has n octets, a hole the negated number
 abbrev pub record_of : ℤ → Reader Next
 record_of (pos zero) = gives (nexts.Done stops.Zero)
 record_of (pos (suc n)) = do
   entry ← within (suc n) entry_at
   gives (nexts.Item (records.Entry entry))
 record_of (negsuc n) = do
-  octets ← piece_at None (suc n)
+  octets ← next_octets_at None (suc n)
   gives (nexts.Item (records.Hole (record { size = suc n; clean = are_zero octets })))
 
 -- the next record, or the stop
@@ -67,9 +67,9 @@ abbrev pub items_within : ℕ → Option ℕ → Source → Items
 items_within zero limit source = no_items (Ok (stops.File, source.place))
 items_within (suc bound) limit source = items_from (record_at (limited limit) source) (items_within bound limit)
 
--- what stands behind a place where a record or the stop begins
-abbrev pub items_behind : Option ℕ → Source → Items
-items_behind limit source = items_within (length source.octets) limit source
+-- what stands after a place where a record or the stop begins
+abbrev pub items_after : Option ℕ → Source → Items
+items_after limit source = items_within (length source.octets) limit source
 
 -- ---- a file: the version, and the records
 
@@ -79,7 +79,7 @@ opened (Ok read) others = others read.1
 
 -- under a field limit
 abbrev pub items : Option ℕ → List ℕ → Items
-items limit file = opened (version_at (2 ∷ []) (limited limit) (source_of file)) (items_behind limit)
+items limit file = opened (version_at (2 ∷ []) (limited limit) (source_of file)) (items_after limit)
 
 -- a keytab, and the number of its octets
 abbrev pub keytab_of : List Record → Result (Stop × ℕ) Fault → Result (Keytab × ℕ) Fault

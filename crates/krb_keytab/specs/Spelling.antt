@@ -5,7 +5,7 @@ use Rattle.std.specs.Int.{w8, w16, w32, to_be_bytes, from_be_bytes}
 use Rattle.std.specs.Int.RustNames.{FitsSigned}
 use Rattle.krb_der.specs.Octets.{when, AreOctets}
 use Rattle.krb_der.specs.Fields.{signed, counted, Names, names, IsCounted, AreNames, zeros}
-use Rattle.krb_keytab.specs.Rooms.{Room, IsRoom}
+use Rattle.krb_keytab.specs.Holes.{HoleModel, IsHoleSize}
 use Rattle.krb_keytab.specs.declared.value.Keytab.{Keytab}
 use Rattle.krb_keytab.specs.declared.value.Record.{Record}
 use Rattle.krb_keytab.specs.declared.value.Record.TheVariants as records
@@ -56,13 +56,13 @@ negated zero = pos 0
 negated (suc n) = negsuc n
 
 -- the octets of a hole
-pub record IsHole (hole : Room) (octets : List ℕ) : Type 0 where
-  pub room : IsRoom hole.size
+pub record IsHole (hole : HoleModel) (octets : List ℕ) : Type 0 where
+  pub room : IsHoleSize hole.size
   pub are_octets : AreOctets octets
   pub size : length octets ≡ hole.size
   pub clean : are_zero octets ≡ hole.clean
 
--- An entry's content behind its length, or a hole's octets behind its negated size.
+-- An entry's content after its length, or a hole's octets after its negated size.
 abbrev pub RecordSpells : Record → List ℕ → Type 0
 RecordSpells (records.Entry e) b = EntryFits e × (b ≡ signed w32 (pos (length (entry e))) ++ entry e)
 RecordSpells (records.Hole hole) b = (octets : List ℕ) × IsHole hole octets × (b ≡ signed w32 (negated hole.size) ++ octets)

@@ -4,7 +4,7 @@ use Rattle.std.specs.List.{flat_map, list_any}
 use Rattle.std.specs.Int.{w32}
 use Rattle.krb_der.specs.Octets.{when}
 use Rattle.krb_der.specs.Fields.{signed, zeros}
-use Rattle.krb_keytab.specs.Rooms.{IsRoom}
+use Rattle.krb_keytab.specs.Holes.{IsHoleSize}
 use Rattle.krb_keytab.specs.declared.value.Keytab.{Keytab}
 use Rattle.krb_keytab.specs.declared.value.Record.{Record}
 use Rattle.krb_keytab.specs.declared.value.Record.TheVariants as records
@@ -25,7 +25,7 @@ written v = 5 ∷ 2 ∷ flat_map written_record v.records ++ stop_octets v.stop
 -- what can be written
 abbrev pub CanWrite : Record → Type 0
 CanWrite (records.Entry e) = EntryFits e
-CanWrite (records.Hole hole) = IsRoom hole.size × (hole.clean ≡ true)
+CanWrite (records.Hole hole) = IsHoleSize hole.size × (hole.clean ≡ true)
 
 -- ---- the faults
 

@@ -1,6 +1,6 @@
 //! Keytab files of format 0x0502 (MIT krb5): keys of principals, read and written.
 //!
-//! `specs/` reads from the bottom: `Rooms` (holes), `Spelling` (which octets spell a keytab),
+//! `specs/` reads from the bottom: `Holes` (holes), `Spelling` (which octets spell a keytab),
 //! `Reading` (a file from left to right, up to the first fault), `Writing` (what is written, and
 //! what keeps a keytab from being written), and `Laws`, which the functions of [`law`] prove.
 #![tactic(auto)]

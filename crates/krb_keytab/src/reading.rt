@@ -5,7 +5,7 @@ ghost use Rattle.std.specs.Int.{w16, w32};
 ghost use Rattle.krb_der.specs.Fields.{Gives, IsFaultIn, ended, limited, times, counted_at};
 ghost use Rattle.krb_keytab.specs.Spelling.{are_zero, ReadAs};
 ghost use Rattle.krb_keytab.specs.declared.value.Keytab.{Keytab as KeytabValue};
-ghost use Rattle.krb_keytab.specs.Reading.{entry_at, record_of, record_at, items_behind, keytab_of_items, read};
+ghost use Rattle.krb_keytab.specs.Reading.{entry_at, record_of, record_at, items_after, keytab_of_items, read};
 
 use crate::value::{Entry, Hole, Keytab, Record, Stop};
 use krb_der::{FileFault, KString, Many, Octets, Source};
@@ -39,9 +39,9 @@ fn components<'a>(
     let mut components = Vec::new(alloc);
     let mut rest = source;
     for _ in 0..count {
-        let (component, behind) = rest.counted16(Some(end))?;
+        let (component, after) = rest.counted16(Some(end))?;
         components.push(KString::new(Vec::from_slice(alloc, component)?))?;
-        rest = behind;
+        rest = after;
     }
     Ok((Many::new(components), rest))
 }
@@ -60,7 +60,7 @@ fn entry<'a>(alloc: Global, end: u64, source: Source<'a>) -> Result<(Entry, Sour
     let (enctype, rest) = rest.number16(Some(end))?;
     let (key, rest) = rest.counted16(Some(end))?;
     let key = Octets::new(Vec::from_slice(alloc, key)?);
-    let (behind_key, left) = rest.rest(end)?;
+    let (after_key, left) = rest.rest(end)?;
     let entry = Entry {
         realm,
         components,
@@ -69,13 +69,13 @@ fn entry<'a>(alloc: Global, end: u64, source: Source<'a>) -> Result<(Entry, Sour
         vno8,
         enctype,
         key,
-        rest: Octets::new(Vec::from_slice(alloc, behind_key)?),
+        rest: Octets::new(Vec::from_slice(alloc, after_key)?),
     };
     Ok((entry, left))
 }
 
 /// What a record's length leads to.
-fn record_behind<'a>(
+fn record_after<'a>(
     alloc: Global,
     length: i32,
     source: Source<'a>,
@@ -104,25 +104,25 @@ fn record<'a>(alloc: Global, source: Source<'a>) -> Result<(Next, Source<'a>), F
         return Ok((Next::Done(Stop::File), source));
     }
     let (length, rest) = source.signed32(None)?;
-    record_behind(alloc, length, rest)
+    record_after(alloc, length, rest)
 }
 
 /// The records up to the stop, and the place after it.
 fn keytab(alloc: Global, source: Source<'_>) -> Result<(Keytab, usize), FileFault>
-    ensures { Gives (λ taken. taken) result (keytab_of_items (items_behind None source.entry)) }
+    ensures { Gives (λ taken. taken) result (keytab_of_items (items_after None source.entry)) }
 {
     let mut records = Vec::new(alloc);
     let mut rest = source;
     loop {
-        let (next, behind) = record(alloc, rest)?;
+        let (next, after) = record(alloc, rest)?;
         match next {
             Next::Item(record) => records.push(record)?,
             Next::Done(stop) => {
                 let records = Many::new(records);
-                return Ok((Keytab { records, stop }, behind.place() as usize));
+                return Ok((Keytab { records, stop }, after.place() as usize));
             }
         }
-        rest = behind;
+        rest = after;
     }
 }
 

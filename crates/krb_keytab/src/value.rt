@@ -60,19 +60,19 @@ pub struct Hole {
 }
 
 impl Model for Hole {
-    ghost use Rattle.krb_keytab.specs.Rooms.{Room, IsRoom};
+    ghost use Rattle.krb_keytab.specs.Holes.{HoleModel, IsHoleSize};
 
-    ghost Value = { Room };
+    ghost Value = { HoleModel };
 
     ghost view = { λ hole. record { size = hole.size; clean = hole.clean } };
 
-    ghost invariant = { λ hole. IsRoom hole.size };
+    ghost invariant = { λ hole. IsHoleSize hole.size };
 
     ghost inverse = { λ room. record { size = room.size; clean = room.clean } };
 }
 
 ghost use Rattle.std.specs.Prelude.{◌≡◌, ◌↔◌, IsSome, IfSome};
-ghost use Rattle.krb_keytab.specs.Rooms.{IsRoom};
+ghost use Rattle.krb_keytab.specs.Holes.{IsHoleSize};
 ghost use Rattle.krb_keytab.specs.Spelling.{kvno};
 
 impl Entry {
@@ -95,7 +95,7 @@ impl Hole {
     /// The hole of `size` octets, and `None` of 0 and of more than 2147483648. It is clean where
     /// all of them are 00.
     pub fn new(size: u32, clean: bool) -> Option<Hole>
-        ensures range { IsSome result ↔ IsRoom size }
+        ensures range { IsSome result ↔ IsHoleSize size }
         ensures value { IfSome result (λ hole. hole ≡ record { size = size; clean = clean }) }
     {
         if (1..=1 << 31).contains(&size) {
@@ -107,7 +107,7 @@ impl Hole {
 
     /// The hole of `size` octets, which are few enough.
     pub(crate) fn of(size: u32, clean: bool) -> Hole
-        requires { IsRoom size }
+        requires { IsHoleSize size }
         ensures { result ≡ record { size = size; clean = clean } }
     {
         Hole { size, clean }
@@ -116,7 +116,7 @@ impl Hole {
     /// The number of octets, 1 to 2147483648.
     pub fn size(self) -> u32
         ensures value { result ≡ self.size }
-        ensures range { IsRoom result }
+        ensures range { IsHoleSize result }
     {
         self.size
     }

@@ -3,7 +3,7 @@ use Rattle.std.proofs.Common.{◌≡◌, ℕ, zero, suc, ◌/◌, ◌%◌, ◌==
 use Rattle.std.proofs.lemmas.Nat.{and_le_r}
 use Rattle.std.specs.List.{AllByRecursion, list_all}
 use Rattle.krb_der.specs.Octets.{AreOctets, when}
-use Rattle.krb_der.specs.Numbers.{AreOctets-take, AreOctets-drop}
+use Rattle.krb_der.specs.inner.Numbers.{AreOctets-take, AreOctets-drop}
 use Rattle.krb_der.specs.Reasons.{reason_number}
 use Rattle.krb_der.specs.declared.verdict.Refusal.{Refusal}
 use Rattle.krb_msg.specs.Grammar.{kerberos_string}
@@ -73,33 +73,33 @@ contents_at (Got header contents) octets a = AreOctets-take contents _ (AreOctet
 contents_at Partial octets a = tt
 contents_at (Refused place reason) octets a = tt
 
-behind_at : (h : Head) (octets : List ℕ) → AreOctets octets → AreOctets (opened_at h octets).behind
-behind_at (Got header contents) octets a = AreOctets-drop contents _ (AreOctets-drop header octets a)
-behind_at Partial octets a = tt
-behind_at (Refused place reason) octets a = tt
+after_at : (h : Head) (octets : List ℕ) → AreOctets octets → AreOctets (opened_at h octets).rest
+after_at (Got header contents) octets a = AreOctets-drop contents _ (AreOctets-drop header octets a)
+after_at Partial octets a = tt
+after_at (Refused place reason) octets a = tt
 
 contents : (octets : List ℕ) → AreOctets octets → AreOctets (opened octets).contents
 contents octets a = contents_at (head (length octets) octets) octets a
 
-behind : (octets : List ℕ) → AreOctets octets → AreOctets (opened octets).behind
-behind octets a = behind_at (head (length octets) octets) octets a
+after : (octets : List ℕ) → AreOctets octets → AreOctets (opened octets).rest
+after octets a = after_at (head (length octets) octets) octets a
 
 strings : (bound : ℕ) (octets : List ℕ) → AreOctets octets → AllAreOctets (map (value_of kerberos_string) (all_opened bound octets))
 strings bound [] a = tt
 strings zero (o ∷ octets) a = tt
-strings (suc bound) (o ∷ octets) a = (contents (o ∷ octets) a, strings bound _ (behind (o ∷ octets) a))
+strings (suc bound) (o ∷ octets) a = (contents (o ∷ octets) a, strings bound _ (after (o ∷ octets) a))
 
 -- the fields of a Ticket, from its realm on
-ticket_fields : (octets : List ℕ) → AreOctets octets → AreOctets (opened (opened (opened octets).contents).contents).behind
-ticket_fields octets a = behind _ (contents _ (contents octets a))
+ticket_fields : (octets : List ℕ) → AreOctets octets → AreOctets (opened (opened (opened octets).contents).contents).rest
+ticket_fields octets a = after _ (contents _ (contents octets a))
 
 realm : (octets : List ℕ) → AreOctets octets → AreOctets (ticket_read octets).realm
 realm octets a = contents _ (contents _ (ticket_fields octets a))
 
 server : (octets : List ℕ) → AreOctets octets → AllAreOctets (ticket_read octets).sname.name
 server octets a =
-    let name = contents _ (contents _ (behind _ (ticket_fields octets a))) in
-    strings _ _ (contents _ (contents _ (behind _ name)))
+    let name = contents _ (contents _ (after _ (ticket_fields octets a))) in
+    strings _ _ (contents _ (contents _ (after _ name)))
 
 -- ---- the lines
 who : (p : FilePrincipal) → PrincipalIsOfOctets p → Prints (file_principal_text p)

@@ -8,7 +8,7 @@ use Rattle.jiff_core.specs.declared.civil.date.Date.{Date}
 use Rattle.jiff_core.specs.Calendar.{days_of_months, day_count, days_from_civil, IsCivilDate, IsYear}
 use Rattle.jiff_core.proofs.CalendarLemmas.{days_of_months-zero, days_of_months_more, days_of_months_all, days_of_months_mono, day_of_year_before, day_count-day_of_year, day_count-next_year, day_count-lt_year, day_count-year_is, days_in_year_bounds, day_count-epoch, days_from_civil-day_count}
 use Rattle.jiff_core.proofs.SignedLemmas.{signed_arith}
-use Rattle.krb_der.specs.Numbers.{when-true, when-false}
+use Rattle.krb_der.specs.inner.Numbers.{when-true, when-false}
 use Rattle.krb_list.specs.Time.{the_date, date_in_year, date_from, civil_date}
 
 same_day : (year month other day next : ℕ) → month ≡ other → day ≡ next → the_date year month day ≡ the_date year other next

@@ -8,7 +8,7 @@ use Rattle.krb_keytab.specs.declared.value.Record.TheVariants as records
 use Rattle.krb_keytab.specs.declared.value.Stop.{Stop}
 use Rattle.krb_keytab.specs.declared.value.Stop.TheVariants as stops
 use Rattle.krb_keytab.specs.declared.value.Entry.{Entry}
-use Rattle.krb_keytab.specs.Rooms.{Room}
+use Rattle.krb_keytab.specs.Holes.{HoleModel}
 use Rattle.krb_keytab.specs.Spelling.{kvno}
 use Rattle.krb_list.specs.declared.time.CivilDate.{CivilDate}
 use Rattle.krb_list.specs.Laws.{IsPrintable, RecordIsOfOctets}
@@ -76,7 +76,7 @@ entry e (components, realm, seconds) =
     (join (join (join (join (join (word (codes " time=") refl) (time e.time seconds)) (word (codes " kvno=") refl)) (number (kvno e))) (word (codes " enctype=") refl)) (number e.enctype)))
     (join (join (join (word (codes " key=") refl) (number (length e.key))) (word (codes " rest=") refl)) (number (length e.rest)))
 
-hole : (room : Room) → Prints (hole_text room)
+hole : (room : HoleModel) → Prints (hole_text room)
 unfolding hole_text
 hole room = join (join (join (word (codes "hole size=") refl) (number room.size)) (word (codes " clean=") refl)) (yes_or room.clean)
 

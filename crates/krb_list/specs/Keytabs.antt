@@ -8,7 +8,7 @@ use Rattle.krb_keytab.specs.declared.value.Record.TheVariants as records
 use Rattle.krb_keytab.specs.declared.value.Stop.{Stop}
 use Rattle.krb_keytab.specs.declared.value.Stop.TheVariants as stops
 use Rattle.krb_keytab.specs.declared.value.Entry.{Entry}
-use Rattle.krb_keytab.specs.Rooms.{Room}
+use Rattle.krb_keytab.specs.Holes.{HoleModel}
 use Rattle.krb_keytab.specs.Spelling.{kvno}
 use Rattle.krb_list.specs.Text.{line_feed, principal_text, yes_or_no}
 use Rattle.krb_list.specs.Time.{time_text}
@@ -28,7 +28,7 @@ sizes_text e = codes " key=" ++ decimal (length e.key) ++ codes " rest=" ++ deci
 unfoldable pub entry_text : Entry → List ℕ
 entry_text e = codes "entry" ++ name_text e ++ version_text e ++ sizes_text e
 
-unfoldable pub hole_text : Room → List ℕ
+unfoldable pub hole_text : HoleModel → List ℕ
 hole_text hole = codes "hole size=" ++ decimal hole.size ++ codes " clean=" ++ yes_or_no hole.clean
 
 abbrev pub record_text : Record → List ℕ

@@ -6,7 +6,7 @@ ghost use Rattle.krb_list.specs.Time.{time_text};
 ghost use Rattle.krb_list.specs.Ccaches.{file_principal_text, offset_text, cache_text, who_text, key_text, times_text, state_text, flags_text, counts_text, tickets_text, credential_front, credential_text, config_text, refused_ticket_text, ticket_server_text, state_line, credential_line, credential_lines, cache_end_text, ccache_lines};
 
 use crate::field::put_field;
-use crate::piece::{Name, Piece, put_number};
+use crate::shown::{Name, Shown, put_number};
 use crate::principal::put_principal;
 use crate::ticket_flags::TicketFlags;
 use crate::time::put_time;
@@ -15,7 +15,7 @@ use krb_der::{Memory, Refusal, why_number};
 use krb_msg::Ticket;
 use std::alloc::{AllocError, Global};
 
-impl Piece for FilePrincipal {
+impl Shown for FilePrincipal {
     ghost text = { file_principal_text };
 
     fn put(&self, line: &mut String) -> Result<(), AllocError> {
@@ -24,7 +24,7 @@ impl Piece for FilePrincipal {
 }
 
 /// The offset of a clock: seconds and microseconds, with `:` between.
-impl Piece for (i32, i32) {
+impl Shown for (i32, i32) {
     ghost text = { offset_text };
 
     fn put(&self, line: &mut String) -> Result<(), AllocError> {
@@ -38,7 +38,7 @@ impl Piece for (i32, i32) {
 #[derive(Drop)]
 struct Time(u32);
 
-impl Piece for Time {
+impl Shown for Time {
     ghost text = { λ time. time_text time.0 };
 
     fn put(&self, line: &mut String) -> Result<(), AllocError> {
@@ -112,7 +112,7 @@ fn put_counts(line: &mut String, credential: &Credential) -> Result<(), AllocErr
 }
 
 #[tactic(auto, unfolding(crate::specs::Ccaches::tickets_text))]
-fn put_tickets<T: Piece, S: Piece>(
+fn put_tickets<T: Shown, S: Shown>(
     line: &mut String,
     credential: &Credential,
     ticket: &T,
@@ -137,7 +137,7 @@ fn put_front(line: &mut String, now: Option<u32>, credential: &Credential) -> Re
 }
 
 #[tactic(auto, unfolding(crate::specs::Ccaches::credential_text))]
-fn put_credential<T: Piece, S: Piece>(
+fn put_credential<T: Shown, S: Shown>(
     line: &mut String,
     now: Option<u32>,
     credential: &Credential,
@@ -161,7 +161,7 @@ fn put_config(line: &mut String, credential: &Credential) -> Result<(), AllocErr
 }
 
 /// `refused`, the place and the number of the reason, with `:` between.
-impl Piece for Refusal {
+impl Shown for Refusal {
     ghost text = { refused_ticket_text };
 
     #[tactic(auto, unfolding(crate::specs::Ccaches::refused_ticket_text))]
@@ -174,7 +174,7 @@ impl Piece for Refusal {
 }
 
 /// The server of the ticket.
-impl Piece for Ticket {
+impl Shown for Ticket {
     ghost text = { ticket_server_text };
 
     fn put(&self, line: &mut String) -> Result<(), AllocError> {

@@ -10,7 +10,7 @@ ghost use Rattle.krb_list.specs.Messages.{code_suffix, code_text, items_unless, 
 use crate::field::{
     put_client_field, put_field, put_principal_field, put_size_field, put_string_field,
 };
-use crate::piece::Piece;
+use crate::shown::Shown;
 use krb_der::{Int32, Many, Memory};
 use krb_judge::{ParseFault, parse_method_data};
 use krb_msg::{KrbError, PaData};
@@ -43,7 +43,7 @@ fn code_suffix<'a>(code: i32) -> &'a str
     }
 }
 
-impl Piece for Code {
+impl Shown for Code {
     ghost text = { λ code. code_text code.0 };
 
     #[tactic(auto, unfolding(crate::specs::Messages::code_text))]

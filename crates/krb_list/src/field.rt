@@ -5,7 +5,7 @@ ghost use Rattle.krb_list.specs.Text.{field, or_dash};
 ghost use Rattle.krb_list.specs.Messages.{in_realm, client_text, count_text, quoted_text};
 
 use crate::escape::put_escaped;
-use crate::piece::{Piece, put_number};
+use crate::shown::{Shown, put_number};
 use crate::principal::put_principal;
 use krb_der::{KString, Many, Octets};
 use krb_msg::PrincipalName;
@@ -22,7 +22,7 @@ fn put_name(line: &mut String, name: &str) -> Result<(), AllocError>
 
 /// Appends a field.
 #[tactic(auto, unfolding(crate::specs::Text::field))]
-pub fn put_field<T: Piece>(line: &mut String, name: &str, value: &T) -> Result<(), AllocError>
+pub fn put_field<T: Shown>(line: &mut String, name: &str, value: &T) -> Result<(), AllocError>
     ensures { OnOk result (string_bytes line.new ≡ string_bytes line.old ++ field name.now (T.text value.now)) }
 {
     put_name(line, name)?;

@@ -5,7 +5,7 @@ ghost use Rattle.std.specs.List.{flat_map};
 ghost use Rattle.krb_list.specs.Text.{line_feed, yes_or_no};
 ghost use Rattle.krb_list.specs.Keytabs.{name_text, version_text, sizes_text, entry_text, hole_text, record_text, stop_text, keytab_end_text, keytab_lines};
 
-use crate::piece::Piece;
+use crate::shown::Shown;
 use crate::principal::put_principal;
 use crate::time::put_time;
 use krb_der::Memory;
@@ -42,7 +42,7 @@ fn put_sizes(line: &mut String, entry: &Entry) -> Result<(), AllocError>
 }
 
 /// The principal and the version of a key. Of the key itself, the number of its octets.
-impl Piece for Entry {
+impl Shown for Entry {
     ghost text = { entry_text };
 
     #[tactic(auto, unfolding(crate::specs::Keytabs::entry_text))]
@@ -55,7 +55,7 @@ impl Piece for Entry {
 }
 
 /// `yes` or `no`.
-impl Piece for bool {
+impl Shown for bool {
     ghost text = { yes_or_no };
 
     fn put(&self, line: &mut String) -> Result<(), AllocError> {
@@ -63,7 +63,7 @@ impl Piece for bool {
     }
 }
 
-impl Piece for Hole {
+impl Shown for Hole {
     ghost text = { hole_text };
 
     #[tactic(auto, unfolding(crate::specs::Keytabs::hole_text))]
@@ -73,7 +73,7 @@ impl Piece for Hole {
     }
 }
 
-impl Piece for Record {
+impl Shown for Record {
     ghost text = { record_text };
 
     fn put(&self, line: &mut String) -> Result<(), AllocError> {
@@ -95,7 +95,7 @@ fn put_records(lines: &mut String, records: &[Record]) -> Result<(), AllocError>
 }
 
 /// `yes` where a record of length 0 ends the keytab, else `no`.
-impl Piece for Stop {
+impl Shown for Stop {
     ghost text = { stop_text };
 
     #[tactic(auto, unfolding(crate::specs::Keytabs::stop_text))]

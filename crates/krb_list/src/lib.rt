@@ -10,7 +10,7 @@ mod keytab;
 mod law;
 mod message;
 mod notes;
-mod piece;
+mod shown;
 mod principal;
 mod refusal;
 mod stream;
@@ -28,7 +28,7 @@ pub use law::{
     session_keys_are_not_shown,
 };
 pub use message::{message_line, put_message};
-pub use piece::{Name, Piece, put_joined, put_list};
+pub use shown::{Name, Shown, put_joined, put_list};
 pub use principal::{principal_text, put_principal};
 pub use refusal::{put_fault, put_file_refusal, put_message_refusal};
 pub use stream::{put_stream_end, put_stream_refusal};

@@ -3,12 +3,12 @@
 ghost use Rattle.std.specs.Prelude.{◌≡◌, ◌++◌, OnOk, string_bytes};
 ghost use Rattle.krb_list.specs.Messages.{notes_text};
 
-use crate::piece::{Piece, put_number};
+use crate::shown::{Shown, put_number};
 use krb_msg::Notes;
 use std::alloc::AllocError;
 
 /// The numbers of the notes, in brackets, with commas between them.
-impl Piece for Notes {
+impl Shown for Notes {
     ghost text = { notes_text };
 
     fn put(&self, line: &mut String) -> Result<(), AllocError> {

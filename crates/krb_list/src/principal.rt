@@ -3,7 +3,7 @@
 ghost use Rattle.std.specs.Prelude.{◌≡◌, ◌++◌, IfOk, OnOk, string_bytes};
 ghost use Rattle.krb_list.specs.Text.{principal_text};
 
-use crate::piece::{Piece, put_joined};
+use crate::shown::{Shown, put_joined};
 use krb_der::{KString, Memory};
 use std::alloc::{AllocError, Global};
 

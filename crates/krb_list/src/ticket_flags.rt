@@ -4,7 +4,7 @@ ghost use Rattle.std.specs.Prelude.{⊤, ◌≡◌, ◌∷◌, ◌++◌, [], IfO
 ghost use Rattle.krb_list.specs.TicketFlags.{eight_hex, first_names, flag_names, last_names, name_if_set, others_text, ticket_flags_text};
 
 use crate::escape::put_two_hex;
-use crate::piece::{Name, Piece, put_joined};
+use crate::shown::{Name, Shown, put_joined};
 use bitflags::{Flag, Flags, bitflag_items};
 use std::alloc::{AllocError, Global};
 
@@ -141,7 +141,7 @@ fn put_others(line: &mut String, others: u32) -> Result<(), AllocError>
 
 /// The names of the flags that are set, with `,` between them, or `-` where there is none; then `+`
 /// and eight hexadecimal digits where bits without a name are set.
-impl Piece for TicketFlags {
+impl Shown for TicketFlags {
     ghost text = { λ flags. ticket_flags_text flags.0 };
 
     #[tactic(auto, unfolding(crate::specs::TicketFlags::ticket_flags_text))]

@@ -19,10 +19,10 @@ module _ (messages : List Term) (limit : ℕ) where
   frames-length (octet ∷ rest) h =
       frames_within-step messages limit (length rest) (octet ∷ rest) h
       ∙ length_and-same messages limit (number (take 4 (octet ∷ rest))) (drop 4 (octet ∷ rest)) (frames_within (length rest) messages limit) (frames messages limit)
-      (frames_within-same messages limit (length rest) (length behind) behind (length-drop_two (octet ∷ rest) (length rest) (omega arith)) (omega arith))
+      (frames_within-same messages limit (length rest) (length following) following (length-drop_two (octet ∷ rest) (length rest) (omega arith)) (omega arith))
     where
-      behind : List ℕ
-      behind = drop (number (take 4 (octet ∷ rest))) (drop 4 (octet ∷ rest))
+      following : List ℕ
+      following = drop (number (take 4 (octet ∷ rest))) (drop 4 (octet ∷ rest))
 
   -- a frame's length that may be judged by its contents
   pub record MayFollow (n : ℕ) : Type 0 where
@@ -68,7 +68,7 @@ module _ (messages : List Term) (limit : ℕ) where
   pub frames-done_more : (octets more : List ℕ) (n count : ℕ) → 4 + n ≤ length octets → number (take 4 octets) ≡ n → MayFollow n → message_outcome messages n (take n (drop 4 octets)) ≡ Done count → frames messages limit (octets ++ more) ≡ with_first (take n (drop 4 octets)) (frames messages limit (drop (4 + n) octets ++ more))
   frames-done_more octets more n count all e m o =
       frames-done (octets ++ more) n count (omega (arith, length-append octets more)) (ap number front ∙ e) m (ap (message_outcome messages n) contents ∙ o)
-      ∙ ap₂ (λ c r. with_first c (frames messages limit r)) contents behind
+      ∙ ap₂ (λ c r. with_first c (frames messages limit r)) contents following
     where
       front : take 4 (octets ++ more) ≡ take 4 octets
       front = take-append-le 4 octets more (omega arith)
@@ -82,8 +82,8 @@ module _ (messages : List Term) (limit : ℕ) where
       contents : take n (drop 4 (octets ++ more)) ≡ take n (drop 4 octets)
       contents = ap (take n) after ∙ take-append-le n (drop 4 octets) more within
 
-      behind : drop n (drop 4 (octets ++ more)) ≡ drop (4 + n) octets ++ more
-      behind = ap (drop n) after ∙ drop-append-le n (drop 4 octets) more within ∙ ap (λ l. l ++ more) (drop-drop n 4 octets)
+      following : drop n (drop 4 (octets ++ more)) ≡ drop (4 + n) octets ++ more
+      following = ap (drop n) after ∙ drop-append-le n (drop 4 octets) more within ∙ ap (λ l. l ++ more) (drop-drop n 4 octets)
 
 -- before the fourth octet of a length
 pub frames-short : (messages : List Term) (limit : ℕ) (octet : ℕ) (rest : List ℕ) → length (octet ∷ rest) < 4 → frames messages limit (octet ∷ rest) ≡ ends (Within (length (octet ∷ rest)))

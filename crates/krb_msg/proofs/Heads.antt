@@ -6,8 +6,8 @@ use Rattle.std.proofs.lemmas.List.{length-take-le, take_at}
 use Rattle.krb_der.specs.Octets.{number, length_octets, AreOctets}
 use Rattle.krb_der.specs.declared.why.Why.{Why}
 use Rattle.krb_der.specs.declared.why.Why.TheVariants as why
-use Rattle.krb_der.specs.Numbers.{spelled, IsShortest, IsShortest-spelled, AreOctets-spelled, AreOctets-take, number-fewest, number_from-ge, spelled-number, length-spelled-le}
-use Rattle.krb_der.specs.Items.{length_octets-short, length_octets-long}
+use Rattle.krb_der.specs.inner.Numbers.{spelled, IsShortest, IsShortest-spelled, AreOctets-spelled, AreOctets-take, number-fewest, number_from-ge, spelled-number, length-spelled-le}
+use Rattle.krb_der.specs.inner.Items.{length_octets-short, length_octets-long}
 use Rattle.krb_msg.specs.Judgement.{Head, Partial, Refused, Got, fitting, long_head, head}
 
 -- ---- whether the contents fit in the room

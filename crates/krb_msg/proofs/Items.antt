@@ -5,7 +5,7 @@ use Rattle.std.proofs.lemmas.Bool.Decides.{nat_tests}
 use Rattle.std.proofs.lemmas.List.{take_at, take_all, take-append-le}
 use Rattle.krb_der.specs.Octets.{length_octets, item}
 use Rattle.krb_der.specs.declared.why.Why.TheVariants as why
-use Rattle.krb_der.specs.Items.{same_from_cons, length-item, item-append, length-length_octets}
+use Rattle.krb_der.specs.inner.Items.{same_from_cons, length-item, item-append, length-length_octets}
 use Rattle.krb_msg.specs.Term.{Term, tag_of}
 use Rattle.krb_msg.specs.Judgement.{Outcome, Open, Bad, Done, Head, Partial, Refused, Got, head, has_size, of_head, item_with}
 use Rattle.krb_msg.proofs.Stable.{need, IsDecided, Shown, IsStable, IsStable-refusal, refusal, not_open, length_parts, take-append_right}

@@ -19,14 +19,15 @@ use Rattle.std.specs.List.{AllByRecursion}
 use Rattle.krb_msg.specs.Grammar.{messages, sequence_of, ticket, principal_name, kdc_req_body, microseconds, krb_error}
 use Rattle.krb_msg.specs.Shape.{IsOneOf, IsGrammar}
 use Rattle.krb_msg.specs.Judgement.{judgement}
-use Rattle.krb_msg.specs.Views.{kind_of, kind_term, kind_of_tag, message_value, message_of, message_der, pa_data_value, pa_data_of, principal_name_value, principal_name_of, host_address_value, host_address_of, encrypted_data_value, encrypted_data_of, ticket_value, ticket_of, kdc_req_body_value, kdc_req_body_of, KdcReqValue, kdc_req_value, kdc_req_of, KdcRepValue, kdc_rep_value, kdc_rep_of, micros_of, krb_error_value, krb_error_of, ap_req_of, ap_rep_of, IsInProfile, kdc_req_body-back, krb_error-back}
-use Rattle.krb_msg.specs.Told.{option-back, list-back}
+use Rattle.krb_msg.specs.Views.{kind_of, kind_term, kind_of_tag, message_value, message_of, message_der, pa_data_value, pa_data_of, principal_name_value, principal_name_of, host_address_value, host_address_of, encrypted_data_value, encrypted_data_of, ticket_value, ticket_of, kdc_req_body_value, kdc_req_body_of, KdcReqValue, kdc_req_value, kdc_req_of, KdcRepValue, kdc_rep_value, kdc_rep_of, micros_of, krb_error_value, krb_error_of, ap_req_of, ap_rep_of, IsInProfile}
+use Rattle.krb_msg.specs.inner.RoundTrips.{kdc_req_body-back, krb_error-back}
+use Rattle.krb_msg.specs.inner.Told.{option-back, list-back}
 use Rattle.krb_msg.specs.Laws.{AreOneOf, AreMessage}
-use Rattle.krb_der.specs.Items.{same_from_cons}
-use Rattle.krb_msg.specs.Values.{der-append}
+use Rattle.krb_der.specs.inner.Items.{same_from_cons}
+use Rattle.krb_msg.specs.inner.Values.{der-append}
 use Rattle.krb_msg.proofs.Laws.{same_value}
 use Rattle.krb_msg.proofs.Grammars.{whole_is_one_of, unambiguous_message, one_of_is_whole, refusal_is_none_of}
-pub use Rattle.krb_msg.specs.MessageTold.{kind_of_tag-tag, message_comes_back, der_tells}
+pub use Rattle.krb_msg.specs.inner.MessageTold.{kind_of_tag-tag, message_round_trips, der_is_prefix_free}
 pub use Rattle.krb_msg.proofs.Grammars.{whole_outcome, refused_outcome, open_outcome, whole_is_value, value_is_whole, value_is_decided}
 
 -- ---- the grammar

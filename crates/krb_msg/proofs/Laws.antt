@@ -9,7 +9,7 @@ use Rattle.krb_msg.specs.Judgement.{Outcome, Open, Bad, Done, item_outcome}
 use Rattle.krb_msg.proofs.Stable.{need, IsDecided, Shown, IsStable, length_parts}
 use Rattle.krb_msg.proofs.TermsStable.{IsStable-item_outcome}
 use Rattle.krb_msg.proofs.TermsDecided.{item_outcome-decided, item-count, contents-count}
-use Rattle.krb_msg.specs.Values.{same_from_der}
+use Rattle.krb_msg.specs.inner.Values.{same_from_der}
 use Rattle.krb_msg.proofs.Accepts.{item-accepted}
 use Rattle.krb_msg.proofs.Whole.{ItemWhole, item-whole}
 

@@ -5,12 +5,12 @@ use Rattle.std.proofs.lemmas.List.{map_push, nil_from_length}
 use Rattle.std.specs.List.{flat_map, AllByRecursion}
 use Rattle.std.proofs.lemmas.Int.{ints}
 use Rattle.krb_der.specs.Octets.{item, integer_octets, octets_of_option, AreBits}
-use Rattle.krb_der.specs.Items.{same_from_cons}
-use Rattle.krb_der.specs.Tells.{same_integer}
+use Rattle.krb_der.specs.inner.Items.{same_from_cons}
+use Rattle.krb_der.specs.inner.PrefixFree.{same_integer}
 use Rattle.krb_msg.specs.Term.{Term, Fields, Integer, Sequence, SequenceOf, Tagged, Application, End, Required, Optional, tag_of, Value, Values, Fits, AllFit, IfPresent, der, der_of_fields}
 use Rattle.krb_msg.specs.Grammar.{exactly, kerberos_flags}
 use Rattle.krb_msg.specs.Shape.{may_begin, is_unambiguous, are_unambiguous}
-use Rattle.krb_msg.specs.Values.{contents, der_is, der_begins, may_begin_from_der}
+use Rattle.krb_msg.specs.inner.Values.{contents, der_is, der_begins, may_begin_from_der}
 use Rattle.krb_msg.specs.Reads.{Begins, IsTaken, AreFields, AreRead, AreItems, AreItemsRead, HasItem, IsSplit}
 
 same_pair : {A B : Type 0} (v w : A × B) → v.0 ≡ w.0 → v.1 ≡ w.1 → v ≡ w

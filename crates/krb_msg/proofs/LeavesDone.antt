@@ -7,24 +7,24 @@ use Rattle.krb_der.specs.Octets.{integer_value, last_or_zero, AreBits}
 use Rattle.krb_der.specs.declared.why.Why.{Why}
 use Rattle.krb_der.specs.declared.why.Why.TheVariants as why
 use Rattle.krb_msg.specs.Term.{IsTimeFrom}
-use Rattle.krb_msg.specs.Judgement.{Outcome, Open, Bad, Done, behind, then_after, is_padded, int_le, integer_contents, each_contents, text_octet, time_octet, bits_contents, any_contents}
+use Rattle.krb_msg.specs.Judgement.{Outcome, Open, Bad, Done, after, then_after, is_padded, int_le, integer_contents, each_contents, text_octet, time_octet, bits_contents, any_contents}
 use Rattle.krb_msg.proofs.Leaves.{each-next, each-bad, each-open, each-done}
 
 -- ---- parts after others
-pub done_from_behind : (before : ℕ) (outcome : Outcome) (total : ℕ) → behind before outcome ≡ Done total → (count : ℕ) × (outcome ≡ Done count) × (total ≡ before + count)
-done_from_behind before Open total e = absurd cc
-done_from_behind before (Bad offset reason) total e = absurd cc
-done_from_behind before (Done count) total e = (count, refl, cc)
+pub done_from_after : (before : ℕ) (outcome : Outcome) (total : ℕ) → after before outcome ≡ Done total → (count : ℕ) × (outcome ≡ Done count) × (total ≡ before + count)
+done_from_after before Open total e = absurd cc
+done_from_after before (Bad offset reason) total e = absurd cc
+done_from_after before (Done count) total e = (count, refl, cc)
 
 pub done_from_then_after : (before : ℕ) (outcome : Outcome) (next : ℕ → Outcome) (total : ℕ) → then_after before outcome next ≡ Done total → (count : ℕ) × (outcome ≡ Done count) × (next count ≡ Done total)
 done_from_then_after before Open next total e = absurd cc
 done_from_then_after before (Bad offset reason) next total e = absurd cc
 done_from_then_after before (Done count) next total e = (count, refl, e)
 
-pub open_from_behind : (before : ℕ) (outcome : Outcome) → behind before outcome ≡ Open → outcome ≡ Open
-open_from_behind before Open e = refl
-open_from_behind before (Bad offset reason) e = absurd cc
-open_from_behind before (Done count) e = absurd cc
+pub open_from_after : (before : ℕ) (outcome : Outcome) → after before outcome ≡ Open → outcome ≡ Open
+open_from_after before Open e = refl
+open_from_after before (Bad offset reason) e = absurd cc
+open_from_after before (Done count) e = absurd cc
 
 pub open_from_then_after : (before : ℕ) (outcome : Outcome) (next : ℕ → Outcome) → then_after before outcome next ≡ Open → (outcome ≡ Open) ⊎ ((count : ℕ) × (outcome ≡ Done count) × (next count ≡ Open))
 open_from_then_after before Open next e = inl refl

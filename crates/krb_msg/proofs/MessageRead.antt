@@ -8,17 +8,17 @@ use Rattle.krb_msg.specs.Views.{kdc_req_value, kdc_rep_value, ap_req_value, ap_r
 use Rattle.krb_msg.specs.declared.message.Kind.TheVariants as kind
 use Rattle.krb_msg.specs.declared.message.Message.{Message}
 use Rattle.krb_msg.specs.declared.message.Message.TheVariants as message
-use Rattle.krb_msg.proofs.Judged.{message_comes_back}
+use Rattle.krb_msg.proofs.Judged.{message_round_trips}
 use Rattle.krb_msg.proofs.Read.{value_is_read}
 
 short-read : (term : Term) (value : Value term) → is_unambiguous term ≡ true → length (der term value) < 2 ^ 31 → value_read term (der term value) ≡ value
 short-read term value u short = value_is_read term value u (omega arith)
 
 pub message_is_read : (m : Message) → IsInProfile m → message_read (message_der m) ≡ m
-message_is_read (message.AsReq m) p = ap (message_of kind.AsReq) (short-read as_req (kdc_req_value 10 m) refl p.short) ∙ message_comes_back (message.AsReq m)
-message_is_read (message.AsRep m) p = ap (message_of kind.AsRep) (short-read as_rep (kdc_rep_value 11 m) refl p.short) ∙ message_comes_back (message.AsRep m)
-message_is_read (message.TgsReq m) p = ap (message_of kind.TgsReq) (short-read tgs_req (kdc_req_value 12 m) refl p.short) ∙ message_comes_back (message.TgsReq m)
-message_is_read (message.TgsRep m) p = ap (message_of kind.TgsRep) (short-read tgs_rep (kdc_rep_value 13 m) refl p.short) ∙ message_comes_back (message.TgsRep m)
-message_is_read (message.ApReq m) p = ap (message_of kind.ApReq) (short-read ap_req (ap_req_value m) refl p.short) ∙ message_comes_back (message.ApReq m)
-message_is_read (message.ApRep m) p = ap (message_of kind.ApRep) (short-read ap_rep (ap_rep_value m) refl p.short) ∙ message_comes_back (message.ApRep m)
-message_is_read (message.KrbError m) p = ap (message_of kind.KrbError) (short-read krb_error (krb_error_value m) refl p.short) ∙ message_comes_back (message.KrbError m)
+message_is_read (message.AsReq m) p = ap (message_of kind.AsReq) (short-read as_req (kdc_req_value 10 m) refl p.short) ∙ message_round_trips (message.AsReq m)
+message_is_read (message.AsRep m) p = ap (message_of kind.AsRep) (short-read as_rep (kdc_rep_value 11 m) refl p.short) ∙ message_round_trips (message.AsRep m)
+message_is_read (message.TgsReq m) p = ap (message_of kind.TgsReq) (short-read tgs_req (kdc_req_value 12 m) refl p.short) ∙ message_round_trips (message.TgsReq m)
+message_is_read (message.TgsRep m) p = ap (message_of kind.TgsRep) (short-read tgs_rep (kdc_rep_value 13 m) refl p.short) ∙ message_round_trips (message.TgsRep m)
+message_is_read (message.ApReq m) p = ap (message_of kind.ApReq) (short-read ap_req (ap_req_value m) refl p.short) ∙ message_round_trips (message.ApReq m)
+message_is_read (message.ApRep m) p = ap (message_of kind.ApRep) (short-read ap_rep (ap_rep_value m) refl p.short) ∙ message_round_trips (message.ApRep m)
+message_is_read (message.KrbError m) p = ap (message_of kind.KrbError) (short-read krb_error (krb_error_value m) refl p.short) ∙ message_round_trips (message.KrbError m)

@@ -12,8 +12,8 @@ use Rattle.krb_msg.specs.Judgement.{Outcome, Open, Bad, Done, item_outcome, mess
 use Rattle.krb_msg.proofs.Stable.{IsDecided, IsStable, IsStable-refusal, refusal}
 use Rattle.krb_msg.proofs.Items.{IsStable-first}
 use Rattle.krb_msg.proofs.TermsStable.{IsStable-item_outcome}
-use Rattle.krb_der.specs.Items.{same_from_cons}
-use Rattle.krb_msg.specs.Values.{der-append}
+use Rattle.krb_der.specs.inner.Items.{same_from_cons}
+use Rattle.krb_msg.specs.inner.Values.{der-append}
 use Rattle.krb_msg.proofs.Laws.{item_outcome-der, Settles, Settles-stable, IsWhole, IsWhole-done, decided, same_value}
 
 -- ---- the term of a tag

@@ -4,21 +4,21 @@ use Rattle.std.proofs.lemmas.Bool.{and_parts, not-true, true≢false, false_from
 use Rattle.std.proofs.lemmas.List.{take_at}
 use Rattle.std.specs.List.{flat_map}
 use Rattle.krb_der.specs.Octets.{item, length_octets}
-use Rattle.krb_der.specs.Numbers.{integer_value-integer_octets, when-true, when-false}
-use Rattle.krb_der.specs.Items.{item-append}
-use Rattle.krb_der.specs.Tells.{same_pair}
+use Rattle.krb_der.specs.inner.Numbers.{integer_value-integer_octets, when-true, when-false}
+use Rattle.krb_der.specs.inner.Items.{item-append}
+use Rattle.krb_der.specs.inner.PrefixFree.{same_pair}
 use Rattle.krb_msg.specs.Term.{Term, Fields, Integer, Text, Octets, Time, Bits, Sequence, SequenceOf, Tagged, Application, End, Required, Optional, tag_of, Value, Values, der, der_of_fields, octets_of_option}
 use Rattle.krb_msg.specs.Reading.{Opened, opened_at, opened, all_opened, begins_with, value_of, values_of, value_read}
 use Rattle.krb_msg.specs.Shape.{may_begin, is_unambiguous, are_unambiguous}
-use Rattle.krb_msg.specs.Values.{contents, der_is, may_begin_from_der}
+use Rattle.krb_msg.specs.inner.Values.{contents, der_is, may_begin_from_der}
 use Rattle.krb_msg.proofs.Accepts.{length-der}
 use Rattle.krb_msg.proofs.Heads.{head-length_octets}
 
 abbrev the_opened : List ℕ → List ℕ → Opened
-the_opened contents behind = record { contents = contents; behind = behind }
+the_opened contents after = record { contents = contents; rest = after }
 
-behind_header : (tag : ℕ) (lengths rest : List ℕ) → drop (1 + length lengths) (tag ∷ (lengths ++ rest)) ≡ rest
-behind_header tag lengths rest = drop_at (tag ∷ lengths) rest (1 + length lengths) (omega arith)
+after_header : (tag : ℕ) (lengths rest : List ℕ) → drop (1 + length lengths) (tag ∷ (lengths ++ rest)) ≡ rest
+after_header tag lengths rest = drop_at (tag ∷ lengths) rest (1 + length lengths) (omega arith)
 
 opened-item : (tag : ℕ) (inner rest : List ℕ) → length inner < 2 ^ 32 → opened (item tag inner ++ rest) ≡ the_opened inner rest
 opened-item tag inner rest small =
@@ -26,7 +26,7 @@ opened-item tag inner rest small =
     let n : length (tag ∷ (lengths ++ (inner ++ rest))) ≡ 1 + length lengths + length inner + length rest = omega (arith, length-append lengths (inner ++ rest), length-append inner rest) in
     ap opened (item-append tag inner rest)
     ∙ ap (λ h. opened_at h (tag ∷ (lengths ++ (inner ++ rest)))) (head-length_octets (length (tag ∷ (lengths ++ (inner ++ rest)))) tag (length inner) (inner ++ rest) small (omega arith))
-    ∙ rw (behind_header tag lengths (inner ++ rest), take_at inner rest (length inner) refl, drop_at inner rest (length inner) refl) refl
+    ∙ rw (after_header tag lengths (inner ++ rest), take_at inner rest (length inner) refl, drop_at inner rest (length inner) refl) refl
 
 opened-der : (term : Term) (value : Value term) (rest : List ℕ) → length (der term value ++ rest) < 2 ^ 32 → opened (der term value ++ rest) ≡ the_opened (contents term value) rest
 opened-der term value rest small =
@@ -49,7 +49,7 @@ sole-read term read value small =
     ∙ first-read term read value [] (omega (arith, length-append (der term value) []))
 
 -- ---- items one after another
-all_step : (bound : ℕ) (octets : List ℕ) → 0 < length octets → all_opened (suc bound) octets ≡ (opened octets).contents ∷ all_opened bound (opened octets).behind
+all_step : (bound : ℕ) (octets : List ℕ) → 0 < length octets → all_opened (suc bound) octets ≡ (opened octets).contents ∷ all_opened bound (opened octets).rest
 all_step bound [] p = absurd (omega arith)
 all_step bound (octet ∷ octets) p = refl
 
@@ -75,12 +75,12 @@ both term fields value values = (value, values)
 
 option-read : (term : Term) (fields : Fields) → IsRead term → ((values : Values fields) → length (der_of_fields fields values) < 2 ^ 32 → values_of fields (der_of_fields fields values) ≡ values) → not (may_begin (tag_of term) fields) ≡ true → (value : Option (Value term)) (values : Values fields) → length (octets_of_option (der term) value ++ der_of_fields fields values) < 2 ^ 32 → values_of (Optional term fields) (octets_of_option (der term) value ++ der_of_fields fields values) ≡ both term fields value values
 option-read term fields read rest u None values small =
-    when-false _ _ _ (begins_not (tag_of term) (der_of_fields fields values) (λ octet behind e t. true≢false (sym (may_begin_from_der fields values (tag_of term) behind (e ∙ ap (λ o. o ∷ behind) t)) ∙ not-true _ u)))
+    when-false _ _ _ (begins_not (tag_of term) (der_of_fields fields values) (λ octet after e t. true≢false (sym (may_begin_from_der fields values (tag_of term) after (e ∙ ap (λ o. o ∷ after) t)) ∙ not-true _ u)))
     ∙ same_pair _ _ refl (rest values small)
 option-read term fields read rest u (Some value) values small =
     when-true _ _ _ (begins-der term value (der_of_fields fields values))
     ∙ same_pair _ _ (ap Some (first-read term read value (der_of_fields fields values) small))
-    (ap (λ (o : Opened). values_of fields o.behind) (opened-der term value (der_of_fields fields values) small)
+    (ap (λ (o : Opened). values_of fields o.rest) (opened-der term value (der_of_fields fields values) small)
     ∙ rest values (omega (arith, length-append (der term value) (der_of_fields fields values))))
 
 mutual
@@ -100,7 +100,7 @@ mutual
   fields-read (Required term fields) u values small =
       let t : (is_unambiguous term ≡ true) × (are_unambiguous fields ≡ true) = and_parts _ _ u in
       same_pair _ _ (first-read term (contents-read term t.0) values.0 (der_of_fields fields values.1) small)
-      (ap (λ (o : Opened). values_of fields o.behind) (opened-der term values.0 (der_of_fields fields values.1) small)
+      (ap (λ (o : Opened). values_of fields o.rest) (opened-der term values.0 (der_of_fields fields values.1) small)
       ∙ fields-read fields t.1 values.1 (omega (arith, length-append (der term values.0) (der_of_fields fields values.1))))
   fields-read (Optional term fields) u values small =
       let s : (not (may_begin (tag_of term) fields) ≡ true) × ((is_unambiguous term && are_unambiguous fields) ≡ true) = and_parts _ _ u in

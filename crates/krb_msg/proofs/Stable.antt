@@ -4,7 +4,7 @@ use mathlib.Core.Path.{fun_ext}
 use Rattle.std.proofs.lemmas.Bool.{cases_lt}
 use Rattle.std.proofs.lemmas.List.{take-append-le}
 use Rattle.krb_der.specs.declared.why.Why.{Why}
-use Rattle.krb_msg.specs.Judgement.{Outcome, Open, Bad, Done, behind, then_after}
+use Rattle.krb_msg.specs.Judgement.{Outcome, Open, Bad, Done, after, then_after}
 
 -- how many octets an outcome takes
 abbrev pub need : Outcome → ℕ
@@ -70,10 +70,10 @@ IsStable-refusal room before reason (octet ∷ octets) o fits e d =
     zero_from_lt_one k h = omega arith
 
 -- ---- a judgement after another
-pub IsStable-behind : (room before : ℕ) (judge : List ℕ → Outcome) → IsStable room 0 judge → IsStable room before (λ octets. behind before (judge octets))
-IsStable-behind room before judge p octets outcome fits e d = go (judge octets) refl
+pub IsStable-after : (room before : ℕ) (judge : List ℕ → Outcome) → IsStable room 0 judge → IsStable room before (λ octets. after before (judge octets))
+IsStable-after room before judge p octets outcome fits e d = go (judge octets) refl
   where
-    go : (o : Outcome) → judge octets ≡ o → Shown room before (λ octets. behind before (judge octets)) octets outcome
+    go : (o : Outcome) → judge octets ≡ o → Shown room before (λ octets. after before (judge octets)) octets outcome
     go Open f = absurd (not_open outcome (rw f at e) d)
     go (Bad offset reason) f =
         let s : Shown room 0 judge octets (Bad offset reason) = p octets (Bad offset reason) fits f tt in
@@ -139,10 +139,10 @@ module _ (room before : ℕ) (one : List ℕ → Outcome) (next : ℕ → List �
       go (Done count) f =
           let s : Shown room 0 one octets (Done count) = p octets (Done count) fits f tt in
           let g : next count (drop count octets) ≡ outcome = rw f at e in
-          behind_one count s g
+          after_one count s g
         where
-          behind_one : (count : ℕ) (s : Shown room 0 one octets (Done count)) → next count (drop count octets) ≡ outcome → Shown room before both octets outcome
-          behind_one count s g =
+          after_one : (count : ℕ) (s : Shown room 0 one octets (Done count)) → next count (drop count octets) ≡ outcome → Shown room before both octets outcome
+          after_one count s g =
               let n : length s.front ≡ count = omega (arith, s.reached) in
               let h : next count s.back ≡ outcome = rw (s.parts, drop_at s.front s.back count n) at g in
               Shown-both octets outcome count s (q count s.back outcome (omega (arith, length_parts octets room 0 s)) h d) fits

@@ -5,7 +5,7 @@ use Rattle.std.proofs.lemmas.List.{take_at}
 use Rattle.std.specs.List.{flat_map, AllByRecursion}
 use Rattle.krb_der.specs.Octets.{AreOctets, number}
 use Rattle.krb_der.specs.declared.why.Why.TheVariants as why
-use Rattle.krb_der.specs.Numbers.{AreOctets-take, AreOctets-drop}
+use Rattle.krb_der.specs.inner.Numbers.{AreOctets-take, AreOctets-drop}
 use Rattle.krb_msg.specs.Term.{Term}
 use Rattle.krb_msg.specs.Judgement.{Outcome, Open, Bad, Done, message_outcome}
 use Rattle.krb_msg.proofs.Laws.{IsWhole}
@@ -128,7 +128,7 @@ frame_parts (w ∷ x ∷ y ∷ z ∷ rest) a h =
 module _ (messages : List Term) (limit : ℕ) where
   -- after a length, if what is left after the frame is parsed
   IsParse-length : (b : ℕ) (octets : List ℕ) → AreOctets octets → length octets ≤ suc b → 4 ≤ length octets → IsParse messages limit (drop (number (take 4 octets)) (drop 4 octets)) (frames_within b messages limit (drop (number (take 4 octets)) (drop 4 octets))) → IsParse messages limit octets (frames_within (suc b) messages limit octets)
-  IsParse-length b octets a l h behind = by_tests (cases_Bool (leb (2 ^ 31) n)) (cases_Bool (ltb limit n)) (cases_Bool (eqb n 0))
+  IsParse-length b octets a l h after = by_tests (cases_Bool (leb (2 ^ 31) n)) (cases_Bool (ltb limit n)) (cases_Bool (eqb n 0))
     where
       n : ℕ
       n = number (take 4 octets)
@@ -152,7 +152,7 @@ module _ (messages : List Term) (limit : ℕ) where
           frame_parts octets a h
           ∙ ap (λ m. four_octets m ++ drop 4 octets) (sym m.1)
           ∙ ap (λ r. four_octets (length (take n (drop 4 octets))) ++ r) (sym (take-append-drop n (drop 4 octets))) in
-          subst (λ x. IsParse messages limit octets x) (sym e) (IsParse-first messages limit (take n (drop 4 octets)) (drop n (drop 4 octets)) octets found p m.0 behind)
+          subst (λ x. IsParse messages limit octets x) (sym e) (IsParse-first messages limit (take n (drop 4 octets)) (drop n (drop 4 octets)) octets found p m.0 after)
 
       by_tests : (leb (2 ^ 31) n ≡ true) ⊎ (leb (2 ^ 31) n ≡ false) → (ltb limit n ≡ true) ⊎ (ltb limit n ≡ false) → (eqb n 0 ≡ true) ⊎ (eqb n 0 ≡ false) → IsParse messages limit octets (frames_within (suc b) messages limit octets)
       by_tests (inl t) c d = ended (Refused 3 why.HighBit) (step ∙ rw t)

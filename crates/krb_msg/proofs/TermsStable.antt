@@ -3,8 +3,8 @@ use Rattle.std.proofs.Common.{◌≡◌, ℕ, zero, suc, ◌+◌, ◌-◌, ◌<�
 use Rattle.std.proofs.lemmas.Bool.{cases_Bool, and_parts}
 use Rattle.krb_der.specs.declared.why.Why.TheVariants as why
 use Rattle.krb_msg.specs.Term.{Term, Fields, Integer, Text, Octets, Time, Bits, Sequence, SequenceOf, Tagged, Application, End, Required, Optional, tag_of}
-use Rattle.krb_msg.specs.Judgement.{Outcome, Open, Bad, Done, behind, then_after, has_size, item_with, item_outcome, only_contents, items_contents, integer_contents, each_contents, text_octet, time_octet, any_contents, bits_contents, contents_outcome, fields_outcome}
-use Rattle.krb_msg.proofs.Stable.{need, IsStable, IsStable-constant, IsStable-open, IsStable-refusal, IsStable-behind, IsStable-then_after, refusal}
+use Rattle.krb_msg.specs.Judgement.{Outcome, Open, Bad, Done, after, then_after, has_size, item_with, item_outcome, only_contents, items_contents, integer_contents, each_contents, text_octet, time_octet, any_contents, bits_contents, contents_outcome, fields_outcome}
+use Rattle.krb_msg.proofs.Stable.{need, IsStable, IsStable-constant, IsStable-open, IsStable-refusal, IsStable-after, IsStable-then_after, refusal}
 use Rattle.krb_msg.proofs.Leaves.{IsStable-any_contents, IsStable-integer_contents, IsStable-bits_contents, IsStable-each_contents}
 use Rattle.krb_msg.proofs.Items.{IsStable-first, IsStable-item}
 
@@ -22,7 +22,7 @@ need-missing before p = omega arith
 
 pub IsStable-only : (inner : List ℕ → Outcome) (before room : ℕ) → 0 < before → IsStable room 0 inner → IsStable room before (λ octets. only_contents before room (inner octets))
 IsStable-only inner before zero p s = IsStable-constant 0 before (Bad (before - 1) why.Missing) (need-missing before p)
-IsStable-only inner before (suc room) p s = IsStable-behind (suc room) before inner s
+IsStable-only inner before (suc room) p s = IsStable-after (suc room) before inner s
 
 -- ---- fields
 pub fields_outcome-empty : (fields : Fields) (before room : ℕ) → fields_outcome fields before (suc room) [] ≡ Open
@@ -57,11 +57,11 @@ positive_from_size_bits least contents h = ltb-true 0 contents (and_parts (ltb 0
 
 mutual
   pub IsStable-contents : (term : Term) (before room : ℕ) → 0 < before → has_size term room ≡ true → IsStable room before (contents_outcome term before room)
-  IsStable-contents (Integer low high) before room p h = IsStable-behind room before (integer_contents low high room) (IsStable-integer_contents low high room (positive_from_size_integer room _ h))
-  IsStable-contents (Text greatest) before room p h = IsStable-behind room before (each_contents (text_octet greatest) why.Charset room 0) (IsStable-each_contents (text_octet greatest) why.Charset room)
-  IsStable-contents Octets before room p h = IsStable-behind room before (any_contents room) (IsStable-any_contents room)
-  IsStable-contents Time before room p h = IsStable-behind room before (each_contents time_octet why.Time room 0) (IsStable-each_contents time_octet why.Time room)
-  IsStable-contents (Bits least) before room p h = IsStable-behind room before (bits_contents least room) (IsStable-bits_contents least room (positive_from_size_bits least room h))
+  IsStable-contents (Integer low high) before room p h = IsStable-after room before (integer_contents low high room) (IsStable-integer_contents low high room (positive_from_size_integer room _ h))
+  IsStable-contents (Text greatest) before room p h = IsStable-after room before (each_contents (text_octet greatest) why.Charset room 0) (IsStable-each_contents (text_octet greatest) why.Charset room)
+  IsStable-contents Octets before room p h = IsStable-after room before (any_contents room) (IsStable-any_contents room)
+  IsStable-contents Time before room p h = IsStable-after room before (each_contents time_octet why.Time room 0) (IsStable-each_contents time_octet why.Time room)
+  IsStable-contents (Bits least) before room p h = IsStable-after room before (bits_contents least room) (IsStable-bits_contents least room (positive_from_size_bits least room h))
   IsStable-contents (Sequence fields) before room p h = IsStable-fields fields before room p
   IsStable-contents (SequenceOf empty term) before room p h =
       IsStable-items (λ left. item_with (contents_outcome term) term left false)

@@ -16,10 +16,10 @@ pub data Outcome : Type 0 where
   Done : (count : ℕ) → Outcome
 
 -- the outcome of a part that comes after a number of octets
-abbrev pub behind : ℕ → Outcome → Outcome
-behind before Open = Open
-behind before (Bad offset reason) = Bad (before + offset) reason
-behind before (Done count) = Done (before + count)
+abbrev pub after : ℕ → Outcome → Outcome
+after before Open = Open
+after before (Bad offset reason) = Bad (before + offset) reason
+after before (Done count) = Done (before + count)
 
 -- where the part that comes after a number of octets is done, goes on with its count of octets
 abbrev pub then_after : ℕ → Outcome → (ℕ → Outcome) → Outcome
@@ -121,7 +121,7 @@ items_contents one (suc bound) before (suc room) octets =
 -- exactly one item
 abbrev pub only_contents : ℕ → ℕ → Outcome → Outcome
 only_contents before zero inner = Bad (before - 1) why.Missing
-only_contents before (suc room) inner = behind before inner
+only_contents before (suc room) inner = after before inner
 
 abbrev pub of_head : Term → Head → ℕ → Bool → List ℕ → (ℕ → ℕ → List ℕ → Outcome) → Outcome
 of_head term Partial room sole octets contents_of = Open
@@ -142,11 +142,11 @@ item_with contents_of term room sole (octet ∷ octets) =
 abbrev mutual
   -- an item's contents of a length, after its tag and length octets, from what is present of them
   pub contents_outcome : Term → ℕ → ℕ → List ℕ → Outcome
-  contents_outcome (Integer low high) before room octets = behind before (integer_contents low high room octets)
-  contents_outcome (Text greatest) before room octets = behind before (each_contents (text_octet greatest) why.Charset room 0 octets)
-  contents_outcome Octets before room octets = behind before (any_contents room octets)
-  contents_outcome Time before room octets = behind before (each_contents time_octet why.Time room 0 octets)
-  contents_outcome (Bits least) before room octets = behind before (bits_contents least room octets)
+  contents_outcome (Integer low high) before room octets = after before (integer_contents low high room octets)
+  contents_outcome (Text greatest) before room octets = after before (each_contents (text_octet greatest) why.Charset room 0 octets)
+  contents_outcome Octets before room octets = after before (any_contents room octets)
+  contents_outcome Time before room octets = after before (each_contents time_octet why.Time room 0 octets)
+  contents_outcome (Bits least) before room octets = after before (bits_contents least room octets)
   contents_outcome (Sequence fields) before room octets = fields_outcome fields before room octets
   contents_outcome (SequenceOf empty term) before room octets = items_contents (λ left. item_with (contents_outcome term) term left false) room before room octets
   contents_outcome (Tagged index term) before room octets = only_contents before room (item_with (contents_outcome term) term room true octets)

@@ -108,9 +108,9 @@ abbrev pub RefusalIsRight : Type 0
 RefusalIsRight = (n : ℕ) (octets : List ℕ) (place : ℕ) (reason : Why) → length octets ≤ n → judgement n octets ≡ Refused (record { place = place; why = reason }) → (m : Message) → IsInProfile m → length (message_der m) ≡ n → take (suc place) (message_der m) ≡ take (suc place) octets → ⊥
 
 -- No message's DER begins another's, and different messages have different DER.
-abbrev pub DerTells : Type 0
-DerTells = (m other : Message) (x y : List ℕ) → message_der m ++ x ≡ message_der other ++ y → (m ≡ other) × (x ≡ y)
+abbrev pub DerIsPrefixFree : Type 0
+DerIsPrefixFree = (m other : Message) (x y : List ℕ) → message_der m ++ x ≡ message_der other ++ y → (m ≡ other) × (x ≡ y)
 
 -- The way back from the value of a message gives the message.
-abbrev pub MessageComesBack : Type 0
-MessageComesBack = (m : Message) → message_of (kind_of m) (message_value m) ≡ m
+abbrev pub MessageRoundTrips : Type 0
+MessageRoundTrips = (m : Message) → message_of (kind_of m) (message_value m) ≡ m

@@ -4,13 +4,11 @@ pub mod Grammar
 pub mod Judgement
 pub mod Stream
 pub mod Views
-pub mod MessageTold
 pub mod Reading
 pub mod Notes
 pub mod Laws
 pub mod Nodes
 pub mod Table
 pub mod Examples
-pub mod Values
-pub mod Told
 pub mod Reads
+pub mod inner

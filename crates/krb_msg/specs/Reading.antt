@@ -10,11 +10,11 @@ use Rattle.krb_msg.specs.declared.message.Message.{Message}
 -- the contents of the first item, and what is left after it
 pub record Opened : Type 0 where
   pub contents : List ℕ
-  pub behind : List ℕ
+  pub rest : List ℕ
 
 abbrev pub opened_at : Head → List ℕ → Opened
-opened_at (Got header contents) octets = record { contents = take contents (drop header octets); behind = drop contents (drop header octets) }
-opened_at other octets = record { contents = []; behind = [] }
+opened_at (Got header contents) octets = record { contents = take contents (drop header octets); rest = drop contents (drop header octets) }
+opened_at other octets = record { contents = []; rest = [] }
 
 abbrev pub opened : List ℕ → Opened
 opened octets = opened_at (head (length octets) octets) octets
@@ -23,7 +23,7 @@ opened octets = opened_at (head (length octets) octets) octets
 abbrev pub all_opened : ℕ → List ℕ → List (List ℕ)
 all_opened bound [] = []
 all_opened zero (octet ∷ octets) = []
-all_opened (suc bound) (octet ∷ octets) = (opened (octet ∷ octets)).contents ∷ all_opened bound (opened (octet ∷ octets)).behind
+all_opened (suc bound) (octet ∷ octets) = (opened (octet ∷ octets)).contents ∷ all_opened bound (opened (octet ∷ octets)).rest
 
 abbrev pub begins_with : ℕ → List ℕ → Bool
 begins_with tag [] = false
@@ -48,10 +48,10 @@ abbrev mutual
 
   pub values_of : (fields : Fields) → List ℕ → Values fields
   values_of End octets = tt
-  values_of (Required term fields) octets = (value_of term (opened octets).contents, values_of fields (opened octets).behind)
+  values_of (Required term fields) octets = (value_of term (opened octets).contents, values_of fields (opened octets).rest)
   values_of (Optional term fields) octets =
       when (begins_with (tag_of term) octets)
-      (λ _. (Some (value_of term (opened octets).contents), values_of fields (opened octets).behind))
+      (λ _. (Some (value_of term (opened octets).contents), values_of fields (opened octets).rest))
       (λ _. (None, values_of fields octets))
 
 -- the value whose DER these octets are

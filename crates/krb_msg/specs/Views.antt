@@ -17,7 +17,6 @@ use Rattle.krb_msg.specs.declared.message.Message.TheVariants as message
 use Rattle.krb_msg.specs.declared.message.Kind.{Kind}
 use Rattle.krb_msg.specs.declared.message.Kind.TheVariants as kind
 use Rattle.krb_msg.specs.Term.{Term, Value, der, Fits}
-use Rattle.krb_msg.specs.Told.{option-back, list-back}
 use Rattle.krb_msg.specs.Grammar.{encrypted_data, principal_name, pa_data, ticket, host_address, kdc_req_body, as_req, as_rep, tgs_req, tgs_rep, ap_req, ap_rep, krb_error}
 
 abbrev pub encrypted_data_value : EncryptedData → Value encrypted_data
@@ -183,22 +182,6 @@ krb_error_of (pvno, (msg_type, (ctime, (cusec, (stime, (susec, (error_code, (cre
   sname = principal_name_of sname;
   e_text = e_text;
   e_data = e_data;
-}
-
--- ---- values and back
-pub kdc_req_body-back : (b : KdcReqBody) → kdc_req_body_of (kdc_req_body_value b) ≡ b
-kdc_req_body-back b = λ i. record b {
-  cname = option-back principal_name_value principal_name_of (λ p. refl) b.cname i;
-  sname = option-back principal_name_value principal_name_of (λ p. refl) b.sname i;
-  addresses = list-back host_address_value host_address_of (λ a. refl) b.addresses i;
-  enc_authorization_data = option-back encrypted_data_value encrypted_data_of (λ e. refl) b.enc_authorization_data i;
-  additional_tickets = list-back ticket_value ticket_of (λ t. refl) b.additional_tickets i;
-}
-
-pub krb_error-back : (m : KrbError) → krb_error_of (krb_error_value m) ≡ m
-krb_error-back m = λ i. record m {
-  cusec = option-back pos micros_of (λ n. refl) m.cusec i;
-  cname = option-back principal_name_value principal_name_of (λ p. refl) m.cname i;
 }
 
 -- ---- messages of any kind

@@ -4,7 +4,7 @@ ghost use Rattle.std.specs.Prelude.{◌≡◌, refl};
 ghost use Rattle.krb_msg.specs.Term.{der};
 ghost use Rattle.krb_msg.specs.Grammar.{ap_rep};
 ghost use Rattle.krb_msg.specs.Views.{ap_rep_value, ap_rep_of};
-ghost use Rattle.krb_msg.specs.Told.{begins, told};
+ghost use Rattle.krb_msg.specs.inner.Told.{begins, told};
 
 use crate::encrypted_data::EncryptedData;
 use crate::fields::{Application, Borrowed, Encode, End, Fixed, Held, Owned, Required, Sequence};
@@ -57,7 +57,7 @@ impl Der for ApRep {
 
     ghost begins = { begins ap_rep ap_rep_value };
 
-    ghost tells = { told ap_rep refl ap_rep_value ap_rep_of (λ it. refl) };
+    ghost prefix_free = { told ap_rep refl ap_rep_value ap_rep_of (λ it. refl) };
 }
 
 impl Decode for ApRep {

@@ -4,7 +4,7 @@ ghost use Rattle.std.specs.Prelude.{◌≡◌, refl};
 ghost use Rattle.krb_msg.specs.Term.{der};
 ghost use Rattle.krb_msg.specs.Grammar.{ap_req};
 ghost use Rattle.krb_msg.specs.Views.{ap_req_value, ap_req_of};
-ghost use Rattle.krb_msg.specs.Told.{begins, told};
+ghost use Rattle.krb_msg.specs.inner.Told.{begins, told};
 
 use crate::encrypted_data::EncryptedData;
 use crate::fields::{Application, Borrowed, Encode, End, Fixed, Held, Owned, Required, Sequence};
@@ -87,7 +87,7 @@ impl Der for ApReq {
 
     ghost begins = { begins ap_req ap_req_value };
 
-    ghost tells = { told ap_req refl ap_req_value ap_req_of (λ it. refl) };
+    ghost prefix_free = { told ap_req refl ap_req_value ap_req_of (λ it. refl) };
 }
 
 impl Decode for ApReq {

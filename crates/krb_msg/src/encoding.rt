@@ -5,7 +5,7 @@ ghost use Rattle.std.specs.Vec.{vec_len, vec_capacity};
 ghost use Rattle.krb_der.specs.Puts.{Puts};
 ghost use Rattle.krb_der.specs.Sizes.{saturated};
 ghost use Rattle.krb_msg.specs.Views.{message_der};
-ghost use Rattle.krb_msg.specs.MessageTold.{message_begins, der_tells};
+ghost use Rattle.krb_msg.specs.inner.MessageTold.{message_begins, der_is_prefix_free};
 ghost use Rattle.krb_msg.specs.declared.encoding.EncodeFault.TheVariants.{Memory};
 
 use crate::message::Message;
@@ -105,5 +105,5 @@ impl Der for Message {
 
     ghost begins = { message_begins };
 
-    ghost tells = { der_tells };
+    ghost prefix_free = { der_is_prefix_free };
 }

@@ -4,7 +4,7 @@ ghost use Rattle.std.specs.Prelude.{◌≡◌, refl};
 ghost use Rattle.krb_msg.specs.Term.{der};
 ghost use Rattle.krb_msg.specs.Grammar.{encrypted_data};
 ghost use Rattle.krb_msg.specs.Views.{encrypted_data_value, encrypted_data_of};
-ghost use Rattle.krb_msg.specs.Told.{begins, told};
+ghost use Rattle.krb_msg.specs.inner.Told.{begins, told};
 
 use crate::fields::{Borrowed, Encode, End, Held, Optional, Owned, Required, Sequence};
 use crate::item::{Decode, Item};
@@ -65,7 +65,7 @@ impl Der for EncryptedData {
 
     ghost begins = { begins encrypted_data encrypted_data_value };
 
-    ghost tells = { told encrypted_data refl encrypted_data_value encrypted_data_of (λ it. refl) };
+    ghost prefix_free = { told encrypted_data refl encrypted_data_value encrypted_data_of (λ it. refl) };
 }
 
 impl Decode for EncryptedData {

@@ -4,7 +4,7 @@ ghost use Rattle.std.specs.Prelude.{◌≡◌, refl};
 ghost use Rattle.krb_msg.specs.Term.{der};
 ghost use Rattle.krb_msg.specs.Grammar.{host_address};
 ghost use Rattle.krb_msg.specs.Views.{host_address_value, host_address_of};
-ghost use Rattle.krb_msg.specs.Told.{begins, told};
+ghost use Rattle.krb_msg.specs.inner.Told.{begins, told};
 
 use crate::fields::{Borrowed, Encode, End, Held, Owned, Required, Sequence};
 use crate::item::{Decode, Item};
@@ -54,7 +54,7 @@ impl Der for HostAddress {
 
     ghost begins = { begins host_address host_address_value };
 
-    ghost tells = { told host_address refl host_address_value host_address_of (λ it. refl) };
+    ghost prefix_free = { told host_address refl host_address_value host_address_of (λ it. refl) };
 }
 
 impl Decode for HostAddress {

@@ -3,8 +3,9 @@
 ghost use Rattle.std.specs.Prelude.{◌≡◌, refl};
 ghost use Rattle.krb_msg.specs.Term.{der};
 ghost use Rattle.krb_msg.specs.Grammar.{kdc_req_body};
-ghost use Rattle.krb_msg.specs.Views.{kdc_req_body_value, kdc_req_body_of, kdc_req_body-back};
-ghost use Rattle.krb_msg.specs.Told.{begins, told};
+ghost use Rattle.krb_msg.specs.Views.{kdc_req_body_value, kdc_req_body_of};
+ghost use Rattle.krb_msg.specs.inner.RoundTrips.{kdc_req_body-back};
+ghost use Rattle.krb_msg.specs.inner.Told.{begins, told};
 
 use crate::encrypted_data::EncryptedData;
 use crate::fields::{
@@ -208,7 +209,7 @@ impl Der for KdcReqBody {
 
     ghost begins = { begins kdc_req_body kdc_req_body_value };
 
-    ghost tells = { told kdc_req_body refl kdc_req_body_value kdc_req_body_of kdc_req_body-back };
+    ghost prefix_free = { told kdc_req_body refl kdc_req_body_value kdc_req_body_of kdc_req_body-back };
 }
 
 impl Decode for KdcReqBody {

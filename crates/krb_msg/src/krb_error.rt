@@ -3,8 +3,9 @@
 ghost use Rattle.std.specs.Prelude.{◌≡◌, refl};
 ghost use Rattle.krb_msg.specs.Term.{der};
 ghost use Rattle.krb_msg.specs.Grammar.{krb_error};
-ghost use Rattle.krb_msg.specs.Views.{krb_error_value, krb_error_of, krb_error-back};
-ghost use Rattle.krb_msg.specs.Told.{begins, told};
+ghost use Rattle.krb_msg.specs.Views.{krb_error_value, krb_error_of};
+ghost use Rattle.krb_msg.specs.inner.RoundTrips.{krb_error-back};
+ghost use Rattle.krb_msg.specs.inner.Told.{begins, told};
 
 use crate::fields::{
     Application, Borrowed, Cut, DecodeFields, Encode, EncodeFields, End, Fixed, Held, Optional,
@@ -204,7 +205,7 @@ impl Der for KrbError {
 
     ghost begins = { begins krb_error krb_error_value };
 
-    ghost tells = { told krb_error refl krb_error_value krb_error_of krb_error-back };
+    ghost prefix_free = { told krb_error refl krb_error_value krb_error_of krb_error-back };
 }
 
 impl Decode for KrbError {

@@ -1,6 +1,6 @@
 //! Laws of grammars, of the messages, of their DER and of the judgement of octets. Each is the
 //! contract of a function that does nothing.
-ghost use Rattle.krb_msg.specs.Laws.{WholeIsValue, ValueIsWhole, ValueIsRead, WholeIsOneOf, RefusalIsFinal, AllIsDecided, OneOfIsWhole, OneOfIsOctets, RefusalIsNoneOf, OneOfTells, MessagesAreGrammar, WholeIsMessage, MessageIsWhole, MessageIsRead, RefusalIsRight, DerTells, MessageComesBack};
+ghost use Rattle.krb_msg.specs.Laws.{WholeIsValue, ValueIsWhole, ValueIsRead, WholeIsOneOf, RefusalIsFinal, AllIsDecided, OneOfIsWhole, OneOfIsOctets, RefusalIsNoneOf, OneOfTells, MessagesAreGrammar, WholeIsMessage, MessageIsWhole, MessageIsRead, RefusalIsRight, DerIsPrefixFree, MessageRoundTrips};
 
 /// What is judged whole as an item of a term, a Ticket say, is the DER of one of its values.
 pub fn whole_is_value()
@@ -81,11 +81,11 @@ pub fn refusal_is_right()
 {}
 
 /// No message's DER begins another's, and different messages have different DER.
-pub fn der_tells()
-    ensures { DerTells }
+pub fn der_is_prefix_free()
+    ensures { DerIsPrefixFree }
 {}
 
 /// The way back from the value of a message gives the message.
-pub fn message_comes_back()
-    ensures { MessageComesBack }
+pub fn message_round_trips()
+    ensures { MessageRoundTrips }
 {}

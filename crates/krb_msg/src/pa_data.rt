@@ -4,7 +4,7 @@ ghost use Rattle.std.specs.Prelude.{◌≡◌, refl};
 ghost use Rattle.krb_msg.specs.Term.{der};
 ghost use Rattle.krb_msg.specs.Grammar.{pa_data};
 ghost use Rattle.krb_msg.specs.Views.{pa_data_value, pa_data_of};
-ghost use Rattle.krb_msg.specs.Told.{begins, told};
+ghost use Rattle.krb_msg.specs.inner.Told.{begins, told};
 
 use crate::fields::{Borrowed, Encode, End, Held, Owned, Required, Sequence};
 use crate::item::{Decode, Item};
@@ -57,7 +57,7 @@ impl Der for PaData {
 
     ghost begins = { begins pa_data pa_data_value };
 
-    ghost tells = { told pa_data refl pa_data_value pa_data_of (λ it. refl) };
+    ghost prefix_free = { told pa_data refl pa_data_value pa_data_of (λ it. refl) };
 }
 
 impl Decode for PaData {

@@ -4,7 +4,7 @@ ghost use Rattle.std.specs.Prelude.{◌≡◌, refl};
 ghost use Rattle.krb_msg.specs.Term.{der};
 ghost use Rattle.krb_msg.specs.Grammar.{principal_name};
 ghost use Rattle.krb_msg.specs.Views.{principal_name_value, principal_name_of};
-ghost use Rattle.krb_msg.specs.Told.{begins, told};
+ghost use Rattle.krb_msg.specs.inner.Told.{begins, told};
 
 use crate::fields::{Borrowed, Encode, End, Held, Owned, Required, Sequence};
 use crate::item::{Decode, Item};
@@ -54,7 +54,7 @@ impl Der for PrincipalName {
 
     ghost begins = { begins principal_name principal_name_value };
 
-    ghost tells = { told principal_name refl principal_name_value principal_name_of (λ it. refl) };
+    ghost prefix_free = { told principal_name refl principal_name_value principal_name_of (λ it. refl) };
 }
 
 impl Decode for PrincipalName {

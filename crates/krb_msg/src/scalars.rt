@@ -4,7 +4,7 @@ ghost use Rattle.std.specs.Prelude.{◌≡◌, ◌^◌, ◌<◌, true, pos, IfOk
 ghost use Rattle.krb_msg.specs.Shape.{is_unambiguous};
 ghost use Rattle.krb_msg.specs.Grammar.{int32, wide32, microseconds, kerberos_string, octet_string, kerberos_time, kerberos_flags, sequence_of};
 ghost use Rattle.krb_msg.specs.Reads.{AreItems, AreItemsRead};
-ghost use Rattle.krb_msg.specs.Told.{many_form};
+ghost use Rattle.krb_msg.specs.inner.Told.{many_form};
 
 use crate::item::{Decode, Item};
 use crate::source::Source;

@@ -4,7 +4,7 @@ ghost use Rattle.std.specs.Prelude.{◌≡◌, refl};
 ghost use Rattle.krb_msg.specs.Term.{der};
 ghost use Rattle.krb_msg.specs.Grammar.{ticket as ticket_term};
 ghost use Rattle.krb_msg.specs.Views.{ticket_value, ticket_of};
-ghost use Rattle.krb_msg.specs.Told.{begins, told};
+ghost use Rattle.krb_msg.specs.inner.Told.{begins, told};
 
 use crate::encrypted_data::EncryptedData;
 use crate::fields::{Application, Borrowed, Encode, End, Fixed, Held, Owned, Required, Sequence};
@@ -80,7 +80,7 @@ impl Der for Ticket {
 
     ghost begins = { begins ticket_term ticket_value };
 
-    ghost tells = { told ticket_term refl ticket_value ticket_of (λ it. refl) };
+    ghost prefix_free = { told ticket_term refl ticket_value ticket_of (λ it. refl) };
 }
 
 impl Decode for Ticket {

@@ -284,7 +284,7 @@ fn refuses_to_write_a_header_that_is_too_long(rt: HostRuntime) -> Result<(), Fai
     Ok(())
 }
 
-/// Whether a cache was read or written as ever, or memory was refused.
+/// Whether a cache was read or written as ever, or memory ran out.
 #[test]
 fn answers_the_same_or_memory(rt: HostRuntime) {
     let alloc = rt.alloc();

@@ -232,7 +232,7 @@ fn refuses_to_write_more_than_a_file_may_have(rt: HostRuntime) -> Result<(), Fai
     Ok(())
 }
 
-/// Whether a keytab was read or written as ever, or memory was refused.
+/// Whether a keytab was read or written as ever, or memory ran out.
 #[test]
 fn answers_the_same_or_memory(rt: HostRuntime) {
     let alloc = rt.alloc();

@@ -7,7 +7,7 @@ use krb_der::{FileWhy, Int32, KString, Many, Octets, Refusal, Why, Wide32};
 use krb_judge::parse;
 use krb_keytab::{Entry, Hole, Keytab, Record, Stop};
 use krb_list::{
-    Piece, TicketFlags, ccache_lines, keytab_lines, message_line, notes_of, principal_text,
+    Shown, TicketFlags, ccache_lines, keytab_lines, message_line, notes_of, principal_text,
     put_ccache, put_escaped, put_fault, put_field, put_file_refusal, put_joined, put_keytab,
     put_list, put_message, put_message_refusal, put_principal, put_time, time_text,
 };

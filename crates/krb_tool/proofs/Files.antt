@@ -2,12 +2,13 @@
 use Rattle.std.proofs.Common.{◌≡◌, ℕ, ◌+◌, ◌<◌, ◌≤◌, ◌⊎◌, inl, inr, List, [], ◌++◌, length, take, drop, Option, Some, None, IfSome, Result, Ok, Err, OnErr, IfErr, refl, sym, ◌∙◌, ap, subst, arith, append-nil, append_assoc, take-append-drop, length-append, length-take, drop_of_length-le, take-take}
 use Rattle.std.specs.Io.KnownBytes.{Consumes}
 use Rattle.std.proofs.KnownBytes.{Consumes-nil, Consumes-trans}
-use Rattle.krb_tool.specs.Files.{FileListing, IsAllOrFull, IsTold, TakesAll, TakesFront, TakesSome, ListsFront, FailsFile, TellsRead}
+use Rattle.krb_tool.specs.Files.{FileListing, TakesAll, TakesSome, ListsFront, FailsFile}
+use Rattle.krb_tool.specs.inner.FileRuns.{IsAllOrFull, IsTold, TakesFront, TellsRead}
 use Rattle.krb_tool.specs.declared.run.RunFault.{RunFault}
 use Rattle.krb_tool.specs.declared.run.RunFault.TheVariants as fault
 use Rattle.krb_tool.specs.declared.transfer.ReaderState.{ReaderState}
 use Rattle.krb_tool.specs.declared.transfer.ReaderState.TheVariants as reader
-use Rattle.krb_tool.specs.Transfers.{Gives}
+use Rattle.krb_tool.specs.inner.Transfers.{Gives}
 
 -- a reader that gives nothing has given all
 pub TakesAll-made : (had left after : Option (List ℕ)) (file piece : List ℕ) (room : ℕ) → Consumes had left file → Gives left after piece room → piece ≡ [] → 0 < room → TakesAll had after file

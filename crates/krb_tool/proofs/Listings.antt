@@ -18,7 +18,7 @@ use Rattle.krb_frame.specs.declared.decoder.Status.{Status}
 use Rattle.krb_frame.specs.declared.decoder.Status.TheVariants as status
 use Rattle.krb_frame.proofs.Founds.{more-nothing}
 use Rattle.krb_list.specs.Messages.{message_line}
-use Rattle.krb_tool.specs.Listers.{HasListed, ListsReady, Goes, Feeds}
+use Rattle.krb_tool.specs.inner.Listers.{HasListed, ListsReady, Goes, Feeds}
 use Rattle.krb_tool.specs.declared.listing.Lister.{Lister}
 
 -- ---- what a decoder's answer tells

@@ -16,8 +16,8 @@ use Rattle.krb_frame.proofs.Ends.{none_found, refused_end, found_of, refusal_end
 use Rattle.krb_list.specs.Messages.{message_line}
 use Rattle.krb_list.specs.Streams.{end_line}
 use Rattle.krb_tool.specs.Listing.{end_of, run_end, AllIsRead, IsNotRefused, StopsInPiece, Lists}
-use Rattle.krb_tool.specs.Transfers.{Gives}
-use Rattle.krb_tool.specs.Listers.{HasListed, IsNewLister, Feeds, IsWrittenOut, Finishes}
+use Rattle.krb_tool.specs.inner.Transfers.{Gives}
+use Rattle.krb_tool.specs.inner.Listers.{HasListed, IsNewLister, Feeds, IsWrittenOut, Finishes}
 use Rattle.krb_tool.specs.declared.listing.Lister.{Lister}
 use Rattle.krb_tool.specs.declared.run.RunEnd.{RunEnd}
 
@@ -37,7 +37,7 @@ pub record Waits (limit : ℕ) (had left held holds : Option (List ℕ)) (asks :
   pub runs : Runs limit had left held holds asks lister
   pub no_text : string_bytes lister.text ≡ []
 
--- No piece follows: the stream is refused behind octets that were read, or has ended. The lister has no frame.
+-- No piece follows: the stream is refused after octets that were read, or has ended. The lister has no frame.
 pub record Ends (limit : ℕ) (had left held holds : Option (List ℕ)) (lister : Lister) : Type 0 where
   pub read : List ℕ
   pub written : List ℕ

@@ -22,29 +22,10 @@ pub record TakesAll (had left : Option (List ℕ)) (file : List ℕ) : Type 0 wh
   pub taken : Consumes had left file
   pub ended : IsAtEnd left
 
--- what is kept is all, or as many octets as are kept at most
-abbrev pub IsAllOrFull : Option ℕ → List ℕ → List ℕ → Type 0
-IsAllOrFull most kept rest = (rest ≡ []) ⊎ (most ≡ Some (length kept))
-
--- All that a reader had was taken. It is kept, or as many of its first octets as are kept at most.
-pub record TakesFront (had left : Option (List ℕ)) (most : Option ℕ) (kept : List ℕ) : Type 0 where
-  pub rest : List ℕ
-  pub taken : TakesAll had left (kept ++ rest)
-  pub enough : IsAllOrFull most kept rest
-  pub within : IfSome most (λ most. length kept ≤ most)
-
 -- what is written of a file, and how its run ends
 pub record FileListing : Type 0 where
   pub text : List ℕ
   pub end : RunEnd
-
--- where there is a number, that many octets of a file tell its listing
-abbrev pub IsTold : (List ℕ → FileListing → Type 0) → Option ℕ → Type 0
-IsTold Lists most = (kept rest : List ℕ) (listing : FileListing) → most ≡ Some (length kept) → Lists kept listing → Lists (kept ++ rest) listing
-
--- what the code made
-abbrev pub shown : FileText → FileListing
-shown made = record { text = string_bytes made.text; end = made.end }
 
 -- the one line of a refused file
 abbrev pub refused_listing : Fault → FileListing
@@ -114,15 +95,3 @@ abbrev pub FailsFile : (List ℕ → FileListing → Type 0) → Option (List �
 FailsFile Lists had left held holds fault.Read = WritesNothing had left held holds
 FailsFile Lists had left held holds fault.Write = ListsFront Lists had left held holds
 FailsFile Lists had left held holds fault.Memory = WritesNothing had left held holds
-
--- the fault of a run that has not written: that of its reader where this failed, and else want of memory
-abbrev pub IsOfReading : ReaderState → RunFault → Type 0
-IsOfReading reader.Failed e = e ≡ fault.Read
-IsOfReading reader.Open e = e ≡ fault.Memory
-IsOfReading reader.Ended e = e ≡ fault.Memory
-
--- a fault is that of the reader where this failed, and nowhere else
-abbrev pub TellsRead : ReaderState → RunFault → Type 0
-TellsRead reader.Failed e = e ≡ fault.Read
-TellsRead reader.Open e = e ≢ fault.Read
-TellsRead reader.Ended e = e ≢ fault.Read

@@ -12,7 +12,7 @@ use Rattle.krb_tool.specs.declared.run.RunEnd.{RunEnd}
 use Rattle.krb_tool.specs.declared.run.RunEnd.TheVariants as run
 use Rattle.krb_tool.specs.declared.run.RunFault.{RunFault}
 
--- the end of a stream, with frames of at most so many octets
+-- the end of a stream, with frames of at most n octets
 abbrev pub end_of : ℕ → List ℕ → End
 end_of limit stream = (frames messages limit stream).end
 

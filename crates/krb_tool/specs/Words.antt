@@ -45,7 +45,7 @@ krbls = with_subcommand (with_subcommand (with_subcommand (with_subcommand krbls
 abbrev pub Spells : Text → ℕ → Type 0
 Spells text number = ParsesUnsigned {E = ℕ} 32 10 text (Ok number)
 
--- the number that a text spells, or what stands for none
+-- the number that a text spells, or another text where there are none
 abbrev pub IsNumberOr : ℕ → Option Text → ℕ → Type 0
 IsNumberOr none None number = number ≡ none
 IsNumberOr none (Some text) number = Spells text number

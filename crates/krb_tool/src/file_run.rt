@@ -2,7 +2,8 @@
 
 ghost use Rattle.std.specs.Prelude.{◌≡◌, ◌+◌, ◌^◌, ◌≤◌, ◌⊎◌, List, ℕ, Some, IfSome, IfErr, IfOk, OnErr, OnOk};
 ghost use Rattle.krb_tool.specs.declared.transfer.ReaderState.TheVariants as reader;
-ghost use Rattle.krb_tool.specs.Files.{TakesFront, TakesSome, IsOfReading, IsTold, TellsRead, FileListing, shown, refused_listing, IsKeytabListing, IsCcacheListing, ListsFile, FailsFile};
+ghost use Rattle.krb_tool.specs.Files.{TakesSome, FileListing, refused_listing, IsKeytabListing, IsCcacheListing, ListsFile, FailsFile};
+ghost use Rattle.krb_tool.specs.inner.FileRuns.{TakesFront, IsOfReading, IsTold, TellsRead, shown};
 
 use crate::run::{PIECE_OCTETS, RunEnd, RunFault};
 use crate::transfer::{Asked, write_all};

@@ -4,7 +4,7 @@ ghost use Rattle.std.specs.Prelude.{◌≡◌, ◌≢◌, ◌+◌, ◌<◌, ◌^
 ghost use Rattle.krb_msg.specs.Grammar.{messages};
 ghost use Rattle.krb_frame.specs.Decoding.{status_of, borrowed};
 ghost use Rattle.krb_frame.specs.declared.decoder.Status.TheVariants as status;
-ghost use Rattle.krb_tool.specs.Listers.{IsNewLister, ListsReady, Feeds, IsWrittenOut, Finishes};
+ghost use Rattle.krb_tool.specs.inner.Listers.{IsNewLister, ListsReady, Feeds, IsWrittenOut, Finishes};
 
 use crate::run::{RunEnd, RunFault};
 use krb_frame::{Decoder, Limit, Status};

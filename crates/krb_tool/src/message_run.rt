@@ -3,7 +3,8 @@
 ghost use Rattle.std.specs.Prelude.{◌≡◌, IfErr, IfOk};
 ghost use Rattle.krb_list.specs.Messages.{message_line};
 ghost use Rattle.krb_list.specs.Refusals.{message_refused_line};
-ghost use Rattle.krb_tool.specs.Files.{shown, ListsFile, FailsFile};
+ghost use Rattle.krb_tool.specs.Files.{ListsFile, FailsFile};
+ghost use Rattle.krb_tool.specs.inner.FileRuns.{shown};
 ghost use Rattle.krb_tool.specs.Messages.{is_blank, without_blanks, clean_with, refused_with, octets_listing, IsHexListing};
 
 use crate::file_run::{FileFormat, FileText, run_file};

@@ -34,7 +34,7 @@ pub enum RunFault {
     /// A write failed, or took nothing.
     #[error("write")]
     Write,
-    /// A growth was refused.
+    /// Out of memory.
     #[error("memory")]
     Memory,
 }
@@ -76,7 +76,7 @@ impl<T: Drop> From<AllocFailed<T>> for RunFault {
 }
 
 /// Lists a stream of framed messages (RFC 4120, 7.2.2): a line for each message, then the line of
-/// the end, or of the first refusal, behind which nothing is looked at. Frames of more than
+/// the end, or of the first refusal, after which nothing is looked at. Frames of more than
 /// `limit` octets are refused. The reader is asked at most 2^40 times, for 64 KiB each, and the
 /// lines of what came are written before it is asked again. It is not asked again after an error,
 /// its end or a refusal.

@@ -3,7 +3,7 @@
 ghost use Rattle.std.specs.Prelude.{◌≡◌, ◌≢◌, ◌+◌, ◌^◌, ◌<◌, ◌≤◌, min, length, take, IfErr, IfOk, OnErr, OnOk};
 ghost use Rattle.std.specs.Io.KnownBytes.{Keeps, Appends};
 ghost use Rattle.krb_tool.specs.Files.{AddsFront};
-ghost use Rattle.krb_tool.specs.Transfers.{Gives};
+ghost use Rattle.krb_tool.specs.inner.Transfers.{Gives};
 
 use crate::run::RunFault;
 use std::io::{Read, Write};

@@ -2,8 +2,8 @@
 
 ghost use Rattle.std.specs.Prelude.{◌≡◌, ◌+◌, ◌^◌, ◌<◌, ◌≤◌, length, ℤ, ◌&&◌};
 ghost use Rattle.krb_der.specs.Octets.{last_or_zero as last_of};
-ghost use Rattle.krb_msg.specs.Judgement.{behind, any_contents, integer_contents, each_contents, time_octet, bits_contents, int_le, is_padded as padded};
-ghost use Rattle.krb_judge.specs.Outcomes.{outcome_of};
+ghost use Rattle.krb_msg.specs.Judgement.{after, any_contents, integer_contents, each_contents, time_octet, bits_contents, int_le, is_padded as padded};
+ghost use Rattle.krb_judge.specs.inner.Outcomes.{outcome_of};
 ghost use Rattle.krb_der.specs.declared.why.Why.TheVariants as why;
 
 use crate::judging::number::integer_value;
@@ -13,7 +13,7 @@ use krb_der::Why;
 /// A KerberosString or an OCTET STRING: any octets (X.690, 8.7 and 8.23).
 pub(crate) fn string(before: u32, size: u32, octets: &[u8]) -> Outcome
     requires { before + size < 2 ^ 31 }
-    ensures { outcome_of result ≡ behind before (any_contents size octets.now) }
+    ensures { outcome_of result ≡ after before (any_contents size octets.now) }
 {
     if octets.len() < size as usize {
         Outcome::Open
@@ -30,7 +30,7 @@ pub(crate) fn integer(low: i64, high: i64, before: u32, size: u32, octets: &[u8]
     requires narrow { size ≤ 5 }
     requires short { before + size < 2 ^ 31 }
     requires present { length octets.now ≤ size }
-    ensures { outcome_of result ≡ behind before (integer_contents low high size octets.now) }
+    ensures { outcome_of result ≡ after before (integer_contents low high size octets.now) }
 {
     if is_padded(octets) {
         Outcome::Bad {
@@ -72,7 +72,7 @@ fn is_between(low: i64, high: i64, value: i64) -> bool
 pub(crate) fn time(before: u32, octets: &[u8]) -> Outcome
     requires short { before < 2 ^ 31 }
     requires present { length octets.now ≤ 15 }
-    ensures { outcome_of result ≡ behind before (each_contents time_octet why.Time 15 0 octets.now) }
+    ensures { outcome_of result ≡ after before (each_contents time_octet why.Time 15 0 octets.now) }
 {
     let mut place = 0;
     for octet in octets {
@@ -107,7 +107,7 @@ fn is_time_octet(place: u32, octet: u8) -> bool
 pub(crate) fn bits(before: u32, size: u32, octets: &[u8]) -> Outcome
     requires some { 0 < size }
     requires short { before + size < 2 ^ 31 }
-    ensures { outcome_of result ≡ behind before (bits_contents 0 size octets.now) }
+    ensures { outcome_of result ≡ after before (bits_contents 0 size octets.now) }
 {
     let [unused, rest @ ..] = octets else {
         return Outcome::Open;

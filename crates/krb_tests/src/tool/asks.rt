@@ -10,7 +10,7 @@ use std::io;
 use std::io::{ErrorKind, Read, Write};
 use std::test::Fail;
 
-/// A reader that gives some octets, at most so many for an ask, and then tells its end, or fails. It
+/// A reader that gives some octets, at most n for each ask, and then tells its end, or fails. It
 /// counts its asks, and how many of them no run may make: those with no room, and those after its end
 /// or its error.
 #[derive(Drop)]
@@ -56,7 +56,7 @@ impl Read for Watched<'_> {
     }
 }
 
-/// A writer that takes so many octets and then fails, or takes nothing. After that it takes all, and
+/// A writer that takes n octets and then fails, or takes nothing. After that it takes all, and
 /// counts the writes, which no run may make.
 #[derive(Drop)]
 struct Full {

@@ -1,4 +1,4 @@
-use Rattle.krb_der.specs.Numbers.{AreOctets-slice}
+use Rattle.krb_der.specs.inner.Numbers.{AreOctets-slice}
 use Rattle.krb_ccache.proofs.part.size_of.Goals as goal
 
 pub returns-clause-octets : goal.returns-clause-octets

@@ -12,4 +12,4 @@ returns-in_err-component c =
 
 pub loop-preserved : goal.loop-preserved
 loop-preserved c =
-    rw c.in_ok-push.ensures.items (goes_on (counted_at w32) (limited None) c.loop.components.items c.args.count c.loop.counter c.loop.rest c.in_ok-component.component c.in_ok-component.behind (times c.args.count (counted_at w32) (limited None) c.args.source) c.loop-test.true c.in_ok-component.ensures c.loop.invariant)
+    rw c.in_ok-push.ensures.items (goes_on (counted_at w32) (limited None) c.loop.components.items c.args.count c.loop.counter c.loop.rest c.in_ok-component.component c.in_ok-component.after (times c.args.count (counted_at w32) (limited None) c.args.source) c.loop-test.true c.in_ok-component.ensures c.loop.invariant)

@@ -17,14 +17,14 @@ returns-in_err-field c =
 pub fields-smaller : goal.fields-smaller
 fields-smaller c =
     let before : c.fields.rest.place < c.place.result + c.from.result = omega (arith, c.place-in-fields.ensures.value, c.fields-test.true) in
-    field-less (c.place.result + c.from.result) c.fields.rest c.in_ok-field.behind c.in_ok-field.field before c.in_ok-field.ensures
+    field-less (c.place.result + c.from.result) c.fields.rest c.in_ok-field.after c.in_ok-field.field before c.in_ok-field.ensures
 
 pub fields-preserved : goal.fields-preserved
 fields-preserved c =
     let before : c.fields.rest.place < c.place.result + c.from.result = omega (arith, c.place-in-fields.ensures.value, c.fields-test.true) in
     record {
-      so_far = rw c.in_ok-push.ensures.items (field-goes_on c.args.size (c.place.result + c.from.result) c.fields.fields.items c.fields.rest c.in_ok-field.behind c.in_ok-field.field (header_fields_at c.args.size (ended (Some (c.place.result + c.from.result))) c.args.source) before c.fields.invariant.few c.in_ok-field.ensures c.fields.invariant.so_far);
-      few = rw c.in_ok-push.ensures.items (field-few c.args.size (c.place.result + c.from.result) c.fields.fields.items c.fields.rest c.in_ok-field.behind c.in_ok-field.field before c.fields.invariant.few c.in_ok-field.ensures);
+      so_far = rw c.in_ok-push.ensures.items (field-goes_on c.args.size (c.place.result + c.from.result) c.fields.fields.items c.fields.rest c.in_ok-field.after c.in_ok-field.field (header_fields_at c.args.size (ended (Some (c.place.result + c.from.result))) c.args.source) before c.fields.invariant.few c.in_ok-field.ensures c.fields.invariant.so_far);
+      few = rw c.in_ok-push.ensures.items (field-few c.args.size (c.place.result + c.from.result) c.fields.fields.items c.fields.rest c.in_ok-field.after c.in_ok-field.field before c.fields.invariant.few c.in_ok-field.ensures);
     }
 
 pub returns : goal.returns

@@ -1,4 +1,4 @@
-use Rattle.krb_der.specs.Numbers.{AreOctets-slice}
+use Rattle.krb_der.specs.inner.Numbers.{AreOctets-slice}
 use Rattle.krb_ccache.proofs.Answered.{found, only, refused}
 use Rattle.krb_ccache.proofs.reading.read.Goals as goal
 

@@ -12,4 +12,4 @@ returns-in_err-item c =
 
 pub loop-preserved : goal.loop-preserved
 loop-preserved c =
-    rw c.in_ok-push.ensures.items (goes_on typed_at (limited None) c.loop.items.items c.args.count c.loop.counter c.loop.rest c.in_ok-item.item c.in_ok-item.behind (times c.args.count typed_at (limited None) c.args.source) c.loop-test.true c.in_ok-item.ensures c.loop.invariant)
+    rw c.in_ok-push.ensures.items (goes_on typed_at (limited None) c.loop.items.items c.args.count c.loop.counter c.loop.rest c.in_ok-item.item c.in_ok-item.after (times c.args.count typed_at (limited None) c.args.source) c.loop-test.true c.in_ok-item.ensures c.loop.invariant)

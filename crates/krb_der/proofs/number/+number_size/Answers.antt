@@ -1,5 +1,5 @@
 use Rattle.std.proofs.Common.{arith}
-use Rattle.krb_der.specs.Numbers.{length-spelled-step, length-spelled-le}
+use Rattle.krb_der.specs.inner.Numbers.{length-spelled-step, length-spelled-le}
 use Rattle.krb_der.proofs.number.+number_size.Goals as goal
 
 pub returns-else-number-bound-clause-value : goal.returns-else-number-bound-clause-value

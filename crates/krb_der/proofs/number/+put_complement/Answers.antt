@@ -1,7 +1,7 @@
 use Rattle.std.proofs.Common.{arith, rules, ◌/◌}
 use Rattle.krb_der.specs.Octets.{spelled}
 use Rattle.krb_der.proofs.Appends.{appended}
-use Rattle.krb_der.specs.Numbers.{length-spelled-step}
+use Rattle.krb_der.specs.inner.Numbers.{length-spelled-step}
 use Rattle.krb_der.proofs.Sizes.{complement-step, length-complement}
 use Rattle.krb_der.proofs.number.+put_complement.Goals as goal
 

@@ -1,6 +1,6 @@
 use Rattle.std.proofs.Common.{arith, rules}
 use Rattle.krb_der.proofs.Appends.{appended}
-use Rattle.krb_der.specs.Numbers.{length-spelled-step, spelled-step}
+use Rattle.krb_der.specs.inner.Numbers.{length-spelled-step, spelled-step}
 use Rattle.krb_der.proofs.number.+put_number.Goals as goal
 
 pub put_number-requires : goal.put_number-requires

@@ -1,6 +1,6 @@
 use Rattle.krb_msg.specs.Grammar.{messages}
 use Rattle.std.proofs.Common.{◌≡◌, ◌≤◌, ◌+◌, length, take, sym, ◌∙◌, ap, arith}
-use Rattle.krb_der.specs.Numbers.{AreOctets-each}
+use Rattle.krb_der.specs.inner.Numbers.{AreOctets-each}
 use Rattle.krb_msg.specs.Judgement.{judgement}
 use Rattle.krb_frame.proofs.Takes.{extended, stops, taken-refused, taken-whole, taken-open}
 use Rattle.krb_frame.proofs.contents.take_contents.Goals as goal

@@ -1,5 +1,5 @@
 use Rattle.std.proofs.Common.{ℕ, ◌-◌, List, false, true, arith, refl, sym, ◌∙◌}
-use Rattle.krb_der.specs.Numbers.{AreOctets-slice}
+use Rattle.krb_der.specs.inner.Numbers.{AreOctets-slice}
 use Rattle.krb_msg.specs.Judgement.{Outcome, item_outcome}
 use Rattle.krb_msg.specs.Nodes.{term_at}
 use Rattle.krb_judge.proofs.Within.{refused, taken, string_of, items_of, only_of, next_of, left_next, items_next}

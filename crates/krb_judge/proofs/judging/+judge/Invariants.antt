@@ -3,7 +3,7 @@ use Rattle.krb_msg.specs.Shape.{depth, depth_of_fields}
 use Rattle.krb_msg.specs.Judgement.{item_outcome, fields_outcome, items_contents}
 use Rattle.krb_msg.specs.Nodes.{nodes, term_at}
 use Rattle.krb_msg.specs.Table.{fields_from}
-use Rattle.krb_judge.specs.Outcomes.{IsLeft, outcome_in}
+use Rattle.krb_judge.specs.inner.Outcomes.{IsLeft, outcome_in}
 use Rattle.krb_judge.proofs.judging.+judge.Given as goal
 
 -- how deep items still stand in one another

@@ -1,5 +1,5 @@
 use Rattle.std.proofs.Common.{◌∙◌, sym, ap, inl, Ok}
-use Rattle.krb_der.specs.Numbers.{AreOctets-slice}
+use Rattle.krb_der.specs.inner.Numbers.{AreOctets-slice}
 use Rattle.krb_judge.proofs.Slices.{whole_message, message_in, are_of, same_message, message_not_refused, no_message}
 use Rattle.krb_judge.proofs.parsing.parse.Goals as goal
 

@@ -1,5 +1,5 @@
 use Rattle.std.proofs.Common.{◌∙◌, sym, subst}
-use Rattle.krb_der.specs.Numbers.{AreOctets-slice}
+use Rattle.krb_der.specs.inner.Numbers.{AreOctets-slice}
 use Rattle.krb_judge.specs.Parses.{AreOfMethodData}
 use Rattle.krb_judge.proofs.Values.{same_error, method_data_node, are_of_method_data, same_method_data, method_data_not_refused, no_method_data}
 use Rattle.krb_judge.proofs.parsing.parse_method_data.Goals as goal

@@ -1,5 +1,5 @@
 use Rattle.std.proofs.Common.{◌∙◌, sym}
-use Rattle.krb_der.specs.Numbers.{AreOctets-slice}
+use Rattle.krb_der.specs.inner.Numbers.{AreOctets-slice}
 use Rattle.krb_judge.proofs.Slices.{whole_value}
 use Rattle.krb_judge.proofs.Values.{refused_as}
 use Rattle.krb_judge.proofs.parsing.parse_node.Goals as goal

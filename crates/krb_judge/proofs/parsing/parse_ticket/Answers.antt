@@ -2,7 +2,7 @@ use Rattle.std.proofs.Common.{◌≡◌, ◌∙◌, sym, IfOk}
 use Rattle.krb_msg.specs.declared.ticket.Ticket.{Ticket}
 use Rattle.krb_judge.specs.Parses.{AreOfTicket}
 use Rattle.std.proofs.lemmas.Result.{IfOk-weaker}
-use Rattle.krb_der.specs.Numbers.{AreOctets-slice}
+use Rattle.krb_der.specs.inner.Numbers.{AreOctets-slice}
 use Rattle.krb_judge.proofs.Values.{found_or_memory, ticket_node, are_of_ticket, same_ticket, ticket_not_refused, no_ticket}
 use Rattle.krb_judge.proofs.parsing.parse_ticket.Goals as goal
 

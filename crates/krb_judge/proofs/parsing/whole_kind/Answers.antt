@@ -1,5 +1,5 @@
 use Rattle.std.proofs.Common.{◌∙◌, sym, arith}
-use Rattle.krb_der.specs.Numbers.{AreOctets-slice}
+use Rattle.krb_der.specs.inner.Numbers.{AreOctets-slice}
 use Rattle.krb_msg.proofs.Judged.{whole_is_message}
 use Rattle.krb_judge.proofs.Slices.{kind_of_octets}
 use Rattle.krb_judge.proofs.parsing.whole_kind.Goals as goal

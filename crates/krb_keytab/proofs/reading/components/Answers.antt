@@ -14,4 +14,4 @@ returns-in_err-component c =
 pub loop-preserved : goal.loop-preserved
 loop-preserved c =
     let bounds = ended (Some c.args.end) in
-    rw c.in_ok-push.ensures.items (goes_on (counted_at w16) bounds c.loop.components.items c.args.count c.loop.counter c.loop.rest c.new.result c.in_ok-component.behind (times c.args.count (counted_at w16) bounds c.args.source) c.loop-test.true (rw (c.new.ensures, c.in_ok-from_slice.ensures.items) c.in_ok-component.ensures) c.loop.invariant)
+    rw c.in_ok-push.ensures.items (goes_on (counted_at w16) bounds c.loop.components.items c.args.count c.loop.counter c.loop.rest c.new.result c.in_ok-component.after (times c.args.count (counted_at w16) bounds c.args.source) c.loop-test.true (rw (c.new.ensures, c.in_ok-from_slice.ensures.items) c.in_ok-component.ensures) c.loop.invariant)

@@ -1,4 +1,4 @@
-use Rattle.krb_der.specs.Numbers.{AreOctets-slice}
+use Rattle.krb_der.specs.inner.Numbers.{AreOctets-slice}
 use Rattle.krb_keytab.proofs.writing.size.Goals as goal
 
 pub returns-clause-octets : goal.returns-clause-octets

@@ -1,6 +1,7 @@
 use Rattle.std.proofs.Common.{◌++◌, refl, subst, rules}
 use Rattle.std.specs.Io.KnownBytes.{Appends}
-use Rattle.krb_tool.specs.Files.{shown, AddsFront}
+use Rattle.krb_tool.specs.Files.{AddsFront}
+use Rattle.krb_tool.specs.inner.FileRuns.{shown}
 use Rattle.krb_tool.specs.declared.run.RunFault.TheVariants as fault
 use Rattle.krb_tool.proofs.Files.{told-ended, told-whole, failed-write}
 use Rattle.krb_tool.proofs.file_run.run_file.Goals as goal

@@ -1,7 +1,7 @@
 use Rattle.krb_msg.specs.Grammar.{messages}
 use Rattle.std.proofs.Common.{◌≡◌, ◌≤◌, ◌⊎◌, [], length, refl, sym, ◌∙◌, ap, subst}
 use Rattle.krb_frame.specs.Decoding.{Decoding}
-use Rattle.krb_frame.specs.Phases.{IsAt, octets_of}
+use Rattle.krb_frame.specs.inner.Phases.{IsAt, octets_of}
 use Rattle.krb_frame.specs.declared.decoder.Phase.TheVariants as phase
 use Rattle.krb_frame.specs.declared.decoder.Status.TheVariants as status
 use Rattle.krb_frame.proofs.Founds.{taken-at}

@@ -1,6 +1,6 @@
 use Rattle.krb_msg.specs.Grammar.{messages}
 use Rattle.std.proofs.Common.{◌≡◌, ◌+◌, [], sym, ◌∙◌, ap, subst, arith}
-use Rattle.krb_frame.specs.Phases.{HasPartOfLength, IsAt, octets_of, length_present}
+use Rattle.krb_frame.specs.inner.Phases.{HasPartOfLength, IsAt, octets_of, length_present}
 use Rattle.krb_frame.specs.declared.decoder.Phase.TheVariants as phase
 use Rattle.krb_frame.proofs.Standing.{FeedsLength-none, FeedsLength-made}
 use Rattle.krb_frame.proofs.decoder.Decoder.feed_length.Goals.{then-present-used-lt-LENGTH_OCTETS, else-present-used-lt-LENGTH_OCTETS}

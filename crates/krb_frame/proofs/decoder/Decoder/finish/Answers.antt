@@ -1,7 +1,7 @@
 use Rattle.krb_msg.specs.Grammar.{messages}
 use Rattle.std.proofs.Common.{◌≡◌, ◌+◌, length, sym, ◌∙◌, ap, arith}
 use Rattle.krb_frame.specs.Decoding.{finish_at}
-use Rattle.krb_frame.specs.Phases.{end_after}
+use Rattle.krb_frame.specs.inner.Phases.{end_after}
 use Rattle.krb_frame.proofs.Founds.{frames_at, finish-at, end-some}
 use Rattle.krb_frame.proofs.decoder.Decoder.finish.Goals as goal
 

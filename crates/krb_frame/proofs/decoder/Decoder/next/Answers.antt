@@ -1,6 +1,6 @@
 use Rattle.krb_msg.specs.Grammar.{messages}
 use Rattle.std.proofs.Common.{◌≡◌, sym, ◌∙◌, ap, subst}
-use Rattle.krb_frame.specs.Phases.{IsAt, octets_of}
+use Rattle.krb_frame.specs.inner.Phases.{IsAt, octets_of}
 use Rattle.krb_frame.specs.declared.decoder.Phase.TheVariants as phase
 use Rattle.krb_frame.proofs.Founds.{borrowed-none}
 use Rattle.krb_frame.proofs.Standing.{Clears-none, Clears-frame}

@@ -14,7 +14,7 @@ use std::alloc::AllocError;
 use std::marker::Model;
 
 /// What a line shows of a value.
-pub trait Piece {
+pub trait Shown {
     ghost text: { Self → List ℕ };
 
     /// Appends the text of the value, or a part of it when out of memory.
@@ -42,7 +42,7 @@ impl Model for Name {
     ghost view = { λ name. name.0.now };
 }
 
-impl Piece for Name {
+impl Shown for Name {
     ghost text = { λ name. name };
 
     fn put(&self, line: &mut String) -> Result<(), AllocError> {
@@ -50,7 +50,7 @@ impl Piece for Name {
     }
 }
 
-impl Piece for u8 {
+impl Shown for u8 {
     ghost text = { decimal };
 
     fn put(&self, line: &mut String) -> Result<(), AllocError> {
@@ -58,7 +58,7 @@ impl Piece for u8 {
     }
 }
 
-impl Piece for u16 {
+impl Shown for u16 {
     ghost text = { decimal };
 
     fn put(&self, line: &mut String) -> Result<(), AllocError> {
@@ -66,7 +66,7 @@ impl Piece for u16 {
     }
 }
 
-impl Piece for usize {
+impl Shown for usize {
     ghost text = { decimal };
 
     fn put(&self, line: &mut String) -> Result<(), AllocError> {
@@ -74,7 +74,7 @@ impl Piece for usize {
     }
 }
 
-impl Piece for i32 {
+impl Shown for i32 {
     ghost text = { signed_decimal };
 
     fn put(&self, line: &mut String) -> Result<(), AllocError> {
@@ -82,15 +82,7 @@ impl Piece for i32 {
     }
 }
 
-impl Piece for Int32 {
-    ghost text = { signed_decimal };
-
-    fn put(&self, line: &mut String) -> Result<(), AllocError> {
-        put_number(line, self.get())
-    }
-}
-
-impl Piece for Wide32 {
+impl Shown for Int32 {
     ghost text = { signed_decimal };
 
     fn put(&self, line: &mut String) -> Result<(), AllocError> {
@@ -98,7 +90,15 @@ impl Piece for Wide32 {
     }
 }
 
-impl Piece for Micros {
+impl Shown for Wide32 {
+    ghost text = { signed_decimal };
+
+    fn put(&self, line: &mut String) -> Result<(), AllocError> {
+        put_number(line, self.get())
+    }
+}
+
+impl Shown for Micros {
     ghost text = { decimal };
 
     fn put(&self, line: &mut String) -> Result<(), AllocError> {
@@ -107,7 +107,7 @@ impl Piece for Micros {
 }
 
 /// Its fifteen characters.
-impl Piece for KerberosTime {
+impl Shown for KerberosTime {
     ghost text = { λ time. time };
 
     fn put(&self, line: &mut String) -> Result<(), AllocError> {
@@ -116,7 +116,7 @@ impl Piece for KerberosTime {
 }
 
 /// The number of bits, `:` and the octets in hexadecimal.
-impl Piece for Flags {
+impl Shown for Flags {
     ghost text = { flags_text };
 
     fn put(&self, line: &mut String) -> Result<(), AllocError> {
@@ -128,7 +128,7 @@ impl Piece for Flags {
 }
 
 /// The octets, escaped.
-impl Piece for KString {
+impl Shown for KString {
     ghost text = { escape };
 
     fn put(&self, line: &mut String) -> Result<(), AllocError> {
@@ -137,7 +137,7 @@ impl Piece for KString {
 }
 
 /// `-` where there is none.
-impl<T: Piece> Piece for Option<T> {
+impl<T: Shown> Shown for Option<T> {
     ghost text = { or_dash T.text };
 
     fn put(&self, line: &mut String) -> Result<(), AllocError> {
@@ -149,7 +149,7 @@ impl<T: Piece> Piece for Option<T> {
 }
 
 /// The values in brackets, with commas between them.
-impl<T: Piece> Piece for Many<T> {
+impl<T: Shown> Shown for Many<T> {
     ghost text = { list_text T.text };
 
     fn put(&self, line: &mut String) -> Result<(), AllocError> {
@@ -158,7 +158,7 @@ impl<T: Piece> Piece for Many<T> {
 }
 
 /// Its type alone.
-impl Piece for PaData {
+impl Shown for PaData {
     ghost text = { padata_text };
 
     fn put(&self, line: &mut String) -> Result<(), AllocError> {
@@ -167,7 +167,7 @@ impl Piece for PaData {
 }
 
 /// The encryption type, the key version or `-`, and the number of cipher octets, with `:` between.
-impl Piece for EncryptedData {
+impl Shown for EncryptedData {
     ghost text = { sealed_text };
 
     fn put(&self, line: &mut String) -> Result<(), AllocError> {
@@ -180,7 +180,7 @@ impl Piece for EncryptedData {
 }
 
 /// Appends the separator and the text of a value, for each of the values.
-fn put_others<T: Piece>(line: &mut String, separator: &str, values: &[T]) -> Result<(), AllocError>
+fn put_others<T: Shown>(line: &mut String, separator: &str, values: &[T]) -> Result<(), AllocError>
     ensures { OnOk result (string_bytes line.new ≡ string_bytes line.old ++ flat_map (λ value. separator.now ++ T.text value) values.now) }
 {
     for value in values {
@@ -190,8 +190,8 @@ fn put_others<T: Piece>(line: &mut String, separator: &str, values: &[T]) -> Res
     Ok(())
 }
 
-/// Appends the texts of the values, with the separator between two, or what stands for none.
-pub fn put_joined<T: Piece>(
+/// Appends the texts of the values, with the separator between two, or another text where there are none.
+pub fn put_joined<T: Shown>(
     line: &mut String,
     none: &str,
     separator: &str,
@@ -209,7 +209,7 @@ pub fn put_joined<T: Piece>(
 }
 
 /// Appends the texts of the values in brackets, with commas between them.
-pub fn put_list<T: Piece>(line: &mut String, values: &[T]) -> Result<(), AllocError>
+pub fn put_list<T: Shown>(line: &mut String, values: &[T]) -> Result<(), AllocError>
     ensures { OnOk result (string_bytes line.new ≡ string_bytes line.old ++ list_text T.text values.now) }
 {
     line.push('[')?;

@@ -2,8 +2,8 @@
 use Rattle.std.proofs.Common.{◌≡◌, ℕ, ◌<◌, ℤ, pos, List, [], ◌∷◌, ◌++◌, length, refl, sym, ◌∙◌, ap, ap₂, arith}
 use Rattle.std.specs.List.{flat_map}
 use Rattle.krb_der.specs.Octets.{item, integer_octets, integer_value}
-use Rattle.krb_der.specs.Numbers.{integer_value-integer_octets}
-use Rattle.krb_der.specs.Items.{same_from_cons, same_from_item}
+use Rattle.krb_der.specs.inner.Numbers.{integer_value-integer_octets}
+use Rattle.krb_der.specs.inner.Items.{same_from_cons, same_from_item}
 
 pub item_begins : (tag : ℕ) (contents : List ℕ) → 0 < length (item tag contents)
 item_begins tag contents = omega arith

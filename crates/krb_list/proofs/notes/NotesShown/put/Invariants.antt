@@ -2,7 +2,7 @@ use Rattle.std.proofs.Common.{◌≡◌, ◌++◌, string_bytes, take}
 use Rattle.std.specs.List.{filter}
 use Rattle.krb_msg.specs.Notes.{notes_have}
 use Rattle.krb_list.proofs.Listed.{listed, separator_after}
-use Rattle.krb_list.proofs.notes.NotesPiece.put.Given as goal
+use Rattle.krb_list.proofs.notes.NotesShown.put.Given as goal
 
 -- the numbers so far of notes that hold, and what stands before the next
 abbrev pub invariant-loop-number : goal.invariant-loop-number

@@ -1,8 +1,8 @@
 use Rattle.std.proofs.Common.{[], ◌∷◌, refl, sym, ◌∙◌, append_assoc}
 use Rattle.krb_msg.specs.Notes.{notes_have}
 use Rattle.krb_list.proofs.Listed.{listed_one, listed_none}
-use Rattle.krb_list.proofs.notes.NotesPiece.put.Goals.{then-has+in_ok-push_str+in_ok-put_number, else-has}
-use Rattle.krb_list.proofs.notes.NotesPiece.put.Goals as goal
+use Rattle.krb_list.proofs.notes.NotesShown.put.Goals.{then-has+in_ok-push_str+in_ok-put_number, else-has}
+use Rattle.krb_list.proofs.notes.NotesShown.put.Goals as goal
 
 pub loop-number-preserved : goal.loop-number-preserved
 loop-number-preserved c =

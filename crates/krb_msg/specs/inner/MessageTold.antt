@@ -1,6 +1,6 @@
 -- Messages come back from their values, and the octets of a message tell where they end, and the message.
 use Rattle.std.proofs.Common.{◌≡◌, ℕ, ◌<◌, true, List, ◌++◌, length, refl, sym, ◌∙◌, ap, subst}
-use Rattle.krb_der.specs.Items.{same_from_cons}
+use Rattle.krb_der.specs.inner.Items.{same_from_cons}
 use Rattle.krb_msg.specs.declared.kdc_rep.KdcRep.{KdcRep}
 use Rattle.krb_msg.specs.declared.kdc_req.KdcReq.{KdcReq}
 use Rattle.krb_msg.specs.declared.message.Message.{Message}
@@ -9,9 +9,10 @@ use Rattle.krb_msg.specs.declared.message.Kind.{Kind}
 use Rattle.krb_msg.specs.declared.message.Kind.TheVariants as kind
 use Rattle.krb_msg.specs.Term.{Value, tag_of, der}
 use Rattle.krb_msg.specs.Shape.{is_unambiguous}
-use Rattle.krb_msg.specs.Values.{der_begins, der-append, same_from_der}
-use Rattle.krb_msg.specs.Told.{list-back}
-use Rattle.krb_msg.specs.Views.{pa_data_value, pa_data_of, kdc_req_value, kdc_req_of, kdc_req_body-back, kdc_rep_value, kdc_rep_of, krb_error-back, kind_of, kind_term, kind_of_tag, message_value, message_of, message_der}
+use Rattle.krb_msg.specs.inner.Values.{der_begins, der-append, same_from_der}
+use Rattle.krb_msg.specs.inner.RoundTrips.{kdc_req_body-back, krb_error-back}
+use Rattle.krb_msg.specs.inner.Told.{list-back}
+use Rattle.krb_msg.specs.Views.{pa_data_value, pa_data_of, kdc_req_value, kdc_req_of, kdc_rep_value, kdc_rep_of, kind_of, kind_term, kind_of_tag, message_value, message_of, message_der}
 
 -- ---- kinds
 pub kind_of_tag-tag : (k : Kind) → kind_of_tag (tag_of (kind_term k)) ≡ k
@@ -42,14 +43,14 @@ kdc_req-back n m = λ i. record { padata = list-back pa_data_value pa_data_of (�
 kdc_rep-back : (n : ℕ) (m : KdcRep) → kdc_rep_of (kdc_rep_value n m) ≡ m
 kdc_rep-back n m = λ i. record m { padata = list-back pa_data_value pa_data_of (λ p. refl) m.padata i }
 
-pub message_comes_back : (m : Message) → message_of (kind_of m) (message_value m) ≡ m
-message_comes_back (message.AsReq m) = ap message.AsReq (kdc_req-back 10 m)
-message_comes_back (message.AsRep m) = ap message.AsRep (kdc_rep-back 11 m)
-message_comes_back (message.TgsReq m) = ap message.TgsReq (kdc_req-back 12 m)
-message_comes_back (message.TgsRep m) = ap message.TgsRep (kdc_rep-back 13 m)
-message_comes_back (message.ApReq m) = refl
-message_comes_back (message.ApRep m) = refl
-message_comes_back (message.KrbError m) = ap message.KrbError (krb_error-back m)
+pub message_round_trips : (m : Message) → message_of (kind_of m) (message_value m) ≡ m
+message_round_trips (message.AsReq m) = ap message.AsReq (kdc_req-back 10 m)
+message_round_trips (message.AsRep m) = ap message.AsRep (kdc_rep-back 11 m)
+message_round_trips (message.TgsReq m) = ap message.TgsReq (kdc_req-back 12 m)
+message_round_trips (message.TgsRep m) = ap message.TgsRep (kdc_rep-back 13 m)
+message_round_trips (message.ApReq m) = refl
+message_round_trips (message.ApRep m) = refl
+message_round_trips (message.KrbError m) = ap message.KrbError (krb_error-back m)
 
 -- ---- what octets tell
 pub message_begins : (m : Message) → 0 < length (message_der m)
@@ -59,10 +60,10 @@ message_begins m = der_begins (kind_term (kind_of m)) (message_value m)
 abbrev Tells : (m : Message) (x y : List ℕ) → Kind → Type 0
 Tells m x y k = (v : Value (kind_term k)) → message_der m ++ x ≡ der (kind_term k) v ++ y → (message_of (kind_of m) (message_value m) ≡ message_of k v) × (x ≡ y)
 
-pub der_tells : (m other : Message) (x y : List ℕ) → message_der m ++ x ≡ message_der other ++ y → (m ≡ other) × (x ≡ y)
-der_tells m other x y e =
+pub der_is_prefix_free : (m other : Message) (x y : List ℕ) → message_der m ++ x ≡ message_der other ++ y → (m ≡ other) × (x ≡ y)
+der_is_prefix_free m other x y e =
     let p : (message_of (kind_of m) (message_value m) ≡ message_of (kind_of other) (message_value other)) × (x ≡ y) = at_kind (kind_of other) (same_kind (kind_of m) (kind_of other) tags) (message_value other) e in
-    (sym (message_comes_back m) ∙ p.0 ∙ message_comes_back other, p.1)
+    (sym (message_round_trips m) ∙ p.0 ∙ message_round_trips other, p.1)
   where
     tags : tag_of (kind_term (kind_of m)) ≡ tag_of (kind_term (kind_of other))
     tags = (same_from_cons _ _ _ _ (sym (der-append (kind_term (kind_of m)) (message_value m) x) ∙ e ∙ der-append (kind_term (kind_of other)) (message_value other) y)).0

@@ -1,0 +1,4 @@
+pub mod Values
+pub mod Told
+pub mod MessageTold
+pub mod RoundTrips

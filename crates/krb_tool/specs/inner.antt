@@ -1,0 +1,3 @@
+pub mod Listers
+pub mod Transfers
+pub mod FileRuns

@@ -1,0 +1,50 @@
+-- What the parts of a run on a file promise each other.
+use Rattle.std.specs.Prelude.{ℕ, ◌≡◌, ◌≢◌, ◌≤◌, ◌⊎◌, List, [], ◌++◌, length, Option, Some, IfSome, Result, Ok, Err, string_bytes}
+use Rattle.std.specs.Io.KnownBytes.{Consumes, Appends, Keeps, IsAtEnd}
+use Rattle.krb_der.specs.Fields.{Fault}
+use Rattle.krb_keytab.specs.declared.value.Keytab.{Keytab}
+use Rattle.krb_keytab.specs.Reading.{read}
+use Rattle.krb_ccache.specs.declared.value.Ccache.{Ccache}
+use Rattle.krb_ccache.specs.Reading.{read as read_ccache}
+use Rattle.krb_list.specs.Keytabs.{keytab_lines}
+use Rattle.krb_list.specs.Ccaches.{ccache_lines}
+use Rattle.krb_list.specs.Refusals.{file_refused_line}
+use Rattle.krb_tool.specs.declared.run.RunEnd.{RunEnd}
+use Rattle.krb_tool.specs.declared.run.RunEnd.TheVariants as run
+use Rattle.krb_tool.specs.declared.run.RunFault.{RunFault}
+use Rattle.krb_tool.specs.declared.run.RunFault.TheVariants as fault
+use Rattle.krb_tool.specs.declared.file_run.FileText.{FileText}
+use Rattle.krb_tool.specs.declared.transfer.ReaderState.{ReaderState}
+use Rattle.krb_tool.specs.declared.transfer.ReaderState.TheVariants as reader
+use Rattle.krb_tool.specs.Files.{FileListing, TakesAll}
+
+-- what is kept is all, or as many octets as are kept at most
+abbrev pub IsAllOrFull : Option ℕ → List ℕ → List ℕ → Type 0
+IsAllOrFull most kept rest = (rest ≡ []) ⊎ (most ≡ Some (length kept))
+
+-- All that a reader had was taken. It is kept, or as many of its first octets as are kept at most.
+pub record TakesFront (had left : Option (List ℕ)) (most : Option ℕ) (kept : List ℕ) : Type 0 where
+  pub rest : List ℕ
+  pub taken : TakesAll had left (kept ++ rest)
+  pub enough : IsAllOrFull most kept rest
+  pub within : IfSome most (λ most. length kept ≤ most)
+
+-- where there is a number, that many octets of a file tell its listing
+abbrev pub IsTold : (List ℕ → FileListing → Type 0) → Option ℕ → Type 0
+IsTold Lists most = (kept rest : List ℕ) (listing : FileListing) → most ≡ Some (length kept) → Lists kept listing → Lists (kept ++ rest) listing
+
+-- what the code made
+abbrev pub shown : FileText → FileListing
+shown made = record { text = string_bytes made.text; end = made.end }
+
+-- the fault of a run that has not written: that of its reader where this failed, and else out of memory
+abbrev pub IsOfReading : ReaderState → RunFault → Type 0
+IsOfReading reader.Failed e = e ≡ fault.Read
+IsOfReading reader.Open e = e ≡ fault.Memory
+IsOfReading reader.Ended e = e ≡ fault.Memory
+
+-- a fault is that of the reader where this failed, and nowhere else
+abbrev pub TellsRead : ReaderState → RunFault → Type 0
+TellsRead reader.Failed e = e ≡ fault.Read
+TellsRead reader.Open e = e ≢ fault.Read
+TellsRead reader.Ended e = e ≢ fault.Read
