@@ -1,4 +1,4 @@
-//! Prints the kind of each message of a stream of frames.
+//! Prints the name of each message of a stream of frames.
 #![tactic(auto)]
 
 use anyhow::Result;
@@ -6,8 +6,8 @@ use krb_der::Memory;
 use krb_frame::{Decoder, Limit, Status};
 use std::io::Read;
 
-/// Feeds a piece of the stream, and prints the kind of each message that ends in it.
-fn print_kinds(rt: &HostRuntime, decoder: &mut Decoder, piece: &[u8]) -> Result<()> {
+/// Feeds a piece of the stream, and prints the name of each message that ends in it.
+fn print_names(rt: &HostRuntime, decoder: &mut Decoder, piece: &[u8]) -> Result<()> {
     let mut rest = piece;
     for _ in 0..u64::MAX {
         let fed = decoder.feed(rest);
@@ -16,8 +16,8 @@ fn print_kinds(rt: &HostRuntime, decoder: &mut Decoder, piece: &[u8]) -> Result<
             Status::More => break,
             Status::Ready => {
                 if let Some(frame) = decoder.ready() {
-                    let kind = frame.kind();
-                    println!(rt; "{kind:?}")?;
+                    let name = frame.kind().name();
+                    println!(rt; "{name}")?;
                 }
                 decoder.next();
             }
@@ -37,7 +37,7 @@ fn main(rt: HostRuntime) -> Result<()> {
         if size == 0 {
             break;
         }
-        print_kinds(&rt, &mut decoder, &piece[..size])?;
+        print_names(&rt, &mut decoder, &piece[..size])?;
     }
     decoder.finish()?;
     Ok(())
