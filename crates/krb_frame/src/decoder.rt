@@ -10,10 +10,10 @@ use std::marker::Model;
 /// The number of octets of a frame's length.
 pub(crate) const LENGTH_OCTETS: usize = 4;
 
-/// What the octets of the current frame came to.
+/// How far the current frame has been read.
 #[derive(Clone, Copy)]
 enum Phase {
-    /// So many octets of its length, and not all four.
+    /// This many octets of its length, and not all four.
     Length(usize),
     /// Its length, which announces a number of octets, and a part of these.
     Contents(u32),
@@ -28,11 +28,11 @@ enum Phase {
 pub struct Fed {
     /// How many octets of the piece were used.
     pub used: usize,
-    /// What the stream came to with them.
+    /// The state of the decoder after them.
     pub status: Status,
 }
 
-/// What a stream came to.
+/// The state of a decoder after a feed.
 #[derive(Clone, Copy, PartialEq, Eq, Debug)]
 pub enum Status {
     /// The whole piece was used, and more octets are needed.

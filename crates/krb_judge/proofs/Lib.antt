@@ -3,3 +3,4 @@ pub mod Within
 pub mod Splits
 pub mod Slices
 pub mod Values
+mod Inside

@@ -1,3 +1,4 @@
 pub mod Parses
 pub mod Faults
 pub mod inner
+pub mod Laws

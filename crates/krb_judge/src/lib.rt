@@ -3,7 +3,9 @@
 #![tactic(auto)]
 
 mod judging;
+pub mod law;
 mod parsing;
 
 pub use judging::judge;
+pub use krb_der::{Refusal, Verdict, Why};
 pub use parsing::{ParseFault, parse, parse_method_data, parse_ticket, parse_whole, whole_kind};

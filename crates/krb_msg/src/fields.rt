@@ -9,7 +9,7 @@ pub use decode::DecodeFields;
 pub use encode::{Encode, EncodeFields};
 use std::marker::PhantomData;
 
-/// No field more.
+/// The end of a list of fields.
 #[derive(Drop)]
 pub struct End;
 

@@ -16,7 +16,7 @@ use thiserror::Error;
 /// How many octets a run asks its reader for at once: 64 KiB.
 pub(crate) const PIECE_OCTETS: usize = 1 << 16;
 
-/// How a run ended that neither its reader, its writer nor memory failed.
+/// How a run without faults ended.
 #[derive(Clone, Copy, PartialEq, Eq, Debug)]
 pub enum RunEnd {
     /// All was read, and nothing refused.
