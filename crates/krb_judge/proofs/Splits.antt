@@ -1,5 +1,5 @@
 -- What is split off items that are known to stand first.
-use Rattle.std.proofs.Common.{◌≡◌, ℕ, ◌+◌, ◌-◌, ◌^◌, ◌<◌, ◌≤◌, ℤ, List, [], ◌++◌, length, take, drop, refl, sym, ap, ◌∙◌, arith, append-nil, length-append, length-take, length-drop, drop_at, one-add}
+use Rattle.std.proofs.Common.{◌≡◌, ℕ, ◌+◌, ◌-◌, ◌^◌, ◌<◌, ◌≤◌, ℤ, List, ◌++◌, length, take, drop, refl, sym, ap, ◌∙◌, arith, length-append, length-take, length-drop, drop_at, one-add}
 use Rattle.std.proofs.lemmas.List.{take_at}
 use Rattle.krb_der.specs.Octets.{item, length_octets, integer_octets, integer_value}
 use Rattle.krb_der.specs.inner.Numbers.{length-integer_octets-le, integer_value-integer_octets}

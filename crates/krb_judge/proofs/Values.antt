@@ -1,13 +1,11 @@
 -- A Ticket and METHOD-DATA that fill a slice.
-use Rattle.std.proofs.Common.{◌≡◌, ◌≢◌, ◌⊎◌, ◌↔◌, ℕ, ◌^◌, ◌<◌, inl, inr, List, map, length, None, Result, Ok, Err, IfOk, IsErrOf, refl, sym, ap, ◌∙◌, subst}
-use Rattle.std.specs.List.{flat_map}
+use Rattle.std.proofs.Common.{◌≡◌, ◌≢◌, ◌⊎◌, ◌↔◌, ℕ, ◌^◌, ◌<◌, inl, inr, List, map, length, None, Result, Ok, Err, IfOk, IsErrOf, refl, ap}
 use Rattle.krb_der.specs.Octets.{AreOctets}
 use Rattle.krb_der.specs.declared.verdict.Refusal.{Refusal}
-use Rattle.krb_der.specs.Octets.{item}
 use Rattle.krb_msg.specs.declared.ticket.Ticket.{Ticket}
 use Rattle.krb_msg.specs.declared.pa_data.PaData.{PaData}
 use Rattle.krb_msg.specs.Term.{Term, Value, Fits, der}
-use Rattle.krb_msg.specs.Grammar.{ticket, method_data, pa_data}
+use Rattle.krb_msg.specs.Grammar.{ticket, method_data}
 use Rattle.krb_msg.specs.Nodes.{nodes, term_in, term_at}
 use Rattle.krb_judge.specs.declared.parsing.TheConstants.{TICKET, METHOD_DATA}
 use Rattle.krb_msg.specs.Views.{ticket_value, ticket_of, pa_data_value, pa_data_of}

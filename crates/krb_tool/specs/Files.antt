@@ -1,5 +1,5 @@
 -- The listings of files, and what a run on one does to its reader and its writer.
-use Rattle.std.specs.Prelude.{ℕ, ◌≡◌, ◌≢◌, ◌≤◌, ◌⊎◌, List, [], ◌++◌, length, Option, Some, IfSome, Result, Ok, Err, string_bytes}
+use Rattle.std.specs.Prelude.{ℕ, ◌≡◌, List, ◌++◌, Option, Result, Ok, Err}
 use Rattle.std.specs.Io.KnownBytes.{Consumes, Appends, Keeps, IsAtEnd}
 use Rattle.krb_der.specs.Fields.{Fault}
 use Rattle.krb_keytab.specs.declared.value.Keytab.{Keytab}
@@ -13,9 +13,6 @@ use Rattle.krb_tool.specs.declared.run.RunEnd.{RunEnd}
 use Rattle.krb_tool.specs.declared.run.RunEnd.TheVariants as run
 use Rattle.krb_tool.specs.declared.run.RunFault.{RunFault}
 use Rattle.krb_tool.specs.declared.run.RunFault.TheVariants as fault
-use Rattle.krb_tool.specs.declared.file_run.FileText.{FileText}
-use Rattle.krb_tool.specs.declared.transfer.ReaderState.{ReaderState}
-use Rattle.krb_tool.specs.declared.transfer.ReaderState.TheVariants as reader
 
 -- all that a reader had was taken
 pub record TakesAll (had left : Option (List ℕ)) (file : List ℕ) : Type 0 where

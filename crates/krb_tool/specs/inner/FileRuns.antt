@@ -1,16 +1,5 @@
 -- What the parts of a run on a file promise each other.
-use Rattle.std.specs.Prelude.{ℕ, ◌≡◌, ◌≢◌, ◌≤◌, ◌⊎◌, List, [], ◌++◌, length, Option, Some, IfSome, Result, Ok, Err, string_bytes}
-use Rattle.std.specs.Io.KnownBytes.{Consumes, Appends, Keeps, IsAtEnd}
-use Rattle.krb_der.specs.Fields.{Fault}
-use Rattle.krb_keytab.specs.declared.value.Keytab.{Keytab}
-use Rattle.krb_keytab.specs.Reading.{read}
-use Rattle.krb_ccache.specs.declared.value.Ccache.{Ccache}
-use Rattle.krb_ccache.specs.Reading.{read as read_ccache}
-use Rattle.krb_list.specs.Keytabs.{keytab_lines}
-use Rattle.krb_list.specs.Ccaches.{ccache_lines}
-use Rattle.krb_list.specs.Refusals.{file_refused_line}
-use Rattle.krb_tool.specs.declared.run.RunEnd.{RunEnd}
-use Rattle.krb_tool.specs.declared.run.RunEnd.TheVariants as run
+use Rattle.std.specs.Prelude.{ℕ, ◌≡◌, ◌≢◌, ◌≤◌, ◌⊎◌, List, [], ◌++◌, length, Option, Some, IfSome, string_bytes}
 use Rattle.krb_tool.specs.declared.run.RunFault.{RunFault}
 use Rattle.krb_tool.specs.declared.run.RunFault.TheVariants as fault
 use Rattle.krb_tool.specs.declared.file_run.FileText.{FileText}

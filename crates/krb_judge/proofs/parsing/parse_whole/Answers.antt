@@ -1,4 +1,4 @@
-use Rattle.std.proofs.Common.{◌∙◌, sym, refl}
+use Rattle.std.proofs.Common.{sym}
 use Rattle.krb_der.specs.inner.Numbers.{AreOctets-slice}
 use Rattle.krb_judge.proofs.Slices.{message_of_kind}
 use Rattle.krb_judge.proofs.parsing.parse_whole.Goals as goal
