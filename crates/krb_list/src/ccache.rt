@@ -6,8 +6,8 @@ ghost use Rattle.krb_list.specs.Time.{time_text};
 ghost use Rattle.krb_list.specs.Ccaches.{file_principal_text, offset_text, cache_text, who_text, key_text, times_text, state_text, flags_text, counts_text, tickets_text, credential_front, credential_text, config_text, refused_ticket_text, ticket_server_text, state_line, credential_line, credential_lines, cache_end_text, ccache_lines};
 
 use crate::field::put_field;
-use crate::shown::{Name, Shown, put_number};
 use crate::principal::put_principal;
+use crate::shown::{Name, Shown, put_number};
 use crate::ticket_flags::TicketFlags;
 use crate::time::put_time;
 use krb_ccache::{Ccache, Credential, FilePrincipal, TicketState, ticket_of};

@@ -5,8 +5,8 @@ ghost use Rattle.krb_list.specs.Text.{field, or_dash};
 ghost use Rattle.krb_list.specs.Messages.{in_realm, client_text, count_text, quoted_text};
 
 use crate::escape::put_escaped;
-use crate::shown::{Shown, put_number};
 use crate::principal::put_principal;
+use crate::shown::{Shown, put_number};
 use krb_der::{KString, Many, Octets};
 use krb_msg::PrincipalName;
 use std::alloc::AllocError;

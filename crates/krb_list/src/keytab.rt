@@ -5,8 +5,8 @@ ghost use Rattle.std.specs.List.{flat_map};
 ghost use Rattle.krb_list.specs.Text.{line_feed, yes_or_no};
 ghost use Rattle.krb_list.specs.Keytabs.{name_text, version_text, sizes_text, entry_text, hole_text, record_text, stop_text, keytab_end_text, keytab_lines};
 
-use crate::shown::Shown;
 use crate::principal::put_principal;
+use crate::shown::Shown;
 use crate::time::put_time;
 use krb_der::Memory;
 use krb_keytab::{Entry, Hole, Keytab, Record, Stop};

@@ -10,9 +10,9 @@ mod keytab;
 mod law;
 mod message;
 mod notes;
-mod shown;
 mod principal;
 mod refusal;
+mod shown;
 mod stream;
 mod ticket_flags;
 mod time;
@@ -28,9 +28,9 @@ pub use law::{
     session_keys_are_not_shown,
 };
 pub use message::{message_line, put_message};
-pub use shown::{Name, Shown, put_joined, put_list};
 pub use principal::{principal_text, put_principal};
 pub use refusal::{put_fault, put_file_refusal, put_message_refusal};
+pub use shown::{Name, Shown, put_joined, put_list};
 pub use stream::{put_stream_end, put_stream_refusal};
 pub use ticket_flags::TicketFlags;
 pub use time::{put_time, time_text};
