@@ -2,7 +2,7 @@
 //! that values hold, how a value is put as octets ([`Der`]), and, in `specs/`, how
 //! numbers, lengths and items are spelled in octets.
 //!
-//! `Numbers`, `Items` and `Tells` of `specs/` define nothing: they prove the laws of [`Der`].
+//! `Numbers`, `Items` and `PrefixFree` of `specs/inner` define nothing: they prove the laws of [`Der`].
 //!
 //! Beside these stands what keytabs and credential caches share: why a file is refused
 //! ([`FileFault`]), and, in `specs/Fields`, how the fields of files are spelled and read.

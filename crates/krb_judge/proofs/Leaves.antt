@@ -1,10 +1,10 @@
 -- Steps of the loops over a leaf's octets.
-use Rattle.std.proofs.Common.{◌≡◌, ℕ, suc, ◌+◌, ◌-◌, ◌*◌, ◌^◌, ◌<◌, ◌≤◌, Bool, true, false, nat_lt, nat_le, lt-ltb, le-ltb, le-leb, if◌then◌else◌, List, [], ◌∷◌, length, drop, get_or, refl, sym, ap, ◌∙◌, arith, add-one}
+use Rattle.std.proofs.Common.{◌≡◌, ℕ, ◌+◌, ◌-◌, ◌*◌, ◌^◌, ◌<◌, ◌≤◌, Bool, true, false, nat_lt, nat_le, lt-ltb, le-ltb, le-leb, if◌then◌else◌, List, [], ◌∷◌, length, drop, get_or, sym, ap, ◌∙◌, arith, add-one}
 use Rattle.std.proofs.Math.Seq.{drop-cons}
 use Rattle.std.proofs.Math.Nat.{pow-le-pow_right}
 use Rattle.std.proofs.lemmas.Grind.{pow_more}
 use Rattle.std.proofs.lemmas.List.{drop_all}
-use Rattle.krb_der.specs.Octets.{number_from, complement, last_or_zero, AreOctets}
+use Rattle.krb_der.specs.Octets.{number_from, complement, AreOctets}
 use Rattle.krb_msg.specs.Judgement.{Open, Bad, Done, each_contents, text_octet, any_contents}
 use Rattle.krb_der.specs.declared.why.Why.{Why}
 
@@ -62,11 +62,3 @@ pub text-any : (reason : Why) (contents : ℕ) (octets : List ℕ) → AreOctets
 text-any reason contents octets a =
     let e : 0 + length octets ≡ length octets = omega arith in
     each-octet reason contents 0 octets a ∙ ap (λ n. if nat_lt n contents then Open else Done contents) e
-
--- ---- the last octet
-pub last_octet : (octets : List ℕ) → 0 < length octets → get_or octets (length octets - 1) 0 ≡ last_or_zero octets
-last_octet [] h = absurd (omega arith)
-last_octet (octet ∷ []) h = refl
-last_octet (octet ∷ next ∷ octets) h =
-    let e : length (octet ∷ next ∷ octets) - 1 ≡ suc (length (next ∷ octets) - 1) = omega arith in
-    rw e (last_octet (next ∷ octets) (omega arith))

@@ -15,7 +15,6 @@ pub mod Ambiguous
 pub mod Streams
 pub mod Grammars
 pub mod Judged
-pub mod Fitting
 pub mod Fronts
 pub mod Table
 pub mod Layouts

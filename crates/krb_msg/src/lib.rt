@@ -5,7 +5,8 @@
 //! (appendix A as terms), `Judgement` (what the octets present of a message decide), `Stream` (the
 //! frames of a stream), `Views` (the types of this crate as values of terms), and `Laws`, which
 //! the functions of [`law`] prove. `Nodes` and `Table` say what the table of the grammar, of
-//! [`grammar`], has to do with the terms; on `Values`, `Told` and `MessageTold` the laws of `Der` stand.
+//! [`grammar`], has to do with the terms; on the files of
+//! `specs/inner` the laws of `Der` stand.
 #![tactic(auto)]
 
 mod ap_rep;

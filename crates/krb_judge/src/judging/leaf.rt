@@ -1,14 +1,13 @@
 //! The contents of the items that hold no others, after their tag and length octets.
 
 ghost use Rattle.std.specs.Prelude.{◌≡◌, ◌+◌, ◌^◌, ◌<◌, ◌≤◌, length, ℤ, ◌&&◌};
-ghost use Rattle.krb_der.specs.Octets.{last_or_zero as last_of};
 ghost use Rattle.krb_msg.specs.Judgement.{after, any_contents, integer_contents, each_contents, time_octet, bits_contents, int_le, is_padded as padded};
 ghost use Rattle.krb_judge.specs.inner.Outcomes.{outcome_of};
 ghost use Rattle.krb_der.specs.declared.why.Why.TheVariants as why;
 
 use crate::judging::number::integer_value;
 use crate::judging::outcome::Outcome;
-use krb_der::Why;
+use krb_der::{Why, last_or_zero};
 
 /// A KerberosString or an OCTET STRING: any octets (X.690, 8.7 and 8.23).
 pub(crate) fn string(before: u32, size: u32, octets: &[u8]) -> Outcome
@@ -128,15 +127,5 @@ pub(crate) fn bits(before: u32, size: u32, octets: &[u8]) -> Outcome
             offset: before + (size - 1),
             why: Why::Bits,
         }
-    }
-}
-
-/// The last octet, or 0 where there is none.
-fn last_or_zero(octets: &[u8]) -> u8
-    ensures { result ≡ last_of octets.now }
-{
-    match octets {
-        [] => 0,
-        [.., last] => *last,
     }
 }
