@@ -6,6 +6,7 @@ pub mod Stepwise
 pub mod Ccaches
 pub mod Loops
 pub mod Answered
+pub mod Followed
 pub mod Offsets
 pub mod Layouts
 pub mod Tickets

@@ -1,8 +1,8 @@
 -- Items up to the end of a file read one after the other, as a loop reads them.
-use Rattle.std.proofs.Common.{◌≡◌, ℕ, ◌<◌, ◌≤◌, ◌-◌, ◌+◌, zero, suc, Bool, true, false, leb, le-leb, Some, None, Result, Ok, List, [], ◌∷◌, ◌++◌, length, sym, ◌∙◌, ap, append_assoc, length-append, arith}
+use Rattle.std.proofs.Common.{◌≡◌, ℕ, ◌<◌, ◌≤◌, ◌-◌, ◌+◌, zero, suc, Bool, true, false, leb, le-leb, Option, Some, None, Result, Ok, Err, List, [], ◌∷◌, ◌++◌, length, sym, ◌∙◌, ap, append_assoc, length-append, arith}
 use Rattle.std.proofs.lemmas.Bool.{lt-leb}
 use Rattle.std.proofs.lemmas.List.{append-nil}
-use Rattle.krb_der.specs.Fields.{Source, Reader, Bounds, Fault, limited, ended as ends_at, onward, ◌>>=◌, gives, Fails, is_empty}
+use Rattle.krb_der.specs.Fields.{Source, Reader, Bounds, Fault, limited, onward, ◌>>=◌, gives, Fails, is_empty}
 use Rattle.krb_der.specs.Octets.{when}
 use Rattle.krb_der.proofs.Loops.{with_front, regroup as fields-regroup}
 use Rattle.krb_der.specs.declared.file.FileFault.{FileFault}
@@ -44,49 +44,52 @@ module _ {A : Type 0} (item_at : Reader A) (shortens : Shortens item_at) where
 field-moves : (bounds : Bounds) (s t : Source) (f : HeaderField) → header_field_at bounds s ≡ Ok (f, t) → s.place < t.place
 field-moves bounds s t f e = omega (arith, (Steps-header_field.moves bounds s f t e).same, Shortens-header_field.shorter bounds s f t e)
 
-abbrev fields_left : ℕ → ℕ → List HeaderField → Source → Result (List HeaderField × Source) Fault
-fields_left size end front s = with_front front (header_fields_at (size - length front) (ends_at (Some end)) s)
+pub field-less : (end : ℕ) (bounds : Bounds) (s t : Source) (f : HeaderField) → s.place < end → header_field_at bounds s ≡ Ok (f, t) → end - t.place < end - s.place
+field-less end bounds s t f lt e = omega (arith, field-moves bounds s t f e)
 
-abbrev next_field : ℕ → ℕ → Source → Result (List HeaderField × Source) Fault
-next_field bound end s = (header_field_at >>= λ first. header_fields_at bound >>= λ others. gives (first ∷ others)) (ends_at (Some end)) s
+-- ---- the fields of a header that ends at a place, under a limit
+module _ (limit : Option ℕ) where
+  abbrev upto : ℕ → Bounds
+  upto end = record { end = Some end; limit = limit }
 
-fields_left-some : (size end : ℕ) (front : List HeaderField) (s : Source) (k : ℕ) → s.place < end → size - length front ≡ suc k → fields_left size end front s ≡ with_front front (next_field k end s)
-fields_left-some size end front s k lt e =
-    let not_yet : leb end s.place ≡ false = lt-leb end s.place lt in
-    ap (λ (bound : ℕ). with_front front (header_fields_at bound (ends_at (Some end)) s)) e
-    ∙ ap (λ (b : Bool). with_front front (when b (λ _. Ok ([], s)) (λ _. next_field k end s))) not_yet
+  abbrev fields_left : ℕ → ℕ → List HeaderField → Source → Result (List HeaderField × Source) Fault
+  fields_left size end front s = with_front front (header_fields_at (size - length front) (upto end) s)
 
-pub field-goes_on : (size end : ℕ) (front : List HeaderField) (s t : Source) (f : HeaderField) (total : Result (List HeaderField × Source) Fault) → s.place < end → length front + (end - s.place) ≤ size → header_field_at (ends_at (Some end)) s ≡ Ok (f, t)
-    → with_front front (header_fields_at (size - length front) (ends_at (Some end)) s) ≡ total → with_front (front ++ f ∷ []) (header_fields_at (size - length (front ++ f ∷ [])) (ends_at (Some end)) t) ≡ total
-field-goes_on size end front s t f total lt few e so_far =
-    let k : ℕ = size - length (front ++ f ∷ []) in
-    let bound : size - length front ≡ suc (size - length (front ++ f ∷ [])) = omega (arith, length-append front (f ∷ [])) in
-    sym (fields_left-some size end front s k lt bound
-    ∙ ap (λ (r : Result (HeaderField × Source) Fault). with_front front (onward r (λ p. onward (header_fields_at k (ends_at (Some end)) p.1) (λ q. Ok (p.0 ∷ q.0, q.1))))) e
-    ∙ fields-regroup header_field_at (ends_at (Some end)) front f (header_fields_at k (ends_at (Some end)) t))
-    ∙ so_far
+  abbrev next_field : ℕ → ℕ → Source → Result (List HeaderField × Source) Fault
+  next_field bound end s = (header_field_at >>= λ first. header_fields_at bound >>= λ others. gives (first ∷ others)) (upto end) s
 
-pub field-few : (size end : ℕ) (front : List HeaderField) (s t : Source) (f : HeaderField) → s.place < end → length front + (end - s.place) ≤ size → header_field_at (ends_at (Some end)) s ≡ Ok (f, t) → length (front ++ f ∷ []) + (end - t.place) ≤ size
-field-few size end front s t f lt few e = omega (arith, field-moves (ends_at (Some end)) s t f e, length-append front (f ∷ []))
+  fields_left-some : (size end : ℕ) (front : List HeaderField) (s : Source) (k : ℕ) → s.place < end → size - length front ≡ suc k → fields_left size end front s ≡ with_front front (next_field k end s)
+  fields_left-some size end front s k lt e =
+      let not_yet : leb end s.place ≡ false = lt-leb end s.place lt in
+      ap (λ (bound : ℕ). with_front front (header_fields_at bound (upto end) s)) e
+      ∙ ap (λ (b : Bool). with_front front (when b (λ _. Ok ([], s)) (λ _. next_field k end s))) not_yet
 
-pub field-less : (end : ℕ) (s t : Source) (f : HeaderField) → s.place < end → header_field_at (ends_at (Some end)) s ≡ Ok (f, t) → end - t.place < end - s.place
-field-less end s t f lt e = omega (arith, field-moves (ends_at (Some end)) s t f e)
+  pub field-goes_on : (size end : ℕ) (front : List HeaderField) (s t : Source) (f : HeaderField) (total : Result (List HeaderField × Source) Fault) → s.place < end → length front + (end - s.place) ≤ size → header_field_at (upto end) s ≡ Ok (f, t)
+      → with_front front (header_fields_at (size - length front) (upto end) s) ≡ total → with_front (front ++ f ∷ []) (header_fields_at (size - length (front ++ f ∷ [])) (upto end) t) ≡ total
+  field-goes_on size end front s t f total lt few e so_far =
+      let k : ℕ = size - length (front ++ f ∷ []) in
+      let bound : size - length front ≡ suc (size - length (front ++ f ∷ [])) = omega (arith, length-append front (f ∷ [])) in
+      sym (fields_left-some size end front s k lt bound
+      ∙ ap (λ (r : Result (HeaderField × Source) Fault). with_front front (onward r (λ p. onward (header_fields_at k (upto end) p.1) (λ q. Ok (p.0 ∷ q.0, q.1))))) e
+      ∙ fields-regroup header_field_at (upto end) front f (header_fields_at k (upto end) t))
+      ∙ so_far
 
-pub field-ends : (e : FileFault) (size end : ℕ) (front : List HeaderField) (s : Source) (total : Result (List HeaderField × Source) Fault) → s.place < end → length front + (end - s.place) ≤ size → Fails e (header_field_at (ends_at (Some end)) s)
-    → with_front front (header_fields_at (size - length front) (ends_at (Some end)) s) ≡ total → Fails e total
-field-ends faults.Memory size end front s total lt few h so_far = tt
-field-ends faults.Read size end front s total lt few h so_far = absurd h
-field-ends (faults.Refused place why) size end front s total lt few h so_far =
-    let k : ℕ = size - length front - 1 in
-    let bound : size - length front ≡ suc (size - length front - 1) = omega arith in
-    sym so_far ∙ fields_left-some size end front s k lt bound
-    ∙ ap (λ (r : Result (HeaderField × Source) Fault). with_front front (onward r (λ p. onward (header_fields_at k (ends_at (Some end)) p.1) (λ q. Ok (p.0 ∷ q.0, q.1))))) h
+  pub field-few : (size end : ℕ) (front : List HeaderField) (s t : Source) (f : HeaderField) → s.place < end → length front + (end - s.place) ≤ size → header_field_at (upto end) s ≡ Ok (f, t) → length (front ++ f ∷ []) + (end - t.place) ≤ size
+  field-few size end front s t f lt few e = omega (arith, field-moves (upto end) s t f e, length-append front (f ∷ []))
 
-pub fields-done : (size end : ℕ) (front : List HeaderField) (s : Source) (total : Result (List HeaderField × Source) Fault) → end ≤ s.place → with_front front (header_fields_at (size - length front) (ends_at (Some end)) s) ≡ total → total ≡ Ok (front, s)
-fields-done size end front s total le so_far = sym so_far ∙ go (size - length front)
-  where
-    go : (bound : ℕ) → with_front front (header_fields_at bound (ends_at (Some end)) s) ≡ Ok (front, s)
-    go zero = ap (λ (fields : List HeaderField). Ok (fields, s)) (append-nil front)
-    go (suc bound) =
-        let at_end : leb end s.place ≡ true = le-leb end s.place le in
-        ap (λ (b : Bool). with_front front (when b (λ _. Ok ([], s)) (λ _. next_field bound end s))) at_end ∙ ap (λ (fields : List HeaderField). Ok (fields, s)) (append-nil front)
+  pub field-fails : (fault : Fault) (size end : ℕ) (front : List HeaderField) (s : Source) (total : Result (List HeaderField × Source) Fault) → s.place < end → length front + (end - s.place) ≤ size → header_field_at (upto end) s ≡ Err fault
+      → with_front front (header_fields_at (size - length front) (upto end) s) ≡ total → total ≡ Err fault
+  field-fails fault size end front s total lt few h so_far =
+      let k : ℕ = size - length front - 1 in
+      let bound : size - length front ≡ suc (size - length front - 1) = omega arith in
+      sym so_far ∙ fields_left-some size end front s k lt bound
+      ∙ ap (λ (r : Result (HeaderField × Source) Fault). with_front front (onward r (λ p. onward (header_fields_at k (upto end) p.1) (λ q. Ok (p.0 ∷ q.0, q.1))))) h
+
+  pub fields-done : (size end : ℕ) (front : List HeaderField) (s : Source) (total : Result (List HeaderField × Source) Fault) → end ≤ s.place → with_front front (header_fields_at (size - length front) (upto end) s) ≡ total → total ≡ Ok (front, s)
+  fields-done size end front s total le so_far = sym so_far ∙ go (size - length front)
+    where
+      go : (bound : ℕ) → with_front front (header_fields_at bound (upto end) s) ≡ Ok (front, s)
+      go zero = ap (λ (fields : List HeaderField). Ok (fields, s)) (append-nil front)
+      go (suc bound) =
+          let at_end : leb end s.place ≡ true = le-leb end s.place le in
+          ap (λ (b : Bool). with_front front (when b (λ _. Ok ([], s)) (λ _. next_field bound end s))) at_end ∙ ap (λ (fields : List HeaderField). Ok (fields, s)) (append-nil front)

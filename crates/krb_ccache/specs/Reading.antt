@@ -1,5 +1,5 @@
 -- Reading a cache from left to right, up to the first fault.
-use Rattle.std.specs.Prelude.{ℕ, zero, suc, List, [], ◌∷◌, length, Option, None, Result, Ok, Err}
+use Rattle.std.specs.Prelude.{ℕ, zero, suc, List, [], ◌∷◌, length, Option, None, Some, Result, Ok, Err}
 use Rattle.std.specs.Int.{w8, w16, w32}
 use Rattle.krb_der.specs.Octets.{when}
 use Rattle.krb_der.specs.Fields.{Source, source_of, Fault, limited, Reader, onward, ◌>>=◌, gives, is_empty, number_at, signed_at, counted_at, times, names_at, within, is_at_end, version_at}
@@ -55,6 +55,10 @@ credential_at = do
   server ← principal_at
   enctype ← number_at w16
   credential_from client server enctype
+
+-- the next credential, and none where the file ends
+abbrev pub next_at : Reader (Option Credential)
+next_at = λ bounds source. when (is_empty source.octets) (λ _. Ok (None, source)) (λ _. (credential_at >>= λ credential. gives (Some credential)) bounds source)
 
 -- ---- the header
 

@@ -1,126 +1,74 @@
 //! Caches, read from octets.
 
-ghost use Rattle.std.specs.Prelude.{◌≡◌, None, Some, Ok, IfOk, IfErr};
-ghost use Rattle.std.specs.Int.{w32};
-ghost use Rattle.krb_der.specs.Fields.{Gives, IsFaultIn, ended, limited, within, times, counted_at};
+ghost use Rattle.std.specs.Prelude.{◌≡◌, None, Ok, IfOk, IfErr};
+ghost use Rattle.krb_der.specs.Fields.{Gives, IsFaultIn, Reader, within, times};
+ghost use Rattle.krb_der.specs.FieldReaders.{Follows, Slice, source_at};
 ghost use Rattle.krb_ccache.specs.declared.value.Ccache.{Ccache as CcacheValue};
 ghost use Rattle.krb_ccache.specs.Spelling.{CcacheSpells};
-ghost use Rattle.krb_ccache.specs.Reading.{principal_at, typed_at, typed_list_at, credential_from, credential_at, header_field_at, header_fields_at, header_at, credentials_after, read};
+ghost use Rattle.krb_ccache.specs.Reading.{principal_at, typed_at, typed_list_at, credential_from, credential_at, header_field_at, header_fields_at, header_at, start_at, next_at, credentials_after, read};
 
 use crate::value::{Ccache, Credential, FilePrincipal, Header, HeaderField, Typed};
-use krb_der::{FileFault, KString, Many, Octets, Source};
+use krb_der::{Field, FieldReader, FileFault, Many, Names, SliceReader, read_many};
 use std::alloc::Global;
 
-/// Octets after their number, copied once.
-fn data<'a>(alloc: Global, source: Source<'a>) -> Result<(Octets, Source<'a>), FileFault>
-    ensures { Gives (λ taken. taken) result (counted_at w32 (limited None) source.entry) }
-{
-    let (octets, rest) = source.counted32(None)?;
-    Ok((Octets::new(Vec::from_slice(alloc, octets)?), rest))
-}
-
-/// A realm or a component, copied once.
-fn string<'a>(alloc: Global, source: Source<'a>) -> Result<(KString, Source<'a>), FileFault>
-    ensures { Gives (λ taken. taken) result (counted_at w32 (limited None) source.entry) }
-{
-    let (octets, rest) = source.counted32(None)?;
-    Ok((KString::new(Vec::from_slice(alloc, octets)?), rest))
-}
-
-/// So many components. Memory follows the octets that are there, and not the number.
-fn components<'a>(
-    alloc: Global,
-    count: u32,
-    source: Source<'a>,
-) -> Result<(Many<KString>, Source<'a>), FileFault>
-    ensures { Gives (λ taken. taken) result (times count (counted_at w32) (limited None) source.entry) }
-{
-    let mut components = Vec::new(alloc);
-    let mut rest = source;
-    for _ in 0..count {
-        let (component, after) = string(alloc, rest)?;
-        components.push(component)?;
-        rest = after;
-    }
-    Ok((Many::new(components), rest))
-}
-
 /// A principal.
-fn principal<'a>(
-    alloc: Global,
-    source: Source<'a>,
-) -> Result<(FilePrincipal, Source<'a>), FileFault>
-    ensures { Gives (λ taken. taken) result (principal_at (limited None) source.entry) }
+fn principal<F: FieldReader>(alloc: Global, reader: &mut F) -> Result<FilePrincipal, FileFault>
+    ensures { Follows (λ principal. principal) result principal_at F.MayFail (F.held reader.old) (F.held reader.new) }
 {
-    let (name_type, rest) = source.signed32(None)?;
-    let (count, rest) = rest.number32(None)?;
-    let (realm, rest) = string(alloc, rest)?;
-    let (components, rest) = components(alloc, count, rest)?;
-    let principal = FilePrincipal {
+    let name_type = reader.signed32()?;
+    let Names { realm, components } = reader.names32(alloc)?;
+    Ok(FilePrincipal {
         name_type,
         realm,
         components,
-    };
-    Ok((principal, rest))
+    })
 }
 
 /// Octets of a kind.
-fn typed<'a>(alloc: Global, source: Source<'a>) -> Result<(Typed, Source<'a>), FileFault>
-    ensures { Gives (λ taken. taken) result (typed_at (limited None) source.entry) }
-{
-    let (kind, rest) = source.number16(None)?;
-    let (octets, rest) = data(alloc, rest)?;
-    Ok((Typed { kind, octets }, rest))
-}
+struct OctetsOfKind;
 
-/// So many, each of its kind. Memory follows the octets that are there, and not the number.
-fn typed_items<'a>(
-    alloc: Global,
-    count: u32,
-    source: Source<'a>,
-) -> Result<(Many<Typed>, Source<'a>), FileFault>
-    ensures { Gives (λ taken. taken) result (times count typed_at (limited None) source.entry) }
-{
-    let mut items = Vec::new(alloc);
-    let mut rest = source;
-    for _ in 0..count {
-        let (item, after) = typed(alloc, rest)?;
-        items.push(item)?;
-        rest = after;
+impl Field for OctetsOfKind {
+    type Value = Typed;
+
+    ghost reads = { typed_at };
+
+    fn read<F: FieldReader>(alloc: Global, reader: &mut F) -> Result<Typed, FileFault> {
+        let kind = reader.number16()?;
+        let octets = reader.counted32(alloc)?;
+        Ok(Typed { kind, octets })
     }
-    Ok((Many::new(items), rest))
 }
 
 /// Addresses, or authorization data, after their number.
-fn typed_list<'a>(alloc: Global, source: Source<'a>) -> Result<(Many<Typed>, Source<'a>), FileFault>
-    ensures { Gives (λ taken. taken) result (typed_list_at (limited None) source.entry) }
+fn typed_list<F: FieldReader>(alloc: Global, reader: &mut F) -> Result<Many<Typed>, FileFault>
+    ensures { Follows (λ list. list) result typed_list_at F.MayFail (F.held reader.old) (F.held reader.new) }
 {
-    let (count, rest) = source.number32(None)?;
-    typed_items(alloc, count, rest)
+    let count = reader.number32()?;
+    read_many::<OctetsOfKind, F>(alloc, count, reader)
 }
 
 /// What stands of a credential from its key on.
-fn credential_from<'a>(
+fn credential_from<F: FieldReader>(
     alloc: Global,
     client: FilePrincipal,
     server: FilePrincipal,
     enctype: u16,
-    source: Source<'a>,
-) -> Result<(Credential, Source<'a>), FileFault>
-    ensures { Gives (λ taken. taken) result (credential_from client server enctype (limited None) source.entry) }
+    reader: &mut F,
+) -> Result<Credential, FileFault>
+    ensures { Follows (λ credential. credential) result (credential_from client server enctype) F.MayFail (F.held reader.old) (F.held reader.new) }
 {
-    let (key, rest) = data(alloc, source)?;
-    let (authtime, rest) = rest.number32(None)?;
-    let (starttime, rest) = rest.number32(None)?;
-    let (endtime, rest) = rest.number32(None)?;
-    let (renew_till, rest) = rest.number32(None)?;
-    let (is_skey, rest) = rest.number8(None)?;
-    let (flags, rest) = rest.number32(None)?;
-    let (addresses, rest) = typed_list(alloc, rest)?;
-    let (authdata, rest) = typed_list(alloc, rest)?;
-    let (ticket, rest) = data(alloc, rest)?;
-    let (second_ticket, rest) = data(alloc, rest)?;
-    let credential = Credential {
+    let key = reader.counted32(alloc)?;
+    let authtime = reader.number32()?;
+    let starttime = reader.number32()?;
+    let endtime = reader.number32()?;
+    let renew_till = reader.number32()?;
+    let is_skey = reader.number8()?;
+    let flags = reader.number32()?;
+    let addresses = typed_list(alloc, reader)?;
+    let authdata = typed_list(alloc, reader)?;
+    let ticket = reader.counted32(alloc)?;
+    let second_ticket = reader.counted32(alloc)?;
+    Ok(Credential {
         client,
         server,
         enctype,
@@ -135,84 +83,107 @@ fn credential_from<'a>(
         authdata,
         ticket,
         second_ticket,
-    };
-    Ok((credential, rest))
+    })
 }
 
 /// A credential.
-fn credential<'a>(alloc: Global, source: Source<'a>) -> Result<(Credential, Source<'a>), FileFault>
-    ensures { Gives (λ taken. taken) result (credential_at (limited None) source.entry) }
+fn credential<F: FieldReader>(alloc: Global, reader: &mut F) -> Result<Credential, FileFault>
+    ensures { Follows (λ credential. credential) result credential_at F.MayFail (F.held reader.old) (F.held reader.new) }
 {
-    let (client, rest) = principal(alloc, source)?;
-    let (server, rest) = principal(alloc, rest)?;
-    let (enctype, rest) = rest.number16(None)?;
-    credential_from(alloc, client, server, enctype, rest)
+    let client = principal(alloc, reader)?;
+    let server = principal(alloc, reader)?;
+    let enctype = reader.number16()?;
+    credential_from(alloc, client, server, enctype, reader)
 }
 
-/// The credentials up to the end of the file.
-fn credentials(alloc: Global, source: Source<'_>) -> Result<Many<Credential>, FileFault>
-    ensures { Gives (λ credentials. credentials) result (credentials_after source.entry) }
-{
-    let mut credentials = Vec::new(alloc);
-    let mut rest = source;
-    'credentials: while !rest.is_empty() {
-        let (credential, after) = credential(alloc, rest)?;
-        credentials.push(credential)?;
-        rest = after;
-    }
-    Ok(Many::new(credentials))
-}
-
-/// A field of the header that ends at `end`.
-fn header_field<'a>(
+/// The next credential, and none where the file ends.
+pub(crate) fn next<F: FieldReader>(
     alloc: Global,
-    end: u64,
-    source: Source<'a>,
-) -> Result<(HeaderField, Source<'a>), FileFault>
-    ensures { Gives (λ taken. taken) result (header_field_at (ended (Some end)) source.entry) }
+    reader: &mut F,
+) -> Result<Option<Credential>, FileFault>
+    ensures { Follows (λ next. next) result next_at F.MayFail (F.held reader.old) (F.held reader.new) }
 {
-    let (tag, rest) = source.number16(Some(end))?;
-    let (value, rest) = rest.counted16(Some(end))?;
-    let value = Octets::new(Vec::from_slice(alloc, value)?);
-    Ok((HeaderField { tag, value }, rest))
+    if reader.is_empty()? {
+        return Ok(None);
+    }
+    let credential = credential(alloc, reader)?;
+    Ok(Some(credential))
+}
+
+/// A field of the header.
+fn header_field<F: FieldReader>(alloc: Global, reader: &mut F) -> Result<HeaderField, FileFault>
+    ensures { Follows (λ field. field) result header_field_at F.MayFail (F.held reader.old) (F.held reader.new) }
+{
+    let tag = reader.number16()?;
+    let value = reader.counted16(alloc)?;
+    Ok(HeaderField { tag, value })
 }
 
 /// The fields of a header of `size` octets.
-fn header_fields<'a>(
+fn header_fields<F: FieldReader>(
     alloc: Global,
     size: u16,
-    source: Source<'a>,
-) -> Result<(Many<HeaderField>, Source<'a>), FileFault>
-    ensures { Gives (λ taken. taken) result (within size (header_fields_at size) (limited None) source.entry) }
+    reader: &mut F,
+) -> Result<Many<HeaderField>, FileFault>
+    ensures { Follows (λ fields. fields) result (within size (header_fields_at size)) F.MayFail (F.held reader.old) (F.held reader.new) }
 {
-    let end = source.place() + u64::from(size);
+    let outer = reader.end();
+    let end = reader.place() + u64::from(size);
+    reader.set_end(Some(end));
     let mut fields = Vec::new(alloc);
-    let mut rest = source;
-    'fields: while rest.place() < end {
-        let (field, after) = header_field(alloc, end, rest)?;
+    'fields: while reader.place() < end {
+        let field = header_field(alloc, reader)?;
         fields.push(field)?;
-        rest = after;
     }
-    Ok((Many::new(fields), rest))
+    reader.set_end(outer);
+    Ok(Many::new(fields))
 }
 
 /// The header.
-fn header<'a>(alloc: Global, source: Source<'a>) -> Result<(Header, Source<'a>), FileFault>
-    ensures { Gives (λ taken. taken) result (header_at (limited None) source.entry) }
+fn header<F: FieldReader>(alloc: Global, reader: &mut F) -> Result<Header, FileFault>
+    ensures { Follows (λ header. header) result header_at F.MayFail (F.held reader.old) (F.held reader.new) }
 {
-    let (size, rest) = source.number16(None)?;
-    let (fields, rest) = header_fields(alloc, size, rest)?;
-    Ok((Header { fields }, rest))
+    let size = reader.number16()?;
+    let fields = header_fields(alloc, size, reader)?;
+    Ok(Header { fields })
+}
+
+/// What stands before the credentials.
+#[derive(Drop)]
+pub(crate) struct Front {
+    pub(crate) header: Header,
+    pub(crate) principal: FilePrincipal,
+}
+
+/// What stands before the credentials of a file, from its first octet on.
+pub(crate) fn beginning<F: FieldReader>(alloc: Global, reader: &mut F) -> Result<Front, FileFault>
+    ensures { Follows (λ start. record { header = start.header; principal = start.principal }) result start_at F.MayFail (F.held reader.old) (F.held reader.new) }
+{
+    reader.version(&[4])?;
+    let header = header(alloc, reader)?;
+    let principal = principal(alloc, reader)?;
+    Ok(Front { header, principal })
+}
+
+/// The credentials up to the end of the file.
+fn credentials(alloc: Global, reader: &mut SliceReader<'_>) -> Result<Many<Credential>, FileFault>
+    requires { reader.old.end ≡ None }
+    ensures { Gives (λ credentials. credentials) result (credentials_after (source_at reader.old.place reader.old.octets)) }
+{
+    let mut credentials = Vec::new(alloc);
+    'credentials: while let Some(credential) = next(alloc, reader)? {
+        credentials.push(credential)?;
+    }
+    Ok(Many::new(credentials))
 }
 
 /// The cache that a file holds.
 fn whole(alloc: Global, octets: &[u8]) -> Result<Ccache, FileFault>
     ensures { Gives (λ ccache. ccache) result (read octets.now) }
 {
-    let (_, rest) = Source::new(octets).version(&[4])?;
-    let (header, rest) = header(alloc, rest)?;
-    let (principal, rest) = principal(alloc, rest)?;
-    let credentials = credentials(alloc, rest)?;
+    let mut reader = SliceReader::new(octets);
+    let Front { header, principal } = beginning(alloc, &mut reader)?;
+    let credentials = credentials(alloc, &mut reader)?;
     Ok(Ccache {
         header,
         principal,

@@ -4,6 +4,7 @@ pub mod Scalars
 pub mod Sizes
 pub mod Faults
 pub mod Fields
+pub mod FieldReaders
 pub mod Hex
 pub mod Puts
 pub mod inner

@@ -1,6 +1,10 @@
 -- What the scalars stand for.
 use Rattle.std.specs.Prelude.{ℕ, zero, suc, ℤ, pos, negsuc, ◌-◌, ◌/◌, ◌%◌, ◌^◌, ◌≡◌, ◌≤◌, ◌≤ℤ◌, Bool, eqb, List, [], ◌∷◌, slice_index}
 
+-- from -2147483648 to 2147483647 (RFC 4120, 5.2.4)
+abbrev pub IsInt32 : ℤ → Type 0
+IsInt32 number = (negsuc 2147483647 ≤ℤ number) × (number ≤ℤ pos 2147483647)
+
 -- from -2147483648 to 4294967295
 abbrev pub IsWide32 : ℤ → Type 0
 IsWide32 number = (negsuc 2147483647 ≤ℤ number) × (number ≤ℤ pos 4294967295)

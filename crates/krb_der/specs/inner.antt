@@ -1,3 +1,4 @@
 pub mod Numbers
 pub mod Items
 pub mod PrefixFree
+pub mod Takes

@@ -10,9 +10,14 @@ pub trait Der {
     /// The DER octets of a value.
     ghost der: { Self → List ℕ };
 
+    /// What is so of each value: its numbers are in their ranges, its times and bit strings have
+    /// their shape.
+    ghost Fits: { Self → Type 0 };
+
     /// The number of DER octets; 2147483648 where there are more.
     fn size(&self) -> u64
-        ensures { result ≡ saturated (length (der self.now)) };
+        ensures octets { result ≡ saturated (length (der self.now)) }
+        ensures fits { Fits self.now };
 
     /// Appends the DER octets, at most 2147483647 of them, into room that is there. It takes no
     /// memory.

@@ -1,7 +1,7 @@
 //! Flags, a bit each.
 
 use crate::der::Der;
-use crate::item::{item_size, put_header, put_octets};
+use crate::item::{item_size, put_header, put_octets, size_of};
 use std::marker::Model;
 
 /// A bit string (KerberosFlags of RFC 4120, 5.2.8; X.690, 8.6 and 11.2): octets, and how many low
@@ -31,7 +31,7 @@ ghost use Rattle.std.specs.Ordering.{on, eq_of_both};
 ghost use Rattle.std.specs.Cmp.Rules.{comparing};
 ghost use Rattle.std.specs.Cmp.Lexicographic.{pointwise};
 ghost use Rattle.std.proofs.Common.{rules};
-ghost use Rattle.krb_der.specs.Octets.{AreBits, item, last_or_zero as last_of};
+ghost use Rattle.krb_der.specs.Octets.{AreBits, AreOctets, item, last_or_zero as last_of};
 ghost use Rattle.krb_der.specs.inner.PrefixFree.{item_begins, same_bits};
 ghost use Rattle.krb_der.specs.Scalars.{has_bit};
 
@@ -106,8 +106,10 @@ impl Eq for Flags {
 impl Der for Flags {
     ghost der = { λ bits. item 0x03 (bits.0 ∷ bits.1) };
 
+    ghost Fits = { λ bits. AreBits bits.0 bits.1 × AreOctets bits.1 };
+
     fn size(&self) -> u64 {
-        item_size(self.octets().len() as u64 + 1)
+        item_size(size_of(self.octets.as_slice()) + 1)
     }
 
     fn put(&self, out: &mut Vec<u8>) {

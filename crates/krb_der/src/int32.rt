@@ -22,6 +22,7 @@ impl Model for Int32 {
 
 ghost use Rattle.std.specs.Prelude.{◌≡◌};
 ghost use Rattle.krb_der.specs.Octets.{item, integer_octets};
+ghost use Rattle.krb_der.specs.Scalars.{IsInt32};
 ghost use Rattle.krb_der.specs.inner.PrefixFree.{item_begins, same_integer};
 
 impl Int32 {
@@ -43,6 +44,8 @@ impl Int32 {
 /// An INTEGER (X.690, 8.3).
 impl Der for Int32 {
     ghost der = { λ number. item 0x02 (integer_octets number) };
+
+    ghost Fits = { IsInt32 };
 
     fn size(&self) -> u64 {
         integer_size(i64::from(self.number))

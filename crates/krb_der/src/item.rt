@@ -3,7 +3,7 @@
 ghost use Rattle.std.specs.Prelude.{◌≡◌, ◌+◌, ◌<◌, ◌≤◌, ◌^◌, ◌++◌, ◌∷◌, length};
 ghost use Rattle.std.specs.Vec.{vec_len, vec_capacity};
 ghost use Rattle.krb_der.specs.Puts.{Puts};
-ghost use Rattle.krb_der.specs.Octets.{item, length_octets};
+ghost use Rattle.krb_der.specs.Octets.{AreOctets, item, length_octets};
 ghost use Rattle.krb_der.specs.Sizes.{item_length, saturated};
 
 use crate::number::{number_size, put_number};
@@ -23,6 +23,14 @@ pub fn item_size(contents: u64) -> u64
     } else {
         TOO_LONG
     }
+}
+
+/// How many octets these are.
+pub(crate) fn size_of(octets: &[u8]) -> u64
+    ensures value { result ≡ length octets.now }
+    ensures octets { AreOctets octets.now }
+{
+    octets.len() as u64
 }
 
 /// Two numbers of octets together; 2147483648 where there are more.

@@ -60,6 +60,8 @@ impl KerberosTime {
 impl Der for KerberosTime {
     ghost der = { λ octets. item 0x18 octets };
 
+    ghost Fits = { IsTimeFrom 14 };
+
     fn size(&self) -> u64 {
         item_size(self.octets().len() as u64)
     }

@@ -1,7 +1,7 @@
 //! Strings of Kerberos.
 
 use crate::der::Der;
-use crate::item::{item_size, put_item};
+use crate::item::{item_size, put_item, size_of};
 use std::marker::Model;
 
 /// A KerberosString (RFC 4120, 5.2.1): octets of any kind, as implementations send them. Contracts
@@ -23,7 +23,7 @@ ghost use Rattle.std.specs.Prelude.{◌≡◌};
 ghost use Rattle.std.specs.Prelude.{nat_eq};
 ghost use Rattle.std.specs.Cmp.{partial_equiv_from_equiv};
 ghost use Rattle.std.specs.Cmp.Lexicographic.{pointwise, nat_list_eq_equiv};
-ghost use Rattle.krb_der.specs.Octets.{item};
+ghost use Rattle.krb_der.specs.Octets.{item, AreOctets};
 ghost use Rattle.krb_der.specs.inner.PrefixFree.{item_begins, same_octets};
 
 impl KString {
@@ -69,8 +69,10 @@ impl Eq for KString {
 impl Der for KString {
     ghost der = { λ octets. item 0x1B octets };
 
+    ghost Fits = { AreOctets };
+
     fn size(&self) -> u64 {
-        item_size(self.octets().len() as u64)
+        item_size(size_of(self.octets()))
     }
 
     fn put(&self, out: &mut Vec<u8>) {

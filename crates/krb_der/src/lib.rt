@@ -11,7 +11,8 @@
 #![tactic(auto)]
 
 mod der;
-mod field;
+mod field_limit;
+mod field_reader;
 mod file;
 mod flags;
 mod int32;
@@ -23,12 +24,15 @@ mod memory;
 mod micros;
 mod number;
 mod octets;
+mod slice_reader;
+mod stream_reader;
 mod verdict;
 mod why;
 mod wide32;
 
 pub use der::Der;
-pub use field::Source;
+pub use field_limit::FieldLimit;
+pub use field_reader::{Field, FieldReader, Names, String16, String32, read_many};
 pub use file::{FileFault, FileWhy, file_why_number, file_why_text};
 pub use flags::{Flags, last_or_zero};
 pub use int32::Int32;
@@ -40,6 +44,8 @@ pub use memory::Memory;
 pub use micros::Micros;
 pub use number::{integer_size, put_integer};
 pub use octets::Octets;
+pub use slice_reader::SliceReader;
+pub use stream_reader::StreamReader;
 pub use verdict::{Refusal, Verdict};
 pub use why::{Why, why_number, why_text};
 pub use wide32::Wide32;

@@ -19,7 +19,7 @@ impl<T> Model for Many<T> {
 }
 
 ghost use Rattle.std.specs.Prelude.{◌≡◌, ◌+◌, ◌≤◌, ◌++◌, length};
-ghost use Rattle.std.specs.List.{flat_map};
+ghost use Rattle.std.specs.List.{flat_map, AllByRecursion};
 ghost use Rattle.std.specs.Vec.{vec_len, vec_capacity};
 ghost use Rattle.krb_der.specs.Puts.{Puts};
 ghost use Rattle.std.specs.Cmp.Lexicographic.{pointwise, lists_per, lists_equiv};
@@ -70,6 +70,8 @@ impl<T: Eq> Eq for Many<T> {
 impl<T: Der> Der for Many<T> {
     ghost der = { λ values. item 0x30 (flat_map T.der values) };
 
+    ghost Fits = { AllByRecursion T.Fits };
+
     fn size(&self) -> u64 {
         item_size(size_of_values(self.as_slice()))
     }
@@ -87,7 +89,8 @@ impl<T: Der> Der for Many<T> {
 
 /// The number of DER octets of all the values; 2147483648 where there are more.
 fn size_of_values<T: Der>(values: &[T]) -> u64
-    ensures { result ≡ saturated (length (flat_map T.der values.now)) }
+    ensures octets { result ≡ saturated (length (flat_map T.der values.now)) }
+    ensures fits { AllByRecursion T.Fits values.now }
 {
     let mut size = 0;
     for value in values {

@@ -58,6 +58,8 @@ impl Micros {
 impl Der for Micros {
     ghost der = { λ number. item 0x02 (integer_octets (pos number)) };
 
+    ghost Fits = { IsMicros };
+
     fn size(&self) -> u64 {
         integer_size(i64::from(self.number))
     }

@@ -1,7 +1,7 @@
 //! Octets that a value holds.
 
 use crate::der::Der;
-use crate::item::{item_size, put_item};
+use crate::item::{item_size, put_item, size_of};
 use std::marker::Model;
 
 /// Octets, any number of any kind. Contracts see them as their list.
@@ -22,7 +22,7 @@ ghost use Rattle.std.specs.Prelude.{◌≡◌};
 ghost use Rattle.std.specs.Prelude.{nat_eq};
 ghost use Rattle.std.specs.Cmp.{partial_equiv_from_equiv};
 ghost use Rattle.std.specs.Cmp.Lexicographic.{pointwise, nat_list_eq_equiv};
-ghost use Rattle.krb_der.specs.Octets.{item};
+ghost use Rattle.krb_der.specs.Octets.{item, AreOctets};
 ghost use Rattle.krb_der.specs.inner.PrefixFree.{item_begins, same_octets};
 
 impl Octets {
@@ -68,8 +68,10 @@ impl Eq for Octets {
 impl Der for Octets {
     ghost der = { λ octets. item 0x04 octets };
 
+    ghost Fits = { AreOctets };
+
     fn size(&self) -> u64 {
-        item_size(self.as_slice().len() as u64)
+        item_size(size_of(self.as_slice()))
     }
 
     fn put(&self, out: &mut Vec<u8>) {

@@ -61,6 +61,8 @@ impl Wide32 {
 impl Der for Wide32 {
     ghost der = { λ number. item 0x02 (integer_octets number) };
 
+    ghost Fits = { IsWide32 };
+
     fn size(&self) -> u64 {
         integer_size(self.number)
     }

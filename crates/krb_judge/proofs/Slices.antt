@@ -102,8 +102,7 @@ no_message octets a = (λ no e. let w = message_in octets a e in no w.message (r
 pub whole_value : (term : Term) (octets : List ℕ) → AreOctets octets → refusal_by (term_judgement term) octets ≡ None → IsDer term octets × (length octets < 2 ^ 31)
 whole_value term octets a e =
     let w = whole_slice (term_judgement term) octets (value_is_decided term octets) e in
-    let v = whole_is_value term octets a w.whole in
-    (record { value = v.value; fits = v.fits; form = sym v.form }, w.short)
+    (whole_is_value term octets a w.whole, w.short)
 
 -- of a type whose values are those of a term that fit
 module _ {A : Type 0} (term : Term) (unambiguous : is_unambiguous term ≡ true) (value_of : A → Value term) (of_value : Value term → A) (back : (a : A) → of_value (value_of a) ≡ a) (onto : (value : Value term) → Fits term value → value_of (of_value value) ≡ value) where

@@ -1,5 +1,5 @@
 pub mod Entries
-pub mod Records
+pub mod RecordSpellings
 pub mod Keytabs
 pub mod Faults
 pub mod Stepwise
@@ -7,3 +7,6 @@ pub mod Loops
 pub mod Written
 pub mod Sizes
 pub mod Answered
+pub mod HoleRead
+pub mod Streams
+pub mod Bounded

@@ -1,12 +1,15 @@
 -- The records of a file read one after the other, as a loop reads them.
-use Rattle.std.proofs.Common.{◌≡◌, ℕ, ◌<◌, None, Result, Ok, List, [], ◌∷◌, ◌++◌, length, sym, ◌∙◌, ap, append_assoc}
+use Rattle.std.proofs.Common.{◌≡◌, ℕ, ◌<◌, Option, None, Result, Ok, List, [], ◌∷◌, ◌++◌, length, sym, ◌∙◌, ap, subst, append_assoc}
 use Rattle.std.proofs.lemmas.List.{append-nil}
 use Rattle.krb_der.specs.Fields.{Source, Fault, limited, Fails}
+use Rattle.krb_der.specs.FieldReaders.{Slice, of_slice, source_at, HasRead}
+use Rattle.krb_der.proofs.FieldReaders.{known}
 use Rattle.krb_der.specs.declared.file.FileFault.{FileFault}
 use Rattle.krb_der.specs.declared.file.FileFault.TheVariants as faults
 use Rattle.krb_keytab.specs.declared.value.Keytab.{Keytab}
 use Rattle.krb_keytab.specs.declared.value.Record.{Record}
 use Rattle.krb_keytab.specs.declared.value.Stop.{Stop}
+use Rattle.krb_keytab.specs.declared.reading.Next.{Next}
 use Rattle.krb_keytab.specs.declared.reading.Next.TheVariants as nexts
 use Rattle.krb_keytab.specs.Reading.{record_at, Items, with_first, items_after, keytab_of_items}
 use Rattle.krb_keytab.proofs.Stepwise.{record-shorter, after-item, after-done, after-fault}
@@ -39,3 +42,10 @@ ends (faults.Refused place why) front s total h so_far =
 
 pub shorter : (s t : Source) (r : Record) → record_at (limited None) s ≡ Ok (nexts.Item r, t) → length t.octets < length s.octets
 shorter s t r e = record-shorter None s.place s.octets r t e
+
+-- ---- of a slice
+abbrev pub left_of : Slice → Source
+left_of s = source_at s.place s.octets
+
+pub step : (s t : Slice) (next : Next) → s.end ≡ None → HasRead record_at next (of_slice s) (of_slice t) → record_at (limited None) (left_of s) ≡ Ok (next, left_of t)
+step s t next free read = subst (λ (end : Option ℕ). record_at (record { end = end; limit = None }) (left_of s) ≡ Ok (next, left_of t)) free (known record_at next s t read)

@@ -4,11 +4,11 @@ use Rattle.std.proofs.lemmas.List.{append-nil}
 use Rattle.std.specs.List.{flat_map, AllByRecursion}
 use Rattle.std.proofs.lemmas.List.Concat.{flat_map-cons}
 use Rattle.krb_der.specs.Octets.{AreOctets}
-use Rattle.krb_der.specs.Fields.{zeros}
+use Rattle.krb_der.specs.Fields.{zeros, are_zero}
 use Rattle.krb_keytab.specs.declared.value.Keytab.{Keytab}
 use Rattle.krb_keytab.specs.declared.value.Record.{Record}
 use Rattle.krb_keytab.specs.declared.value.Record.TheVariants as records
-use Rattle.krb_keytab.specs.Spelling.{are_zero, RecordSpells, RecordsSpell, stop_octets, KeytabSpells}
+use Rattle.krb_keytab.specs.Spelling.{RecordSpells, RecordsSpell, stop_octets, KeytabSpells}
 use Rattle.krb_keytab.specs.Reading.{read}
 use Rattle.krb_keytab.specs.Writing.{written_record, written, CanWrite}
 use Rattle.krb_keytab.proofs.Keytabs.{read-again}

@@ -1,10 +1,9 @@
 -- Keytab files of format 0x0502 (MIT krb5): which octets spell a keytab.
-use Rattle.std.specs.Prelude.{ℕ, zero, suc, ℤ, pos, negsuc, ◌^◌, ◌<◌, ◌≤◌, ◌≡◌, ◌⊎◌, Bool, ◌&&◌, ◌==◌, nat_lt, nat_le, List, [], ◌∷◌, ◌++◌, length, map, take}
-use Rattle.std.specs.List.{list_all}
+use Rattle.std.specs.Prelude.{ℕ, zero, suc, ℤ, pos, negsuc, ◌^◌, ◌<◌, ◌≤◌, ◌≡◌, ◌⊎◌, ◌&&◌, nat_lt, nat_le, List, [], ◌∷◌, ◌++◌, length, map, take}
 use Rattle.std.specs.Int.{w8, w16, w32, to_be_bytes, from_be_bytes}
 use Rattle.std.specs.Int.RustNames.{FitsSigned}
 use Rattle.krb_der.specs.Octets.{when, AreOctets}
-use Rattle.krb_der.specs.Fields.{signed, counted, Names, names, IsCounted, AreNames, zeros}
+use Rattle.krb_der.specs.Fields.{signed, counted, Names, names, IsCounted, AreNames, zeros, are_zero}
 use Rattle.krb_keytab.specs.Holes.{HoleModel, IsHoleSize}
 use Rattle.krb_keytab.specs.declared.value.Keytab.{Keytab}
 use Rattle.krb_keytab.specs.declared.value.Record.{Record}
@@ -47,9 +46,6 @@ kvno e =
     when (nat_le 4 (length e.rest) && nat_lt 0 wide) (λ _. wide) (λ _. e.vno8)
 
 -- ---- records
-
-abbrev pub are_zero : List ℕ → Bool
-are_zero octets = list_all (λ octet. octet == 0) octets
 
 abbrev pub negated : ℕ → ℤ
 negated zero = pos 0

@@ -7,9 +7,11 @@
 
 pub mod law;
 mod reading;
+mod records;
 mod value;
 mod writing;
 
-pub use reading::read;
+pub use reading::{Next, read};
+pub use records::Records;
 pub use value::{Entry, Hole, Keytab, Record, Stop};
 pub use writing::{KeytabFault, write};

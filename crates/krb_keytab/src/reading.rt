@@ -2,127 +2,103 @@
 
 ghost use Rattle.std.specs.Prelude.{◌≡◌, ℕ, None, Some, Ok, IfOk, IfErr};
 ghost use Rattle.std.specs.Int.{w16, w32};
-ghost use Rattle.krb_der.specs.Fields.{Gives, IsFaultIn, ended, limited, times, counted_at};
-ghost use Rattle.krb_keytab.specs.Spelling.{are_zero, ReadAs};
+ghost use Rattle.krb_der.specs.Fields.{Gives, IsFaultIn, ended, limited, within};
+ghost use Rattle.krb_der.specs.FieldReaders.{Follows, source_at};
+ghost use Rattle.krb_keytab.specs.Spelling.{ReadAs};
 ghost use Rattle.krb_keytab.specs.declared.value.Keytab.{Keytab as KeytabValue};
 ghost use Rattle.krb_keytab.specs.Reading.{entry_at, record_of, record_at, items_after, keytab_of_items, read};
 
 use crate::value::{Entry, Hole, Keytab, Record, Stop};
-use krb_der::{FileFault, KString, Many, Octets, Source};
+use krb_der::{FieldReader, FileFault, Many, Names, SliceReader};
 use std::alloc::Global;
 
 /// What stands where a record is due.
 #[derive(Drop)]
-enum Next {
+pub enum Next {
     /// A record.
     Item(Record),
     /// No record: how they end.
     Done(Stop),
 }
 
-/// Whether all of the octets are 00.
-fn are_clean(octets: &[u8]) -> bool
-    ensures { result ≡ are_zero octets.now }
+/// The entry whose content is what is left up to the end that the reader knows.
+fn entry<F: FieldReader>(alloc: Global, reader: &mut F) -> Result<Entry, FileFault>
+    ensures { Follows (λ entry. entry) result entry_at F.MayFail (F.held reader.old) (F.held reader.new) }
 {
-    octets.iter().all(|octet| *octet == 0)
-}
-
-/// So many components, each copied once.
-fn components<'a>(
-    alloc: Global,
-    count: u16,
-    end: u64,
-    source: Source<'a>,
-) -> Result<(Many<KString>, Source<'a>), FileFault>
-    ensures { Gives (λ taken. taken) result (times count (counted_at w16) (ended (Some end)) source.entry) }
-{
-    let mut components = Vec::new(alloc);
-    let mut rest = source;
-    for _ in 0..count {
-        let (component, after) = rest.counted16(Some(end))?;
-        components.push(KString::new(Vec::from_slice(alloc, component)?))?;
-        rest = after;
-    }
-    Ok((Many::new(components), rest))
-}
-
-/// The entry whose content is the next octets up to `end`.
-fn entry<'a>(alloc: Global, end: u64, source: Source<'a>) -> Result<(Entry, Source<'a>), FileFault>
-    ensures { Gives (λ taken. taken) result (entry_at (ended (Some end)) source.entry) }
-{
-    let (count, rest) = source.number16(Some(end))?;
-    let (realm, rest) = rest.counted16(Some(end))?;
-    let realm = KString::new(Vec::from_slice(alloc, realm)?);
-    let (components, rest) = components(alloc, count, end, rest)?;
-    let (name_type, rest) = rest.signed32(Some(end))?;
-    let (time, rest) = rest.number32(Some(end))?;
-    let (vno8, rest) = rest.number8(Some(end))?;
-    let (enctype, rest) = rest.number16(Some(end))?;
-    let (key, rest) = rest.counted16(Some(end))?;
-    let key = Octets::new(Vec::from_slice(alloc, key)?);
-    let (after_key, left) = rest.rest(end)?;
-    let entry = Entry {
+    let Names { realm, components } = reader.names16(alloc)?;
+    Ok(Entry {
         realm,
         components,
-        name_type,
-        time,
-        vno8,
-        enctype,
-        key,
-        rest: Octets::new(Vec::from_slice(alloc, after_key)?),
-    };
-    Ok((entry, left))
+        name_type: reader.signed32()?,
+        time: reader.number32()?,
+        vno8: reader.number8()?,
+        enctype: reader.number16()?,
+        key: reader.counted16(alloc)?,
+        rest: reader.rest(alloc)?,
+    })
+}
+
+/// The entry of so many octets.
+fn entry_within<F: FieldReader>(
+    alloc: Global,
+    size: u32,
+    reader: &mut F,
+) -> Result<Entry, FileFault>
+    ensures { Follows (λ entry. entry) result (within size entry_at) F.MayFail (F.held reader.old) (F.held reader.new) }
+{
+    let outer = reader.end();
+    let place = reader.place();
+    reader.set_end(Some(place + u64::from(size)));
+    let entry = entry(alloc, reader)?;
+    reader.set_end(outer);
+    Ok(entry)
 }
 
 /// What a record's length leads to.
-fn record_after<'a>(
+fn record_after<F: FieldReader>(
     alloc: Global,
     length: i32,
-    source: Source<'a>,
-) -> Result<(Next, Source<'a>), FileFault>
-    ensures { Gives (λ taken. taken) result (record_of length (limited None) source.entry) }
+    reader: &mut F,
+) -> Result<Next, FileFault>
+    ensures { Follows (λ next. next) result (record_of length) F.MayFail (F.held reader.old) (F.held reader.new) }
 {
     let size = length.unsigned_abs();
     if length == 0 {
-        Ok((Next::Done(Stop::Zero), source))
+        Ok(Next::Done(Stop::Zero))
     } else if length > 0 {
-        let end = source.place() + u64::from(size);
-        let (entry, rest) = entry(alloc, end, source)?;
-        Ok((Next::Item(Record::Entry(entry)), rest))
+        let entry = entry_within(alloc, size, reader)?;
+        Ok(Next::Item(Record::Entry(entry)))
     } else {
-        let (octets, rest) = source.octets(None, size)?;
-        let hole = Hole::of(size, are_clean(octets));
-        Ok((Next::Item(Record::Hole(hole)), rest))
+        let clean = reader.skip(u64::from(size))?;
+        Ok(Next::Item(Record::Hole(Hole::of(size, clean))))
     }
 }
 
 /// The next record, or how the records end.
-fn record<'a>(alloc: Global, source: Source<'a>) -> Result<(Next, Source<'a>), FileFault>
-    ensures { Gives (λ taken. taken) result (record_at (limited None) source.entry) }
+pub(crate) fn record<F: FieldReader>(alloc: Global, reader: &mut F) -> Result<Next, FileFault>
+    ensures { Follows (λ next. next) result record_at F.MayFail (F.held reader.old) (F.held reader.new) }
 {
-    if source.is_empty() {
-        return Ok((Next::Done(Stop::File), source));
+    if reader.is_empty()? {
+        return Ok(Next::Done(Stop::File));
     }
-    let (length, rest) = source.signed32(None)?;
-    record_after(alloc, length, rest)
+    let length = reader.signed32()?;
+    record_after(alloc, length, reader)
 }
 
 /// The records up to the stop, and the place after it.
-fn keytab(alloc: Global, source: Source<'_>) -> Result<(Keytab, usize), FileFault>
-    ensures { Gives (λ taken. taken) result (keytab_of_items (items_after None source.entry)) }
+fn keytab(alloc: Global, reader: &mut SliceReader<'_>) -> Result<(Keytab, usize), FileFault>
+    requires { reader.old.end ≡ None }
+    ensures { Gives (λ taken. taken) result (keytab_of_items (items_after None (source_at reader.old.place reader.old.octets))) }
 {
     let mut records = Vec::new(alloc);
-    let mut rest = source;
     loop {
-        let (next, after) = record(alloc, rest)?;
-        match next {
+        match record(alloc, reader)? {
             Next::Item(record) => records.push(record)?,
             Next::Done(stop) => {
                 let records = Many::new(records);
-                return Ok((Keytab { records, stop }, after.place() as usize));
+                return Ok((Keytab { records, stop }, reader.place() as usize));
             }
         }
-        rest = after;
     }
 }
 
@@ -130,8 +106,9 @@ fn keytab(alloc: Global, source: Source<'_>) -> Result<(Keytab, usize), FileFaul
 fn whole(alloc: Global, octets: &[u8]) -> Result<(Keytab, usize), FileFault>
     ensures { Gives (λ taken. taken) result (read octets.now) }
 {
-    let (_, source) = Source::new(octets).version(&[2])?;
-    keytab(alloc, source)
+    let mut reader = SliceReader::new(octets);
+    reader.version(&[2])?;
+    keytab(alloc, &mut reader)
 }
 
 /// The keytab that a file holds, and how many of its octets were read: all of them, unless a record

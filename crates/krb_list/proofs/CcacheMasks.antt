@@ -7,7 +7,7 @@ use Rattle.krb_ccache.specs.declared.ticket.TicketState.{TicketState}
 use Rattle.krb_ccache.specs.declared.ticket.TicketState.TheVariants as states
 use Rattle.krb_ccache.specs.Spelling.{masked, masked_credential}
 use Rattle.krb_ccache.specs.Tickets.{state_of}
-use Rattle.krb_list.specs.Ccaches.{cache_text, who_text, key_text, times_text, flags_text, counts_text, tickets_text, credential_front, credential_text, config_text, state_line, credential_line, credential_lines, cache_end_text, ccache_lines}
+use Rattle.krb_list.specs.Ccaches.{who_text, key_text, times_text, flags_text, counts_text, tickets_text, credential_front, credential_text, config_text, state_line, credential_line, credential_lines, cache_end_text, ccache_lines}
 use Rattle.krb_list.proofs.Masks.{length-zeros}
 
 same_front : (now : Option ℕ) (c : Credential) → credential_front now (masked_credential c) ≡ credential_front now c
@@ -32,7 +32,7 @@ same_state : (c : Credential) → state_of (masked_credential c) ≡ state_of c
 unfolding state_of
 same_state c = refl
 
-same_line : (now : Option ℕ) (c : Credential) → credential_line now (masked_credential c) ≡ credential_line now c
+pub same_line : (now : Option ℕ) (c : Credential) → credential_line now (masked_credential c) ≡ credential_line now c
 unfolding credential_line
 same_line now c = rw (same_state c) (same_state_line now c (state_of c))
 
@@ -40,10 +40,6 @@ same_credential_lines : (now : Option ℕ) (cs : List Credential) → credential
 same_credential_lines now [] = refl
 same_credential_lines now (c ∷ cs) = rw (same_line now c, same_credential_lines now cs) refl
 
-same_cache : (v : Ccache) → cache_text (masked v) ≡ cache_text v
-unfolding cache_text
-same_cache v = refl
-
 pub same_ccache_lines : (now : Option ℕ) (v : Ccache) → ccache_lines now (masked v) ≡ ccache_lines now v
 unfolding ccache_lines
-same_ccache_lines now v = rw (same_cache v, same_credential_lines now v.credentials, length-map v.credentials masked_credential) refl
+same_ccache_lines now v = rw (same_credential_lines now v.credentials, length-map v.credentials masked_credential) refl

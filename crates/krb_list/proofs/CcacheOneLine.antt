@@ -10,45 +10,31 @@ use Rattle.krb_msg.specs.Grammar.{kerberos_string}
 use Rattle.krb_msg.specs.Judgement.{Head, Partial, Refused, Got, head}
 use Rattle.krb_msg.specs.Reading.{opened_at, opened, all_opened, value_of}
 use Rattle.krb_judge.specs.Parses.{ticket_refusal}
-use Rattle.krb_ccache.specs.declared.value.Ccache.{Ccache}
 use Rattle.krb_ccache.specs.declared.value.Credential.{Credential}
 use Rattle.krb_ccache.specs.declared.value.FilePrincipal.{FilePrincipal}
+use Rattle.krb_ccache.specs.declared.value.Header.{Header}
 use Rattle.krb_ccache.specs.declared.ticket.TicketState.TheVariants as states
 use Rattle.krb_ccache.specs.Spelling.{offset, is_config}
 use Rattle.krb_ccache.specs.Tickets.{ticket_read, judged_state, field_state, state_of}
 use Rattle.krb_list.specs.Laws.{IsPrintable, AllAreOctets, PrincipalIsOfOctets, CredentialIsOfOctets}
 use Rattle.krb_list.specs.Text.{two_hex}
-use Rattle.krb_list.specs.TicketFlags.{name_if_set, first_names, last_names, flag_names, other_flags, eight_hex, others_text, ticket_flags_text}
+use Rattle.krb_list.specs.TicketFlags.{flag_name, set_flags, names_text, other_flags, eight_hex, others_text, ticket_flags_text}
 use Rattle.krb_list.specs.Ccaches.{file_principal_text, offset_text, cache_text, who_text, key_text, times_text, state_text, flags_text, counts_text, tickets_text, credential_front, credential_text, config_text, refused_ticket_text, state_line, credential_line, cache_end_text}
-use Rattle.krb_list.proofs.OneLine.{Prints, is_printable, word, join, either, add, number, signed, in_hex, always, all_joined, principal, sealed}
+use Rattle.krb_list.proofs.OneLine.{Prints, is_printable, word, join, either, add, number, signed, in_hex, always, all_joined, every, principal, sealed}
 use Rattle.krb_list.proofs.KeytabOneLine.{time}
 
 -- ---- the flags of a ticket
-record AllPrint (names : List (List ℕ)) : Type 0 where
-  pub each : AllByRecursion IsPrintable names
+name : (flag : ℕ) → Prints (flag_name flag)
+unfolding flag_name
+name flag =
+    either (flag == 0x4000_0000) (word _ refl) (either (flag == 0x2000_0000) (word _ refl) (either (flag == 0x1000_0000) (word _ refl)
+    (either (flag == 0x0800_0000) (word _ refl) (either (flag == 0x0400_0000) (word _ refl) (either (flag == 0x0200_0000) (word _ refl)
+    (either (flag == 0x0100_0000) (word _ refl) (either (flag == 0x0080_0000) (word _ refl) (either (flag == 0x0040_0000) (word _ refl)
+    (either (flag == 0x0020_0000) (word _ refl) (either (flag == 0x0010_0000) (word _ refl) (either (flag == 0x0008_0000) (word _ refl) (word _ refl))))))))))))
 
-all-names : (names others : List (List ℕ)) → AllByRecursion IsPrintable names → AllByRecursion IsPrintable others → AllByRecursion IsPrintable (names ++ others)
-all-names [] others h k = k
-all-names (name ∷ names) others h k = (h.0, all-names names others h.1 k)
-
-name_chosen : (is : Bool) (flags flag : ℕ) (name : List ℕ) → IsPrintable name → (bit_and flags flag == flag) ≡ is → AllPrint (name_if_set flags flag name)
-unfolding name_if_set
-name_chosen true flags flag name h e = rw e (record { each = (h, tt) })
-name_chosen false flags flag name h e = rw e (record { each = tt })
-
--- names, and one more if its flag is set
-more : {names : List (List ℕ)} → AllPrint names → (flags flag : ℕ) (name : List ℕ) → list_all is_printable name ≡ true → AllPrint (names ++ name_if_set flags flag name)
-more before flags flag name e =
-    record { each = all-names _ _ before.each (name_chosen (bit_and flags flag == flag) flags flag name (word name e).all refl).each }
-
-first : (names : List (List ℕ)) (flags : ℕ) → AllPrint names → AllPrint (first_names names flags)
-unfolding first_names
-first names flags h =
-    more (more (more (more (more (more (more h flags _ _ refl) flags _ _ refl) flags _ _ refl) flags _ _ refl) flags _ _ refl) flags _ _ refl) flags _ _ refl
-
-last : (names : List (List ℕ)) (flags : ℕ) → AllPrint names → AllPrint (last_names names flags)
-unfolding last_names
-last names flags h = more (more (more (more (more (more h flags _ _ refl) flags _ _ refl) flags _ _ refl) flags _ _ refl) flags _ _ refl) flags _ _ refl
+names : (bits : ℕ) → Prints (names_text bits)
+unfolding names_text
+names bits = all_joined (codes "-") (codes ",") flag_name (λ flag. Unit {0}) (word (codes "-") refl) (word (codes ",") refl) (λ flag h. name flag) (set_flags bits) (every (set_flags bits))
 
 octet : (o : ℕ) → o < 256 → Prints (two_hex o)
 octet o h = in_hex (o ∷ []) (h, tt)
@@ -63,9 +49,7 @@ other_bits n h = either (n == 0) (word [] refl) (join (word (codes "+") refl) (e
 
 flags : (bits : ℕ) → Prints (ticket_flags_text bits)
 unfolding ticket_flags_text
-flags bits =
-    join (all_joined (codes "-") (codes ",") (λ name. name) IsPrintable (word (codes "-") refl) (word (codes ",") refl) (λ name h. record { all = h }) (flag_names bits) (last (first_names [] bits) bits (first [] bits (record { each = tt }))).each)
-    (other_bits (other_flags bits) (omega (arith, and_le_r bits 0x8003_FFFF)))
+flags bits = join (names bits) (other_bits (other_flags bits) (omega (arith, and_le_r bits 0x8003_FFFF)))
 
 -- ---- what is read of octets is octets
 contents_at : (h : Head) (octets : List ℕ) → AreOctets octets → AreOctets (opened_at h octets).contents
@@ -105,14 +89,14 @@ server octets a =
 who : (p : FilePrincipal) → PrincipalIsOfOctets p → Prints (file_principal_text p)
 who p h = principal p.components p.realm h.0 h.1
 
-pub cache_line : (v : Ccache) → PrincipalIsOfOctets v.principal → IsPrintable (cache_text v)
+pub cache_line : (header : Header) (p : FilePrincipal) → PrincipalIsOfOctets p → IsPrintable (cache_text header p)
 unfolding cache_text
-cache_line v h =
+cache_line header p h =
     (add (add (add (add (word (codes "cache") refl)
-    (codes "principal") refl (who v.principal h))
-    (codes "type") refl (signed v.principal.name_type))
-    (codes "offset") refl (always offset_text (λ numbers. join (join (signed numbers.0) (word (codes ":") refl)) (signed numbers.1)) (offset v.header)))
-    (codes "fields") refl (number (length v.header.fields))).all
+    (codes "principal") refl (who p h))
+    (codes "type") refl (signed p.name_type))
+    (codes "offset") refl (always offset_text (λ numbers. join (join (signed numbers.0) (word (codes ":") refl)) (signed numbers.1)) (offset header)))
+    (codes "fields") refl (number (length header.fields))).all
 
 pub cache_end_line : (count : ℕ) → IsPrintable (cache_end_text count)
 unfolding cache_end_text

@@ -1,5 +1,5 @@
 -- All that times and the lines of a keytab show is printable: blanks and graphic characters of ASCII.
-use Rattle.std.proofs.Common.{ℕ, zero, suc, pos, ◌+◌, ◌-◌, ◌/◌, ◌%◌, ◌==◌, ◌^◌, ◌<◌, ◌≤◌, inl, inr, Bool, true, false, length, refl, sym, subst, arith, codes}
+use Rattle.std.proofs.Common.{ℕ, zero, suc, pos, ◌+◌, ◌-◌, ◌/◌, ◌%◌, ◌==◌, ◌^◌, ◌<◌, ◌≤◌, inl, inr, Bool, true, false, [], length, refl, sym, subst, arith, codes}
 use Rattle.std.proofs.lemmas.Bool.{cases_lt}
 use Rattle.jiff.specs.Words.{days_in_year, days_in_month}
 use Rattle.jiff_core.proofs.CalendarLemmas.{days_in_year_bounds}
@@ -16,7 +16,7 @@ use Rattle.krb_list.specs.Text.{yes_or_no}
 use Rattle.krb_list.specs.Time.{date_in_year, date_from, civil_date, two_digits, date_text, clock_text, time_text}
 use Rattle.krb_list.specs.Keytabs.{name_text, version_text, sizes_text, entry_text, hole_text, record_text, stop_text, keytab_end_text}
 use Rattle.krb_list.proofs.Dates.{in_year-here, in_year-next, from-zero, from-here, from-next}
-use Rattle.krb_list.proofs.OneLine.{Prints, word, join, either, number, signed, principal}
+use Rattle.krb_list.proofs.OneLine.{Prints, word, join, add, either, number, signed, principal}
 
 -- ---- times
 -- small enough that each digit is below 79
@@ -72,13 +72,13 @@ entry : (e : Entry) → RecordIsOfOctets (records.Entry e) → Prints (entry_tex
 unfolding entry_text name_text version_text sizes_text
 entry e (components, realm, seconds) =
     join (join (join (word (codes "entry") refl)
-    (join (join (join (word (codes " principal=") refl) (principal e.components e.realm components realm)) (word (codes " type=") refl)) (signed e.name_type)))
-    (join (join (join (join (join (word (codes " time=") refl) (time e.time seconds)) (word (codes " kvno=") refl)) (number (kvno e))) (word (codes " enctype=") refl)) (number e.enctype)))
-    (join (join (join (word (codes " key=") refl) (number (length e.key))) (word (codes " rest=") refl)) (number (length e.rest)))
+    (add (add (word [] refl) (codes "principal") refl (principal e.components e.realm components realm)) (codes "type") refl (signed e.name_type)))
+    (add (add (add (word [] refl) (codes "time") refl (time e.time seconds)) (codes "kvno") refl (number (kvno e))) (codes "enctype") refl (number e.enctype)))
+    (add (add (word [] refl) (codes "key") refl (number (length e.key))) (codes "rest") refl (number (length e.rest)))
 
 hole : (room : HoleModel) → Prints (hole_text room)
 unfolding hole_text
-hole room = join (join (join (word (codes "hole size=") refl) (number room.size)) (word (codes " clean=") refl)) (yes_or room.clean)
+hole room = add (add (word (codes "hole") refl) (codes "size") refl (number room.size)) (codes "clean") refl (yes_or room.clean)
 
 pub record_line : (r : Record) → RecordIsOfOctets r → IsPrintable (record_text r)
 record_line (records.Entry e) h = (entry e h).all
@@ -91,4 +91,4 @@ stop_shown stops.Zero = yes_or true
 
 pub keytab_end_line : (count : ℕ) (stop : Stop) → IsPrintable (keytab_end_text count stop)
 unfolding keytab_end_text
-keytab_end_line count stop = (join (join (join (word (codes "end records=") refl) (number count)) (word (codes " zero=") refl)) (stop_shown stop)).all
+keytab_end_line count stop = (add (add (word (codes "end") refl) (codes "records") refl (number count)) (codes "zero") refl (stop_shown stop)).all

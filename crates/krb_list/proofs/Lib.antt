@@ -1,4 +1,3 @@
-pub mod Pieces
 pub mod Lines
 pub mod Listed
 pub mod Methods

@@ -13,7 +13,7 @@ pub length-zeros : (n : ℕ) → length (zeros n) ≡ n
 length-zeros zero = refl
 length-zeros (suc n) = ap (λ m. suc m) (length-zeros n)
 
-same_text : (r : Record) → record_text (masked_record r) ≡ record_text r
+pub same_text : (r : Record) → record_text (masked_record r) ≡ record_text r
 unfolding name_text version_text sizes_text entry_text
 same_text (records.Entry e) = rw (length-zeros (length e.key)) refl
 same_text (records.Hole hole) = refl

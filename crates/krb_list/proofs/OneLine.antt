@@ -122,7 +122,7 @@ pub all_joined : {A : Type 0} (none separator : List ℕ) (text : A → List ℕ
 all_joined none separator text P empty between shown [] h = empty
 all_joined none separator text P empty between shown (v ∷ vs) h = join (shown v h.0) (others separator text P between shown vs h.1)
 
-every : {A : Type 0} (vs : List A) → AllByRecursion (λ (v : A). Unit {0}) vs
+pub every : {A : Type 0} (vs : List A) → AllByRecursion (λ (v : A). Unit {0}) vs
 every [] = tt
 every (v ∷ vs) = (tt, every vs)
 

@@ -1,4 +1,4 @@
--- The lines of a credential cache. Each ends with a line feed.
+-- The lines of a credential cache, each without its line feed, and then all of them.
 use Rattle.std.specs.Prelude.{ℕ, ℤ, nat_lt, Option, Some, None, List, ◌++◌, length, codes, if◌then◌else◌}
 use Rattle.std.specs.List.{flat_map}
 use Rattle.std.specs.Fmt.{decimal, signed_decimal}
@@ -8,6 +8,7 @@ use Rattle.krb_msg.specs.declared.ticket.Ticket.{Ticket}
 use Rattle.krb_ccache.specs.declared.value.Ccache.{Ccache}
 use Rattle.krb_ccache.specs.declared.value.Credential.{Credential}
 use Rattle.krb_ccache.specs.declared.value.FilePrincipal.{FilePrincipal}
+use Rattle.krb_ccache.specs.declared.value.Header.{Header}
 use Rattle.krb_ccache.specs.declared.ticket.TicketState.{TicketState}
 use Rattle.krb_ccache.specs.declared.ticket.TicketState.TheVariants as states
 use Rattle.krb_ccache.specs.Spelling.{offset}
@@ -25,13 +26,13 @@ file_principal_text p = principal_text p.components p.realm
 abbrev pub offset_text : ℤ × ℤ → List ℕ
 offset_text numbers = signed_decimal numbers.0 ++ codes ":" ++ signed_decimal numbers.1
 
-unfoldable pub cache_text : Ccache → List ℕ
-cache_text v =
+unfoldable pub cache_text : Header → FilePrincipal → List ℕ
+cache_text header principal =
     codes "cache"
-    ++ field (codes "principal") (file_principal_text v.principal)
-    ++ field (codes "type") (signed_decimal v.principal.name_type)
-    ++ field (codes "offset") (or_dash offset_text (offset v.header))
-    ++ field (codes "fields") (decimal (length v.header.fields))
+    ++ field (codes "principal") (file_principal_text principal)
+    ++ field (codes "type") (signed_decimal principal.name_type)
+    ++ field (codes "offset") (or_dash offset_text (offset header))
+    ++ field (codes "fields") (decimal (length header.fields))
 
 -- ---- the line of a credential
 
@@ -106,4 +107,4 @@ abbrev pub credential_lines : Option ℕ → List Credential → List ℕ
 credential_lines now cs = flat_map (λ c. credential_line now c ++ line_feed) cs
 
 unfoldable pub ccache_lines : Option ℕ → Ccache → List ℕ
-ccache_lines now v = cache_text v ++ line_feed ++ credential_lines now v.credentials ++ cache_end_text (length v.credentials) ++ line_feed
+ccache_lines now v = cache_text v.header v.principal ++ line_feed ++ credential_lines now v.credentials ++ cache_end_text (length v.credentials) ++ line_feed

@@ -11,7 +11,7 @@ use Rattle.krb_ccache.specs.declared.value.Credential.{Credential}
 use Rattle.krb_ccache.specs.declared.value.FilePrincipal.{FilePrincipal}
 use Rattle.krb_ccache.specs.Tickets.{state_of}
 use Rattle.krb_list.specs.Ccaches.{cache_text, who_text, key_text, times_text, state_text, flags_text, counts_text, tickets_text, credential_front, credential_text, config_text, refused_ticket_text, credential_line, cache_end_text}
-use Rattle.krb_list.specs.TicketFlags.{ticket_flags_text, first_names, last_names, name_if_set, eight_hex}
+use Rattle.krb_list.specs.TicketFlags.{ticket_flags_text, names_text, flag_name, eight_hex}
 use Rattle.krb_list.specs.Text.{principal_text, field}
 use Rattle.krb_list.specs.Time.{civil_date, date_from, date_in_year, the_date, time_text, two_digits, date_text, clock_text}
 
@@ -91,11 +91,11 @@ abbrev pub entry : Entry
 entry = record { realm = codes "A"; components = codes "h" ∷ []; name_type = pos 1; time = 946684800; vno8 = 2; enctype = 18; key = 0xAB ∷ 0xCD ∷ []; rest = 0 ∷ 0 ∷ 1 ∷ 2 ∷ [] }
 
 keytab : keytab_lines (record { records = records.Entry entry ∷ records.Hole (record { size = 8; clean = true }) ∷ []; stop = stops.Zero }) ≡ codes "entry principal=h@A type=1 time=2000-01-01T00:00:00Z kvno=258 enctype=18 key=2 rest=4\nhole size=8 clean=yes\nend records=2 zero=yes\n"
-unfolding digits principal_text civil_date date_from date_in_year two_digits date_text clock_text name_text version_text sizes_text entry_text hole_text stop_text keytab_end_text
+unfolding digits principal_text civil_date date_from date_in_year two_digits date_text clock_text name_text version_text sizes_text entry_text hole_text stop_text keytab_end_text field
 keytab = refl
 
 no_record : keytab_lines (record { records = []; stop = stops.File }) ≡ codes "end records=0 zero=no\n"
-unfolding digits stop_text keytab_end_text
+unfolding digits stop_text keytab_end_text field
 no_record = refl
 
 refused : file_refused_line 37 why.Truncated ≡ codes "refused place=37 why=3 Truncated\n"
@@ -104,15 +104,15 @@ refused = refl
 
 -- ---- ticket flags
 flags : ticket_flags_text 0x40E1_0000 ≡ codes "forwardable,renewable,initial,pre-authent+00010000"
-unfolding ticket_flags_text first_names last_names name_if_set eight_hex
+unfolding ticket_flags_text names_text flag_name eight_hex
 flags = refl
 
 no_flags : ticket_flags_text 0 ≡ codes "-"
-unfolding ticket_flags_text first_names last_names name_if_set eight_hex
+unfolding ticket_flags_text names_text flag_name eight_hex
 no_flags = refl
 
 flags_without_names : ticket_flags_text 0x8000_0001 ≡ codes "-+80000001"
-unfolding ticket_flags_text first_names last_names name_if_set eight_hex
+unfolding ticket_flags_text names_text flag_name eight_hex
 flags_without_names = refl
 
 -- ---- a cache of u@A: a configuration entry, and a credential for h@A whose ticket is refused
@@ -125,11 +125,11 @@ no_ticket = record { client = user; server = record { name_type = pos 2; realm =
 abbrev config : Credential
 config = record no_ticket { server = record { name_type = pos 0; realm = codes "X-CACHECONF:"; components = codes "krb5_ccache_conf_data" ∷ codes "pa_type" ∷ [] }; ticket = codes "2" }
 
-cache_line : cache_text (record { header = record { fields = record { tag = 1; value = 0 ∷ 0 ∷ 0 ∷ 0 ∷ 0 ∷ 0 ∷ 0 ∷ 0 ∷ [] } ∷ [] }; principal = user; credentials = [] }) ≡ codes "cache principal=u@A type=1 offset=0:0 fields=1"
+cache_line : cache_text (record { fields = record { tag = 1; value = 0 ∷ 0 ∷ 0 ∷ 0 ∷ 0 ∷ 0 ∷ 0 ∷ 0 ∷ [] } ∷ [] }) user ≡ codes "cache principal=u@A type=1 offset=0:0 fields=1"
 unfolding cache_text field principal_text digits
 cache_line = refl
 
-no_offset : cache_text (record { header = record { fields = [] }; principal = user; credentials = [] }) ≡ codes "cache principal=u@A type=1 offset=- fields=0"
+no_offset : cache_text (record { fields = [] }) user ≡ codes "cache principal=u@A type=1 offset=- fields=0"
 unfolding cache_text field principal_text digits
 no_offset = refl
 
@@ -138,7 +138,7 @@ unfolding config_text who_text field principal_text digits
 config_line = refl
 
 refused_line : credential_line None no_ticket ≡ codes "cred client=u@A server=h@A enctype=18 key=2 auth=2000-01-01T00:00:00Z start=2000-01-01T00:00:00Z end=2000-01-01T01:00:00Z renew=- skey=0 flags=forwardable,renewable,initial,pre-authent+00010000 state=- addresses=0 authdata=0 ticket=refused:1:6 tserver=- second=0"
-unfolding credential_line state_of credential_text credential_front who_text key_text times_text flags_text counts_text tickets_text refused_ticket_text field principal_text ticket_flags_text first_names last_names name_if_set eight_hex civil_date date_from date_in_year two_digits date_text clock_text digits
+unfolding credential_line state_of credential_text credential_front who_text key_text times_text flags_text counts_text tickets_text refused_ticket_text field principal_text ticket_flags_text names_text flag_name eight_hex civil_date date_from date_in_year two_digits date_text clock_text digits
 refused_line = refl
 
 still_live : state_text (Some 946688399) 946688400 ≡ codes "live"

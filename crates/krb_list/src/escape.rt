@@ -12,13 +12,18 @@ use std::str;
 fn is_plain(octet: u8) -> bool
     ensures { result ≡ is_plain octet }
 {
-    (0x21..=0x7E).contains(&octet) && !matches!(octet, b'/' | b'@' | b'\\')
+    (0x21 <= octet) & (octet <= 0x7E) & !((octet == b'/') | (octet == b'@') | (octet == b'\\'))
 }
 
 fn are_plain(octets: &[u8]) -> bool
     ensures { result ≡ list_all is_plain octets.now }
 {
-    octets.iter().all(|octet| is_plain(*octet))
+    // No octet ends the search, so that several are compared at once.
+    let mut plain = true;
+    for octet in octets {
+        plain &= is_plain(*octet);
+    }
+    plain
 }
 
 /// The hexadecimal digit of a number below 16, in lower case.

@@ -1,7 +1,7 @@
 //! Fields of lines: a blank, the name of the field, `=`, and what it shows.
 
 ghost use Rattle.std.specs.Prelude.{◌≡◌, ◌++◌, OnOk, string_bytes, codes};
-ghost use Rattle.krb_list.specs.Text.{field, or_dash};
+ghost use Rattle.krb_list.specs.Text.{field, or_dash, principal_text};
 ghost use Rattle.krb_list.specs.Messages.{in_realm, client_text, count_text, quoted_text};
 
 use crate::escape::put_escaped;
@@ -29,8 +29,21 @@ pub fn put_field<T: Shown>(line: &mut String, name: &str, value: &T) -> Result<(
     value.put(line)
 }
 
-/// Appends a field that shows a principal.
+/// Appends a field that shows the principal of these components and this realm.
 #[tactic(auto, unfolding(crate::specs::Text::field))]
+pub(crate) fn put_components_field(
+    line: &mut String,
+    name: &str,
+    components: &[KString],
+    realm: &KString,
+) -> Result<(), AllocError>
+    ensures { OnOk result (string_bytes line.new ≡ string_bytes line.old ++ field name.now (principal_text components.now realm.now)) }
+{
+    put_name(line, name)?;
+    put_principal(line, components, realm)
+}
+
+/// Appends a field that shows a principal.
 pub(crate) fn put_principal_field(
     line: &mut String,
     name: &str,
@@ -39,8 +52,7 @@ pub(crate) fn put_principal_field(
 ) -> Result<(), AllocError>
     ensures { OnOk result (string_bytes line.new ≡ string_bytes line.old ++ field name.now (in_realm realm.now principal.now)) }
 {
-    put_name(line, name)?;
-    put_principal(line, principal.name.as_slice(), realm)
+    put_components_field(line, name, principal.name.as_slice(), realm)
 }
 
 /// Appends a field that shows a principal of a realm, or `-`.

@@ -2,12 +2,12 @@
 
 ghost use Rattle.std.specs.Prelude.{◌≡◌, ◌++◌, IfOk, OnOk, string_bytes};
 ghost use Rattle.std.specs.List.{flat_map};
-ghost use Rattle.krb_list.specs.Text.{line_feed, yes_or_no};
+ghost use Rattle.krb_list.specs.Text.{line_feed};
 ghost use Rattle.krb_list.specs.Keytabs.{name_text, version_text, sizes_text, entry_text, hole_text, record_text, stop_text, keytab_end_text, keytab_lines};
 
-use crate::principal::put_principal;
+use crate::field::{put_components_field, put_field};
 use crate::shown::Shown;
-use crate::time::put_time;
+use crate::time::Time;
 use krb_der::Memory;
 use krb_keytab::{Entry, Hole, Keytab, Record, Stop};
 use std::alloc::{AllocError, Global};
@@ -16,29 +16,25 @@ use std::alloc::{AllocError, Global};
 fn put_name(line: &mut String, entry: &Entry) -> Result<(), AllocError>
     ensures { OnOk result (string_bytes line.new ≡ string_bytes line.old ++ name_text entry.now) }
 {
-    line.push_str(" principal=")?;
-    put_principal(line, entry.components.as_slice(), &entry.realm)?;
-    line.push_str(" type=")?;
-    write!(line, "{}", entry.name_type)?;
-    Ok(())
+    put_components_field(line, "principal", entry.components.as_slice(), &entry.realm)?;
+    put_field(line, "type", &entry.name_type)
 }
 
 #[tactic(auto, unfolding(crate::specs::Keytabs::version_text))]
 fn put_version(line: &mut String, entry: &Entry) -> Result<(), AllocError>
     ensures { OnOk result (string_bytes line.new ≡ string_bytes line.old ++ version_text entry.now) }
 {
-    line.push_str(" time=")?;
-    put_time(line, entry.time)?;
-    write!(line, " kvno={}", entry.kvno())?;
-    write!(line, " enctype={}", entry.enctype)
+    put_field(line, "time", &Time(entry.time))?;
+    put_field(line, "kvno", &entry.kvno())?;
+    put_field(line, "enctype", &entry.enctype)
 }
 
 #[tactic(auto, unfolding(crate::specs::Keytabs::sizes_text))]
 fn put_sizes(line: &mut String, entry: &Entry) -> Result<(), AllocError>
     ensures { OnOk result (string_bytes line.new ≡ string_bytes line.old ++ sizes_text entry.now) }
 {
-    write!(line, " key={}", entry.key.as_slice().len())?;
-    write!(line, " rest={}", entry.rest.as_slice().len())
+    put_field(line, "key", &entry.key.as_slice().len())?;
+    put_field(line, "rest", &entry.rest.as_slice().len())
 }
 
 /// The principal and the version of a key. Of the key itself, the number of its octets.
@@ -54,25 +50,18 @@ impl Shown for Entry {
     }
 }
 
-/// `yes` or `no`.
-impl Shown for bool {
-    ghost text = { yes_or_no };
-
-    fn put(&self, line: &mut String) -> Result<(), AllocError> {
-        line.push_str(if *self { "yes" } else { "no" })
-    }
-}
-
 impl Shown for Hole {
     ghost text = { hole_text };
 
     #[tactic(auto, unfolding(crate::specs::Keytabs::hole_text))]
     fn put(&self, line: &mut String) -> Result<(), AllocError> {
-        write!(line, "hole size={} clean=", self.size())?;
-        self.clean().put(line)
+        line.push_str("hole")?;
+        put_field(line, "size", &self.size())?;
+        put_field(line, "clean", &self.clean())
     }
 }
 
+/// The line of the record, without its line feed.
 impl Shown for Record {
     ghost text = { record_text };
 
@@ -84,14 +73,14 @@ impl Shown for Record {
     }
 }
 
-fn put_records(lines: &mut String, records: &[Record]) -> Result<(), AllocError>
-    ensures { OnOk result (string_bytes lines.new ≡ string_bytes lines.old ++ flat_map (λ r. record_text r ++ line_feed) records.now) }
+/// The line of a record, without its line feed. It shows no octet of a key, which is a law:
+/// [`keys_are_not_shown`](crate::keys_are_not_shown).
+pub fn record_line(alloc: Global, record: &Record) -> Result<String, Memory>
+    ensures { IfOk result (λ line. string_bytes line ≡ record_text «record».now) }
 {
-    for record in records {
-        record.put(lines)?;
-        lines.push('\n')?;
-    }
-    Ok(())
+    let mut line = String::new(alloc);
+    record.put(&mut line)?;
+    Ok(line)
 }
 
 /// `yes` where a record of length 0 ends the keytab, else `no`.
@@ -107,14 +96,32 @@ impl Shown for Stop {
     }
 }
 
+/// Appends the line of the end of a keytab, which is [`keytab_end_line`]'s.
 #[tactic(auto, unfolding(crate::specs::Keytabs::keytab_end_text))]
-fn put_end(line: &mut String, count: usize, stop: Stop) -> Result<(), AllocError>
-    ensures { OnOk result (string_bytes line.new ≡ string_bytes line.old ++ keytab_end_text count stop) }
+pub fn put_keytab_end(line: &mut String, records: u64, stop: &Stop) -> Result<(), AllocError>
+    ensures { OnOk result (string_bytes line.new ≡ string_bytes line.old ++ keytab_end_text records stop.now) }
 {
-    line.push_str("end records=")?;
-    write!(line, "{count}")?;
-    line.push_str(" zero=")?;
-    stop.put(line)?;
+    line.push_str("end")?;
+    put_field(line, "records", &records)?;
+    put_field(line, "zero", stop)
+}
+
+/// The line of the end of a keytab of this many records, without its line feed.
+pub fn keytab_end_line(alloc: Global, records: u64, stop: &Stop) -> Result<String, Memory>
+    ensures { IfOk result (λ line. string_bytes line ≡ keytab_end_text records stop.now) }
+{
+    let mut line = String::new(alloc);
+    put_keytab_end(&mut line, records, stop)?;
+    Ok(line)
+}
+
+fn put_records(lines: &mut String, records: &[Record]) -> Result<(), AllocError>
+    ensures { OnOk result (string_bytes lines.new ≡ string_bytes lines.old ++ flat_map (λ r. record_text r ++ line_feed) records.now) }
+{
+    for record in records {
+        record.put(lines)?;
+        lines.push('\n')?;
+    }
     Ok(())
 }
 
@@ -124,12 +131,13 @@ pub fn put_keytab(lines: &mut String, keytab: &Keytab) -> Result<(), AllocError>
 {
     let records = keytab.records.as_slice();
     put_records(lines, records)?;
-    put_end(lines, records.len(), keytab.stop)?;
+    put_keytab_end(lines, records.len() as u64, &keytab.stop)?;
     lines.push('\n')
 }
 
-/// The lines of a keytab: one for each record, in order, and one for the end. Each ends with a line
-/// feed. They show no octet of a key, which is a law: [`keys_are_not_shown`](crate::keys_are_not_shown).
+/// The lines of a keytab: [`record_line`] of each record, in order, and [`keytab_end_line`], each
+/// with a line feed after it. They show no octet of a key, which is a law:
+/// [`keys_are_not_shown`](crate::keys_are_not_shown).
 pub fn keytab_lines(alloc: Global, keytab: &Keytab) -> Result<String, Memory>
     ensures { IfOk result (λ text. string_bytes text ≡ keytab_lines keytab.now) }
 {

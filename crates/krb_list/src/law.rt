@@ -1,5 +1,5 @@
 //! Laws of the texts. Each is the contract of a function that does nothing.
-ghost use Rattle.krb_list.specs.Laws.{CacheEndIsOneLine, CacheIsOneLine, CredentialIsOneLine, DatesAreTheCalendars, EscapeIsGraphic, FileRefusalIsOneLine, KeysAreNotShown, KeytabEndIsOneLine, MessageIsOneLine, MessageRefusalIsOneLine, PrincipalTextTells, RecordIsOneLine, SessionKeysAreNotShown, StreamEndIsOneLine};
+ghost use Rattle.krb_list.specs.Laws.{CacheEndIsOneLine, CacheIsOneLine, CredentialIsOneLine, CredentialKeyIsNotShown, DatesAreTheCalendars, EscapeIsGraphic, FileRefusalIsOneLine, KeysAreNotShown, KeytabEndIsOneLine, MessageIsOneLine, MessageRefusalIsOneLine, PrincipalTextTells, RecordIsOneLine, RecordKeyIsNotShown, SessionKeysAreNotShown, StreamEndIsOneLine};
 
 /// Different components or realms have different texts.
 pub fn principal_text_tells()
@@ -41,12 +41,16 @@ pub fn dates_are_the_calendars()
     ensures { DatesAreTheCalendars }
 {}
 
-/// The lines of a keytab and of the same with every octet of each key 00 are equal.
+/// The lines of a keytab, and the line of each record, are those of the same with every octet of each
+/// key 00.
 pub fn keys_are_not_shown()
-    ensures { KeysAreNotShown }
+    ensures keytab { KeysAreNotShown }
+    ensures record { RecordKeyIsNotShown }
 {}
 
-/// The lines of a cache and of the same with every octet of each key 00 are equal.
+/// The lines of a cache, and the line of each credential, are those of the same with every octet of
+/// each key 00.
 pub fn session_keys_are_not_shown()
-    ensures { SessionKeysAreNotShown }
+    ensures cache { SessionKeysAreNotShown }
+    ensures credential { CredentialKeyIsNotShown }
 {}

@@ -3,6 +3,7 @@
 #![tactic(auto)]
 
 mod ccache;
+mod credential;
 mod error;
 mod escape;
 mod field;
@@ -17,10 +18,11 @@ mod stream;
 mod ticket_flags;
 mod time;
 
-pub use ccache::{ccache_lines, put_ccache};
+pub use ccache::{cache_end_line, cache_line, ccache_lines, put_cache, put_cache_end, put_ccache};
+pub use credential::{credential_line, put_credential};
 pub use escape::put_escaped;
 pub use field::put_field;
-pub use keytab::{keytab_lines, put_keytab};
+pub use keytab::{keytab_end_line, keytab_lines, put_keytab, put_keytab_end, record_line};
 pub use krb_msg::{Notes, notes_of};
 pub use law::{
     ccache_is_one_line_each, dates_are_the_calendars, end_is_one_line, escape_is_graphic,

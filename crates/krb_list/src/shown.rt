@@ -3,7 +3,7 @@
 ghost use Rattle.std.specs.Prelude.{◌≡◌, ◌++◌, List, ℕ, OnOk, string_bytes};
 ghost use Rattle.std.specs.List.{flat_map};
 ghost use Rattle.std.specs.Fmt.{decimal, signed_decimal};
-ghost use Rattle.krb_list.specs.Text.{escape, or_dash, list_text, joined, sealed_text};
+ghost use Rattle.krb_list.specs.Text.{escape, or_dash, list_text, joined, sealed_text, yes_or_no};
 ghost use Rattle.krb_list.specs.Messages.{flags_text, padata_text};
 
 use crate::escape::{put_ascii, put_escaped, put_hex};
@@ -66,6 +66,22 @@ impl Shown for u16 {
     }
 }
 
+impl Shown for u32 {
+    ghost text = { decimal };
+
+    fn put(&self, line: &mut String) -> Result<(), AllocError> {
+        put_number(line, *self)
+    }
+}
+
+impl Shown for u64 {
+    ghost text = { decimal };
+
+    fn put(&self, line: &mut String) -> Result<(), AllocError> {
+        put_number(line, *self)
+    }
+}
+
 impl Shown for usize {
     ghost text = { decimal };
 
@@ -103,6 +119,15 @@ impl Shown for Micros {
 
     fn put(&self, line: &mut String) -> Result<(), AllocError> {
         put_number(line, self.get())
+    }
+}
+
+/// `yes` or `no`.
+impl Shown for bool {
+    ghost text = { yes_or_no };
+
+    fn put(&self, line: &mut String) -> Result<(), AllocError> {
+        line.push_str(if *self { "yes" } else { "no" })
     }
 }
 

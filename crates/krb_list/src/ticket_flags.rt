@@ -1,12 +1,12 @@
 //! The flags of a ticket by name.
 
-ghost use Rattle.std.specs.Prelude.{⊤, ◌≡◌, ◌∷◌, ◌++◌, [], IfOk, OnOk, codes, string_bytes};
-ghost use Rattle.krb_list.specs.TicketFlags.{eight_hex, first_names, flag_names, last_names, name_if_set, others_text, ticket_flags_text};
+ghost use Rattle.std.specs.Prelude.{⊤, ◌≡◌, ◌∷◌, ◌++◌, [], OnOk, codes, string_bytes};
+ghost use Rattle.krb_list.specs.TicketFlags.{eight_hex, flag_name, names_text, others_text, ticket_flags_text};
 
 use crate::escape::put_two_hex;
-use crate::shown::{Name, Shown, put_joined};
+use crate::shown::Shown;
 use bitflags::{Flag, Flags, bitflag_items};
-use std::alloc::{AllocError, Global};
+use std::alloc::AllocError;
 
 /// The flags of a ticket (RFC 4120, 5.3), bit 0 the highest.
 #[derive(Clone, Copy, PartialEq, Eq, Debug)]
@@ -59,63 +59,62 @@ impl Flags for TicketFlags {
     }
 }
 
-#[tactic(auto, unfolding(crate::specs::TicketFlags::name_if_set))]
-fn push_flag(
-    names: &mut Vec<Name>,
-    flags: TicketFlags,
-    flag: TicketFlags,
-    name: &'static str,
-) -> Result<(), AllocError>
-    ensures { OnOk result (names.new.items ≡ names.old.items ++ name_if_set flags.0 flag.0 name.now) }
+/// The flags that have names, in order of bit number.
+const NAMED: [u32; 13] = [
+    TicketFlags::FORWARDABLE.0,
+    TicketFlags::FORWARDED.0,
+    TicketFlags::PROXIABLE.0,
+    TicketFlags::PROXY.0,
+    TicketFlags::MAY_POSTDATE.0,
+    TicketFlags::POSTDATED.0,
+    TicketFlags::INVALID.0,
+    TicketFlags::RENEWABLE.0,
+    TicketFlags::INITIAL.0,
+    TicketFlags::PRE_AUTHENT.0,
+    TicketFlags::HW_AUTHENT.0,
+    TicketFlags::TRANSITED_POLICY_CHECKED.0,
+    TicketFlags::OK_AS_DELEGATE.0,
+];
+
+/// The name of a flag.
+#[tactic(auto, unfolding(crate::specs::TicketFlags::flag_name))]
+fn flag_name(flag: u32) -> &'static str
+    ensures { result.now ≡ flag_name flag }
 {
-    if flags.contains(flag) {
-        names.push(Name(name))?;
-        Ok(())
-    } else {
-        Ok(())
+    match flag {
+        0x4000_0000 => "forwardable",
+        0x2000_0000 => "forwarded",
+        0x1000_0000 => "proxiable",
+        0x0800_0000 => "proxy",
+        0x0400_0000 => "may-postdate",
+        0x0200_0000 => "postdated",
+        0x0100_0000 => "invalid",
+        0x0080_0000 => "renewable",
+        0x0040_0000 => "initial",
+        0x0020_0000 => "pre-authent",
+        0x0010_0000 => "hw-authent",
+        0x0008_0000 => "transited-policy-checked",
+        _ => "ok-as-delegate",
     }
 }
 
-#[tactic(auto, unfolding(crate::specs::TicketFlags::first_names))]
-fn push_first_names(names: &mut Vec<Name>, flags: TicketFlags) -> Result<(), AllocError>
-    ensures { OnOk result (names.new.items ≡ first_names names.old.items flags.0) }
+/// Appends the names of the flags that are set, in order of bit number, with `,` between them, or `-`
+/// where there is none.
+fn put_names(line: &mut String, flags: TicketFlags) -> Result<(), AllocError>
+    ensures { OnOk result (string_bytes line.new ≡ string_bytes line.old ++ names_text flags.0) }
 {
-    push_flag(names, flags, TicketFlags::FORWARDABLE, "forwardable")?;
-    push_flag(names, flags, TicketFlags::FORWARDED, "forwarded")?;
-    push_flag(names, flags, TicketFlags::PROXIABLE, "proxiable")?;
-    push_flag(names, flags, TicketFlags::PROXY, "proxy")?;
-    push_flag(names, flags, TicketFlags::MAY_POSTDATE, "may-postdate")?;
-    push_flag(names, flags, TicketFlags::POSTDATED, "postdated")?;
-    push_flag(names, flags, TicketFlags::INVALID, "invalid")?;
+    let mut separator = "";
+    for flag in NAMED {
+        if flags.contains(TicketFlags(flag)) {
+            line.push_str(separator)?;
+            line.push_str(flag_name(flag))?;
+            separator = ",";
+        }
+    }
+    if separator.is_empty() {
+        line.push_str("-")?;
+    }
     Ok(())
-}
-
-#[tactic(auto, unfolding(crate::specs::TicketFlags::last_names))]
-fn push_last_names(names: &mut Vec<Name>, flags: TicketFlags) -> Result<(), AllocError>
-    ensures { OnOk result (names.new.items ≡ last_names names.old.items flags.0) }
-{
-    push_flag(names, flags, TicketFlags::RENEWABLE, "renewable")?;
-    push_flag(names, flags, TicketFlags::INITIAL, "initial")?;
-    push_flag(names, flags, TicketFlags::PRE_AUTHENT, "pre-authent")?;
-    push_flag(names, flags, TicketFlags::HW_AUTHENT, "hw-authent")?;
-    push_flag(
-        names,
-        flags,
-        TicketFlags::TRANSITED_POLICY_CHECKED,
-        "transited-policy-checked",
-    )?;
-    push_flag(names, flags, TicketFlags::OK_AS_DELEGATE, "ok-as-delegate")?;
-    Ok(())
-}
-
-/// The names of the flags that are set, in order of bit number.
-fn flag_names(alloc: Global, flags: TicketFlags) -> Result<Vec<Name>, AllocError>
-    ensures { IfOk result (λ names. names.items ≡ flag_names flags.0) }
-{
-    let mut names = Vec::new(alloc);
-    push_first_names(&mut names, flags)?;
-    push_last_names(&mut names, flags)?;
-    Ok(names)
 }
 
 #[tactic(auto, unfolding(crate::specs::TicketFlags::eight_hex))]
@@ -146,8 +145,7 @@ impl Shown for TicketFlags {
 
     #[tactic(auto, unfolding(crate::specs::TicketFlags::ticket_flags_text))]
     fn put(&self, line: &mut String) -> Result<(), AllocError> {
-        let names = flag_names(*line.allocator(), *self)?;
-        put_joined(line, "-", ",", names.as_slice())?;
+        put_names(line, *self)?;
         put_others(line, self.0 & NAMELESS)
     }
 }

@@ -1,9 +1,12 @@
 //! Times of files.
 
 ghost use Rattle.std.specs.Prelude.{◌≡◌, ◌++◌, ◌<◌, IfOk, OnOk, pos, string_bytes};
-ghost use Rattle.krb_list.specs.Time.{civil_date, date_text, clock_text, moment_text, time_text, two_digits};
+ghost use Rattle.std.specs.Str.{IsAscii};
+ghost use Rattle.krb_list.specs.Time.{civil_date, moment_text, time_text, two_digits};
 ghost use Rattle.jiff.specs.Words.{epoch_day};
 
+use crate::escape::put_ascii;
+use crate::shown::Shown;
 use jiff::ToSpan;
 use jiff::civil::{Date, date};
 use krb_der::Memory;
@@ -40,49 +43,34 @@ fn civil_date(days: u32) -> CivilDate
     }
 }
 
+/// The two decimal digits of a number.
 #[tactic(auto, unfolding(crate::specs::Time::two_digits))]
-fn put_two_digits(line: &mut String, number: u32) -> Result<(), AllocError>
+fn two_digits(number: u32) -> [u8; 2]
     requires { number < 100 }
-    ensures { OnOk result (string_bytes line.new ≡ string_bytes line.old ++ two_digits number) }
+    ensures digits { result ≡ two_digits number }
+    ensures ascii { IsAscii result }
 {
-    line.push(char::from(b'0' + (number / 10) as u8))?;
-    line.push(char::from(b'0' + (number % 10) as u8))
+    [b'0' + (number / 10) as u8, b'0' + (number % 10) as u8]
 }
 
-#[tactic(auto, unfolding(crate::specs::Time::date_text))]
-fn put_date(line: &mut String, date: CivilDate) -> Result<(), AllocError>
-    requires year { date.year < 10_000 }
-    requires month { date.month < 100 }
-    requires day { date.day < 100 }
-    ensures { OnOk result (string_bytes line.new ≡ string_bytes line.old ++ date_text date) }
+/// The twenty characters of the moment n seconds after the beginning of 1970.
+#[tactic(auto, unfolding(crate::specs::Time::two_digits, crate::specs::Time::date_text, crate::specs::Time::clock_text))]
+fn moment(seconds: u32) -> [u8; 20]
+    ensures text { result ≡ moment_text seconds }
+    ensures ascii { IsAscii result }
 {
-    put_two_digits(line, u32::from(date.year / 100))?;
-    put_two_digits(line, u32::from(date.year % 100))?;
-    line.push('-')?;
-    put_two_digits(line, u32::from(date.month))?;
-    line.push('-')?;
-    put_two_digits(line, u32::from(date.day))
-}
-
-#[tactic(auto, unfolding(crate::specs::Time::clock_text))]
-fn put_clock(line: &mut String, seconds: u32) -> Result<(), AllocError>
-    requires { seconds < 86_400 }
-    ensures { OnOk result (string_bytes line.new ≡ string_bytes line.old ++ clock_text seconds) }
-{
-    put_two_digits(line, seconds / 3600)?;
-    line.push(':')?;
-    put_two_digits(line, seconds / 60 % 60)?;
-    line.push(':')?;
-    put_two_digits(line, seconds % 60)
-}
-
-fn put_moment(line: &mut String, seconds: u32) -> Result<(), AllocError>
-    ensures { OnOk result (string_bytes line.new ≡ string_bytes line.old ++ moment_text seconds) }
-{
-    put_date(line, civil_date(seconds / 86_400))?;
-    line.push('T')?;
-    put_clock(line, seconds % 86_400)?;
-    line.push('Z')
+    let date = civil_date(seconds / 86_400);
+    let clock = seconds % 86_400;
+    let [a, b] = two_digits(u32::from(date.year / 100));
+    let [c, d] = two_digits(u32::from(date.year % 100));
+    let [e, f] = two_digits(u32::from(date.month));
+    let [g, h] = two_digits(u32::from(date.day));
+    let [i, j] = two_digits(clock / 3600);
+    let [k, l] = two_digits(clock / 60 % 60);
+    let [m, n] = two_digits(clock % 60);
+    [
+        a, b, c, d, b'-', e, f, b'-', g, h, b'T', i, j, b':', k, l, b':', m, n, b'Z',
+    ]
 }
 
 /// Appends the moment n seconds after the beginning of 1970, or `-` at 0.
@@ -92,7 +80,19 @@ pub fn put_time(line: &mut String, seconds: u32) -> Result<(), AllocError>
     if seconds == 0 {
         line.push('-')
     } else {
-        put_moment(line, seconds)
+        put_ascii(line, &moment(seconds))
+    }
+}
+
+/// A time of a file, in seconds since 1970-01-01T00:00:00Z.
+#[derive(Drop)]
+pub(crate) struct Time(pub(crate) u32);
+
+impl Shown for Time {
+    ghost text = { λ time. time_text time.0 };
+
+    fn put(&self, line: &mut String) -> Result<(), AllocError> {
+        put_time(line, self.0)
     }
 }
 

@@ -8,7 +8,8 @@ use Rattle.krb_der.specs.declared.verdict.Verdict.TheVariants as verdict
 use Rattle.krb_msg.specs.Term.{Term, Value, der, Fits}
 use Rattle.krb_msg.specs.Shape.{is_unambiguous, has_octet_tags, IsOneOf, IsGrammar}
 use Rattle.krb_msg.specs.Judgement.{Outcome, Open, Bad, Done, item_outcome, message_outcome, judgement_by, term_judgement, verdict_of}
-use Rattle.krb_msg.specs.Laws.{AreValue, AreOneOf, IsFinal, AreSame}
+use Rattle.krb_msg.specs.Reads.{IsDer}
+use Rattle.krb_msg.specs.Laws.{AreOneOf, IsFinal, AreSame}
 use Rattle.krb_msg.proofs.Encoded.{AreOctets-der}
 use Rattle.krb_msg.proofs.Laws.{IsWhole, IsWhole-done, Settles, item_outcome-der, decided}
 use Rattle.krb_msg.proofs.Messages.{IsChosen, one_of_chosen, one_of_passes, chosen_one_of, message_outcome-der, IsWhole-message, Settles-message_outcome, message_outcome-decided, same_message}
@@ -34,13 +35,13 @@ open_outcome (Bad offset reason) e = absurd cc
 open_outcome (Done count) e = absurd cc
 
 -- ---- any term
-pub whole_is_value : (term : Term) (octets : List ℕ) → AreOctets octets → term_judgement term (length octets) octets ≡ verdict.Whole → AreValue term octets
+pub whole_is_value : (term : Term) (octets : List ℕ) → AreOctets octets → term_judgement term (length octets) octets ≡ verdict.Whole → IsDer term octets
 whole_is_value term octets a e = by (whole_outcome (item_outcome term (length octets) true octets) e)
   where
-    by : (count : ℕ) × (item_outcome term (length octets) true octets ≡ Done count) → AreValue term octets
+    by : (count : ℕ) × (item_outcome term (length octets) true octets ≡ Done count) → IsDer term octets
     by (count, d) =
         let w : IsWhole term (length octets) true octets count = IsWhole-done term (length octets) true octets count a d in
-        record { value = w.value; fits = w.fits; form = sym w.form ∙ take_all count octets (omega (arith, w.fills refl)) }
+        record { value = w.value; fits = w.fits; form = sym (take_all count octets (omega (arith, w.fills refl))) ∙ w.form }
 
 pub value_is_whole : (term : Term) (value : Value term) → is_unambiguous term ≡ true → Fits term value → length (der term value) < 2 ^ 31 → term_judgement term (length (der term value)) (der term value) ≡ verdict.Whole
 value_is_whole term value u f small =
@@ -61,7 +62,7 @@ whole_is_one_of messages n octets a l e = by (whole_outcome (message_outcome mes
         record {
           term = term;
           one_of = one_of_chosen messages term c;
-          are_value = record { value = w.value; fits = w.fits; form = sym w.form ∙ take_all count octets (omega arith) };
+          is_der = record { value = w.value; fits = w.fits; form = sym (take_all count octets (omega arith)) ∙ w.form };
           all = omega (arith, w.within);
         }
 

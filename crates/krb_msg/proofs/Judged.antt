@@ -16,14 +16,15 @@ use Rattle.krb_msg.specs.declared.message.Kind.{Kind}
 use Rattle.krb_msg.specs.declared.message.Kind.TheVariants as kind
 use Rattle.krb_msg.specs.Term.{Term, tag_of, Value, der, Fits, IfPresent}
 use Rattle.std.specs.List.{AllByRecursion}
-use Rattle.krb_msg.specs.Grammar.{messages, sequence_of, ticket, principal_name, kdc_req_body, microseconds, krb_error}
+use Rattle.krb_msg.specs.Grammar.{messages, sequence_of, ticket, principal_name, kdc_req_body, microseconds, krb_error, pa_data, host_address, encrypted_data, ap_req, ap_rep}
 use Rattle.krb_msg.specs.Shape.{IsOneOf, IsGrammar}
 use Rattle.krb_msg.specs.Judgement.{judgement}
-use Rattle.krb_msg.specs.Views.{kind_of, kind_term, kind_of_tag, message_value, message_of, message_der, pa_data_value, pa_data_of, principal_name_value, principal_name_of, host_address_value, host_address_of, encrypted_data_value, encrypted_data_of, ticket_value, ticket_of, kdc_req_body_value, kdc_req_body_of, KdcReqValue, kdc_req_value, kdc_req_of, KdcRepValue, kdc_rep_value, kdc_rep_of, micros_of, krb_error_value, krb_error_of, ap_req_of, ap_rep_of, IsInProfile}
+use Rattle.krb_msg.specs.Views.{kind_of, kind_term, kind_of_tag, message_value, message_of, message_der, pa_data_value, pa_data_of, principal_name_value, principal_name_of, host_address_value, host_address_of, encrypted_data_value, encrypted_data_of, ticket_value, ticket_of, kdc_req_body_value, kdc_req_body_of, KdcReqValue, kdc_req_value, kdc_req_of, KdcRepValue, kdc_rep_value, kdc_rep_of, micros_of, krb_error_value, krb_error_of, ap_req_value, ap_req_of, ap_rep_value, ap_rep_of, IsInProfile}
 use Rattle.krb_msg.specs.inner.RoundTrips.{kdc_req_body-back, krb_error-back}
 use Rattle.krb_msg.specs.inner.Told.{option-back, list-back}
 use Rattle.krb_msg.specs.Laws.{AreOneOf, AreMessage}
 use Rattle.krb_der.specs.inner.Items.{same_from_cons}
+use Rattle.krb_der.specs.inner.PrefixFree.{same_pair}
 use Rattle.krb_msg.specs.inner.Values.{der-append}
 use Rattle.krb_msg.proofs.Laws.{same_value}
 use Rattle.krb_msg.proofs.Grammars.{whole_is_one_of, unambiguous_message, one_of_is_whole, refusal_is_none_of}
@@ -73,9 +74,7 @@ StandsFor-same m value e f = record {
 
 -- the version that a ticket fixes
 pub ticket_value-of : (v : Value ticket) → Fits ticket v → ticket_value (ticket_of v) ≡ v
-ticket_value-of (five, (realm, (sname, (enc, none)))) f =
-    let p : pos 5 ≡ five = exactly_one 5 five f.0.0 f.0.1 in
-    λ i. (p i, (realm, (sname, (enc, none))))
+ticket_value-of v f = same_pair _ _ (exactly_one 5 v.0 f.0.0 f.0.1) refl
 
 tickets_value-of : (vs : List (Value ticket)) → AllByRecursion (Fits ticket) vs → map ticket_value (map ticket_of vs) ≡ vs
 tickets_value-of [] f = refl
@@ -85,23 +84,29 @@ additional_tickets_value-of : (o : Option (List (Value ticket))) → IfPresent (
 additional_tickets_value-of None f = refl
 additional_tickets_value-of (Some vs) f = ap Some (tickets_value-of vs f.1)
 
+-- other fields that may be left out
+name_value-of : (o : Option (Value principal_name)) → option_map principal_name_value (option_map principal_name_of o) ≡ o
+name_value-of = option-back principal_name_of principal_name_value (λ p. refl)
+
+sealed_value-of : (o : Option (Value encrypted_data)) → option_map encrypted_data_value (option_map encrypted_data_of o) ≡ o
+sealed_value-of = option-back encrypted_data_of encrypted_data_value (λ e. refl)
+
+addresses_value-of : (o : Option (List (Value host_address))) → option_map (map host_address_value) (option_map (map host_address_of) o) ≡ o
+addresses_value-of = list-back host_address_of host_address_value (λ a. refl)
+
+padata_value-of : (o : Option (List (Value pa_data))) → option_map (map pa_data_value) (option_map (map pa_data_of) o) ≡ o
+padata_value-of = list-back pa_data_of pa_data_value (λ p. refl)
+
 -- the values of a KDC-REQ-BODY, and the numbers that a KDC-REQ of either kind fixes
 body_value-of : (v : Value kdc_req_body) → Fits kdc_req_body v → kdc_req_body_value (kdc_req_body_of v) ≡ v
-body_value-of (options, (cname, (realm, (sname, (from, (till, (rtime, (nonce, (etype, (addresses, (sealed, (tickets, none)))))))))))) f =
-    let names : (o : Option (Value principal_name)) → option_map principal_name_value (option_map principal_name_of o) ≡ o = option-back principal_name_of principal_name_value (λ p. refl) in
-    let places : option_map (map host_address_value) (option_map (map host_address_of) addresses) ≡ addresses = list-back host_address_of host_address_value (λ a. refl) addresses in
-    let authorization : option_map encrypted_data_value (option_map encrypted_data_of sealed) ≡ sealed = option-back encrypted_data_of encrypted_data_value (λ e. refl) sealed in
-    let further : option_map (map ticket_value) (option_map (map ticket_of) tickets) ≡ tickets = additional_tickets_value-of tickets f.1.1.1.1.1.1.1.1.1.1.1.0 in
-    λ i. (options, (names cname i, (realm, (names sname i, (from, (till, (rtime, (nonce, (etype, (places i, (authorization i, (further i, none))))))))))))
+body_value-of v f = search (name_value-of, sealed_value-of, addresses_value-of, additional_tickets_value-of)
 
-kdc_req_value-of : (n : ℕ) (v : KdcReqValue) → pos 5 ≡ v.0 → pos n ≡ v.1.0 → kdc_req_body_value (kdc_req_body_of v.1.1.1.0) ≡ v.1.1.1.0 → kdc_req_value n (kdc_req_of v) ≡ v
-kdc_req_value-of n (five, (number, (padata, (body, none)))) p q b =
-    λ i. (p i, (q i, (list-back pa_data_of pa_data_value (λ p. refl) padata i, (b i, none))))
+kdc_req_value-of : (n : ℕ) (v : KdcReqValue) → pos 5 ≡ v.0 → pos n ≡ v.1.0 → Fits kdc_req_body v.1.1.1.0 → kdc_req_value n (kdc_req_of v) ≡ v
+kdc_req_value-of n v p q f = same_pair _ _ p (same_pair _ _ q (search (padata_value-of, body_value-of)))
 
 -- the numbers that a KDC-REP of either kind fixes
-kdc_rep_value-of : (n : ℕ) (v : KdcRepValue) → pos 5 ≡ v.0 → pos n ≡ v.1.0 → ticket_value (ticket_of v.1.1.1.1.1.0) ≡ v.1.1.1.1.1.0 → kdc_rep_value n (kdc_rep_of v) ≡ v
-kdc_rep_value-of n (five, (number, (padata, (crealm, (cname, (issued, (enc, none))))))) p q t =
-    λ i. (p i, (q i, (list-back pa_data_of pa_data_value (λ p. refl) padata i, (crealm, (cname, (t i, (enc, none)))))))
+kdc_rep_value-of : (n : ℕ) (v : KdcRepValue) → pos 5 ≡ v.0 → pos n ≡ v.1.0 → Fits ticket v.1.1.1.1.1.0 → kdc_rep_value n (kdc_rep_of v) ≡ v
+kdc_rep_value-of n v p q f = same_pair _ _ p (same_pair _ _ q (search (padata_value-of, ticket_value-of)))
 
 -- the numbers that a KRB-ERROR fixes, and its microseconds
 micros_value-of : (z : ℤ) → pos 0 ≤ℤ z → pos (micros_of z) ≡ z
@@ -113,42 +118,44 @@ option_micros-of None f = refl
 option_micros-of (Some z) f = ap Some (micros_value-of z f.0)
 
 krb_error_value-of : (v : Value krb_error) → Fits krb_error v → pos 5 ≡ v.0 → pos 30 ≡ v.1.0 → krb_error_value (krb_error_of v) ≡ v
-krb_error_value-of (five, (number, (ctime, (cusec, (stime, (susec, (code, (crealm, (cname, (realm, (sname, (text, (more, none))))))))))))) f p q =
-    let client : option_map pos (option_map micros_of cusec) ≡ cusec = option_micros-of cusec f.1.1.1.0 in
-    let server : pos (micros_of susec) ≡ susec = micros_value-of susec f.1.1.1.1.1.0.0 in
-    let name : option_map principal_name_value (option_map principal_name_of cname) ≡ cname = option-back principal_name_of principal_name_value (λ p. refl) cname in
-    λ i. (p i, (q i, (ctime, (client i, (stime, (server i, (code, (crealm, (name i, (realm, (sname, (text, (more, none)))))))))))))
+krb_error_value-of v f p q = same_pair _ _ p (same_pair _ _ q (search (micros_value-of, option_micros-of, name_value-of)))
+
+-- the numbers that an AP-REQ and an AP-REP fix
+ap_req_value-of : (v : Value ap_req) → Fits ap_req v → pos 5 ≡ v.0 → pos 14 ≡ v.1.0 → ap_req_value (ap_req_of v) ≡ v
+ap_req_value-of v f p q = same_pair _ _ p (same_pair _ _ q (search ticket_value-of))
+
+ap_rep_value-of : (v : Value ap_rep) → pos 5 ≡ v.0 → pos 15 ≡ v.1.0 → ap_rep_value (ap_rep_of v) ≡ v
+ap_rep_value-of v p q = same_pair _ _ p (same_pair _ _ q refl)
 
 kind_stands : (k : Kind) (value : Value (kind_term k)) → Fits (kind_term k) value → StandsFor (kind_term k) value
 kind_stands kind.AsReq value f =
     let p : pos 5 ≡ value.0 = exactly_one 5 value.0 f.0.0 f.0.1 in
     let q : pos 10 ≡ value.1.0 = exactly_one 10 value.1.0 f.1.0.0 f.1.0.1 in
-    StandsFor-same (message.AsReq (kdc_req_of value)) value (kdc_req_value-of 10 value p q (body_value-of value.1.1.1.0 f.1.1.1.0)) f
+    StandsFor-same (message.AsReq (kdc_req_of value)) value (kdc_req_value-of 10 value p q f.1.1.1.0) f
 kind_stands kind.AsRep value f =
     let p : pos 5 ≡ value.0 = exactly_one 5 value.0 f.0.0 f.0.1 in
     let q : pos 11 ≡ value.1.0 = exactly_one 11 value.1.0 f.1.0.0 f.1.0.1 in
-    StandsFor-same (message.AsRep (kdc_rep_of value)) value (kdc_rep_value-of 11 value p q (ticket_value-of value.1.1.1.1.1.0 f.1.1.1.1.1.0)) f
+    StandsFor-same (message.AsRep (kdc_rep_of value)) value (kdc_rep_value-of 11 value p q f.1.1.1.1.1.0) f
 kind_stands kind.TgsReq value f =
     let p : pos 5 ≡ value.0 = exactly_one 5 value.0 f.0.0 f.0.1 in
     let q : pos 12 ≡ value.1.0 = exactly_one 12 value.1.0 f.1.0.0 f.1.0.1 in
-    StandsFor-same (message.TgsReq (kdc_req_of value)) value (kdc_req_value-of 12 value p q (body_value-of value.1.1.1.0 f.1.1.1.0)) f
+    StandsFor-same (message.TgsReq (kdc_req_of value)) value (kdc_req_value-of 12 value p q f.1.1.1.0) f
 kind_stands kind.TgsRep value f =
     let p : pos 5 ≡ value.0 = exactly_one 5 value.0 f.0.0 f.0.1 in
     let q : pos 13 ≡ value.1.0 = exactly_one 13 value.1.0 f.1.0.0 f.1.0.1 in
-    StandsFor-same (message.TgsRep (kdc_rep_of value)) value (kdc_rep_value-of 13 value p q (ticket_value-of value.1.1.1.1.1.0 f.1.1.1.1.1.0)) f
+    StandsFor-same (message.TgsRep (kdc_rep_of value)) value (kdc_rep_value-of 13 value p q f.1.1.1.1.1.0) f
 kind_stands kind.KrbError value f =
     let p : pos 5 ≡ value.0 = exactly_one 5 value.0 f.0.0 f.0.1 in
     let q : pos 30 ≡ value.1.0 = exactly_one 30 value.1.0 f.1.0.0 f.1.0.1 in
     StandsFor-same (message.KrbError (krb_error_of value)) value (krb_error_value-of value f p q) f
-kind_stands kind.ApReq (five, (fourteen, (options, (issued, (enc, none))))) f =
-    let p : pos 5 ≡ five = exactly_one 5 five f.0.0 f.0.1 in
-    let q : pos 14 ≡ fourteen = exactly_one 14 fourteen f.1.0.0 f.1.0.1 in
-    let t : ticket_value (ticket_of issued) ≡ issued = ticket_value-of issued f.1.1.1.0 in
-    StandsFor-same (message.ApReq (ap_req_of (five, (fourteen, (options, (issued, (enc, none))))))) (five, (fourteen, (options, (issued, (enc, none))))) (λ i. (p i, (q i, (options, (t i, (enc, none)))))) f
-kind_stands kind.ApRep (five, (fifteen, (enc, none))) f =
-    let p : pos 5 ≡ five = exactly_one 5 five f.0.0 f.0.1 in
-    let q : pos 15 ≡ fifteen = exactly_one 15 fifteen f.1.0.0 f.1.0.1 in
-    StandsFor-same (message.ApRep (ap_rep_of (five, (fifteen, (enc, none))))) (five, (fifteen, (enc, none))) (λ i. (p i, (q i, (enc, none)))) f
+kind_stands kind.ApReq value f =
+    let p : pos 5 ≡ value.0 = exactly_one 5 value.0 f.0.0 f.0.1 in
+    let q : pos 14 ≡ value.1.0 = exactly_one 14 value.1.0 f.1.0.0 f.1.0.1 in
+    StandsFor-same (message.ApReq (ap_req_of value)) value (ap_req_value-of value f p q) f
+kind_stands kind.ApRep value f =
+    let p : pos 5 ≡ value.0 = exactly_one 5 value.0 f.0.0 f.0.1 in
+    let q : pos 15 ≡ value.1.0 = exactly_one 15 value.1.0 f.1.0.0 f.1.0.1 in
+    StandsFor-same (message.ApRep (ap_rep_of value)) value (ap_rep_value-of value p q) f
 
 stands_for : (term : Term) → IsOneOf term messages → (value : Value term) → Fits term value → StandsFor term value
 stands_for term c = let k : (k : Kind) × (term ≡ kind_term k) = kind_of_one_of term c in subst (λ t. (value : Value t) → Fits t value → StandsFor t value) (sym k.1) (kind_stands k.0)
@@ -159,8 +166,8 @@ whole_is_message n octets small a l e = by (whole_is_one_of messages n octets a 
   where
     by : AreOneOf messages n octets → AreMessage n octets
     by w =
-        let s : StandsFor w.term w.are_value.value = stands_for w.term w.one_of w.are_value.value w.are_value.fits in
-        let form : message_der s.message ≡ octets = s.form ∙ w.are_value.form in
+        let s : StandsFor w.term w.is_der.value = stands_for w.term w.one_of w.is_der.value w.is_der.fits in
+        let form : message_der s.message ≡ octets = s.form ∙ sym w.is_der.form in
         record { message = s.message; in_profile = record { fits = s.fits; short = omega (arith, ap length form) }; form = form; all = w.all }
 
 pub message_is_whole : (m : Message) → IsInProfile m → judgement (length (message_der m)) (message_der m) ≡ verdict.Whole

@@ -21,3 +21,4 @@ pub mod Layouts
 pub mod Noted
 pub mod Read
 pub mod MessageRead
+pub mod Puts

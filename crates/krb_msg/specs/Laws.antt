@@ -6,21 +6,16 @@ use Rattle.krb_der.specs.declared.verdict.Verdict.TheVariants.{Open, Whole, Refu
 use Rattle.krb_msg.specs.declared.message.Message.{Message}
 use Rattle.krb_msg.specs.Views.{kind_of, message_value, message_of, message_der, IsInProfile}
 use Rattle.krb_msg.specs.Term.{Term, Value, der, Fits}
-use Rattle.krb_msg.specs.Shape.{is_unambiguous, IsOneOf, IsGrammar}
+use Rattle.krb_msg.specs.Shape.{is_unambiguous, greatest_depth, IsOneOf, IsGrammar}
 use Rattle.krb_msg.specs.Grammar.{messages}
 use Rattle.krb_msg.specs.Judgement.{judgement_by, judgement, term_judgement}
 use Rattle.krb_msg.specs.Reading.{value_read, message_read}
+use Rattle.krb_msg.specs.Reads.{IsDer}
 
 -- ---- any term
--- the octets are the DER of a value of a term
-pub record AreValue (term : Term) (octets : List ℕ) : Type 0 where
-  pub value : Value term
-  pub fits : Fits term value
-  pub form : der term value ≡ octets
-
 -- What is judged whole as an item of a term is the DER of a value.
 abbrev pub WholeIsValue : Type 0
-WholeIsValue = (term : Term) (octets : List ℕ) → AreOctets octets → term_judgement term (length octets) octets ≡ Whole → AreValue term octets
+WholeIsValue = (term : Term) (octets : List ℕ) → AreOctets octets → term_judgement term (length octets) octets ≡ Whole → IsDer term octets
 
 -- The DER of a value is judged whole as an item of its term, if tags tell the term's fields apart.
 abbrev pub ValueIsWhole : Type 0
@@ -35,7 +30,7 @@ ValueIsRead = (term : Term) (value : Value term) → is_unambiguous term ≡ tru
 pub record AreOneOf (messages : List Term) (n : ℕ) (octets : List ℕ) : Type 0 where
   pub term : Term
   pub one_of : IsOneOf term messages
-  pub are_value : AreValue term octets
+  pub is_der : IsDer term octets
   pub all : length octets ≡ n
 
 -- What is judged whole is the DER of a value of one of the messages.
@@ -83,6 +78,10 @@ OneOfTells = (messages : List Term) → IsGrammar messages → (term other : Ter
 -- They are a grammar.
 abbrev pub MessagesAreGrammar : Type 0
 MessagesAreGrammar = IsGrammar messages
+
+-- No more than 13 items are nested in one another, and in some message that many are.
+abbrev pub MessagesNest : Type 0
+MessagesNest = greatest_depth messages ≡ 13
 
 -- the octets are all of the n, and the DER of a message
 pub record AreMessage (n : ℕ) (octets : List ℕ) : Type 0 where

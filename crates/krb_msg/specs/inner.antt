@@ -2,3 +2,4 @@ pub mod Values
 pub mod Told
 pub mod MessageTold
 pub mod RoundTrips
+pub mod Fitting

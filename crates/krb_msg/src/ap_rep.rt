@@ -1,7 +1,7 @@
 //! AP-REP.
 
 ghost use Rattle.std.specs.Prelude.{◌≡◌, refl};
-ghost use Rattle.krb_msg.specs.Term.{der};
+ghost use Rattle.krb_msg.specs.Term.{der, Fits};
 ghost use Rattle.krb_msg.specs.Grammar.{ap_rep};
 ghost use Rattle.krb_msg.specs.Views.{ap_rep_value, ap_rep_of};
 ghost use Rattle.krb_msg.specs.inner.Told.{begins, told};
@@ -47,6 +47,8 @@ impl ApRep {
 impl Der for ApRep {
     ghost der = { λ it. der ap_rep (ap_rep_value it) };
 
+    ghost Fits = { λ it. Fits ap_rep (ap_rep_value it) };
+
     fn size(&self) -> u64 {
         self.layout().size()
     }
@@ -73,4 +75,6 @@ impl Decode for ApRep {
 
 impl Item for ApRep {
     ghost form = { λ it. refl };
+
+    ghost fits = { λ it fits. fits };
 }

@@ -1,7 +1,7 @@
 //! AP-REQ.
 
 ghost use Rattle.std.specs.Prelude.{◌≡◌, refl};
-ghost use Rattle.krb_msg.specs.Term.{der};
+ghost use Rattle.krb_msg.specs.Term.{der, Fits};
 ghost use Rattle.krb_msg.specs.Grammar.{ap_req};
 ghost use Rattle.krb_msg.specs.Views.{ap_req_value, ap_req_of};
 ghost use Rattle.krb_msg.specs.inner.Told.{begins, told};
@@ -77,6 +77,8 @@ impl ApReq {
 impl Der for ApReq {
     ghost der = { λ it. der ap_req (ap_req_value it) };
 
+    ghost Fits = { λ it. Fits ap_req (ap_req_value it) };
+
     fn size(&self) -> u64 {
         self.layout().size()
     }
@@ -103,4 +105,6 @@ impl Decode for ApReq {
 
 impl Item for ApReq {
     ghost form = { λ it. refl };
+
+    ghost fits = { λ it fits. fits };
 }

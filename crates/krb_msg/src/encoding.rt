@@ -3,8 +3,9 @@
 ghost use Rattle.std.specs.Prelude.{◌≡◌, ◌+◌, ◌<◌, ◌≤◌, ◌++◌, ◌↔◌, length, min, IfOk, IfSome, IsNone, IsErrOf};
 ghost use Rattle.std.specs.Vec.{vec_len, vec_capacity};
 ghost use Rattle.krb_der.specs.Puts.{Puts};
-ghost use Rattle.krb_der.specs.Sizes.{saturated};
-ghost use Rattle.krb_msg.specs.Views.{message_der};
+ghost use Rattle.krb_msg.specs.Term.{Fits};
+ghost use Rattle.krb_msg.specs.Views.{kind_of, kind_term, message_value, message_der, IsInProfile};
+ghost use Rattle.krb_msg.specs.inner.Fitting.{IsSized};
 ghost use Rattle.krb_msg.specs.inner.MessageTold.{message_begins, der_is_prefix_free};
 ghost use Rattle.krb_msg.specs.declared.encoding.EncodeFault.TheVariants.{Memory};
 
@@ -35,6 +36,7 @@ impl From<AllocError> for EncodeFault {
 /// The number of DER octets of a message, and `None` where they are more than 2147483647.
 pub fn size(message: &Message) -> Option<u32>
     ensures value { IfSome result (λ size. size ≡ length (message_der message.now)) }
+    ensures in_profile { IfSome result (λ _. IsInProfile message.now) }
     ensures none { IsNone result ↔ (2147483647 < length (message_der message.now)) }
 {
     let octets = octets_of(message);
@@ -49,6 +51,7 @@ pub fn size(message: &Message) -> Option<u32>
 /// then memory is taken once.
 pub fn encode(alloc: Global, message: &Message) -> Result<Vec<u8>, EncodeFault>
     ensures octets { IfOk result (λ octets. octets.items ≡ message_der message.now) }
+    ensures in_profile { IfOk result (λ _. IsInProfile message.now) }
     ensures room { IfOk result (λ octets. vec_capacity octets ≡ vec_len octets) }
     ensures too_long { IsErrOf result EncodeFault.TooLong ↔ (2147483647 < length (message_der message.now)) }
 {
@@ -61,7 +64,7 @@ pub fn encode(alloc: Global, message: &Message) -> Result<Vec<u8>, EncodeFault>
 }
 
 fn octets_of(message: &Message) -> u64
-    ensures { result ≡ saturated (length (message_der message.now)) }
+    ensures { IsSized (kind_term (kind_of message.now)) (message_value message.now) result }
 {
     match message {
         Message::AsReq(req) => req.size::<10>(),
@@ -94,6 +97,8 @@ pub fn put(message: &Message, out: &mut Vec<u8>)
 
 impl Der for Message {
     ghost der = { message_der };
+
+    ghost Fits = { λ message. Fits (kind_term (kind_of message)) (message_value message) };
 
     fn size(&self) -> u64 {
         octets_of(self)

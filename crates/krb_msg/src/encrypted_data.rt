@@ -1,7 +1,7 @@
 //! EncryptedData.
 
 ghost use Rattle.std.specs.Prelude.{◌≡◌, refl};
-ghost use Rattle.krb_msg.specs.Term.{der};
+ghost use Rattle.krb_msg.specs.Term.{der, Fits};
 ghost use Rattle.krb_msg.specs.Grammar.{encrypted_data};
 ghost use Rattle.krb_msg.specs.Views.{encrypted_data_value, encrypted_data_of};
 ghost use Rattle.krb_msg.specs.inner.Told.{begins, told};
@@ -55,6 +55,8 @@ impl EncryptedData {
 impl Der for EncryptedData {
     ghost der = { λ it. der encrypted_data (encrypted_data_value it) };
 
+    ghost Fits = { λ it. Fits encrypted_data (encrypted_data_value it) };
+
     fn size(&self) -> u64 {
         self.layout().size()
     }
@@ -81,4 +83,6 @@ impl Decode for EncryptedData {
 
 impl Item for EncryptedData {
     ghost form = { λ it. refl };
+
+    ghost fits = { λ it fits. fits };
 }

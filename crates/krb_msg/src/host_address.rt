@@ -1,7 +1,7 @@
 //! HostAddress.
 
 ghost use Rattle.std.specs.Prelude.{◌≡◌, refl};
-ghost use Rattle.krb_msg.specs.Term.{der};
+ghost use Rattle.krb_msg.specs.Term.{der, Fits};
 ghost use Rattle.krb_msg.specs.Grammar.{host_address};
 ghost use Rattle.krb_msg.specs.Views.{host_address_value, host_address_of};
 ghost use Rattle.krb_msg.specs.inner.Told.{begins, told};
@@ -44,6 +44,8 @@ impl HostAddress {
 impl Der for HostAddress {
     ghost der = { λ it. der host_address (host_address_value it) };
 
+    ghost Fits = { λ it. Fits host_address (host_address_value it) };
+
     fn size(&self) -> u64 {
         self.layout().size()
     }
@@ -70,4 +72,6 @@ impl Decode for HostAddress {
 
 impl Item for HostAddress {
     ghost form = { λ it. refl };
+
+    ghost fits = { λ it fits. fits };
 }

@@ -1,7 +1,7 @@
 //! Types whose values are items of the grammar's terms.
 
 ghost use Rattle.std.specs.Prelude.{◌≡◌, ◌^◌, ◌<◌, true, IfOk, length};
-ghost use Rattle.krb_msg.specs.Term.{Term, Value, der};
+ghost use Rattle.krb_msg.specs.Term.{Term, Value, der, Fits};
 ghost use Rattle.krb_msg.specs.Shape.{is_unambiguous};
 ghost use Rattle.krb_msg.specs.Reads.{Begins, IsTaken};
 
@@ -26,8 +26,11 @@ pub trait Decode: Drop {
         ensures { IfOk result (λ r. IsTaken term (S.octets front) (value r.0) (S.octets r.1)) };
 }
 
-/// A type whose DER is that of a term.
+/// A type whose DER is that of a term, and whose values fit it.
 pub trait Item: Decode + Der {
     /// The DER of a value is that of the value of the term.
     ghost form: { (x : Self) → Self.der x ≡ der Self.term (Self.value x) };
+
+    /// The value of the term fits it.
+    ghost fits: { (x : Self) → Self.Fits x → Fits Self.term (Self.value x) };
 }

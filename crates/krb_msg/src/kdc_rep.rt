@@ -3,11 +3,11 @@
 ghost use Rattle.std.specs.Prelude.{◌≡◌, ◌+◌, ◌^◌, ◌<◌, ◌≤◌, ◌++◌, true, IfOk, length};
 ghost use Rattle.std.specs.Vec.{vec_len, vec_capacity};
 ghost use Rattle.krb_der.specs.Puts.{Puts};
-ghost use Rattle.krb_der.specs.Sizes.{saturated};
 ghost use Rattle.krb_msg.specs.Shape.{has_octet_tags};
 ghost use Rattle.krb_msg.specs.Term.{Application as ApplicationTerm, der};
 ghost use Rattle.krb_msg.specs.Grammar.{kdc_rep};
 ghost use Rattle.krb_msg.specs.Reads.{IsDer};
+ghost use Rattle.krb_msg.specs.inner.Fitting.{IsSized};
 ghost use Rattle.krb_msg.specs.Views.{kdc_rep_value};
 
 use crate::decoding::decode_whole;
@@ -112,9 +112,10 @@ impl KdcRep {
         }
     }
 
-    /// The number of DER octets in a message; 2147483648 where there are more.
+    /// The number of DER octets in a message; 2147483648 where there are more. Its value fits
+    /// the term.
     pub(crate) fn size<const N: u8>(&self) -> u64
-        ensures { result ≡ saturated (length (der (ApplicationTerm N (kdc_rep N)) (kdc_rep_value N self.now))) }
+        ensures { IsSized (ApplicationTerm N (kdc_rep N)) (kdc_rep_value N self.now) result }
     {
         self.layout::<N>().size()
     }

@@ -1,7 +1,7 @@
 //! KDC-REQ-BODY.
 
 ghost use Rattle.std.specs.Prelude.{◌≡◌, refl};
-ghost use Rattle.krb_msg.specs.Term.{der};
+ghost use Rattle.krb_msg.specs.Term.{der, Fits};
 ghost use Rattle.krb_msg.specs.Grammar.{kdc_req_body};
 ghost use Rattle.krb_msg.specs.Views.{kdc_req_body_value, kdc_req_body_of};
 ghost use Rattle.krb_msg.specs.inner.RoundTrips.{kdc_req_body-back};
@@ -199,6 +199,8 @@ impl DecodeFields for Cut<Rest<Owned>> {
 impl Der for KdcReqBody {
     ghost der = { λ it. der kdc_req_body (kdc_req_body_value it) };
 
+    ghost Fits = { λ it. Fits kdc_req_body (kdc_req_body_value it) };
+
     fn size(&self) -> u64 {
         self.layout().size()
     }
@@ -225,4 +227,6 @@ impl Decode for KdcReqBody {
 
 impl Item for KdcReqBody {
     ghost form = { λ it. refl };
+
+    ghost fits = { λ it fits. fits };
 }

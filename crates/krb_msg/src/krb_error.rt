@@ -1,7 +1,7 @@
 //! KRB-ERROR.
 
 ghost use Rattle.std.specs.Prelude.{◌≡◌, refl};
-ghost use Rattle.krb_msg.specs.Term.{der};
+ghost use Rattle.krb_msg.specs.Term.{der, Fits};
 ghost use Rattle.krb_msg.specs.Grammar.{krb_error};
 ghost use Rattle.krb_msg.specs.Views.{krb_error_value, krb_error_of};
 ghost use Rattle.krb_msg.specs.inner.RoundTrips.{krb_error-back};
@@ -195,6 +195,8 @@ impl DecodeFields for Cut<Names<Owned>> {
 impl Der for KrbError {
     ghost der = { λ it. der krb_error (krb_error_value it) };
 
+    ghost Fits = { λ it. Fits krb_error (krb_error_value it) };
+
     fn size(&self) -> u64 {
         self.layout().size()
     }
@@ -221,4 +223,6 @@ impl Decode for KrbError {
 
 impl Item for KrbError {
     ghost form = { λ it. refl };
+
+    ghost fits = { λ it fits. fits };
 }

@@ -1,6 +1,6 @@
 //! Laws of grammars, of the messages, of their DER and of the judgement of octets. Each is the
 //! contract of a function that does nothing.
-ghost use Rattle.krb_msg.specs.Laws.{WholeIsValue, ValueIsWhole, ValueIsRead, WholeIsOneOf, RefusalIsFinal, AllIsDecided, OneOfIsWhole, OneOfIsOctets, RefusalIsNoneOf, OneOfTells, MessagesAreGrammar, WholeIsMessage, MessageIsWhole, MessageIsRead, RefusalIsRight, DerIsPrefixFree, MessageRoundTrips};
+ghost use Rattle.krb_msg.specs.Laws.{WholeIsValue, ValueIsWhole, ValueIsRead, WholeIsOneOf, RefusalIsFinal, AllIsDecided, OneOfIsWhole, OneOfIsOctets, RefusalIsNoneOf, OneOfTells, MessagesAreGrammar, MessagesNest, WholeIsMessage, MessageIsWhole, MessageIsRead, RefusalIsRight, DerIsPrefixFree, MessageRoundTrips};
 
 /// What is judged whole as an item of a term, a Ticket say, is the DER of one of its values.
 pub fn whole_is_value()
@@ -58,6 +58,11 @@ pub fn one_of_tells()
 /// The messages of this crate are a grammar.
 pub fn messages_are_grammar()
     ensures { MessagesAreGrammar }
+{}
+
+/// The items of a message nest 13 deep at most, the innermost counted.
+pub fn messages_nest()
+    ensures { MessagesNest }
 {}
 
 /// What is judged whole is the DER of a message.

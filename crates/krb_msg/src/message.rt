@@ -106,22 +106,15 @@ impl Kind {
     pub fn of_tag(tag: u8) -> Option<Kind>
         ensures { result ≡ kind_with_tag tag }
     {
-        if tag == Kind::AsReq.tag() {
-            Some(Kind::AsReq)
-        } else if tag == Kind::AsRep.tag() {
-            Some(Kind::AsRep)
-        } else if tag == Kind::TgsReq.tag() {
-            Some(Kind::TgsReq)
-        } else if tag == Kind::TgsRep.tag() {
-            Some(Kind::TgsRep)
-        } else if tag == Kind::ApReq.tag() {
-            Some(Kind::ApReq)
-        } else if tag == Kind::ApRep.tag() {
-            Some(Kind::ApRep)
-        } else if tag == Kind::KrbError.tag() {
-            Some(Kind::KrbError)
-        } else {
-            None
+        match tag {
+            0x6A => Some(Kind::AsReq),
+            0x6B => Some(Kind::AsRep),
+            0x6C => Some(Kind::TgsReq),
+            0x6D => Some(Kind::TgsRep),
+            0x6E => Some(Kind::ApReq),
+            0x6F => Some(Kind::ApRep),
+            0x7E => Some(Kind::KrbError),
+            _ => None,
         }
     }
 }

@@ -1,7 +1,7 @@
 //! PA-DATA.
 
 ghost use Rattle.std.specs.Prelude.{◌≡◌, refl};
-ghost use Rattle.krb_msg.specs.Term.{der};
+ghost use Rattle.krb_msg.specs.Term.{der, Fits};
 ghost use Rattle.krb_msg.specs.Grammar.{pa_data};
 ghost use Rattle.krb_msg.specs.Views.{pa_data_value, pa_data_of};
 ghost use Rattle.krb_msg.specs.inner.Told.{begins, told};
@@ -47,6 +47,8 @@ impl PaData {
 impl Der for PaData {
     ghost der = { λ it. der pa_data (pa_data_value it) };
 
+    ghost Fits = { λ it. Fits pa_data (pa_data_value it) };
+
     fn size(&self) -> u64 {
         self.layout().size()
     }
@@ -73,4 +75,6 @@ impl Decode for PaData {
 
 impl Item for PaData {
     ghost form = { λ it. refl };
+
+    ghost fits = { λ it fits. fits };
 }

@@ -1,7 +1,7 @@
 //! PrincipalName.
 
 ghost use Rattle.std.specs.Prelude.{◌≡◌, refl};
-ghost use Rattle.krb_msg.specs.Term.{der};
+ghost use Rattle.krb_msg.specs.Term.{der, Fits};
 ghost use Rattle.krb_msg.specs.Grammar.{principal_name};
 ghost use Rattle.krb_msg.specs.Views.{principal_name_value, principal_name_of};
 ghost use Rattle.krb_msg.specs.inner.Told.{begins, told};
@@ -44,6 +44,8 @@ impl PrincipalName {
 impl Der for PrincipalName {
     ghost der = { λ it. der principal_name (principal_name_value it) };
 
+    ghost Fits = { λ it. Fits principal_name (principal_name_value it) };
+
     fn size(&self) -> u64 {
         self.layout().size()
     }
@@ -70,4 +72,6 @@ impl Decode for PrincipalName {
 
 impl Item for PrincipalName {
     ghost form = { λ it. refl };
+
+    ghost fits = { λ it fits. fits };
 }

@@ -5,6 +5,7 @@ ghost use Rattle.krb_msg.specs.Shape.{is_unambiguous};
 ghost use Rattle.krb_msg.specs.Grammar.{int32, wide32, microseconds, kerberos_string, octet_string, kerberos_time, kerberos_flags, sequence_of};
 ghost use Rattle.krb_msg.specs.Reads.{AreItems, AreItemsRead};
 ghost use Rattle.krb_msg.specs.inner.Told.{many_form};
+ghost use Rattle.krb_msg.specs.inner.Fitting.{micros_fit, string_fits, flags_fit, many_fit};
 
 use crate::item::{Decode, Item};
 use crate::source::Source;
@@ -24,6 +25,8 @@ impl Decode for Int32 {
 
 impl Item for Int32 {
     ghost form = { λ number. refl };
+
+    ghost fits = { λ number fits. fits };
 }
 
 impl Decode for Wide32 {
@@ -42,6 +45,8 @@ impl Decode for Wide32 {
 
 impl Item for Wide32 {
     ghost form = { λ number. refl };
+
+    ghost fits = { λ number fits. fits };
 }
 
 impl Decode for Micros {
@@ -60,6 +65,8 @@ impl Decode for Micros {
 
 impl Item for Micros {
     ghost form = { λ number. refl };
+
+    ghost fits = { micros_fit };
 }
 
 impl Decode for KString {
@@ -75,6 +82,8 @@ impl Decode for KString {
 
 impl Item for KString {
     ghost form = { λ octets. refl };
+
+    ghost fits = { string_fits };
 }
 
 impl Decode for Octets {
@@ -90,6 +99,8 @@ impl Decode for Octets {
 
 impl Item for Octets {
     ghost form = { λ octets. refl };
+
+    ghost fits = { λ octets fits. fits };
 }
 
 impl Decode for KerberosTime {
@@ -111,6 +122,8 @@ impl Decode for KerberosTime {
 
 impl Item for KerberosTime {
     ghost form = { λ octets. refl };
+
+    ghost fits = { λ octets fits. fits };
 }
 
 impl Decode for Flags {
@@ -132,6 +145,8 @@ impl Decode for Flags {
 
 impl Item for Flags {
     ghost form = { λ bits. refl };
+
+    ghost fits = { flags_fit };
 }
 
 /// A SEQUENCE OF (X.690, 8.10). The list grows as its items are read.
@@ -148,6 +163,8 @@ impl<T: Item> Decode for Many<T> {
 
 impl<T: Item> Item for Many<T> {
     ghost form = { many_form T.der T.term T.value T.form };
+
+    ghost fits = { many_fit T.Fits T.term T.value T.Item.fits };
 }
 
 /// The values of items, one after another.

@@ -1,7 +1,7 @@
 //! Ticket.
 
 ghost use Rattle.std.specs.Prelude.{◌≡◌, refl};
-ghost use Rattle.krb_msg.specs.Term.{der};
+ghost use Rattle.krb_msg.specs.Term.{der, Fits};
 ghost use Rattle.krb_msg.specs.Grammar.{ticket as ticket_term};
 ghost use Rattle.krb_msg.specs.Views.{ticket_value, ticket_of};
 ghost use Rattle.krb_msg.specs.inner.Told.{begins, told};
@@ -70,6 +70,8 @@ impl Ticket {
 impl Der for Ticket {
     ghost der = { λ it. der ticket_term (ticket_value it) };
 
+    ghost Fits = { λ it. Fits ticket_term (ticket_value it) };
+
     fn size(&self) -> u64 {
         self.layout().size()
     }
@@ -96,4 +98,6 @@ impl Decode for Ticket {
 
 impl Item for Ticket {
     ghost form = { λ it. refl };
+
+    ghost fits = { λ it fits. fits };
 }

@@ -21,4 +21,8 @@ mod keytab;
 #[cfg(test)]
 mod list;
 #[cfg(test)]
+mod records;
+#[cfg(test)]
+mod scan;
+#[cfg(test)]
 mod tool;

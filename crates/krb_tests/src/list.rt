@@ -7,9 +7,10 @@ use krb_der::{FileWhy, Int32, KString, Many, Octets, Refusal, Why, Wide32};
 use krb_judge::parse;
 use krb_keytab::{Entry, Hole, Keytab, Record, Stop};
 use krb_list::{
-    Shown, TicketFlags, ccache_lines, keytab_lines, message_line, notes_of, principal_text,
-    put_ccache, put_escaped, put_fault, put_field, put_file_refusal, put_joined, put_keytab,
-    put_list, put_message, put_message_refusal, put_principal, put_time, time_text,
+    Shown, TicketFlags, cache_end_line, cache_line, ccache_lines, credential_line, keytab_end_line,
+    keytab_lines, message_line, notes_of, principal_text, put_ccache, put_escaped, put_fault,
+    put_field, put_file_refusal, put_joined, put_keytab, put_list, put_message,
+    put_message_refusal, put_principal, put_time, record_line, time_text,
 };
 use krb_msg::{EncryptedData, Message};
 use std::alloc::{AllocError, Global};
@@ -121,12 +122,27 @@ fn shows_what_is_sealed(rt: HostRuntime) -> Result<(), Fail> {
     Ok(())
 }
 
-/// The lines of a keytab, by both ways to them, if both are the same.
+/// The lines of a keytab, each made alone.
+fn keytab_line_by_line(alloc: Global, keytab: &Keytab) -> Result<String, Fail> {
+    let records = keytab.records.as_slice();
+    let mut text = String::new(alloc);
+    for record in records {
+        text.push_str(record_line(alloc, record)?.as_str())?;
+        text.push('\n')?;
+    }
+    let end = keytab_end_line(alloc, records.len() as u64, &keytab.stop)?;
+    text.push_str(end.as_str())?;
+    text.push('\n')?;
+    Ok(text)
+}
+
+/// The lines of a keytab, by the three ways to them, if all are the same.
 fn keytab_text(alloc: Global, keytab: &Keytab) -> Result<String, Fail> {
     let lines = keytab_lines(alloc, keytab)?;
     let mut text = String::new(alloc);
     put_keytab(&mut text, keytab)?;
-    if text.as_str() != lines.as_str() {
+    let alone = keytab_line_by_line(alloc, keytab)?;
+    if text.as_str() != lines.as_str() || alone.as_str() != lines.as_str() {
         return Err(Fail::from("the same lines"));
     }
     Ok(lines)
@@ -191,12 +207,29 @@ fn lists_keytabs(rt: HostRuntime) -> Result<(), Fail> {
 const CACHE_LINES: &str =
     "cache principal=u@A type=1 offset=-1:7 fields=1\nconfig client=u@A server=krb5_ccache_conf_data/pa_type@X-CACHECONF: size=1\ncred client=u@A server=h@A enctype=18 key=2 auth=2000-01-01T00:00:00Z start=2000-01-01T00:00:00Z end=2000-01-01T01:00:00Z renew=- skey=1 flags=forwardable,renewable,initial,pre-authent+00010000 state=live addresses=1 authdata=0 ticket=18:-:2 tserver=h@A second=3\ncred client=u@A server=h@A enctype=18 key=2 auth=2000-01-01T00:00:00Z start=2000-01-01T00:00:00Z end=2000-01-01T01:00:00Z renew=- skey=1 flags=forwardable,renewable,initial,pre-authent+00010000 state=live addresses=1 authdata=0 ticket=refused:1:6 tserver=- second=3\ncred client=u@A server=h@A enctype=18 key=2 auth=2000-01-01T00:00:00Z start=2000-01-01T00:00:00Z end=2000-01-01T01:00:00Z renew=- skey=1 flags=forwardable,renewable,initial,pre-authent+00010000 state=live addresses=1 authdata=0 ticket=absent tserver=- second=3\nend credentials=4\n";
 
-/// The lines of a cache at a time, by both ways to them, if both are the same.
+/// The lines of a cache at a time, each made alone.
+fn cache_line_by_line(alloc: Global, cache: &Ccache, now: u32) -> Result<String, Fail> {
+    let credentials = cache.credentials.as_slice();
+    let mut text = cache_line(alloc, &cache.header, &cache.principal)?;
+    text.push('\n')?;
+    for credential in credentials {
+        let line = credential_line(alloc, credential, Some(now))?;
+        text.push_str(line.as_str())?;
+        text.push('\n')?;
+    }
+    let end = cache_end_line(alloc, credentials.len() as u64)?;
+    text.push_str(end.as_str())?;
+    text.push('\n')?;
+    Ok(text)
+}
+
+/// The lines of a cache at a time, by the three ways to them, if all are the same.
 fn cache_text(alloc: Global, cache: &Ccache, now: u32) -> Result<String, Fail> {
     let lines = ccache_lines(alloc, cache, Some(now))?;
     let mut text = String::new(alloc);
     put_ccache(alloc, &mut text, cache, Some(now))?;
-    if text.as_str() != lines.as_str() {
+    let alone = cache_line_by_line(alloc, cache, now)?;
+    if text.as_str() != lines.as_str() || alone.as_str() != lines.as_str() {
         return Err(Fail::from("the same lines"));
     }
     Ok(lines)

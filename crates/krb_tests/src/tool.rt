@@ -1,7 +1,7 @@
 //! Runs over readers and writers of every kind, and the words of the command line.
 
 mod asks;
-mod fakes;
+pub(crate) mod fakes;
 mod keytabs;
 mod messages;
 mod streams;

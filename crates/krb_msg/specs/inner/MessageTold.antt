@@ -10,9 +10,8 @@ use Rattle.krb_msg.specs.declared.message.Kind.TheVariants as kind
 use Rattle.krb_msg.specs.Term.{Value, tag_of, der}
 use Rattle.krb_msg.specs.Shape.{is_unambiguous}
 use Rattle.krb_msg.specs.inner.Values.{der_begins, der-append, same_from_der}
-use Rattle.krb_msg.specs.inner.RoundTrips.{kdc_req_body-back, krb_error-back}
-use Rattle.krb_msg.specs.inner.Told.{list-back}
-use Rattle.krb_msg.specs.Views.{pa_data_value, pa_data_of, kdc_req_value, kdc_req_of, kdc_rep_value, kdc_rep_of, kind_of, kind_term, kind_of_tag, message_value, message_of, message_der}
+use Rattle.krb_msg.specs.inner.RoundTrips.{padata-back, kdc_req_body-back, krb_error-back}
+use Rattle.krb_msg.specs.Views.{kdc_req_value, kdc_req_of, kdc_rep_value, kdc_rep_of, kind_of, kind_term, kind_of_tag, message_value, message_of, message_der}
 
 -- ---- kinds
 pub kind_of_tag-tag : (k : Kind) → kind_of_tag (tag_of (kind_term k)) ≡ k
@@ -38,10 +37,10 @@ same_kind k l e = sym (kind_of_tag-tag k) ∙ ap kind_of_tag e ∙ kind_of_tag-t
 
 -- ---- values and back
 kdc_req-back : (n : ℕ) (m : KdcReq) → kdc_req_of (kdc_req_value n m) ≡ m
-kdc_req-back n m = λ i. record { padata = list-back pa_data_value pa_data_of (λ p. refl) m.padata i; body = kdc_req_body-back m.body i }
+kdc_req-back n m = search (padata-back, kdc_req_body-back)
 
 kdc_rep-back : (n : ℕ) (m : KdcRep) → kdc_rep_of (kdc_rep_value n m) ≡ m
-kdc_rep-back n m = λ i. record m { padata = list-back pa_data_value pa_data_of (λ p. refl) m.padata i }
+kdc_rep-back n m = search padata-back
 
 pub message_round_trips : (m : Message) → message_of (kind_of m) (message_value m) ≡ m
 message_round_trips (message.AsReq m) = ap message.AsReq (kdc_req-back 10 m)

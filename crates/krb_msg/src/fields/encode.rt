@@ -5,9 +5,10 @@ ghost use Rattle.std.specs.Vec.{vec_len, vec_capacity};
 ghost use Rattle.std.specs.Option.{option_map};
 ghost use Rattle.krb_der.specs.Puts.{Puts};
 ghost use Rattle.krb_der.specs.Sizes.{saturated};
-ghost use Rattle.krb_msg.specs.Term.{Term, Fields as TermFields, Sequence as SequenceTerm, Application as ApplicationTerm, Tagged, End as NoField, Required as RequiredField, Optional as OptionalField, Value, Values, der, der_of_fields};
+ghost use Rattle.krb_msg.specs.Term.{Term, Fields as TermFields, Sequence as SequenceTerm, Application as ApplicationTerm, Tagged, End as NoField, Required as RequiredField, Optional as OptionalField, Value, Values, der, der_of_fields, AllFit};
 ghost use Rattle.krb_msg.specs.Grammar.{exactly};
 ghost use Rattle.krb_msg.specs.Shape.{has_octet_tags, have_octet_tags};
+ghost use Rattle.krb_msg.specs.inner.Fitting.{IsSized};
 
 use crate::fields::{Application, End, Fixed, Optional, Required, Sequence};
 use crate::item::Item;
@@ -21,9 +22,9 @@ pub trait Encode {
     /// The value of the term.
     ghost value: { Self → Value term };
 
-    /// The number of octets; 2147483648 where there are more.
+    /// The number of octets; 2147483648 where there are more. The value fits the term.
     fn size(&self) -> u64
-        ensures { result ≡ saturated (length (der term (value self.now))) };
+        ensures { IsSized term (value self.now) result };
 
     /// Appends the octets, at most 2147483647 of them, into room that is there. It takes no
     /// memory.
@@ -42,9 +43,10 @@ pub trait EncodeFields {
     /// Their values.
     ghost values: { Self → Values fields };
 
-    /// The number of octets; 2147483648 where there are more.
+    /// The number of octets; 2147483648 where there are more. The values fit the fields.
     fn size(&self) -> u64
-        ensures { result ≡ saturated (length (der_of_fields fields (values self.now))) };
+        ensures octets { result ≡ saturated (length (der_of_fields fields (values self.now))) }
+        ensures fit { AllFit fields (values self.now) };
 
     /// Appends the octets, at most 2147483647 of them, into room that is there. It takes no
     /// memory.

@@ -1,13 +1,38 @@
-use Rattle.std.proofs.Common.{None, rules}
-use Rattle.krb_der.specs.Fields.{limited}
-use Rattle.krb_ccache.specs.Reading.{credential_at, items_after}
-use Rattle.krb_ccache.proofs.Loops.{goes_on}
+use Rattle.std.proofs.Common.{◌≡◌, ℕ, Option, Some, None, Ok, ◌∙◌, subst}
+use Rattle.krb_der.specs.Fields.{limited, ended}
+use Rattle.krb_der.specs.FieldReaders.{source_at}
+use Rattle.krb_der.proofs.FieldReaders.{known, known_end}
+use Rattle.krb_ccache.specs.Reading.{credential_at, next_at, items_after}
+use Rattle.krb_ccache.proofs.Loops.{goes_on, is_done}
 use Rattle.krb_ccache.proofs.Stepwise.{Shortens-credential}
+use Rattle.krb_ccache.proofs.Followed.{IsNext, is_next, is_end}
 use Rattle.krb_ccache.proofs.reading.credentials.Goals as goal
 
+-- what the next credential was
+next : (c : goal.In_ok-push) → IsNext (limited None) (source_at c.credentials.reader.place c.credentials.reader.octets) (source_at c.next.new.reader.place c.next.new.reader.octets) c.in-Some.credential
+next c =
+    let s = c.credentials.reader in
+    let t = c.next.new.reader in
+    let read = known next_at c.in_ok-credential.field-0 s t c.in_ok-credential.ensures in
+    is_next (limited None) (source_at s.place s.octets) (source_at t.place t.octets) c.in-Some.credential
+    (subst (λ (e : Option ℕ). next_at (ended e) (source_at s.place s.octets) ≡ Ok (Some c.in-Some.credential, source_at t.place t.octets)) c.credentials.invariant.same_end
+    (subst (λ (x : _). next_at (ended s.end) (source_at s.place s.octets) ≡ Ok (x, source_at t.place t.octets)) c.in-Some.is read))
+
 pub credentials-smaller : goal.credentials-smaller
-credentials-smaller c = Shortens-credential.shorter (limited None) c.credentials.rest c.in_ok-credential.credential c.in_ok-credential.after c.in_ok-credential.ensures
+credentials-smaller c = Shortens-credential.shorter (limited None) (source_at c.credentials.reader.place c.credentials.reader.octets) c.in-Some.credential (source_at c.next.new.reader.place c.next.new.reader.octets) (next c).read
 
 pub credentials-preserved : goal.credentials-preserved
-credentials-preserved c =
-    rw c.in_ok-push.ensures.items (goes_on credential_at Shortens-credential c.credentials.credentials.items c.credentials.rest c.in_ok-credential.after c.in_ok-credential.credential (items_after credential_at None c.args.source) (search rules) c.in_ok-credential.ensures c.credentials.invariant)
+credentials-preserved c = record {
+  same_end = known_end next_at c.in_ok-credential.field-0 c.credentials.reader c.next.new.reader c.in_ok-credential.ensures ∙ c.credentials.invariant.same_end;
+  so_far = rw c.in_ok-push.ensures.items (goes_on credential_at Shortens-credential c.credentials.credentials.items (source_at c.credentials.reader.place c.credentials.reader.octets) (source_at c.next.new.reader.place c.next.new.reader.octets) c.in-Some.credential (items_after credential_at None (source_at c.args.reader.now.place c.args.reader.now.octets)) (next c).some (next c).read c.credentials.invariant.so_far);
+}
+
+pub returns : goal.returns
+returns c =
+    let s = c.credentials.reader in
+    let t = c.next.new.reader in
+    let read = known next_at c.in_ok-credential.field-0 s t c.in_ok-credential.ensures in
+    let none = is_end (limited None) (source_at s.place s.octets) (source_at t.place t.octets)
+    (subst (λ (e : Option ℕ). next_at (ended e) (source_at s.place s.octets) ≡ Ok (None, source_at t.place t.octets)) c.credentials.invariant.same_end
+    (subst (λ (x : _). next_at (ended s.end) (source_at s.place s.octets) ≡ Ok (x, source_at t.place t.octets)) c.in_default.is read)) in
+    rw c.new.ensures (is_done credential_at Shortens-credential c.credentials.credentials.items (source_at s.place s.octets) (items_after credential_at None (source_at c.args.reader.now.place c.args.reader.now.octets)) none c.credentials.invariant.so_far)

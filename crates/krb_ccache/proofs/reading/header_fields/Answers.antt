@@ -1,34 +1,39 @@
-use Rattle.std.proofs.Common.{◌≡◌, ◌+◌, ◌<◌, ℕ, Some, Ok, arith, subst}
+use Rattle.std.proofs.Common.{◌≡◌, ◌+◌, ◌<◌, ◌≤◌, ℕ, Option, Some, ◌∙◌, ap, arith}
 use Rattle.std.proofs.lemmas.Result.{err_from_is_err_and}
-use Rattle.krb_der.specs.Fields.{ended, Fails}
-use Rattle.krb_ccache.specs.Reading.{header_fields_at}
-use Rattle.krb_ccache.proofs.Loops.{field-goes_on, field-few, field-less, field-ends, fields-done}
+use Rattle.krb_der.specs.FieldReaders.{bounded}
+use Rattle.krb_ccache.proofs.Followed.{header_end, inside, front-none, front-more, front-less, front-fails, front-done}
 use Rattle.krb_ccache.proofs.reading.header_fields.Goals as goal
 
-pub returns-in_err-field : goal.returns-in_err-field
-returns-in_err-field c =
-    let p = err_from_is_err_and c.from_residual.result c.from_residual.ensures.1 in
-    let end : c.place.result + c.from.result ≡ c.args.source.place + c.args.size = omega (arith, c.place.ensures.value, c.from.ensures) in
-    let before : c.fields.rest.place < c.place.result + c.from.result = omega (arith, c.place-in-fields.ensures.value, c.fields-test.true) in
-    let fails : Fails c.in_err-field.field-0.0 (header_fields_at c.args.size (ended (Some (c.place.result + c.from.result))) c.args.source) =
-    field-ends c.in_err-field.field-0.0 c.args.size (c.place.result + c.from.result) c.fields.fields.items c.fields.rest (header_fields_at c.args.size (ended (Some (c.place.result + c.from.result))) c.args.source) before c.fields.invariant.few c.in_err-field.ensures c.fields.invariant.so_far in
-    rw (p.1, p.2) (subst (λ (n : ℕ). Fails c.in_err-field.field-0.0 (header_fields_at c.args.size (ended (Some n)) c.args.source)) end fails)
+pub fields-init : goal.fields-init
+fields-init g c =
+    let h = g.F.FieldReader.held c.args.reader.now in
+    let end : c.place.result + c.from.result ≡ header_end c.args.size h = omega (arith, c.place.ensures.value, c.from.ensures) in
+    let now : g.F.FieldReader.held c.set_end.new.self ≡ inside c.args.size h = c.set_end.ensures ∙ ap (λ (n : ℕ). bounded (Some n) h) end in
+    rw (now, c.new-fields.ensures.items) (front-none c.args.size h)
 
 pub fields-smaller : goal.fields-smaller
-fields-smaller c =
-    let before : c.fields.rest.place < c.place.result + c.from.result = omega (arith, c.place-in-fields.ensures.value, c.fields-test.true) in
-    field-less (c.place.result + c.from.result) c.fields.rest c.in_ok-field.after c.in_ok-field.field before c.in_ok-field.ensures
+fields-smaller g c =
+    let h = g.F.FieldReader.held c.args.reader.now in
+    let before : (g.F.FieldReader.held c.fields.reader).place < header_end c.args.size h = omega (arith, c.place.ensures.value, c.from.ensures, c.place-in-fields.ensures.value, c.fields-test.true) in
+    front-less c.args.size h c.fields.fields.items (g.F.FieldReader.held c.fields.reader) (g.F.FieldReader.held c.header_field.new.reader) c.in_ok-field.field before c.fields.invariant c.in_ok-field.ensures
 
 pub fields-preserved : goal.fields-preserved
-fields-preserved c =
-    let before : c.fields.rest.place < c.place.result + c.from.result = omega (arith, c.place-in-fields.ensures.value, c.fields-test.true) in
-    record {
-      so_far = rw c.in_ok-push.ensures.items (field-goes_on c.args.size (c.place.result + c.from.result) c.fields.fields.items c.fields.rest c.in_ok-field.after c.in_ok-field.field (header_fields_at c.args.size (ended (Some (c.place.result + c.from.result))) c.args.source) before c.fields.invariant.few c.in_ok-field.ensures c.fields.invariant.so_far);
-      few = rw c.in_ok-push.ensures.items (field-few c.args.size (c.place.result + c.from.result) c.fields.fields.items c.fields.rest c.in_ok-field.after c.in_ok-field.field before c.fields.invariant.few c.in_ok-field.ensures);
-    }
+fields-preserved g c =
+    let h = g.F.FieldReader.held c.args.reader.now in
+    let before : (g.F.FieldReader.held c.fields.reader).place < header_end c.args.size h = omega (arith, c.place.ensures.value, c.from.ensures, c.place-in-fields.ensures.value, c.fields-test.true) in
+    rw c.in_ok-push.ensures.items (front-more c.args.size h c.fields.fields.items (g.F.FieldReader.held c.fields.reader) (g.F.FieldReader.held c.header_field.new.reader) c.in_ok-field.field before c.fields.invariant c.in_ok-field.ensures)
+
+pub returns-in_err-field : goal.returns-in_err-field
+returns-in_err-field g c =
+    let h = g.F.FieldReader.held c.args.reader.now in
+    let p = err_from_is_err_and c.from_residual.result c.from_residual.ensures.1 in
+    let before : (g.F.FieldReader.held c.fields.reader).place < header_end c.args.size h = omega (arith, c.place.ensures.value, c.from.ensures, c.place-in-fields.ensures.value, c.fields-test.true) in
+    rw (p.1, p.2) (front-fails c.args.size h c.in_err-field.field-0.0 g.F.FieldReader.MayFail c.fields.fields.items (g.F.FieldReader.held c.fields.reader) before c.fields.invariant c.in_err-field.ensures)
 
 pub returns : goal.returns
-returns c =
-    let end : c.place.result + c.from.result ≡ c.args.source.place + c.args.size = omega (arith, c.place.ensures.value, c.from.ensures) in
-    let done = fields-done c.args.size (c.place.result + c.from.result) c.fields.fields.items c.fields.rest (header_fields_at c.args.size (ended (Some (c.place.result + c.from.result))) c.args.source) (omega (arith, c.place-in-fields.ensures.value, c.fields-test.false)) c.fields.invariant.so_far in
-    rw c.new.ensures (subst (λ (n : ℕ). header_fields_at c.args.size (ended (Some n)) c.args.source ≡ Ok (c.fields.fields.items, c.fields.rest)) end done)
+returns g c =
+    let h = g.F.FieldReader.held c.args.reader.now in
+    let t = g.F.FieldReader.held c.fields.reader in
+    let after : header_end c.args.size h ≤ t.place = omega (arith, c.place.ensures.value, c.from.ensures, c.place-in-fields.ensures.value, c.fields-test.false) in
+    let now : g.F.FieldReader.held c.set_end-2.new.self ≡ bounded h.bounds.end t = c.set_end-2.ensures ∙ ap (λ (e : Option ℕ). bounded e t) c.end-outer.ensures in
+    rw (c.new.ensures, now) (front-done c.args.size h c.fields.fields.items t after c.fields.invariant)

@@ -1,14 +1,11 @@
-use Rattle.std.proofs.Common.{◌≡◌, ◌+◌, ◌-◌, ◌≤◌, Some, length}
-use Rattle.krb_der.specs.Fields.{ended}
-use Rattle.krb_der.proofs.Loops.{with_front}
-use Rattle.krb_ccache.specs.Reading.{header_fields_at}
+use Rattle.std.proofs.Common.{◌-◌}
+use Rattle.krb_ccache.proofs.Followed.{HaveFront, header_end, inside}
 use Rattle.krb_ccache.proofs.reading.header_fields.Given as goal
 
+-- the fields so far
 abbrev pub invariant-fields : goal.invariant-fields
-invariant-fields l = record {
-  so_far : with_front l.fields.items (header_fields_at (l.size - length l.fields.items) (ended (Some l.end)) l.rest) ≡ header_fields_at l.size (ended (Some l.end)) l.fn.source;
-  few : length l.fields.items + (l.end - l.rest.place) ≤ l.size;
-}
+invariant-fields g l =
+    HaveFront l.size (header_end l.size (g.F.FieldReader.held l.fn.reader)) l.fields.items (inside l.size (g.F.FieldReader.held l.fn.reader)) (g.F.FieldReader.held l.reader)
 
 abbrev pub decreases-fields : goal.decreases-fields
-decreases-fields l = l.end - l.rest.place
+decreases-fields g l = header_end l.size (g.F.FieldReader.held l.fn.reader) - (g.F.FieldReader.held l.reader).place

@@ -1,5 +1,8 @@
-use Rattle.krb_list.proofs.CcacheMasks.{same_ccache_lines}
+use Rattle.krb_list.proofs.CcacheMasks.{same_ccache_lines, same_line}
 use Rattle.krb_list.proofs.law.session_keys_are_not_shown.Goals as goal
 
-pub returns : goal.returns
-returns c = same_ccache_lines
+pub returns-clause-cache : goal.returns-clause-cache
+returns-clause-cache c = same_ccache_lines
+
+pub returns-clause-credential : goal.returns-clause-credential
+returns-clause-credential c = same_line

@@ -1,25 +1,23 @@
-use Rattle.std.proofs.Common.{ℕ, List, length, sym, ◌∙◌, ap}
-use Rattle.krb_der.specs.Sizes.{saturated}
-use Rattle.krb_msg.specs.Views.{message_der}
+use Rattle.krb_msg.proofs.Puts.{message_sized}
 use Rattle.krb_msg.proofs.encoding.octets_of.Goals as goal
 
 pub returns-in-AsReq : goal.returns-in-AsReq
-returns-in-AsReq c = c.size.ensures ∙ ap (λ (l : List ℕ). saturated (length l)) (sym (ap message_der c.in-AsReq.is))
+returns-in-AsReq c = message_sized c.in-AsReq.is c.size.ensures
 
 pub returns-in-AsRep : goal.returns-in-AsRep
-returns-in-AsRep c = c.size-in-AsRep.ensures ∙ ap (λ (l : List ℕ). saturated (length l)) (sym (ap message_der c.in-AsRep.is))
+returns-in-AsRep c = message_sized c.in-AsRep.is c.size-in-AsRep.ensures
 
 pub returns-in-TgsReq : goal.returns-in-TgsReq
-returns-in-TgsReq c = c.size-in-TgsReq.ensures ∙ ap (λ (l : List ℕ). saturated (length l)) (sym (ap message_der c.in-TgsReq.is))
+returns-in-TgsReq c = message_sized c.in-TgsReq.is c.size-in-TgsReq.ensures
 
 pub returns-in-TgsRep : goal.returns-in-TgsRep
-returns-in-TgsRep c = c.size-in-TgsRep.ensures ∙ ap (λ (l : List ℕ). saturated (length l)) (sym (ap message_der c.in-TgsRep.is))
+returns-in-TgsRep c = message_sized c.in-TgsRep.is c.size-in-TgsRep.ensures
 
 pub returns-in-ApReq : goal.returns-in-ApReq
-returns-in-ApReq c = c.size-in-ApReq.ensures ∙ ap (λ (l : List ℕ). saturated (length l)) (sym (ap message_der c.in-ApReq.is))
+returns-in-ApReq c = message_sized c.in-ApReq.is (record { octets = c.size-in-ApReq.ensures.octets; fits = c.size-in-ApReq.ensures.fits })
 
 pub returns-in-ApRep : goal.returns-in-ApRep
-returns-in-ApRep c = c.size-in-ApRep.ensures ∙ ap (λ (l : List ℕ). saturated (length l)) (sym (ap message_der c.in-ApRep.is))
+returns-in-ApRep c = message_sized c.in-ApRep.is (record { octets = c.size-in-ApRep.ensures.octets; fits = c.size-in-ApRep.ensures.fits })
 
 pub returns-in-KrbError : goal.returns-in-KrbError
-returns-in-KrbError c = c.size-in-KrbError.ensures ∙ ap (λ (l : List ℕ). saturated (length l)) (sym (ap message_der c.in-KrbError.is))
+returns-in-KrbError c = message_sized c.in-KrbError.is (record { octets = c.size-in-KrbError.ensures.octets; fits = c.size-in-KrbError.ensures.fits })

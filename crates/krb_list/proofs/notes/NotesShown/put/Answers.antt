@@ -1,4 +1,5 @@
 use Rattle.std.proofs.Common.{[], ◌∷◌, refl, sym, ◌∙◌, append_assoc}
+use Rattle.std.specs.Fmt.{decimal}
 use Rattle.krb_msg.specs.Notes.{notes_have}
 use Rattle.krb_list.proofs.Listed.{listed_one, listed_none}
 use Rattle.krb_list.proofs.notes.NotesShown.put.Goals.{then-has+in_ok-push_str+in_ok-put_number, else-has}
@@ -8,11 +9,11 @@ pub loop-number-preserved : goal.loop-number-preserved
 loop-number-preserved c =
     elim c.if-has.branch [
       | then-has+in_ok-push_str+in_ok-put_number w ↦
-          let one = listed_one (notes_have c.args.self.now) (1 ∷ 2 ∷ 3 ∷ 4 ∷ []) c.loop-number.number-index c.loop-number-test.true (sym c.has.ensures ∙ w.if-has.true) in (
+          let one = listed_one decimal (notes_have c.args.self.now) (1 ∷ 2 ∷ 3 ∷ 4 ∷ []) c.loop-number.number-index 0 c.loop-number-test.true (sym c.has.ensures ∙ w.if-has.true) in (
             rw (w.line-is, w.in_ok-put_number.ensures, w.in_ok-push_str.ensures.bytes, c.loop-number.invariant.0, c.loop-number.invariant.1, one.0) (simp append_assoc),
             rw (w.separator-is, one.1) refl,
           )
       | else-has w ↦
-          let none = listed_none (notes_have c.args.self.now) (1 ∷ 2 ∷ 3 ∷ 4 ∷ []) c.loop-number.number-index c.loop-number-test.true (sym c.has.ensures ∙ w.if-has.false) in
+          let none = listed_none (notes_have c.args.self.now) (1 ∷ 2 ∷ 3 ∷ 4 ∷ []) c.loop-number.number-index 0 c.loop-number-test.true (sym c.has.ensures ∙ w.if-has.false) in
           rw (w.line-is, w.separator-is, none) c.loop-number.invariant
     ]

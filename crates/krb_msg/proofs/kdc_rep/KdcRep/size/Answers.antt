@@ -1,8 +1,7 @@
-use Rattle.std.proofs.Common.{◌∙◌, ap, length}
-use Rattle.krb_der.specs.Sizes.{saturated}
-use Rattle.krb_msg.specs.Term.{Application, Value, der}
+use Rattle.krb_msg.specs.Term.{Application}
 use Rattle.krb_msg.specs.Grammar.{kdc_rep}
+use Rattle.krb_msg.proofs.Puts.{sized}
 use Rattle.krb_msg.proofs.kdc_rep.KdcRep.size.Goals as goal
 
 pub returns : goal.returns
-returns g c = c.size.ensures ∙ ap (λ (value : Value (Application g.row.N (kdc_rep g.row.N))). saturated (length (der (Application g.row.N (kdc_rep g.row.N)) value))) c.layout.ensures
+returns g c = sized (Application g.row.N (kdc_rep g.row.N)) c.layout.ensures c.size.ensures

@@ -1,13 +1,10 @@
-use Rattle.std.proofs.Common.{◌+◌, ◌≤◌, length, vec_len, vec_capacity, refl, sym, subst, arith}
-use Rattle.krb_der.specs.Puts.{Puts}
-use Rattle.krb_msg.specs.Term.{Value, der}
+use Rattle.std.proofs.Common.{refl, arith}
 use Rattle.krb_msg.specs.Grammar.{krb_error}
+use Rattle.krb_msg.proofs.Puts.{has_room, is_put}
 use Rattle.krb_msg.proofs.krb_error.KrbErrorDer.put.Goals as goal
 
 pub put-requires : goal.put-requires
-put-requires c =
-    let room = subst (λ (value : Value krb_error). (length (der krb_error value) ≤ 2147483647) × (vec_len c.args.out.now + length (der krb_error value) ≤ vec_capacity c.args.out.now)) (sym c.layout.ensures) (c.requires.short, c.requires.room) in
-    (omega arith, (refl, room))
+put-requires c = (omega arith, (refl, has_room krb_error c.args.out.now c.layout.ensures c.requires.short c.requires.room))
 
 pub returns : goal.returns
-returns c = subst (λ (value : Value krb_error). Puts (der krb_error value) c.args.out.now c.put.new.out) c.layout.ensures c.put.ensures
+returns c = is_put krb_error c.layout.ensures c.put.ensures

@@ -1,13 +1,10 @@
-use Rattle.std.proofs.Common.{◌+◌, ◌≤◌, length, vec_len, vec_capacity, refl, sym, subst, arith}
-use Rattle.krb_der.specs.Puts.{Puts}
-use Rattle.krb_msg.specs.Term.{Value, der}
+use Rattle.std.proofs.Common.{refl, arith}
 use Rattle.krb_msg.specs.Grammar.{ticket}
+use Rattle.krb_msg.proofs.Puts.{has_room, is_put}
 use Rattle.krb_msg.proofs.ticket.TicketDer.put.Goals as goal
 
 pub put-requires : goal.put-requires
-put-requires c =
-    let room = subst (λ (value : Value ticket). (length (der ticket value) ≤ 2147483647) × (vec_len c.args.out.now + length (der ticket value) ≤ vec_capacity c.args.out.now)) (sym c.layout.ensures) (c.requires.short, c.requires.room) in
-    (omega arith, (refl, room))
+put-requires c = (omega arith, (refl, has_room ticket c.args.out.now c.layout.ensures c.requires.short c.requires.room))
 
 pub returns : goal.returns
-returns c = subst (λ (value : Value ticket). Puts (der ticket value) c.args.out.now c.put.new.out) c.layout.ensures c.put.ensures
+returns c = is_put ticket c.layout.ensures c.put.ensures

@@ -1,8 +1,9 @@
-use Rattle.std.proofs.Common.{◌∙◌, ap, length}
-use Rattle.krb_der.specs.Sizes.{saturated}
-use Rattle.krb_msg.specs.Term.{Value, der}
 use Rattle.krb_msg.specs.Grammar.{ticket}
+use Rattle.krb_msg.proofs.Puts.{sized}
 use Rattle.krb_msg.proofs.ticket.TicketDer.size.Goals as goal
 
-pub returns : goal.returns
-returns c = c.size.ensures ∙ ap (λ (value : Value ticket). saturated (length (der ticket value))) c.layout.ensures
+pub returns-clause-octets : goal.returns-clause-octets
+returns-clause-octets c = (sized ticket c.layout.ensures c.size.ensures).octets
+
+pub returns-clause-fits : goal.returns-clause-fits
+returns-clause-fits c = (sized ticket c.layout.ensures c.size.ensures).fits

@@ -4,4 +4,7 @@ use Rattle.krb_msg.specs.Term.{der}
 use Rattle.krb_msg.proofs.fields.encode.ApplicationEncode.size.Goals as goal
 
 pub returns : goal.returns
-returns g c = saturated-item (0x60 + g.row.NUMBER) c.size.result c.item_size.result (der g.E.Encode.term (g.E.Encode.value c.args.self.now.0)) c.size.ensures c.item_size.ensures
+returns g c = record {
+  octets = saturated-item (0x60 + g.row.NUMBER) c.size.result c.item_size.result (der g.E.Encode.term (g.E.Encode.value c.args.self.now.0)) c.size.ensures.octets c.item_size.ensures;
+  fits = c.size.ensures.fits;
+}

@@ -1,0 +1,151 @@
+-- What readers of fields read of a cache, one item after another.
+use Rattle.std.proofs.Common.{◌≡◌, ℕ, ◌+◌, ◌-◌, ◌<◌, ◌≤◌, Bool, true, false, Option, Some, None, Result, Ok, Err, List, [], ◌∷◌, ◌++◌, length, refl, sym, ◌∙◌, ap, subst, arith}
+use Rattle.krb_der.specs.Octets.{when}
+use Rattle.krb_der.specs.Fields.{Source, Fault, Bounds, Reader, onward, ◌>>=◌, gives, is_empty, within, Fails}
+use Rattle.krb_der.specs.FieldReaders.{Held, MayHave, source_at, HasRead, FailsBy, bounded}
+use Rattle.krb_der.specs.declared.file.FileFault.{FileFault}
+use Rattle.krb_der.specs.declared.file.FileFault.TheVariants as faults
+use Rattle.krb_der.proofs.Fields.{ok_is, onward-ok}
+use Rattle.krb_der.proofs.FieldReaders.{SomeRest, some_rest}
+use Rattle.krb_der.proofs.Loops.{with_front}
+use Rattle.krb_ccache.proofs.Loops.{field-goes_on, field-few, field-less, field-fails, fields-done}
+use Rattle.krb_ccache.specs.Reading.{credential_at, header_field_at, header_fields_at, next_at, Start, started, credentials_after, read}
+use Rattle.krb_ccache.specs.declared.value.HeaderField.{HeaderField}
+use Rattle.krb_ccache.specs.declared.value.Ccache.{Ccache}
+use Rattle.krb_ccache.specs.declared.value.Credential.{Credential}
+
+-- ---- the next credential
+abbrev more : Reader (Option Credential)
+more = credential_at >>= λ credential. gives (Some credential)
+
+abbrev choice : Bounds → Source → Bool → Result (Option Credential × Source) Fault
+choice b s none = when none (λ _. Ok (None, s)) (λ _. more b s)
+
+abbrev found : Option Credential → Source → Option Credential × Source
+found credential s = (credential, s)
+
+differ : (x : Credential) (s t : Source) → found (Some x) s ≡ found None t → ⊥
+differ x s t e =
+    let first : Some x ≡ None = ap (λ (p : Option Credential × Source). p.0) e in
+    cc
+
+-- ---- what the next credential of known octets was
+pub record IsNext (b : Bounds) (s t : Source) (c : Credential) : Type 0 where
+  pub some : is_empty s.octets ≡ false
+  pub read : credential_at b s ≡ Ok (c, t)
+
+pub is_next : (b : Bounds) (s t : Source) (c : Credential) → next_at b s ≡ Ok (Some c, t) → IsNext b s t c
+is_next b s t c = go (is_empty s.octets) refl
+  where
+    only : (x : Credential) (u : Source) → found (Some x) u ≡ found (Some c) t → credential_at b s ≡ Ok (x, u) → credential_at b s ≡ Ok (c, t)
+    only x u same e =
+        let first : Some x ≡ Some c = ap (λ (p : Option Credential × Source). p.0) same in
+        let rest : u ≡ t = ap (λ (p : Option Credential × Source). p.1) same in
+        let whose : x ≡ c = cc in
+        rw (← whose, ← rest) e
+
+    go : (none : Bool) → is_empty s.octets ≡ none → choice b s none ≡ Ok (Some c, t) → IsNext b s t c
+    go true test e = absurd (differ c t s (sym (ok_is (found None s) (found (Some c) t) e)))
+    go false test e =
+        let a = onward-ok (credential_at b s) (λ p. Ok (Some p.0, p.1)) (Some c, t) e in
+        record { some = test; read = only a.0.0 a.0.1 (ok_is (found (Some a.0.0) a.0.1) (found (Some c) t) a.2) a.1 }
+
+pub is_end : (b : Bounds) (s t : Source) → next_at b s ≡ Ok (None, t) → is_empty s.octets ≡ true
+is_end b s t = go (is_empty s.octets) refl
+  where
+    go : (none : Bool) → is_empty s.octets ≡ none → choice b s none ≡ Ok (None, t) → is_empty s.octets ≡ true
+    go true test e = test
+    go false test e =
+        let a = onward-ok (credential_at b s) (λ p. Ok (Some p.0, p.1)) (None, t) e in
+        absurd (differ a.0.0 a.0.1 t (ok_is (found (Some a.0.0) a.0.1) (found None t) a.2))
+
+-- ---- the fields of a header, as a loop reads them
+-- Those in front were read; the rest of what may be left tells the others.
+pub record HaveFront (size end : ℕ) (front : List HeaderField) (s t : Held) : Type 0 where
+  pub same_bounds : t.bounds ≡ s.bounds
+  pub from : (rest : List ℕ) → MayHave t rest → (octets : List ℕ) × MayHave s octets × (with_front front (header_fields_at (size - length front) s.bounds (source_at t.place rest)) ≡ header_fields_at size s.bounds (source_at s.place octets))
+  pub few : length front + (end - t.place) ≤ size
+
+module _ (size : ℕ) (h : Held) where
+  -- where the header ends, and the reader within it
+  abbrev pub header_end : ℕ
+  header_end = h.place + size
+
+  abbrev pub inside : Held
+  inside = bounded (Some (h.place + size)) h
+
+  whole_front : (r : Result (List HeaderField × Source) Fault) → with_front [] r ≡ r
+  whole_front (Ok (fields, s)) = refl
+  whole_front (Err f) = refl
+
+  all_left : (rest : List ℕ) → with_front [] (header_fields_at (size - 0) inside.bounds (source_at inside.place rest)) ≡ header_fields_at size inside.bounds (source_at inside.place rest)
+  all_left rest =
+      let e : size - 0 ≡ size = omega arith in
+      rw e (whole_front (header_fields_at size inside.bounds (source_at inside.place rest)))
+
+  pub front-none : HaveFront size header_end [] inside inside
+  front-none = record {
+    same_bounds = refl;
+    from = λ rest there. (rest, there, all_left rest);
+    few = omega arith;
+  }
+
+  pub front-more : (front : List HeaderField) (t u : Held) (f : HeaderField) → t.place < header_end → HaveFront size header_end front inside t → HasRead header_field_at f t u → HaveFront size header_end (front ++ f ∷ []) inside u
+  front-more front t u f lt before item = record {
+    same_bounds = item.same_bounds ∙ before.same_bounds;
+    from = λ rest there.
+        let b = item.from rest there in
+        let a = before.from b.0 b.1 in
+        (a.0, a.1, field-goes_on h.bounds.limit size header_end front (source_at t.place b.0) (source_at u.place rest) f (header_fields_at size inside.bounds (source_at inside.place a.0)) lt before.few (read rest there) a.2);
+    few = field-few h.bounds.limit size header_end front (source_at t.place (item.from now.rest now.there).0) (source_at u.place now.rest) f lt before.few (read now.rest now.there);
+  }
+    where
+      now : SomeRest u
+      now = some_rest u
+
+      read : (rest : List ℕ) (there : MayHave u rest) → header_field_at inside.bounds (source_at t.place (item.from rest there).0) ≡ Ok (f, source_at u.place rest)
+      read rest there = subst (λ (k : Bounds). header_field_at k (source_at t.place (item.from rest there).0) ≡ Ok (f, source_at u.place rest)) before.same_bounds (item.from rest there).2
+
+  pub front-less : (front : List HeaderField) (t u : Held) (f : HeaderField) → t.place < header_end → HaveFront size header_end front inside t → HasRead header_field_at f t u → header_end - u.place < header_end - t.place
+  front-less front t u f lt before item =
+      let now = some_rest u in
+      let a = item.from now.rest now.there in
+      field-less header_end t.bounds (source_at t.place a.0) (source_at u.place now.rest) f lt a.2
+
+  pub front-fails : (e : FileFault) (MayFail : Type 0) (front : List HeaderField) (t : Held) → t.place < header_end → HaveFront size header_end front inside t → FailsBy e header_field_at MayFail t → FailsBy e (within size (header_fields_at size)) MayFail h
+  front-fails faults.Memory MayFail front t lt before fails = tt
+  front-fails faults.Read MayFail front t lt before fails = fails
+  front-fails (faults.Refused place why) MayFail front t lt before fails =
+      let fault : Fault = record { place = place; why = why } in
+      let a = before.from fails.octets fails.there in
+      record {
+        octets = a.0;
+        there = a.1;
+        refused = field-fails h.bounds.limit fault size header_end front (source_at t.place fails.octets) (header_fields_at size inside.bounds (source_at inside.place a.0)) lt before.few
+            (subst (λ (k : Bounds). header_field_at k (source_at t.place fails.octets) ≡ Err fault) before.same_bounds fails.refused) a.2;
+      }
+
+  pub front-done : (front : List HeaderField) (t : Held) → header_end ≤ t.place → HaveFront size header_end front inside t → HasRead (within size (header_fields_at size)) front h (bounded h.bounds.end t)
+  front-done front t le before = record {
+    same_bounds = ap (λ (b : Bounds). let it : Bounds = record { end = h.bounds.end; limit = b.limit } in it) before.same_bounds;
+    from = λ rest there.
+        let a = before.from rest there in
+        (a.0, a.1, fields-done h.bounds.limit size header_end front (source_at t.place rest) (header_fields_at size inside.bounds (source_at inside.place a.0)) le a.2);
+  }
+
+-- ---- a whole file
+abbrev made : Start → List Credential → Ccache
+made start credentials = record { header = start.header; principal = start.principal; credentials = credentials }
+
+abbrev credentials_of : Result (Start × Source) Fault → Result Ccache Fault
+credentials_of start = onward start (λ found. onward (credentials_after found.1) (λ credentials. Ok (made found.0 credentials)))
+
+pub whole-is : (file : List ℕ) (start : Start) (s : Source) (credentials : List Credential) → started file ≡ Ok (start, s) → credentials_after s ≡ Ok credentials → read file ≡ Ok (made start credentials)
+whole-is file start s credentials begins then =
+    ap credentials_of begins ∙ ap (λ (r : Result (List Credential) Fault). onward r (λ found. Ok (made start found))) then
+
+pub whole-fails : (e : FileFault) (file : List ℕ) (start : Start) (s : Source) → started file ≡ Ok (start, s) → Fails e (credentials_after s) → Fails e (read file)
+whole-fails faults.Memory file start s begins fails = tt
+whole-fails faults.Read file start s begins fails = absurd fails
+whole-fails (faults.Refused place why) file start s begins fails =
+    ap credentials_of begins ∙ ap (λ (r : Result (List Credential) Fault). onward r (λ found. Ok (made start found))) fails

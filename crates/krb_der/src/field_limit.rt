@@ -1,0 +1,47 @@
+//! How many octets a field of a file may have.
+
+use std::marker::Model;
+
+/// The greatest number of octets of a field of octets: 1 to 2147483647. Numbers have no limit, nor
+/// have octets that are passed and not kept.
+#[derive(Clone, Copy, PartialEq, Eq, Debug)]
+pub struct FieldLimit {
+    octets: u32,
+}
+
+impl Model for FieldLimit {
+    ghost use Rattle.std.specs.Prelude.{ℕ, ◌<◌, ◌^◌};
+
+    ghost Value = { ℕ };
+
+    ghost view = { λ limit. limit.octets };
+
+    ghost invariant = { λ limit. (0 < limit.octets) × (limit.octets < 2 ^ 31) };
+
+    ghost inverse = { λ octets. record { octets = octets } };
+}
+
+ghost use Rattle.std.specs.Prelude.{◌≡◌, ◌<◌, ◌^◌, ◌↔◌, IsSome, IfSome};
+
+impl FieldLimit {
+    /// The limit of `octets` octets, and `None` of 0 and of more than 2147483647.
+    pub fn new(octets: u32) -> Option<FieldLimit>
+        ensures range { IsSome result ↔ ((0 < octets) × (octets < 2 ^ 31)) }
+        ensures value { IfSome result (λ limit. limit ≡ octets) }
+    {
+        if 0 < octets && octets < 1 << 31 {
+            Some(FieldLimit { octets })
+        } else {
+            None
+        }
+    }
+
+    /// The octets.
+    pub fn get(self) -> u32
+        ensures value { result ≡ self }
+        ensures some { 0 < result }
+        ensures few { result < 2 ^ 31 }
+    {
+        self.octets
+    }
+}

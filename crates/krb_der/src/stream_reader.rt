@@ -1,0 +1,286 @@
+//! The fields of a file that is read as it comes.
+
+use crate::field_limit::FieldLimit;
+use crate::field_reader::FieldReader;
+use crate::file::{FileFault, FileWhy};
+use crate::octets::Octets;
+use crate::slice_reader::are_zero;
+use std::alloc::Global;
+use std::io::Read;
+use std::marker::Model;
+
+/// How often a reader is asked at most.
+const MOST_ASKS: u64 = 1 << 40;
+
+/// How many octets there is room for before any of a field came. Then there is room for as many as
+/// came.
+const LEAST_PIECE: u64 = 4096;
+
+/// How many octets a reader is asked for at once at most.
+const GREATEST_PIECE: u64 = 1 << 22;
+
+/// A reader of the fields of what a [`Read`] gives. It asks for the octets of a field where the
+/// field is read, and for none after them; and for one where it is asked whether any is left. A
+/// reader is asked at most 2^40 times, and not after it told its end.
+#[derive(Drop)]
+pub struct StreamReader<R: Read> {
+    reader: R,
+    limit: FieldLimit,
+    place: u64,
+    end: Option<u64>,
+    /// An octet that was taken to see whether any is left.
+    ahead: Option<u8>,
+    /// Whether the reader told its end.
+    ended: bool,
+    asks: u64,
+}
+
+impl<R: Read> Model for StreamReader<R> {
+    ghost use Rattle.std.specs.Prelude.{◌+◌, ◌*◌, ◌^◌, ◌≤◌, Some, length};
+    ghost use Rattle.krb_der.specs.FieldReaders.{Held};
+    ghost use Rattle.krb_der.specs.inner.Takes.{ahead_of, left_of};
+
+    ghost Value = { Held };
+
+    ghost view = { λ s. record { ahead = ahead_of s.ahead; left = left_of s.ended (R.remaining s.reader); place = s.place; bounds = record { end = s.end; limit = Some s.limit } } };
+
+    ghost invariant = { λ s. (s.place + length (ahead_of s.ahead) ≤ s.asks * 2 ^ 22) × (s.asks ≤ 2 ^ 40) };
+}
+
+ghost use Rattle.std.specs.Prelude.{◌≡◌, ◌+◌, ◌^◌, ◌<◌, ◌≤◌, false, [], length, take, None, Some, IfOk, IfErr, OnOk};
+ghost use Rattle.std.specs.Io.KnownBytes.{Consumes, IsAtEnd};
+ghost use Rattle.krb_der.specs.Fields.{passes, next_octets_at, octets_at};
+ghost use Rattle.krb_der.specs.FieldReaders.{MayHave, FailsBy};
+ghost use Rattle.krb_der.specs.inner.Takes.{Takes, FailsTaking};
+
+/// Asks a reader for octets, and answers how many came: 0 at its end.
+fn ask<R: Read>(reader: &mut R, asks: &mut u64, octets: &mut [u8]) -> Result<usize, FileFault>
+    requires room { 0 < length octets.old }
+    requires few { asks.old ≤ 2 ^ 40 }
+    ensures count { IfOk result (λ count. count ≤ length octets.new) }
+    ensures taken { IfOk result (λ count. Consumes (R.remaining reader.old) (R.remaining reader.new) (take count octets.new)) }
+    ensures end { IfOk result (λ count. count ≡ 0 → IsAtEnd (R.remaining reader.new)) }
+    ensures fault { IfErr result (λ e. e ≡ FileFault.Read) }
+    ensures counted { OnOk result (asks.new ≡ asks.old + 1) }
+    ensures asked { asks.old ≤ asks.new }
+    ensures still_few { asks.new ≤ 2 ^ 40 }
+{
+    if *asks == MOST_ASKS {
+        return Err(FileFault::Read);
+    }
+    *asks += 1;
+    match reader.read(octets) {
+        Ok(count) => Ok(count),
+        Err(_) => Err(FileFault::Read),
+    }
+}
+
+impl<R: Read> StreamReader<R> {
+    /// What a reader gives, from place 0 on, where a field of octets may have so many.
+    pub fn new(reader: R, limit: FieldLimit) -> StreamReader<R>
+        ensures { result ≡ record { ahead = []; left = R.remaining reader; place = 0; bounds = record { end = None; limit = Some limit } } }
+    {
+        StreamReader {
+            reader,
+            limit,
+            place: 0,
+            end: None,
+            ahead: None,
+            ended: false,
+            asks: 0,
+        }
+    }
+
+    /// Takes octets, as many as come at once, and answers how many: 0 where none is left.
+    fn take(&mut self, octets: &mut [u8]) -> Result<usize, FileFault>
+        requires room { 0 < length octets.old }
+        requires few { length octets.old ≤ 2 ^ 22 }
+        ensures count { IfOk result (λ count. count ≤ length octets.new) }
+        ensures taken { IfOk result (λ count. Takes self.old self.new (take count octets.new)) }
+        ensures end { IfOk result (λ count. count ≡ 0 → MayHave self.new []) }
+        ensures fault { IfErr result (λ e. e ≡ FileFault.Read) }
+    {
+        match self.ahead {
+            Some(octet) => {
+                self.ahead = None;
+                self.place += 1;
+                octets[0] = octet;
+                Ok(1)
+            }
+            None => {
+                if self.ended {
+                    return Ok(0);
+                }
+                let count = ask(&mut self.reader, &mut self.asks, octets)?;
+                self.place += count as u64;
+                self.ended = count == 0;
+                Ok(count)
+            }
+        }
+    }
+
+    /// Takes octets till there is no more room. Where there are too few left, the field that begins
+    /// at `start` is Truncated.
+    fn take_all(&mut self, start: u64, octets: &mut [u8]) -> Result<(), FileFault>
+        requires { length octets.old ≤ 2 ^ 22 }
+        ensures taken { OnOk result (Takes self.old self.new octets.new) }
+        ensures fault { IfErr result (λ e. FailsTaking e start self.old self.new (length octets.old)) }
+    {
+        let mut filled = 0;
+        'pieces: while filled < octets.len() {
+            let count = self.take(&mut octets[filled..])?;
+            if count == 0 {
+                return Err(FileFault::Refused {
+                    place: start,
+                    why: FileWhy::Truncated,
+                });
+            }
+            filled += count;
+        }
+        Ok(())
+    }
+
+    /// Takes so many octets, as [`take_all`](StreamReader::take_all) does.
+    fn take_piece(&mut self, alloc: Global, start: u64, room: usize) -> Result<Vec<u8>, FileFault>
+        requires { room ≤ 2 ^ 22 }
+        ensures taken { IfOk result (λ piece. Takes self.old self.new piece.items) }
+        ensures room { IfOk result (λ piece. length piece.items ≡ room) }
+        ensures fault { IfErr result (λ e. FailsTaking e start self.old self.new room) }
+    {
+        let mut piece = vec![in alloc; 0u8; room]?;
+        self.take_all(start, piece.as_mut_slice())?;
+        Ok(piece)
+    }
+
+    /// The place of the next octet.
+    fn at(&self) -> u64
+        ensures { result ≡ self.now.place }
+    {
+        self.place
+    }
+
+    /// Whether so many octets pass the end of the entry or of the header that they stand in.
+    fn passes_end(&self, size: u64) -> bool
+        ensures { result ≡ passes (self.now.place + size) self.now.bounds.end }
+    {
+        match self.end {
+            Some(end) => end < self.place || end - self.place < size,
+            None => false,
+        }
+    }
+
+    /// Refuses a field that passes the end of what it stands in, or is longer than it may be.
+    fn check(&self, size: u64, most: Option<u64>) -> Result<(), FileFault>
+        ensures inside { OnOk result (passes (self.now.place + size) self.now.bounds.end ≡ false) }
+        ensures under { OnOk result (passes size most ≡ false) }
+        ensures fault { IfErr result (λ e. FailsBy e (next_octets_at most size) (Unit {0}) self.now) }
+    {
+        let place = self.at();
+        if self.passes_end(size) {
+            return Err(FileFault::Refused {
+                place,
+                why: FileWhy::Overrun,
+            });
+        }
+        if is_longer(size, most) {
+            return Err(FileFault::Refused {
+                place,
+                why: FileWhy::TooLong,
+            });
+        }
+        Ok(())
+    }
+
+    /// Refuses a field of octets that passes the end of what it stands in, or is too long.
+    fn check_octets(&self, size: u64) -> Result<(), FileFault>
+        ensures inside { OnOk result (passes (self.now.place + size) self.now.bounds.end ≡ false) }
+        ensures under { OnOk result (passes size self.now.bounds.limit ≡ false) }
+        ensures fault { IfErr result (λ e. FailsBy e (octets_at size) (Unit {0}) self.now) }
+    {
+        let most = self.limit.get() as u64;
+        self.check(size, Some(most))
+    }
+}
+
+impl<R: Read> FieldReader for StreamReader<R> {
+    ghost held = { λ reader. reader };
+
+    ghost MayFail = { Unit {0} };
+
+    fn place(&self) -> u64 {
+        self.place
+    }
+
+    fn end(&self) -> Option<u64> {
+        self.end
+    }
+
+    fn set_end(&mut self, end: Option<u64>) {
+        self.end = end;
+    }
+
+    fn is_empty(&mut self) -> Result<bool, FileFault> {
+        match self.ahead {
+            Some(_) => Ok(false),
+            None => {
+                if self.ended {
+                    return Ok(true);
+                }
+                let mut octet = [0; 1];
+                let count = ask(&mut self.reader, &mut self.asks, &mut octet)?;
+                if count == 0 {
+                    self.ended = true;
+                    return Ok(true);
+                }
+                self.ahead = Some(octet[0]);
+                Ok(false)
+            }
+        }
+    }
+
+    fn fill(&mut self, octets: &mut [u8]) -> Result<(), FileFault> {
+        let place = self.place;
+        self.check(octets.len() as u64, None)?;
+        self.take_all(place, octets)
+    }
+
+    fn octets(&mut self, alloc: Global, size: u64) -> Result<Octets, FileFault> {
+        let place = self.place;
+        self.check_octets(size)?;
+        let mut octets = self.take_piece(alloc, place, size.min(LEAST_PIECE) as usize)?;
+        'pieces: while (octets.len() as u64) < size {
+            let came = octets.len() as u64;
+            let room = (size - came).min(came).min(GREATEST_PIECE);
+            let piece = self.take_piece(alloc, place, room as usize)?;
+            octets.extend_from_slice(piece.as_slice())?;
+        }
+        Ok(Octets::new(octets))
+    }
+
+    fn skip(&mut self, size: u64) -> Result<bool, FileFault> {
+        let place = self.place;
+        self.check(size, None)?;
+        let mut buffer = [0; LEAST_PIECE as usize];
+        let mut zeros = true;
+        let mut left = size;
+        'pieces: while left > 0 {
+            let room = left.min(LEAST_PIECE);
+            let piece = &mut buffer[..room as usize];
+            self.take_all(place, piece)?;
+            let more = are_zero(piece);
+            zeros = zeros & more;
+            left -= room;
+        }
+        Ok(zeros)
+    }
+}
+
+/// Whether a number of octets is above the greatest that there may be, where there is one.
+fn is_longer(size: u64, most: Option<u64>) -> bool
+    ensures { result ≡ passes size most }
+{
+    match most {
+        Some(most) => most < size,
+        None => false,
+    }
+}

@@ -1,0 +1,57 @@
+-- A keytab read one record at a time, under a field limit.
+use Rattle.std.specs.Prelude.{ℕ, suc, ◌≡◌, List, ◌∷◌, ◌++◌, [], length, Option, Result, Ok, Err}
+use Rattle.krb_der.specs.Fields.{Source, Fault, limited, version_at}
+use Rattle.krb_der.specs.FieldReaders.{Held, MayHave, source_at}
+use Rattle.krb_der.specs.declared.file.FileFault.{FileFault}
+use Rattle.krb_der.specs.declared.file.FileFault.TheVariants as faults
+use Rattle.krb_keytab.specs.declared.value.Record.{Record}
+use Rattle.krb_keytab.specs.declared.value.Stop.{Stop}
+use Rattle.krb_keytab.specs.declared.reading.Next.{Next}
+use Rattle.krb_keytab.specs.declared.reading.Next.TheVariants as nexts
+use Rattle.krb_keytab.specs.declared.records.State.{State}
+use Rattle.krb_keytab.specs.declared.records.State.TheVariants as states
+use Rattle.krb_keytab.specs.Reading.{Items, opened, items_after, items}
+
+-- records, and then what stands after them
+abbrev pub before : List Record → Items → Items
+before given left = record { records = given ++ left.records; end = left.end }
+
+-- the items that a reader has still to give of what is left: of a whole file, or of one whose version was read
+abbrev pub IsLeft : State → Option ℕ → Source → Items → Type 0
+IsLeft states.Start limit source left = left ≡ opened (version_at (2 ∷ []) (limited limit) source) (items_after limit)
+IsLeft states.Open limit source left = left ≡ items_after limit source
+IsLeft (states.Done stop) limit source left = ⊥
+IsLeft (states.Failed fault) limit source left = ⊥
+
+-- The reader gave so many of the items of a file: these, and then those of what may be left, are the items of the file.
+pub record Reads (limit : Option ℕ) (held : Held) (state : State) (file : List ℕ) (count : ℕ) : Type 0 where
+  pub bounds : held.bounds ≡ limited limit
+  pub given : List Record
+  pub counted : length given ≡ count
+  pub rest : (octets : List ℕ) → MayHave held octets → (left : Items) × IsLeft state limit (source_at held.place octets) left × (before given left ≡ items limit file)
+
+-- the item after so many
+pub record IsItem (items : Items) (count : ℕ) (item : Record) : Type 0 where
+  pub front : List Record
+  pub back : List Record
+  pub counted : length front ≡ count
+  pub parts : items.records ≡ front ++ item ∷ back
+
+-- the stop with the place that it is told at, or the fault
+abbrev pub end_at : Result Stop Fault → ℕ → Result (Stop × ℕ) Fault
+end_at (Ok stop) place = Ok (stop, place)
+end_at (Err fault) place = Err fault
+
+-- no item after so many
+pub record EndsBy (items : Items) (count : ℕ) (end : Result Stop Fault) : Type 0 where
+  pub place : ℕ
+  pub counted : length items.records ≡ count
+  pub is : items.end ≡ end_at end place
+
+-- What a call gives where so many were given: the next item, after which one more was given; else the stop or the fault, where no item is left. Else the device failed or memory ran out.
+abbrev pub GivesNext : Option ℕ → List ℕ → ℕ → Result Next FileFault → Held → State → Type 0
+GivesNext limit file count (Ok (nexts.Item item)) held state = IsItem (items limit file) count item × Reads limit held state file (suc count)
+GivesNext limit file count (Ok (nexts.Done stop)) held state = EndsBy (items limit file) count (Ok stop)
+GivesNext limit file count (Err (faults.Refused place why)) held state = EndsBy (items limit file) count (Err (record { place = place; why = why }))
+GivesNext limit file count (Err faults.Read) held state = Unit {0}
+GivesNext limit file count (Err faults.Memory) held state = Unit {0}

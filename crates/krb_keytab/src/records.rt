@@ -1,0 +1,95 @@
+//! Keytabs, read one record at a time.
+
+ghost use Rattle.std.specs.Prelude.{◌≡◌, ℕ, List, Some, Ok, Err, IfErr};
+ghost use Rattle.krb_keytab.specs.declared.value.Stop.{Stop as StopValue};
+ghost use Rattle.krb_keytab.specs.declared.reading.Next.TheVariants as nexts;
+ghost use Rattle.krb_keytab.specs.declared.records.State.TheVariants as states;
+ghost use Rattle.krb_der.specs.declared.file.FileFault.{FileFault as FaultValue};
+ghost use Rattle.krb_keytab.specs.Streaming.{Reads, GivesNext};
+
+use crate::reading::{Next, record};
+use crate::value::Stop;
+use krb_der::{FieldLimit, FieldReader, FileFault, StreamReader};
+use std::alloc::Global;
+use std::io::Read;
+
+/// What a reader of records came to. Only contracts read it from outside.
+#[derive(Clone, Copy)]
+pub enum State {
+    /// Nothing was read.
+    Start,
+    /// The version was read, and any number of records.
+    Open,
+    /// The records ended.
+    Done(Stop),
+    /// A fault was met.
+    Failed(FileFault),
+}
+
+/// A reader of the records of a keytab, which takes no octet of its reader after the record that it
+/// gives. It keeps none of the records that it gave, and takes memory for the octets that came.
+#[derive(Drop)]
+pub struct Records<R: Read> {
+    reader: StreamReader<R>,
+    state: State,
+}
+
+impl<R: Read> Records<R> {
+    /// The records of what a reader gives, where a field of octets may have so many. Nothing is read
+    /// yet.
+    pub fn new(reader: R, limit: FieldLimit) -> Records<R>
+        ensures { (file : List ℕ) → R.remaining reader ≡ Some file → Reads (Some limit) result.reader result.state file 0 }
+    {
+        let reader = StreamReader::new(reader, limit);
+        Records {
+            reader,
+            state: State::Start,
+        }
+    }
+
+    /// The next record, or how the records end. A keytab is refused as [`read`](crate::read) refuses
+    /// it, but that a realm, a component, a key or what stands after the key of an entry is TooLong
+    /// where it is longer than the limit: after Overrun, and before Truncated. After a fault of any
+    /// kind each call answers this fault, and after the end each call answers the end.
+    pub fn next_record(&mut self, alloc: Global) -> Result<Next, FileFault>
+        // The records of a file that its reader tells, one after another, and then the stop or the fault.
+        ensures next { (file : List ℕ) (limit : ℕ) (given : ℕ) → Reads (Some limit) self.old.reader self.old.state file given → GivesNext (Some limit) file given result self.new.reader self.new.state }
+        ensures ended { (stop : StopValue) → self.old.state ≡ states.Done stop → (result ≡ Ok (nexts.Done stop)) × (self.new.state ≡ states.Done stop) }
+        ensures failed { (fault : FaultValue) → self.old.state ≡ states.Failed fault → (result ≡ Err fault) × (self.new.state ≡ states.Failed fault) }
+        ensures fails { IfErr result (λ fault. self.new.state ≡ states.Failed fault) }
+    {
+        match self.state {
+            State::Start => match self.reader.version(&[2]) {
+                Ok(_) => self.next_open(alloc),
+                Err(fault) => {
+                    self.state = State::Failed(fault);
+                    Err(fault)
+                }
+            },
+            State::Open => self.next_open(alloc),
+            State::Done(stop) => Ok(Next::Done(stop)),
+            State::Failed(fault) => Err(fault),
+        }
+    }
+
+    /// The next record after the version.
+    fn next_open(&mut self, alloc: Global) -> Result<Next, FileFault>
+        ensures next { (file : List ℕ) (limit : ℕ) (given : ℕ) → Reads (Some limit) self.old.reader states.Open file given → GivesNext (Some limit) file given result self.new.reader self.new.state }
+        ensures fails { IfErr result (λ fault. self.new.state ≡ states.Failed fault) }
+    {
+        match record(alloc, &mut self.reader) {
+            Ok(Next::Item(item)) => {
+                self.state = State::Open;
+                Ok(Next::Item(item))
+            }
+            Ok(Next::Done(stop)) => {
+                self.state = State::Done(stop);
+                Ok(Next::Done(stop))
+            }
+            Err(fault) => {
+                self.state = State::Failed(fault);
+                Err(fault)
+            }
+        }
+    }
+}

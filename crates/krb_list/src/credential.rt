@@ -1,0 +1,190 @@
+//! Lines of credentials.
+
+ghost use Rattle.std.specs.Prelude.{◌≡◌, ◌++◌, IfOk, OnOk, string_bytes};
+ghost use Rattle.krb_list.specs.Ccaches.{who_text, key_text, times_text, state_text, flags_text, counts_text, tickets_text, credential_front, credential_text, config_text, refused_ticket_text, ticket_server_text, state_line, credential_line};
+
+use crate::field::put_field;
+use crate::principal::put_principal;
+use crate::shown::{Name, Shown, put_number};
+use crate::ticket_flags::TicketFlags;
+use crate::time::Time;
+use krb_ccache::{Credential, TicketState, ticket_of};
+use krb_der::{Memory, Refusal, why_number};
+use krb_msg::Ticket;
+use std::alloc::{AllocError, Global};
+
+#[tactic(auto, unfolding(crate::specs::Ccaches::who_text))]
+fn put_who(line: &mut String, credential: &Credential) -> Result<(), AllocError>
+    ensures { OnOk result (string_bytes line.new ≡ string_bytes line.old ++ who_text credential.now) }
+{
+    put_field(line, "client", &credential.client)?;
+    put_field(line, "server", &credential.server)
+}
+
+#[tactic(auto, unfolding(crate::specs::Ccaches::key_text))]
+fn put_key(line: &mut String, credential: &Credential) -> Result<(), AllocError>
+    ensures { OnOk result (string_bytes line.new ≡ string_bytes line.old ++ key_text credential.now) }
+{
+    put_field(line, "enctype", &credential.enctype)?;
+    put_field(line, "key", &credential.key.as_slice().len())
+}
+
+#[tactic(auto, unfolding(crate::specs::Ccaches::times_text))]
+fn put_times(line: &mut String, credential: &Credential) -> Result<(), AllocError>
+    ensures { OnOk result (string_bytes line.new ≡ string_bytes line.old ++ times_text credential.now) }
+{
+    put_field(line, "auth", &Time(credential.authtime))?;
+    put_field(line, "start", &Time(credential.starttime))?;
+    put_field(line, "end", &Time(credential.endtime))?;
+    put_field(line, "renew", &Time(credential.renew_till))
+}
+
+/// Whether a credential that ends then has ended now, where a now is given.
+fn state_name(now: Option<u32>, endtime: u32) -> Name
+    ensures { result ≡ state_text now endtime }
+{
+    match now {
+        None => Name("-"),
+        Some(now) if now < endtime => Name("live"),
+        Some(_) => Name("expired"),
+    }
+}
+
+#[tactic(auto, unfolding(crate::specs::Ccaches::flags_text))]
+fn put_flags(line: &mut String, now: Option<u32>, credential: &Credential) -> Result<(), AllocError>
+    ensures { OnOk result (string_bytes line.new ≡ string_bytes line.old ++ flags_text now credential.now) }
+{
+    put_field(line, "skey", &credential.is_skey)?;
+    put_field(line, "flags", &TicketFlags(credential.flags))?;
+    put_field(line, "state", &state_name(now, credential.endtime))
+}
+
+#[tactic(auto, unfolding(crate::specs::Ccaches::counts_text))]
+fn put_counts(line: &mut String, credential: &Credential) -> Result<(), AllocError>
+    ensures { OnOk result (string_bytes line.new ≡ string_bytes line.old ++ counts_text credential.now) }
+{
+    put_field(line, "addresses", &credential.addresses.as_slice().len())?;
+    put_field(line, "authdata", &credential.authdata.as_slice().len())
+}
+
+#[tactic(auto, unfolding(crate::specs::Ccaches::tickets_text))]
+fn put_tickets<T: Shown, S: Shown>(
+    line: &mut String,
+    credential: &Credential,
+    ticket: &T,
+    server: &S,
+) -> Result<(), AllocError>
+    ensures { OnOk result (string_bytes line.new ≡ string_bytes line.old ++ tickets_text credential.now (T.text ticket.now) (S.text server.now)) }
+{
+    put_field(line, "ticket", ticket)?;
+    put_field(line, "tserver", server)?;
+    put_field(line, "second", &credential.second_ticket.as_slice().len())
+}
+
+#[tactic(auto, unfolding(crate::specs::Ccaches::credential_front))]
+fn put_front(line: &mut String, now: Option<u32>, credential: &Credential) -> Result<(), AllocError>
+    ensures { OnOk result (string_bytes line.new ≡ string_bytes line.old ++ credential_front now credential.now) }
+{
+    line.push_str("cred")?;
+    put_who(line, credential)?;
+    put_key(line, credential)?;
+    put_times(line, credential)?;
+    put_flags(line, now, credential)
+}
+
+#[tactic(auto, unfolding(crate::specs::Ccaches::credential_text))]
+fn put_ticketed<T: Shown, S: Shown>(
+    line: &mut String,
+    now: Option<u32>,
+    credential: &Credential,
+    ticket: &T,
+    server: &S,
+) -> Result<(), AllocError>
+    ensures { OnOk result (string_bytes line.new ≡ string_bytes line.old ++ credential_text now credential.now (T.text ticket.now) (S.text server.now)) }
+{
+    put_front(line, now, credential)?;
+    put_counts(line, credential)?;
+    put_tickets(line, credential, ticket, server)
+}
+
+#[tactic(auto, unfolding(crate::specs::Ccaches::config_text))]
+fn put_config(line: &mut String, credential: &Credential) -> Result<(), AllocError>
+    ensures { OnOk result (string_bytes line.new ≡ string_bytes line.old ++ config_text credential.now) }
+{
+    line.push_str("config")?;
+    put_who(line, credential)?;
+    put_field(line, "size", &credential.ticket.as_slice().len())
+}
+
+/// `refused`, the place and the number of the reason, with `:` between.
+impl Shown for Refusal {
+    ghost text = { refused_ticket_text };
+
+    #[tactic(auto, unfolding(crate::specs::Ccaches::refused_ticket_text))]
+    fn put(&self, line: &mut String) -> Result<(), AllocError> {
+        line.push_str("refused:")?;
+        put_number(line, self.place)?;
+        line.push(':')?;
+        put_number(line, why_number(self.why))
+    }
+}
+
+/// The server of the ticket.
+impl Shown for Ticket {
+    ghost text = { ticket_server_text };
+
+    fn put(&self, line: &mut String) -> Result<(), AllocError> {
+        put_principal(line, self.sname.name.as_slice(), &self.realm)
+    }
+}
+
+/// Appends the line of a credential whose ticket field holds this, without its line feed.
+fn put_with_state(
+    line: &mut String,
+    now: Option<u32>,
+    credential: &Credential,
+    state: &TicketState,
+) -> Result<(), AllocError>
+    ensures { OnOk result (string_bytes line.new ≡ string_bytes line.old ++ state_line now credential.now state.now) }
+{
+    match state {
+        TicketState::Config => put_config(line, credential),
+        TicketState::Absent => { put_ticketed(line, now, credential, &Name("absent"), &Name("-")) }
+        TicketState::Ticket(ticket) => {
+            put_ticketed(line, now, credential, &ticket.enc_part, ticket)
+        }
+        TicketState::Refused(refusal) => {
+            put_ticketed(line, now, credential, refusal, &Name("-"))
+        }
+    }
+}
+
+/// Appends the line of a credential, which is [`credential_line`]'s.
+#[tactic(auto, unfolding(crate::specs::Ccaches::credential_line))]
+pub fn put_credential(
+    alloc: Global,
+    line: &mut String,
+    credential: &Credential,
+    now: Option<u32>,
+) -> Result<(), Memory>
+    ensures { OnOk result (string_bytes line.new ≡ string_bytes line.old ++ credential_line now credential.now) }
+{
+    let state = ticket_of(alloc, credential)?;
+    put_with_state(line, now, credential, &state)?;
+    Ok(())
+}
+
+/// The line of a credential, without its line feed. Where a now is given, in seconds since 1970, the
+/// credential is `live` if it ends later, and else `expired`. The line shows no octet of a key, which
+/// is a law: [`session_keys_are_not_shown`](crate::session_keys_are_not_shown).
+pub fn credential_line(
+    alloc: Global,
+    credential: &Credential,
+    now: Option<u32>,
+) -> Result<String, Memory>
+    ensures { IfOk result (λ line. string_bytes line ≡ credential_line now credential.now) }
+{
+    let mut line = String::new(alloc);
+    put_credential(alloc, &mut line, credential, now)?;
+    Ok(line)
+}

@@ -1,0 +1,61 @@
+-- Laws of `when` and `then_seen`.
+use Rattle.std.proofs.Common.{◌≡◌, ℕ, ◌≤◌, Bool, true, false, List, refl, le_trans}
+use Rattle.krb_der.specs.declared.why.Why.{Why}
+use Rattle.krb_der.specs.Octets.{when}
+use Rattle.krb_scan.specs.Reading.{Mark, State, Seen, Within, Fault, Past, then_seen}
+
+pub when_holds : {A : Type 0} (P : A → Type 0) (b : Bool) (chosen other : Unit {0} → A) → P (chosen tt) → P (other tt) → P (when b chosen other)
+when_holds P true chosen other yes_holds no_holds = yes_holds
+when_holds P false chosen other yes_holds no_holds = no_holds
+
+-- each branch with what its test says
+pub when_knows : {A : Type 0} (P : A → Type 0) (b : Bool) (chosen other : Unit {0} → A) → (b ≡ true → P (chosen tt)) → (b ≡ false → P (other tt)) → P (when b chosen other)
+when_knows P true chosen other yes_holds no_holds = yes_holds refl
+when_knows P false chosen other yes_holds no_holds = no_holds refl
+
+pub when_same : {A : Type 0} (b : Bool) (x y x' y' : Unit {0} → A) → x tt ≡ x' tt → y tt ≡ y' tt → when b x y ≡ when b x' y'
+when_same true x y x' y' e f = e
+when_same false x y x' y' e f = f
+
+-- a function of a choice is a choice
+pub when_apply : {A B : Type 0} (f : A → B) (b : Bool) (x y : Unit {0} → A) → f (when b x y) ≡ when b (λ _. f (x tt)) (λ _. f (y tt))
+when_apply f true x y = refl
+when_apply f false x y = refl
+
+abbrev pub IsFrom : ℕ → Seen → Type 0
+IsFrom low (Within state) = Unit {0}
+IsFrom low (Fault place reason) = Unit {0}
+IsFrom low (Past marks place rest) = low ≤ place
+
+-- what is complete ends at a place or after it
+pub record AtLeast (low : ℕ) (seen : Seen) : Type 0 where
+  pub is_from : IsFrom low seen
+
+pub within_at : (low : ℕ) {state : State} → AtLeast low (Within state)
+within_at low = record { is_from = tt {0} }
+
+pub fault_at : (low : ℕ) {place : ℕ} {reason : Why} → AtLeast low (Fault place reason)
+fault_at low = record { is_from = tt {0} }
+
+pub past_at : (low : ℕ) {marks : List Mark} {place : ℕ} {rest : List ℕ} → low ≤ place → AtLeast low (Past marks place rest)
+past_at low h = record { is_from = h }
+
+pub at_least_weaken : (low high : ℕ) (seen : Seen) → low ≤ high → AtLeast high seen → AtLeast low seen
+at_least_weaken low high (Within state) h k = within_at low
+at_least_weaken low high (Fault place reason) h k = fault_at low
+at_least_weaken low high (Past marks place rest) h k = past_at low (le_trans h k.is_from)
+
+pub at_least_then : (low middle : ℕ) (seen : Seen) (next : List Mark → ℕ → List ℕ → Seen) → AtLeast middle seen → ((marks : List Mark) (place : ℕ) (rest : List ℕ) → middle ≤ place → AtLeast low (next marks place rest)) → AtLeast low (then_seen seen next)
+at_least_then low middle (Within state) next h k = within_at low
+at_least_then low middle (Fault place reason) next h k = fault_at low
+at_least_then low middle (Past marks place rest) next h k = k marks place rest h.is_from
+
+pub then_same : (low : ℕ) (seen : Seen) (f g : List Mark → ℕ → List ℕ → Seen) → AtLeast low seen → ((marks : List Mark) (place : ℕ) (rest : List ℕ) → low ≤ place → f marks place rest ≡ g marks place rest) → then_seen seen f ≡ then_seen seen g
+then_same low (Within state) f g h e = refl
+then_same low (Fault place reason) f g h e = refl
+then_same low (Past marks place rest) f g h e = e marks place rest h.is_from
+
+pub then_assoc : (seen : Seen) (f g : List Mark → ℕ → List ℕ → Seen) → then_seen (then_seen seen f) g ≡ then_seen seen (λ marks place rest. then_seen (f marks place rest) g)
+then_assoc (Within state) f g = refl
+then_assoc (Fault place reason) f g = refl
+then_assoc (Past marks place rest) f g = refl

@@ -1,0 +1,125 @@
+-- Octets of an open string, taken at once.
+use Rattle.std.proofs.Common.{◌≡◌, ℕ, ℤ, ◌+◌, ◌-◌, ◌<◌, if◌then◌else◌, min, true, List, ◌++◌, length, take, refl, sym, ap, ◌∙◌, subst, arith}
+use Rattle.std.proofs.lemmas.List.{length-append, length-take}
+use Rattle.std.proofs.Math.Logic.{∥∥₁_map}
+use Rattle.krb_der.specs.Octets.{AreOctets}
+use Rattle.krb_der.specs.inner.Numbers.{AreOctets-append}
+use Rattle.krb_der.specs.declared.verdict.Verdict.{Verdict}
+use Rattle.krb_der.specs.declared.verdict.Verdict.TheVariants as verdict
+use Rattle.krb_msg.specs.Grammar.{messages}
+use Rattle.krb_msg.specs.Judgement.{verdict_of}
+use Rattle.krb_msg.specs.Term.{Term, Integer, Text, Octets, Time, Bits, Sequence, SequenceOf, Tagged, Application}
+use Rattle.krb_scan.specs.Reading as reading
+use Rattle.krb_scan.specs.Reading.{InLeaf, Answer, Ongoing, state_of}
+use Rattle.krb_scan.specs.inner.Machine.{outcome_of}
+use Rattle.krb_scan.specs.Runs.{is_string, left_at, left_of, string_left}
+use Rattle.krb_scan.specs.Places.{item_at}
+use Rattle.krb_scan.specs.State.{TipIs, KeepsOf, AreMarks}
+use Rattle.krb_scan.specs.inner.Paths.{StandsFor}
+use Rattle.krb_scan.specs.At.{IsAt, Keeps, marks_from, lengths_from}
+use Rattle.krb_scan.specs.declared.path.Path.{Path}
+use Rattle.krb_scan.specs.declared.tip.Tip.{Tip as Kept}
+use Rattle.krb_scan.specs.declared.tip.Tip.TheVariants as tip
+use Rattle.krb_scan.proofs.Chunk.{chunk_right}
+use Rattle.krb_scan.proofs.Outcome.{reading_outcome}
+use Rattle.krb_scan.proofs.Reaching.{SomeAt, same_lengths, stands_for}
+use Rattle.krb_scan.proofs.Room.{open_short}
+use Rattle.krb_scan.proofs.Standing.{LeafAt, leaf_at}
+
+keeps_still : (term : Term) (value : ℤ) (unused : ℕ) (octets more : List ℕ) → is_string term ≡ true → KeepsOf term value unused octets → KeepsOf term value unused more
+keeps_still (Text greatest) value unused octets more s h = h
+keeps_still Octets value unused octets more s h = h
+keeps_still (Integer low high) value unused octets more s h = absurd (cc s)
+keeps_still Time value unused octets more s h = absurd (cc s)
+keeps_still (Bits least) value unused octets more s h = absurd (cc s)
+keeps_still (Sequence fields) value unused octets more s h = absurd (cc s)
+keeps_still (SequenceOf empty term) value unused octets more s h = absurd (cc s)
+keeps_still (Tagged index term) value unused octets more s h = absurd (cc s)
+keeps_still (Application number term) value unused octets more s h = absurd (cc s)
+
+-- the path after a number of octets more
+abbrev pub passed : Path → ℕ → Path
+passed path count = record path { looked = path.looked + count }
+
+pub run_goes : (path : Path) (octets : List ℕ) (place start end : ℕ) (value : ℤ) (unused count : ℕ) (given : List ℕ) → StandsFor path octets → path.tip ≡ tip.Leaf place start end value unused → is_string (item_at place) ≡ true →
+    count ≡ min (length given) (end - 1 - path.looked) → AreOctets (take count given) → StandsFor (passed path count) (octets ++ take count given)
+run_goes path octets place start end value unused count given s e string is are =
+    let leaf : LeafAt path octets place start end value unused = leaf_at path octets place start end value unused s e in
+    let chunk : List ℕ = take count given in
+    let size : length (take count given) ≡ count = omega (arith, length-take count given) in
+    let lt : length leaf.present < leaf.count = leaf.at.roomy.1 in
+    let short : length leaf.present + length (take count given) < leaf.count = omega (arith, leaf.ends, leaf.looked) in
+    record {
+      are_octets = AreOctets-append octets (take count given) s.are_octets are;
+      some = s.some;
+      short = s.short;
+      looked = omega (arith, s.looked, length-append octets (take count given));
+      state = state_of leaf.at.marks leaf.at.stack (InLeaf (item_at place) start leaf.count (leaf.present ++ take count given));
+      reads = chunk_right messages path.size octets (take count given) (item_at place) start leaf.count leaf.present leaf.at.stack leaf.at.marks s.some string (AreOctets-append leaf.present (take count given) leaf.at.are_octets are) short leaf.at.reads;
+      holds = record {
+        tip = subst (λ t. TipIs (path.looked + count) t (InLeaf (item_at place) start leaf.count (leaf.present ++ take count given))) (sym e)
+            (leaf.known, refl, refl, leaf.ends, keeps_still (item_at place) value unused leaf.present (leaf.present ++ take count given) string leaf.keeps, omega (arith, leaf.looked, length-append leaf.present (take count given)));
+        containers = leaf.at.frames;
+        marks = leaf.at.all_marks;
+      };
+    }
+
+-- a path that stands for octets is at them
+pub standing_at : (path : Path) (octets : List ℕ) → StandsFor path octets → IsAt path verdict.Open path.size octets
+standing_at path octets s =
+    let short : length octets < path.size = open_short messages path.size octets s.state s.some s.reads in
+    record {
+      are_octets = s.are_octets;
+      some = s.some;
+      short = s.short;
+      fits = omega arith;
+      size = refl;
+      decides = sym (ap verdict_of (reading_outcome messages path.size octets s.some (omega arith) ∙ ap (outcome_of path.size) s.reads));
+      looked = s.looked;
+      marks = subst (λ given. AreMarks path.marks.items (marks_from given (λ place. reading.reading messages path.size (take place octets)))) (sym s.reads) s.holds.marks;
+      lengths = same_lengths path path.looked s.state s.holds ∙ ap (λ given. lengths_from given (λ place. reading.reading messages path.size (take place octets))) (sym s.reads);
+      keeps = subst (Keeps path) (sym s.reads) (s.holds.containers, s.holds.tip);
+    }
+
+-- where something is decided, no string is open
+pub none_left : (path : Path) (decided : Verdict) (n : ℕ) (octets : List ℕ) → IsAt path decided n octets → (decided ≡ verdict.Open → ⊥) → string_left messages n octets ≡ 0
+none_left path decided n octets at not = by_answer (reading.reading messages n octets) refl
+  where
+    by_answer : (given : Answer) → reading.reading messages n octets ≡ given → left_of (reading.reading messages n octets) ≡ 0
+    by_answer (Ongoing state) e = absurd (not (at.decides ∙ ap verdict_of (reading_outcome messages n octets at.some at.fits ∙ ap (outcome_of n) e)))
+    by_answer (reading.Refusing place reason) e = ap left_of e
+    by_answer (reading.Whole marks) e = ap left_of e
+
+pub run_at : (old new : Path) (decided : Verdict) (n count : ℕ) (before given : List ℕ) → IsAt old decided n before → decided ≡ verdict.Open → new.size ≡ old.size → ((octets : List ℕ) → StandsFor old octets → StandsFor new (octets ++ take count given)) → IsAt new decided n (before ++ take count given)
+run_at old new decided n count before given at still size goes =
+    subst (λ k. IsAt new decided k (before ++ take count given)) (size ∙ at.size)
+    (subst (λ v. IsAt new v new.size (before ++ take count given)) (sym still) (standing_at new (before ++ take count given) (goes before (stands_for old decided n before at still))))
+
+pub some_run : (old new : Path) (decided : Verdict) (count : ℕ) (given : List ℕ) → SomeAt old decided → decided ≡ verdict.Open → new.size ≡ old.size → ((octets : List ℕ) → StandsFor old octets → StandsFor new (octets ++ take count given)) → SomeAt new decided
+some_run old new decided count given r still size goes =
+    ∥∥₁_map r (λ (k : (octets : List ℕ) × IsAt old decided old.size octets). (k.0 ++ take count given, subst (λ n. IsAt new decided n (k.0 ++ take count given)) (sym size) (run_at old new decided old.size count k.0 given k.1 still size goes)))
+
+-- how far an open string reaches
+pub leaf_left : (path : Path) (octets : List ℕ) (place start end : ℕ) (value : ℤ) (unused : ℕ) → StandsFor path octets → path.tip ≡ tip.Leaf place start end value unused → string_left messages path.size octets ≡ (if is_string (item_at place) then end - 1 - path.looked else 0)
+leaf_left path octets place start end value unused s e =
+    let leaf : LeafAt path octets place start end value unused = leaf_at path octets place start end value unused s e in
+    let same : leaf.count - 1 - length leaf.present ≡ end - 1 - path.looked = omega (arith, leaf.ends, leaf.looked) in
+    ap left_of leaf.at.reads ∙ ap (λ k. if is_string (item_at place) then k else 0) same
+
+pub leaf_some : (path : Path) (octets : List ℕ) (place start end : ℕ) (value : ℤ) (unused : ℕ) → StandsFor path octets → path.tip ≡ tip.Leaf place start end value unused → path.looked < end
+leaf_some path octets place start end value unused s e =
+    let leaf : LeafAt path octets place start end value unused = leaf_at path octets place start end value unused s e in
+    let lt : length leaf.present < leaf.count = leaf.at.roomy.1 in
+    omega (arith, leaf.looked, leaf.ends)
+
+-- no string is open where no leaf is
+pub none_open : (path : Path) (octets : List ℕ) → StandsFor path octets → ((place start end : ℕ) (value : ℤ) (unused : ℕ) → path.tip ≡ tip.Leaf place start end value unused → ⊥) → string_left messages path.size octets ≡ 0
+none_open path octets s not = ap left_of s.reads ∙ by_tips path.tip s.state.tip refl s.holds.tip
+  where
+    by_tips : (a : Kept) (b : reading.Tip) → path.tip ≡ a → TipIs path.looked a b → left_at b ≡ 0
+    by_tips a (reading.Between place) e h = refl
+    by_tips a (reading.InHead term from octets) e h = refl
+    by_tips tip.Between (reading.InLeaf term start count octets) e h = absurd h
+    by_tips (tip.Tagged place) (reading.InLeaf term start count octets) e h = absurd h
+    by_tips (tip.Long place digits seen value) (reading.InLeaf term start count octets) e h = absurd h
+    by_tips (tip.Leaf place start end value unused) (reading.InLeaf term begin count octets) e h = absurd (not place start end value unused e)

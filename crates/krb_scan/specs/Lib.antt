@@ -1,0 +1,9 @@
+pub mod Reading
+pub mod Laws
+pub mod Places
+pub mod State
+pub mod At
+pub mod Runs
+pub mod Scanner
+pub mod Examples
+pub mod inner

@@ -1,0 +1,82 @@
+-- What is due at each place of the table of places, by the grammar.
+use Rattle.std.specs.Prelude.{ℕ, ◌<◌, List, [], ◌∷◌, ◌++◌, map, get_or, Option, Some, None}
+use Rattle.krb_msg.specs.Term.{Term, Fields, Octets, Sequence, Application, End, Required, Optional}
+use Rattle.krb_msg.specs.Grammar.{exactly, int32, wide32, microseconds, kerberos_string, octet_string, kerberos_time, kerberos_flags, sequence_of, principal_name, host_address, pa_data, encrypted_data, version, ticket, kdc_req_body, as_req, tgs_req, as_rep, tgs_rep, ap_req, ap_rep, krb_error, method_data, messages}
+use Rattle.krb_scan.specs.Reading.{Due, Listed, Each, OneOf}
+use Rattle.krb_scan.specs.declared.places.TheConstants.{PLACES}
+
+-- what is due before each field of a SEQUENCE
+abbrev pub before_fields : Fields → List Due
+before_fields End = []
+before_fields (Required term fields) = Listed (Required term fields) ∷ before_fields fields
+before_fields (Optional term fields) = Listed (Optional term fields) ∷ before_fields fields
+
+abbrev pub fields_in : Term → List Due
+fields_in (Application number term) = fields_in term
+fields_in (Sequence fields) = before_fields fields
+fields_in term = []
+
+-- what is due in a tag
+abbrev pub only : Term → Due
+only term = OneOf (term ∷ [])
+
+-- the term in a tag
+abbrev pub in_tag : Term → Term
+in_tag (Application number term) = term
+in_tag term = term
+
+-- what is due before a message, and once it is none of the first of them
+abbrev pub one_of_each : List Term → List Due
+one_of_each [] = []
+one_of_each (term ∷ terms) = OneOf (term ∷ terms) ∷ one_of_each terms
+
+-- what is due at each place
+unfoldable pub dues : List Due
+dues =
+    map only
+    (int32 ∷ wide32 ∷ microseconds ∷ kerberos_string ∷ octet_string ∷ kerberos_time ∷ kerberos_flags
+    ∷ version ∷ exactly 10 ∷ exactly 11 ∷ exactly 12 ∷ exactly 13 ∷ exactly 14 ∷ exactly 15 ∷ exactly 30
+    ∷ sequence_of kerberos_string ∷ sequence_of int32 ∷ sequence_of host_address ∷ sequence_of ticket ∷ method_data
+    ∷ principal_name ∷ encrypted_data ∷ kdc_req_body ∷ ticket
+    ∷ map in_tag (ticket ∷ as_req ∷ as_rep ∷ tgs_req ∷ tgs_rep ∷ ap_req ∷ ap_rep ∷ krb_error ∷ []))
+    ++ map Each (kerberos_string ∷ int32 ∷ host_address ∷ ticket ∷ pa_data ∷ [])
+    ++ fields_in principal_name ++ fields_in host_address ++ fields_in pa_data ++ fields_in encrypted_data ++ fields_in ticket
+    ++ fields_in kdc_req_body ++ fields_in as_req ++ fields_in tgs_req ++ fields_in as_rep ++ fields_in tgs_rep
+    ++ fields_in ap_req ++ fields_in ap_rep ++ fields_in krb_error
+    ++ one_of_each messages
+    ++ Listed End ∷ OneOf [] ∷ []
+
+-- the number of a place
+abbrev pub IsPlace : ℕ → Type 0
+IsPlace place = place < PLACES
+
+unfoldable pub due_in : List Due → ℕ → Due
+due_in some place = get_or some place (OneOf [])
+
+abbrev pub due_at : ℕ → Due
+due_at = due_in dues
+
+-- the item that may come where something is due, and what is due after it
+abbrev pub offered : Due → Option (Term × Due)
+offered (Listed End) = None
+offered (Listed (Required term fields)) = Some (term, Listed fields)
+offered (Listed (Optional term fields)) = Some (term, Listed fields)
+offered (Each term) = Some (term, Each term)
+offered (OneOf []) = None
+offered (OneOf (term ∷ terms)) = Some (term, OneOf [])
+
+abbrev pub item_of : Option (Term × Due) → Term
+item_of None = Octets
+item_of (Some choice) = choice.0
+
+-- the item that may come at a place
+abbrev pub item_at : ℕ → Term
+item_at place = item_of (offered (due_at place))
+
+abbrev pub IsSome : Option (Term × Due) → Type 0
+IsSome None = ⊥
+IsSome (Some choice) = Unit {0}
+
+-- an item may come at a place
+abbrev pub IsItemPlace : ℕ → Type 0
+IsItemPlace place = IsPlace place × IsSome (offered (due_at place))

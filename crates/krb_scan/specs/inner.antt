@@ -1,0 +1,6 @@
+pub mod Machine
+pub mod Places
+pub mod Numbers
+pub mod Stands
+pub mod Paths
+pub mod Wholes

@@ -1,0 +1,235 @@
+//! Items that are there whole, taken at once. Items are only accepted here: what is cut, refused or
+//! odd is left as it is, to be taken octet by octet.
+
+ghost use Rattle.std.specs.Prelude.{◌≡◌, ◌+◌, ◌<◌, ◌≤◌, ◌^◌, ◌∷◌, [], ◌++◌, List, ℕ, pos, Some, None, IfSome, take, length, vec_len, vec_capacity};
+ghost use Rattle.krb_scan.specs.Reading.{Frame, Mark as Marked};
+ghost use Rattle.krb_scan.specs.Places.{IsPlace, due_at, item_at};
+ghost use Rattle.krb_scan.specs.State.{AreOpen};
+ghost use Rattle.krb_scan.specs.inner.Machine.{settle};
+ghost use Rattle.krb_scan.specs.inner.Stands.{HasFrames, BeginsWith};
+ghost use Rattle.krb_scan.specs.inner.Paths.{IsReached, StandsFor};
+ghost use Rattle.krb_scan.specs.inner.Places.{AreContents};
+ghost use Rattle.krb_scan.specs.inner.Wholes.{IsFound, IsFoundIn, IsNarrow, ClosesTo, IsAccepted};
+
+use crate::closing::{Closed, closing};
+use crate::mark::Mark;
+use crate::open::Open;
+use crate::path::Path;
+use crate::places::{Contents, pick, place_at};
+use crate::tip::Tip;
+use crate::whole::{whole_head, whole_leaf};
+use krb_der::Verdict;
+
+/// An item at the front of octets: its place, and how many octets its tag and length take, and its
+/// contents.
+#[derive(Clone, Copy)]
+pub(crate) struct Found {
+    pub(crate) place: u16,
+    pub(crate) header: u32,
+    pub(crate) size: u32,
+}
+
+/// Octets that were taken: how many, and what is decided with them.
+#[derive(Clone, Copy)]
+pub(crate) struct Accepted {
+    pub(crate) count: u32,
+    pub(crate) verdict: Verdict,
+}
+
+/// The item at the front of octets that come in a container at `from`, if its tag and length are
+/// there and it may stand there.
+#[inline(always)]
+fn find_item(container: Open, from: u32, octets: &[u8]) -> Option<Found>
+    requires known { IsPlace container.due }
+    requires room { from ≤ container.end }
+    requires short { container.end < 2 ^ 31 }
+    ensures { IsFoundIn container from octets.now result }
+{
+    let head = whole_head(octets)?;
+    let place = pick(*octets.first()?, container.due)?;
+    let room = container.end - from;
+    let size = head.header + head.size;
+    if size > room || place_at(place).sole && size < room {
+        return None;
+    }
+    Some(Found {
+        place,
+        header: head.header,
+        size: head.size,
+    })
+}
+
+impl Path {
+    /// Closes the containers that end at a place, where `next` is due after an item in the innermost,
+    /// unless one of them lacks an item.
+    #[inline(always)]
+    fn close_at(&mut self, next: u16, place: u32) -> Option<Verdict>
+        requires { HasFrames (record { end = self.old.inner.end; due = next }) self.old.outer.items }
+        ensures closes { (stack : List Frame) (marks : List Marked) → AreOpen (record { end = self.old.inner.end; due = next }) self.old.outer.items stack → ClosesTo self.new marks place (settle stack marks place) result }
+        ensures same { self.new ≡ record self.old { inner = self.new.inner; outer = self.new.outer } }
+        ensures none { result ≡ None → self.new ≡ self.old }
+    {
+        let inner = Open {
+            end: self.inner.end,
+            due: next,
+        };
+        match closing(inner, self.outer.as_slice(), place) {
+            Closed::Lacks => None,
+            Closed::Stays { inner, outer } => {
+                self.inner = inner;
+                self.outer.truncate(outer);
+                Some(Verdict::Open)
+            }
+            Closed::Whole => {
+                self.outer.clear();
+                Some(Verdict::Whole)
+            }
+        }
+    }
+
+    /// Takes an item without items that is there whole at the front of octets.
+    #[inline(always)]
+    fn take_leaf(&mut self, found: Found, contents: Contents, octets: &[u8]) -> Option<Accepted>
+        requires reached { IsReached self.old }
+        requires between { self.old.tip ≡ Tip.Between }
+        requires room { vec_len self.old.marks + 2 ≤ vec_capacity self.old.marks }
+        requires found { IsFound self.old.inner self.old.looked octets.now found }
+        requires narrow { IsNarrow contents }
+        requires contents { AreContents contents (item_at found.place) }
+        ensures some { IfSome result (λ it. (before : List ℕ) → StandsFor self.old before → IsAccepted self.old self.new before octets.now it) }
+        ensures none { result ≡ None → self.new ≡ self.old }
+        ensures room { vec_capacity self.new.marks ≡ vec_capacity self.old.marks }
+    {
+        let rest = &octets[found.header as usize..];
+        if rest.len() < found.size as usize {
+            return None;
+        }
+        let whole = &rest[..found.size as usize];
+        let value = whole_leaf(contents, whole)?;
+        let row = place_at(found.place);
+        let start = self.looked + found.header;
+        let verdict = self.close_at(row.next, start + found.size)?;
+        self.marks.push_reserved(Mark {
+            node: row.node,
+            start,
+            len: found.size,
+            value,
+        });
+        self.looked = start + found.size;
+        Some(Accepted {
+            count: found.header + found.size,
+            verdict,
+        })
+    }
+
+    /// Takes the tag and length of a container that has contents, the first of which are due at a
+    /// place.
+    #[inline(always)]
+    fn take_head(&mut self, found: Found, first: u16, _octets: &[u8]) -> Accepted
+        requires reached { IsReached self.old }
+        requires between { self.old.tip ≡ Tip.Between }
+        requires room { vec_len self.old.marks + 2 ≤ vec_capacity self.old.marks }
+        requires found { IsFound self.old.inner self.old.looked _octets.now found }
+        requires some { 0 < found.size }
+        requires first { IsPlace first }
+        requires begins { BeginsWith (item_at found.place) (due_at first) }
+        ensures accepted { (before : List ℕ) → StandsFor self.old before → IsAccepted self.old self.new before _octets.now result }
+        ensures room { vec_capacity self.new.marks ≡ vec_capacity self.old.marks }
+    {
+        let row = place_at(found.place);
+        let start = self.looked + found.header;
+        self.marks.push_reserved(Mark {
+            node: row.node,
+            start,
+            len: found.size,
+            value: 0,
+        });
+        self.outer.push(Open {
+            end: self.inner.end,
+            due: row.next,
+        });
+        self.inner = Open {
+            end: start + found.size,
+            due: first,
+        };
+        self.looked = start;
+        Accepted {
+            count: found.header,
+            verdict: Verdict::Open,
+        }
+    }
+
+    /// Takes a tag and its one item, which holds no items, where both are there whole at the front of
+    /// octets.
+    #[inline(always)]
+    fn take_tag(&mut self, found: Found, first: u16, octets: &[u8]) -> Option<Accepted>
+        requires reached { IsReached self.old }
+        requires between { self.old.tip ≡ Tip.Between }
+        requires room { vec_len self.old.marks + 2 ≤ vec_capacity self.old.marks }
+        requires found { IsFound self.old.inner self.old.looked octets.now found }
+        requires first { IsPlace first }
+        requires begins { BeginsWith (item_at found.place) (due_at first) }
+        ensures some { IfSome result (λ it. (before : List ℕ) → StandsFor self.old before → IsAccepted self.old self.new before octets.now it) }
+        ensures none { result ≡ None → self.new ≡ self.old }
+        ensures room { vec_capacity self.new.marks ≡ vec_capacity self.old.marks }
+    {
+        let rest = &octets[found.header as usize..];
+        if rest.len() < found.size as usize {
+            return None;
+        }
+        let whole = &rest[..found.size as usize];
+        let start = self.looked + found.header;
+        let end = start + found.size;
+        let only = find_item(Open { end, due: first }, start, whole)?;
+        let row = place_at(only.place);
+        if !row.sole {
+            return None;
+        }
+        let value = whole_leaf(row.contents, &whole[only.header as usize..])?;
+        let tag = place_at(found.place);
+        let verdict = self.close_at(tag.next, end)?;
+        self.marks.push_reserved(Mark {
+            node: tag.node,
+            start,
+            len: found.size,
+            value: 0,
+        });
+        self.marks.push_reserved(Mark {
+            node: row.node,
+            start: start + only.header,
+            len: only.size,
+            value,
+        });
+        self.looked = end;
+        Some(Accepted {
+            count: found.header + found.size,
+            verdict,
+        })
+    }
+
+    /// Takes the item at the front of octets, or a container's tag and length, where they are there
+    /// and nothing is odd.
+    #[inline(always)]
+    pub(crate) fn take_item(&mut self, octets: &[u8]) -> Option<Accepted>
+        requires { IsReached self.old }
+        ensures some { IfSome result (λ it. (before : List ℕ) → StandsFor self.old before → IsAccepted self.old self.new before octets.now it) }
+        ensures none { result ≡ None → self.new ≡ self.old }
+        ensures room { vec_capacity self.new.marks ≡ vec_capacity self.old.marks }
+    {
+        let Tip::Between = self.tip else {
+            return None;
+        };
+        if self.marks.capacity() - self.marks.len() < 2 {
+            return None;
+        }
+        let found = find_item(self.inner, self.looked, octets)?;
+        let contents = place_at(found.place).contents;
+        let Contents::Items { first } = contents else {
+            return self.take_leaf(found, contents, octets);
+        };
+        match self.take_tag(found, first, octets) {
+            None if found.size > 0 => Some(self.take_head(found, first, octets)),
+            taken => taken,
+        }
+    }
+}

@@ -1,0 +1,143 @@
+//! The contents of items without items, one octet at a time (RFC 4120, 5.2; X.690, 8.3 and 8.6).
+
+ghost use Rattle.std.specs.Prelude.{◌≡◌, ◌<◌, ◌≤ℤ◌, ◌<ℤ◌, ◌==◌, ◌&&◌, if◌then◌else◌, pos, negsuc, ℕ, ℤ};
+ghost use Rattle.krb_scan.specs.inner.Numbers.{extended, pads, in_range, integer_with, each_next, bits_next as bits_decides, any_next as any_decides};
+ghost use Rattle.krb_der.specs.declared.why.Why.TheVariants as why;
+ghost use Rattle.krb_msg.specs.Judgement.{time_octet};
+ghost use Rattle.krb_scan.specs.inner.Stands.{LeafIs};
+
+use crate::places::Contents;
+use krb_der::Why;
+
+/// What an octet makes of the contents.
+#[derive(Clone, Copy)]
+pub(crate) enum Leaf {
+    /// More octets are needed.
+    Open,
+    /// The octet is refused.
+    Bad(Why),
+    /// The octet completes them.
+    Done,
+}
+
+/// The number of an INTEGER's octets and one more, after `seen` of them.
+pub(crate) fn extend(seen: u32, value: i64, octet: u8) -> i64
+    requires above { negsuc 549755813887 ≤ℤ value }
+    requires below { value <ℤ pos 549755813888 }
+    ensures { result ≡ extended seen value octet }
+{
+    if seen > 0 {
+        value * 256 + i64::from(octet)
+    } else if octet < 128 {
+        i64::from(octet)
+    } else {
+        i64::from(octet) - 256
+    }
+}
+
+/// The octet repeats the sign of the one before it.
+fn is_pad(value: i64, octet: u8) -> bool
+    ensures { result ≡ pads value octet }
+{
+    if octet < 128 { value == 0 } else { value == -1 }
+}
+
+/// The second octet repeats the sign of the first.
+fn is_padded(seen: u32, value: i64, octet: u8) -> bool
+    ensures { result ≡ ((seen == 1) && pads value octet) }
+{
+    if seen == 1 {
+        is_pad(value, octet)
+    } else {
+        false
+    }
+}
+
+/// The number is in the range of contents that have one.
+pub(crate) fn is_within(contents: Contents, value: i64) -> bool
+    ensures { (low high : ℤ) (widest : ℕ) → contents ≡ Contents.Integer low high widest → result ≡ in_range low high value }
+{
+    match contents {
+        Contents::Integer { low, high, .. } => low <= value && value <= high,
+        _ => false,
+    }
+}
+
+/// An INTEGER's next octet, after `seen` of its `size`, which are `value`; with it they are a number
+/// that is `within` its range, or not.
+pub(crate) fn integer_next(within: bool, size: u32, seen: u32, value: i64, octet: u8) -> Leaf
+    requires { seen < size }
+    ensures { LeafIs result (integer_with within size seen value octet) }
+{
+    let padded = is_padded(seen, value, octet);
+    if padded {
+        Leaf::Bad(Why::IntegerNotMinimal)
+    } else if seen + 1 < size {
+        Leaf::Open
+    } else if within {
+        Leaf::Done
+    } else {
+        Leaf::Bad(Why::Range)
+    }
+}
+
+/// The next octet of a time.
+pub(crate) fn time_next(seen: u32, octet: u8) -> Leaf
+    requires { seen < 15 }
+    ensures { LeafIs result (each_next time_octet why.Time 15 seen octet) }
+{
+    let fits = if seen < 14 {
+        48 <= octet && octet <= 57
+    } else {
+        octet == 90
+    };
+    if !fits {
+        Leaf::Bad(Why::Time)
+    } else if seen + 1 < 15 {
+        Leaf::Open
+    } else {
+        Leaf::Done
+    }
+}
+
+/// A BIT STRING's count of unused bits with one more octet, after `seen` of them.
+pub(crate) fn first_octet(seen: u32, unused: u8, octet: u8) -> u8
+    ensures { result ≡ (if seen == 0 then octet else unused) }
+{
+    if seen == 0 { octet } else { unused }
+}
+
+/// A BIT STRING's next octet, after `seen` of its `size`; the first of them is `unused`.
+pub(crate) fn bits_next(size: u32, seen: u32, unused: u8, octet: u8) -> Leaf
+    requires some { seen < size }
+    requires few { unused < 8 }
+    ensures { LeafIs result (bits_decides 0 size seen unused octet) }
+{
+    if seen == 0 {
+        if octet > 7 || size == 1 && octet > 0 {
+            Leaf::Bad(Why::Bits)
+        } else if size > 1 {
+            Leaf::Open
+        } else {
+            Leaf::Done
+        }
+    } else if seen + 1 < size {
+        Leaf::Open
+    } else if octet % (1 << unused) == 0 {
+        Leaf::Done
+    } else {
+        Leaf::Bad(Why::Bits)
+    }
+}
+
+/// The next octet of a string, whatever it is.
+pub(crate) fn any_next(size: u32, seen: u32) -> Leaf
+    requires { seen < size }
+    ensures { LeafIs result (any_decides size seen) }
+{
+    if seen + 1 < size {
+        Leaf::Open
+    } else {
+        Leaf::Done
+    }
+}

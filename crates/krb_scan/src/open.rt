@@ -1,0 +1,16 @@
+//! The containers that are open.
+
+/// A container whose contents are not complete, or the message.
+#[derive(Clone, Copy)]
+pub(crate) struct Open {
+    /// Where its contents end.
+    pub(crate) end: u32,
+    /// The place of what may come next in it.
+    pub(crate) due: u16,
+}
+
+impl Default for Open {
+    fn default() -> Open {
+        Open { end: 0, due: 0 }
+    }
+}

@@ -1,0 +1,532 @@
+//! Where a scanner stands in a message, and what an octet makes of that.
+
+ghost use Rattle.std.specs.Prelude.{pos, negsuc, ◌≤ℤ◌, ◌<ℤ◌, ◌≡◌, ◌<◌, ◌≤◌, ◌+◌, ◌-◌, ◌^◌, ℕ, [], ◌∷◌, ◌++◌, true, List, Ok, OnOk, OnErr, length, min, take, vec_len, vec_capacity};
+ghost use Rattle.arrayvec.specs.ArrayVec.{array_vec_len};
+ghost use Rattle.krb_msg.specs.Term.{Term};
+ghost use Rattle.krb_msg.specs.Grammar.{messages};
+ghost use Rattle.krb_msg.specs.Judgement.{Head as HeadOf, Outcome, Partial, Open as OpenOutcome, has_size};
+ghost use Rattle.krb_msg.specs.Nodes.{term_at};
+ghost use Rattle.krb_msg.specs.Table.{IsNode};
+ghost use Rattle.krb_scan.specs.Reading.{Frame, Mark as Marked, InHead, InLeaf, OneOf, limit, reading, sole_in, with_mark};
+ghost use Rattle.krb_scan.specs.Runs.{is_string as string_term, string_left};
+ghost use Rattle.krb_scan.specs.Places.{IsPlace, IsItemPlace, due_at, item_at};
+ghost use Rattle.krb_scan.specs.State.{AreMarks, AreOpen, TipIs};
+ghost use Rattle.krb_scan.specs.inner.Machine.{settle, sized, enter as enters, headed as head_decides, leafed as leaf_decides, step_between, in_leaf};
+ghost use Rattle.krb_scan.specs.inner.Places.{IsPlaceOf};
+ghost use Rattle.krb_scan.specs.inner.Stands.{HasFrames, HeadIs, LeafIs, IsSized, IsLeaf, BeginsWith, HeadEnds, IsShort, LeafEnds, LeafReads};
+ghost use Rattle.krb_scan.specs.inner.Paths.{IsTaken, IsReached, IsUnchanged, StandsFor, with_value};
+
+use crate::closing::{Closed, closing};
+use crate::head::{Head, first_head, next_head};
+use crate::leaf::{
+    Leaf, any_next, bits_next, extend, first_octet, integer_next, is_within, time_next,
+};
+use crate::mark::Mark;
+use crate::open::Open;
+use crate::places::{Contents, MESSAGE, Place, pick, place_at};
+use crate::tip::Tip;
+use arrayvec::ArrayVec;
+use krb_der::{Memory, Refusal, Verdict, Why};
+
+/// The items that are not complete, and the marks of all items.
+#[derive(Drop)]
+pub(crate) struct Path {
+    /// The number of octets of the message.
+    pub(crate) size: u32,
+    /// The number of octets that were taken.
+    pub(crate) looked: u32,
+    /// What is partly read.
+    pub(crate) tip: Tip,
+    /// The innermost container that is open, or the message.
+    pub(crate) inner: Open,
+    /// The message and the containers round the innermost, from the outer to the inner.
+    pub(crate) outer: ArrayVec<Open, 13>,
+    /// A mark for each length that is whole, in the order of the lengths.
+    pub(crate) marks: Vec<Mark>,
+}
+
+/// What the contents of an item are to become.
+#[derive(Clone, Copy)]
+pub(crate) enum Sized {
+    /// Items of this place have no contents of this length.
+    Wrong,
+    /// Octets.
+    Leaf,
+    /// Items, the first of which is due at a place.
+    Items { first: u16 },
+}
+
+/// What contents of `len` octets of the item of a place are.
+fn sized_contents(place: u16, len: u32) -> Sized
+    requires { IsItemPlace place }
+    ensures { IsSized (item_at place) len result }
+{
+    match place_at(place).contents {
+        Contents::Integer { widest, .. } => if 0 < len && len <= widest {
+            Sized::Leaf
+        } else {
+            Sized::Wrong
+        },
+        Contents::Time => if len == 15 { Sized::Leaf } else { Sized::Wrong },
+        Contents::Bits => if 0 < len { Sized::Leaf } else { Sized::Wrong },
+        Contents::Text | Contents::Octets => Sized::Leaf,
+        Contents::Items { first } => Sized::Items { first },
+    }
+}
+
+/// The row in `krb_msg::grammar` of the item of a place.
+fn node_of(place: u16) -> u16
+    requires { IsItemPlace place }
+    ensures known { IsNode result }
+    ensures term { term_at result ≡ item_at place }
+{
+    place_at(place).node
+}
+
+impl Path {
+    /// Whether the next item fills its container.
+    fn is_sole(&self) -> bool
+        requires { HasFrames self.now.inner self.now.outer.items }
+        ensures { (stack : List Frame) → AreOpen self.now.inner self.now.outer.items stack → result ≡ sole_in stack }
+    {
+        place_at(self.inner.due).sole
+    }
+
+    /// The next octet is refused.
+    fn refused(&self, why: Why) -> Verdict
+        ensures { result ≡ Verdict.Refused (record { place = self.now.looked; why = why }) }
+    {
+        Verdict::Refused(Refusal {
+            place: self.looked,
+            why,
+        })
+    }
+
+    /// A mark for a length that ends with the next octet.
+    fn mark(&mut self, node: u16, len: u32) -> Result<(), Memory>
+        requires { self.old.looked + 1 < 2 ^ 32 }
+        ensures ok { OnOk result (self.new.marks.items ≡ self.old.marks.items ++ record { node = node; start = self.old.looked + 1; len = len; value = pos 0 } ∷ []) }
+        ensures err { OnErr result (self.new.marks.items ≡ self.old.marks.items) }
+        ensures full { OnErr result (vec_capacity self.old.marks ≡ vec_len self.old.marks) }
+        ensures room { vec_capacity self.old.marks ≤ vec_capacity self.new.marks }
+        ensures same { self.new ≡ record self.old { marks = self.new.marks } }
+    {
+        self.marks.push(Mark {
+            node,
+            start: self.looked + 1,
+            len,
+            value: 0,
+        })?;
+        Ok(())
+    }
+
+    /// Leaves this container open within a number of others, and no item partly read.
+    fn close_to(&mut self, inner: Open, outer: usize)
+        ensures { self.new ≡ record self.old { inner = inner; outer = record { items = take outer self.old.outer.items }; tip = Tip.Between } }
+    {
+        self.inner = inner;
+        self.outer.truncate(outer);
+        self.tip = Tip::Between;
+    }
+
+    /// Leaves nothing open.
+    fn close_all(&mut self)
+        ensures { self.new ≡ record self.old { outer = record { items = [] }; tip = Tip.Between } }
+    {
+        self.outer.clear();
+        self.tip = Tip::Between;
+    }
+
+    /// The last mark gets its number.
+    fn complete(&mut self, value: i64)
+        requires { 0 < length self.old.marks.items }
+        ensures items { self.new.marks.items ≡ with_value self.old.marks.items value }
+        ensures room { vec_capacity self.old.marks ≤ vec_capacity self.new.marks }
+        ensures same { self.new ≡ record self.old { marks = self.new.marks } }
+    {
+        let last = self.marks.len() - 1;
+        self.marks[last].value = value;
+    }
+
+    /// An item whose contents are none ends with the next octet.
+    fn close_empty(&mut self, node: u16) -> Result<Verdict, Memory>
+        requires known { IsNode node }
+        requires short { self.old.looked + 1 < 2 ^ 31 }
+        requires frames { HasFrames self.old.inner self.old.outer.items }
+        ensures taken { (stack : List Frame) (marks : List Marked) → AreOpen self.old.inner self.old.outer.items stack → AreMarks self.old.marks.items marks → IsTaken self.old self.new result (settle stack (with_mark marks (term_at node) (self.old.looked + 1) 0) (self.old.looked + 1)) }
+        ensures full { OnErr result (vec_capacity self.old.marks ≤ vec_len self.old.marks) }
+        ensures room { vec_capacity self.old.marks ≤ vec_capacity self.new.marks }
+        ensures memory { OnErr result (IsUnchanged self.old self.new) }
+        ensures same { (self.new.size ≡ self.old.size) × (self.new.looked ≡ self.old.looked) }
+    {
+        match closing(self.inner, self.outer.as_slice(), self.looked + 1) {
+            Closed::Lacks => Ok(self.refused(Why::Missing)),
+            Closed::Stays { inner, outer } => {
+                self.mark(node, 0)?;
+                self.close_to(inner, outer);
+                Ok(Verdict::Open)
+            }
+            Closed::Whole => {
+                self.mark(node, 0)?;
+                self.close_all();
+                Ok(Verdict::Whole)
+            }
+        }
+    }
+
+    /// An item without items, whose length ends with the next octet.
+    fn enter_leaf(&mut self, place: u16, len: u32) -> Result<Verdict, Memory>
+        requires known { IsItemPlace place }
+        requires leaf { IsLeaf (item_at place) }
+        requires fits { has_size (item_at place) len ≡ true }
+        requires short { self.old.looked + 1 + len < 2 ^ 31 }
+        requires frames { HasFrames self.old.inner self.old.outer.items }
+        ensures taken { (stack : List Frame) (marks : List Marked) → AreOpen self.old.inner self.old.outer.items stack → AreMarks self.old.marks.items marks → IsTaken self.old self.new result (enters (item_at place) (self.old.looked + 1) len stack marks) }
+        ensures full { OnErr result (vec_capacity self.old.marks ≤ vec_len self.old.marks) }
+        ensures room { vec_capacity self.old.marks ≤ vec_capacity self.new.marks }
+        ensures memory { OnErr result (IsUnchanged self.old self.new) }
+        ensures same { (self.new.size ≡ self.old.size) × (self.new.looked ≡ self.old.looked) }
+    {
+        let node = node_of(place);
+        if len == 0 {
+            return self.close_empty(node);
+        }
+        self.mark(node, len)?;
+        self.tip = Tip::Leaf {
+            place,
+            start: self.looked + 1,
+            end: self.looked + 1 + len,
+            value: 0,
+            unused: 0,
+        };
+        Ok(Verdict::Open)
+    }
+
+    /// An item with items, whose length ends with the next octet.
+    fn enter_items(&mut self, place: u16, len: u32, first: u16) -> Result<Verdict, Memory>
+        requires known { IsItemPlace place }
+        requires listed { IsPlace first }
+        requires items { BeginsWith (item_at place) (due_at first) }
+        requires short { self.old.looked + 1 + len < 2 ^ 31 }
+        requires frames { HasFrames self.old.inner self.old.outer.items }
+        requires room { array_vec_len self.old.outer < 13 }
+        ensures taken { (stack : List Frame) (marks : List Marked) → AreOpen self.old.inner self.old.outer.items stack → AreMarks self.old.marks.items marks → IsTaken self.old self.new result (enters (item_at place) (self.old.looked + 1) len stack marks) }
+        ensures full { OnErr result (vec_capacity self.old.marks ≤ vec_len self.old.marks) }
+        ensures room { vec_capacity self.old.marks ≤ vec_capacity self.new.marks }
+        ensures memory { OnErr result (IsUnchanged self.old self.new) }
+        ensures same { (self.new.size ≡ self.old.size) × (self.new.looked ≡ self.old.looked) }
+    {
+        let node = node_of(place);
+        if len == 0 {
+            if place_at(first).lacks {
+                return Ok(self.refused(Why::Missing));
+            }
+            return self.close_empty(node);
+        }
+        self.mark(node, len)?;
+        self.outer.push(self.inner);
+        self.inner = Open {
+            end: self.looked + 1 + len,
+            due: first,
+        };
+        self.tip = Tip::Between;
+        Ok(Verdict::Open)
+    }
+
+    /// An item whose length ends with the next octet.
+    fn enter(&mut self, place: u16, len: u32) -> Result<Verdict, Memory>
+        requires known { IsItemPlace place }
+        requires short { self.old.looked + 1 + len < 2 ^ 31 }
+        requires frames { HasFrames self.old.inner self.old.outer.items }
+        requires room { array_vec_len self.old.outer < 13 }
+        ensures taken { (stack : List Frame) (marks : List Marked) → AreOpen self.old.inner self.old.outer.items stack → AreMarks self.old.marks.items marks → IsTaken self.old self.new result (sized (item_at place) (self.old.looked + 1) len stack marks) }
+        ensures full { OnErr result (vec_capacity self.old.marks ≤ vec_len self.old.marks) }
+        ensures room { vec_capacity self.old.marks ≤ vec_capacity self.new.marks }
+        ensures memory { OnErr result (IsUnchanged self.old self.new) }
+        ensures same { (self.new.size ≡ self.old.size) × (self.new.looked ≡ self.old.looked) }
+    {
+        match sized_contents(place, len) {
+            Sized::Wrong => Ok(self.refused(Why::Size)),
+            Sized::Leaf => self.enter_leaf(place, len),
+            Sized::Items { first } => self.enter_items(place, len, first),
+        }
+    }
+
+    /// An item whose tag and length octets came to this.
+    fn headed(&mut self, head: Head, partial: Tip, place: u16) -> Result<Verdict, Memory>
+        requires known { IsItemPlace place }
+        requires near { self.old.looked + 1 < 2 ^ 31 }
+        requires short { IsShort (self.old.looked + 1) head }
+        requires frames { HasFrames self.old.inner self.old.outer.items }
+        requires room { array_vec_len self.old.outer < 13 }
+        ensures taken { (stack : List Frame) (marks : List Marked) (got : HeadOf) (from : ℕ) (octets : List ℕ) → AreOpen self.old.inner self.old.outer.items stack → AreMarks self.old.marks.items marks → HeadIs head got → HeadEnds from (self.old.looked + 1) (limit stack) got → (got ≡ Partial → TipIs (self.old.looked + 1) partial (InHead (item_at place) from octets)) → IsTaken self.old self.new result (head_decides got (item_at place) stack marks from octets) }
+        ensures full { OnErr result (vec_capacity self.old.marks ≤ vec_len self.old.marks) }
+        ensures room { vec_capacity self.old.marks ≤ vec_capacity self.new.marks }
+        ensures memory { OnErr result (IsUnchanged self.old self.new) }
+        ensures same { (self.new.size ≡ self.old.size) × (self.new.looked ≡ self.old.looked) }
+    {
+        match head {
+            Head::Partial => {
+                self.tip = partial;
+                Ok(Verdict::Open)
+            }
+            Head::Refused(why) => Ok(self.refused(why)),
+            Head::Got { size } => if self.is_sole() && self.looked + 1 + size < self.inner.end {
+                Ok(self.refused(Why::Loose))
+            } else {
+                self.enter(place, size)
+            },
+        }
+    }
+
+    /// The tag octet of an item.
+    fn begin(&mut self, octet: u8) -> Verdict
+        requires short { self.old.looked + 1 < 2 ^ 31 }
+        requires frames { HasFrames self.old.inner self.old.outer.items }
+        ensures taken { (stack : List Frame) (marks : List Marked) → AreOpen self.old.inner self.old.outer.items stack → AreMarks self.old.marks.items marks → IsTaken self.old self.new (Ok result) (step_between stack marks self.old.looked octet) }
+        ensures room { vec_capacity self.old.marks ≤ vec_capacity self.new.marks }
+        ensures same { (self.new.size ≡ self.old.size) × (self.new.looked ≡ self.old.looked) }
+    {
+        match pick(octet, self.inner.due) {
+            None => self.refused(Why::Tag),
+            Some(_) if self.looked + 1 == self.inner.end => self.refused(Why::Overrun),
+            Some(place) => {
+                self.inner = Open {
+                    end: self.inner.end,
+                    due: place_at(place).next,
+                };
+                self.tip = Tip::Tagged { place };
+                Verdict::Open
+            }
+        }
+    }
+
+    /// The contents of a leaf, of which the next octet came to this.
+    fn leafed(&mut self, next: Leaf, partial: Tip, value: i64) -> Verdict
+        requires short { self.old.looked + 1 < 2 ^ 31 }
+        requires frames { HasFrames self.old.inner self.old.outer.items }
+        requires marked { 0 < length self.old.marks.items }
+        ensures taken { (stack : List Frame) (marks : List Marked) (outcome : Outcome) (term : Term) (start count : ℕ) (octets : List ℕ) → AreOpen self.old.inner self.old.outer.items stack → AreMarks self.old.marks.items (with_mark marks term start count) → LeafIs next outcome → LeafEnds term start count (self.old.looked + 1) octets value outcome → (outcome ≡ OpenOutcome → TipIs (self.old.looked + 1) partial (InLeaf term start count octets)) → IsTaken self.old self.new (Ok result) (leaf_decides outcome term start count stack marks octets) }
+        ensures room { vec_capacity self.old.marks ≤ vec_capacity self.new.marks }
+        ensures same { (self.new.size ≡ self.old.size) × (self.new.looked ≡ self.old.looked) }
+    {
+        match next {
+            Leaf::Open => {
+                self.tip = partial;
+                Verdict::Open
+            }
+            Leaf::Bad(why) => self.refused(why),
+            Leaf::Done => match closing(self.inner, self.outer.as_slice(), self.looked + 1) {
+                Closed::Lacks => self.refused(Why::Missing),
+                Closed::Stays { inner, outer } => {
+                    self.complete(value);
+                    self.close_to(inner, outer);
+                    Verdict::Open
+                }
+                Closed::Whole => {
+                    self.complete(value);
+                    self.close_all();
+                    Verdict::Whole
+                }
+            },
+        }
+    }
+
+    /// An octet of the contents of a leaf.
+    fn content(
+        &mut self,
+        row: &Place,
+        place: u16,
+        start: u32,
+        end: u32,
+        value: i64,
+        unused: u8,
+        octet: u8,
+    ) -> Verdict
+        requires known { IsItemPlace place }
+        requires row { IsPlaceOf row.now (due_at place) }
+        requires begun { start ≤ self.old.looked }
+        requires some { self.old.looked < end }
+        requires near { end < 2 ^ 31 }
+        requires fits { has_size (item_at place) (end - start) ≡ true }
+        requires above { negsuc 549755813887 ≤ℤ value }
+        requires below { value <ℤ pos 549755813888 }
+        requires few { unused < 8 }
+        requires frames { HasFrames self.old.inner self.old.outer.items }
+        requires marked { 0 < length self.old.marks.items }
+        ensures taken { (stack : List Frame) (marks : List Marked) (octets : List ℕ) → AreOpen self.old.inner self.old.outer.items stack → AreMarks self.old.marks.items (with_mark marks (item_at place) start (end - start)) → LeafReads (item_at place) (end - start) value unused octets → self.old.looked ≡ start + length octets → IsTaken self.old self.new (Ok result) (in_leaf (item_at place) start (end - start) stack marks (octets ++ octet ∷ [])) }
+        ensures room { vec_capacity self.old.marks ≤ vec_capacity self.new.marks }
+        ensures same { (self.new.size ≡ self.old.size) × (self.new.looked ≡ self.old.looked) }
+    {
+        let size = end - start;
+        let seen = self.looked - start;
+        let contents = row.contents;
+        let partial = Tip::Leaf {
+            place,
+            start,
+            end,
+            value,
+            unused,
+        };
+        match contents {
+            Contents::Integer { .. } => {
+                let with = extend(seen, value, octet);
+                let partial = Tip::Leaf {
+                    place,
+                    start,
+                    end,
+                    value: with,
+                    unused,
+                };
+                let next = integer_next(is_within(contents, with), size, seen, value, octet);
+                self.leafed(next, partial, with)
+            }
+            Contents::Time => self.leafed(time_next(seen, octet), partial, 0),
+            Contents::Bits => {
+                let first = first_octet(seen, unused, octet);
+                let partial = Tip::Leaf {
+                    place,
+                    start,
+                    end,
+                    value,
+                    unused: first,
+                };
+                self.leafed(bits_next(size, seen, unused, octet), partial, 0)
+            }
+            Contents::Text => self.leafed(any_next(size, seen), partial, 0),
+            Contents::Octets => self.leafed(any_next(size, seen), partial, 0),
+            Contents::Items { .. } => self.leafed(any_next(size, seen), partial, 0),
+        }
+    }
+
+    /// Takes an octet. Where memory is refused, nothing changes but the room for marks.
+    pub(crate) fn take(&mut self, octet: u8) -> Result<Verdict, Memory>
+        requires { IsReached self.old }
+        ensures taken { (octets : List ℕ) → StandsFor self.old octets → IsTaken self.old self.new result (reading messages self.old.size (octets ++ octet ∷ [])) }
+        ensures full { OnErr result (vec_capacity self.old.marks ≤ vec_len self.old.marks) }
+        ensures room { vec_capacity self.old.marks ≤ vec_capacity self.new.marks }
+        ensures memory { OnErr result (IsUnchanged self.old self.new) }
+        ensures same { (self.new.size ≡ self.old.size) × (self.new.looked ≡ self.old.looked) }
+    {
+        match self.tip {
+            Tip::Between => Ok(self.begin(octet)),
+            Tip::Tagged { place } => {
+                let room = self.inner.end - self.looked + 1;
+                let long = Tip::Long {
+                    place,
+                    digits: u32::from(octet.saturating_sub(0x80)),
+                    seen: 0,
+                    value: 0,
+                };
+                self.headed(first_head(room, octet), long, place)
+            }
+            Tip::Long {
+                place,
+                digits,
+                seen,
+                value,
+            } => {
+                let room = self.inner.end - self.looked + (2 + seen);
+                let long = Tip::Long {
+                    place,
+                    digits,
+                    seen: seen + 1,
+                    value: value * 256 + u32::from(octet),
+                };
+                self.headed(next_head(room, digits, seen, value, octet), long, place)
+            }
+            Tip::Leaf {
+                place,
+                start,
+                end,
+                value,
+                unused,
+            } => {
+                let row = place_at(place);
+                Ok(self.content(row, place, start, end, value, unused, octet))
+            }
+        }
+    }
+
+    /// As of a message of `size` octets of which none is taken. The room for marks stays.
+    pub(crate) fn clear(&mut self, size: u32)
+        ensures kept { (self.new.size ≡ size) × (self.new.looked ≡ 0) × (self.new.tip ≡ Tip.Between) }
+        ensures message { (self.new.inner.end ≡ size) × IsPlace self.new.inner.due × (due_at self.new.inner.due ≡ OneOf messages) }
+        ensures none { (self.new.outer.items ≡ []) × (self.new.marks.items ≡ []) }
+        ensures room { vec_capacity self.old.marks ≤ vec_capacity self.new.marks }
+    {
+        self.size = size;
+        self.looked = 0;
+        self.tip = Tip::Between;
+        self.inner = message(size);
+        self.outer.clear();
+        self.marks.clear();
+    }
+
+    /// Room for a number of marks in all.
+    pub(crate) fn reserve(&mut self, marks: usize) -> Result<(), Memory>
+        ensures ok { OnOk result (marks ≤ vec_capacity self.new.marks) }
+        ensures unchanged { IsUnchanged self.old self.new }
+        ensures same { (self.new.size ≡ self.old.size) × (self.new.looked ≡ self.old.looked) }
+        ensures room { vec_capacity self.old.marks ≤ vec_capacity self.new.marks }
+    {
+        let there = self.marks.len();
+        if marks > there {
+            self.marks.reserve(marks - there)?;
+        }
+        Ok(())
+    }
+
+    /// Takes the longest front of octets that lies inside an open string and stops short of its last
+    /// octet. None of them is looked at, since a string may have any octets.
+    pub(crate) fn run(&mut self, octets: &[u8]) -> u32
+        requires { IsReached self.old }
+        ensures goes { (before : List ℕ) → StandsFor self.old before → StandsFor self.new (before ++ take result octets.now) }
+        ensures longest { (before : List ℕ) → StandsFor self.old before → result ≡ min (length octets.now) (string_left messages self.old.size before) }
+        ensures marks { self.new.marks ≡ self.old.marks }
+        ensures size { self.new.size ≡ self.old.size }
+    {
+        match self.tip {
+            Tip::Leaf { place, end, .. } if is_string(place) => {
+                let count = shorter(octets, end - 1 - self.looked);
+                self.looked += count;
+                count
+            }
+            _ => 0,
+        }
+    }
+}
+
+/// A message of `size` octets, of which none is taken.
+pub(crate) fn message(size: u32) -> Open
+    ensures end { result.end ≡ size }
+    ensures known { IsPlace result.due }
+    ensures due { due_at result.due ≡ OneOf messages }
+{
+    Open {
+        end: size,
+        due: MESSAGE,
+    }
+}
+
+/// The number of octets, if it is not more than this.
+fn shorter(octets: &[u8], most: u32) -> u32
+    ensures { result ≡ min (length octets.now) most }
+{
+    if octets.len() < most as usize {
+        octets.len() as u32
+    } else {
+        most
+    }
+}
+
+/// Whether the item of a place is an OCTET STRING or a GeneralString.
+fn is_string(place: u16) -> bool
+    requires { IsItemPlace place }
+    ensures { result ≡ string_term (item_at place) }
+{
+    match place_at(place).contents {
+        Contents::Text | Contents::Octets => true,
+        _ => false,
+    }
+}

@@ -1,0 +1,141 @@
+//! The scanner.
+
+ghost use Rattle.std.specs.Prelude.{ℕ, List};
+ghost use Rattle.krb_scan.specs.At.{IsAt};
+
+use crate::ledger::Ledger;
+use crate::mark::Mark;
+use crate::path::{Path, message};
+use crate::tip::Tip;
+use arrayvec::ArrayVec;
+use krb_der::{Memory, Verdict};
+use std::alloc::Global;
+
+/// It takes the octets of one message, one after another, and looks at each once. It holds none of
+/// them: only which containers are open, what is partly read, and a mark for each item.
+#[derive(Drop)]
+pub struct Scanner {
+    path: Path,
+    verdict: Verdict,
+    ledger: Ledger,
+    ghost reached: { ∥ ((octets : List ℕ) × IsAt path verdict path.size octets) ∥₁ },
+}
+
+impl Scanner {
+    ghost use Rattle.std.specs.Prelude.{◌≡◌, ◌<◌, ◌≤◌, ◌*◌, ◌+◌, ◌^◌, [], ◌∷◌, ◌++◌, length, min, take, OnOk, OnErr, IfOk};
+    ghost use Rattle.krb_msg.specs.Grammar.{messages};
+    ghost use Rattle.krb_scan.specs.At.{Marks, open_count};
+    ghost use Rattle.krb_scan.specs.Runs.{string_left};
+    ghost use Rattle.krb_scan.specs.Scanner.{At, verdict_of, ledger_of, looked_of, marks_of, room_of};
+
+    /// A scanner of a message of `n` octets, of which none is taken.
+    pub fn new(alloc: Global, n: u32) -> Scanner
+        requires some { 0 < n }
+        requires short { n < 2 ^ 31 }
+        ensures { At result n [] }
+    {
+        Scanner {
+            path: Path {
+                size: n,
+                looked: 0,
+                tip: Tip::Between,
+                inner: message(n),
+                outer: ArrayVec::new(),
+                marks: Vec::new(alloc),
+            },
+            verdict: Verdict::Open,
+            ledger: Ledger::new(),
+        }
+    }
+
+    /// What the octets taken decide.
+    pub fn verdict(&self) -> Verdict
+        ensures { result ≡ verdict_of self.now }
+    {
+        self.verdict
+    }
+
+    /// Takes an octet. Where memory is refused, it stays as it was and the octet may be taken again.
+    pub fn step(&mut self, octet: u8) -> Result<Verdict, Memory>
+        requires { verdict_of self.old ≡ Verdict.Open }
+        ensures at { (n : ℕ) (octets : List ℕ) → At self.old n octets → OnOk result (At self.new n (octets ++ octet ∷ [])) }
+        ensures answer { IfOk result (λ decided. decided ≡ verdict_of self.new) }
+        ensures ledger { OnOk result (ledger_of self.new ≡ ledger_of self.old + 1) }
+        ensures memory { (n : ℕ) (octets : List ℕ) → At self.old n octets → OnErr result (At self.new n octets) }
+        ensures full { OnErr result (room_of self.old ≤ length (marks_of self.old)) }
+        ensures ends { (n : ℕ) (octets : List ℕ) → At self.old n octets → OnErr result (length (Marks n (octets ++ octet ∷ [])) ≡ length (Marks n octets) + 1) }
+        ensures room { room_of self.old ≤ room_of self.new }
+        ensures same { OnErr result ((ledger_of self.new ≡ ledger_of self.old) × (verdict_of self.new ≡ verdict_of self.old) × (marks_of self.new ≡ marks_of self.old)) }
+    {
+        let decided = self.path.take(octet)?;
+        self.path.looked += 1;
+        self.verdict = decided;
+        self.ledger = self.ledger.raised(&1);
+        Ok(decided)
+    }
+
+    /// The number of octets taken.
+    pub fn looked(&self) -> u32
+        ensures { (n : ℕ) (octets : List ℕ) → At self.now n octets → result ≡ length octets }
+    {
+        self.path.looked
+    }
+
+    /// The number of lengths that are whole and whose contents are not complete.
+    pub fn open_lengths(&self) -> usize
+        ensures count { (n : ℕ) (octets : List ℕ) → At self.now n octets → result ≡ open_count n octets }
+        ensures few { result ≤ 13 }
+    {
+        match self.path.tip {
+            Tip::Leaf { .. } => self.path.outer.len() + 1,
+            _ => self.path.outer.len(),
+        }
+    }
+
+    /// A mark for each length that is whole, in the order of the lengths.
+    pub fn marks(&self) -> &[Mark]
+        ensures marks { result.now ≡ marks_of self.now }
+        ensures few { 2 * length result.now ≤ looked_of self.now }
+    {
+        self.path.marks.as_slice()
+    }
+
+    /// As a new scanner of a message of `n` octets; but the room for marks stays, and the ledger.
+    pub fn clear(&mut self, n: u32)
+        requires some { 0 < n }
+        requires short { n < 2 ^ 31 }
+        ensures at { At self.new n [] }
+        ensures ledger { ledger_of self.new ≡ ledger_of self.old }
+        ensures room { room_of self.old ≤ room_of self.new }
+    {
+        self.path.clear(n);
+        self.verdict = Verdict::Open;
+    }
+
+    /// Takes room for a number of marks in all.
+    pub fn reserve(&mut self, marks: usize) -> Result<(), Memory>
+        ensures ok { OnOk result (marks ≤ room_of self.new) }
+        ensures at { (n : ℕ) (octets : List ℕ) → At self.old n octets → At self.new n octets }
+        ensures same { (verdict_of self.new ≡ verdict_of self.old) × (ledger_of self.new ≡ ledger_of self.old) × (marks_of self.new ≡ marks_of self.old) }
+        ensures room { room_of self.old ≤ room_of self.new }
+    {
+        self.path.reserve(marks)
+    }
+
+    /// Takes the longest front of octets that lies inside an open OCTET STRING or GeneralString and
+    /// stops short of its last octet, and says how many these are. The verdict stays.
+    pub fn run(&mut self, octets: &[u8]) -> usize
+        ensures at { (n : ℕ) (before : List ℕ) → At self.old n before → At self.new n (before ++ take result octets.now) }
+        ensures longest { (n : ℕ) (before : List ℕ) → At self.old n before → result ≡ min (length octets.now) (string_left messages n before) }
+        ensures verdict { verdict_of self.new ≡ verdict_of self.old }
+        ensures ledger { ledger_of self.new ≡ ledger_of self.old + result }
+        ensures marks { marks_of self.new ≡ marks_of self.old }
+    {
+        let Verdict::Open = self.verdict else {
+            return 0;
+        };
+        let count = self.path.run(octets);
+        self.ledger = self.ledger.raised(&count);
+        count as usize
+    }
+}

@@ -1,0 +1,29 @@
+//! What is partly read.
+
+/// The part of a message that the next octet goes on with.
+#[derive(Clone, Copy)]
+pub(crate) enum Tip {
+    /// The next item of the innermost open container.
+    Between,
+    /// The item of a place, of which the tag octet is read.
+    Tagged {
+        place: u16,
+    },
+    /// The item of a place, of which `seen` of the `digits` octets of a long length are read, and the
+    /// number that these spell.
+    Long {
+        place: u16,
+        digits: u32,
+        seen: u32,
+        value: u32,
+    },
+    /// The item of a place, without items: from where to where its contents stand, an INTEGER's
+    /// number so far and a BIT STRING's count of unused bits.
+    Leaf {
+        place: u16,
+        start: u32,
+        end: u32,
+        value: i64,
+        unused: u8,
+    },
+}

@@ -1,0 +1,169 @@
+//! Items that are there whole: an item's tag and length octets, and the contents of an item without
+//! items, which are accepted at once or left to be judged octet by octet.
+
+ghost use Rattle.std.specs.Prelude.{◌≡◌, ◌≤◌, ◌<◌, ◌^◌, length, true};
+ghost use Rattle.krb_der.specs.Octets.{number as spelled, complement, integer_value as value_of_octets};
+ghost use Rattle.krb_der.specs.declared.why.Why.TheVariants as why;
+ghost use Rattle.krb_msg.specs.Term.{Term};
+ghost use Rattle.krb_msg.specs.Judgement.{Done, is_padded as padded, time_octet, each_contents, bits_contents};
+ghost use Rattle.krb_scan.specs.inner.Places.{AreContents};
+ghost use Rattle.krb_scan.specs.inner.Wholes.{IsNarrow, IsHead, IsLeafOf, IsIntegerIn};
+
+use crate::places::Contents;
+use krb_der::last_or_zero;
+
+/// How many octets an item's tag and length take, and how many its contents.
+#[derive(Clone, Copy)]
+pub(crate) struct WholeHead {
+    pub(crate) header: u32,
+    pub(crate) size: u32,
+}
+
+/// The tag and length octets of an item, where all of them are there, they are at most four, and
+/// the length has its shortest form.
+#[inline(always)]
+pub(crate) fn whole_head(octets: &[u8]) -> Option<WholeHead>
+    ensures { IsHead octets.now result }
+{
+    match octets {
+        [_, size, ..] if *size < 0x80 => Some(WholeHead {
+            header: 2,
+            size: u32::from(*size),
+        }),
+        [_, 0x81, size, ..] if *size >= 0x80 => Some(WholeHead {
+            header: 3,
+            size: u32::from(*size),
+        }),
+        [_, 0x82, high, low, ..] if *high > 0 => Some(WholeHead {
+            header: 4,
+            size: u32::from(*high) * 256 + u32::from(*low),
+        }),
+        _ => None,
+    }
+}
+
+/// The number of the contents of an item without items, 0 where it is no INTEGER, if all of them
+/// are there and right.
+#[inline(always)]
+pub(crate) fn whole_leaf(contents: Contents, octets: &[u8]) -> Option<i64>
+    requires { IsNarrow contents }
+    ensures { (term : Term) → AreContents contents term → IsLeafOf term octets.now result }
+{
+    match contents {
+        Contents::Integer { low, high, widest } => integer(low, high, widest, octets),
+        Contents::Text | Contents::Octets => Some(0),
+        Contents::Time if is_time(octets) => Some(0),
+        Contents::Bits if are_bits(octets) => Some(0),
+        _ => None,
+    }
+}
+
+/// The number of an INTEGER's contents, in its range (X.690, 8.3).
+#[inline(always)]
+fn integer(low: i64, high: i64, widest: u32, octets: &[u8]) -> Option<i64>
+    requires { widest ≤ 5 }
+    ensures { IsIntegerIn low high widest octets.now result }
+{
+    if octets.is_empty() || octets.len() > widest as usize || is_padded(octets) {
+        return None;
+    }
+    let value = integer_value(octets);
+    if low <= value && value <= high {
+        Some(value)
+    } else {
+        None
+    }
+}
+
+/// Whether the first nine bits are equal (X.690, 8.3.2).
+#[inline(always)]
+fn is_padded(octets: &[u8]) -> bool
+    ensures { result ≡ padded octets.now }
+{
+    match octets {
+        [first, second, ..] => *first == 0 && *second < 128 || *first == 255 && *second >= 128,
+        _ => false,
+    }
+}
+
+/// The number that octets spell, the first the highest.
+#[inline(always)]
+fn number(octets: &[u8]) -> u64
+    requires { length octets.now ≤ 5 }
+    ensures value { result ≡ spelled octets.now }
+    ensures small { result < 2 ^ 40 }
+{
+    let mut number = 0;
+    for octet in octets {
+        number = number * 256 + u64::from(*octet);
+    }
+    number
+}
+
+/// The number that the complements of octets spell.
+fn number_of_complement(octets: &[u8]) -> u64
+    requires { length octets.now ≤ 5 }
+    ensures value { result ≡ spelled (complement octets.now) }
+    ensures small { result < 2 ^ 40 }
+{
+    let mut number = 0;
+    for octet in octets {
+        number = number * 256 + u64::from(255 - *octet);
+    }
+    number
+}
+
+/// The number of an INTEGER's contents, in two's complement (X.690, 8.3.3).
+#[inline(always)]
+fn integer_value(octets: &[u8]) -> i64
+    requires { length octets.now ≤ 5 }
+    ensures { result ≡ value_of_octets octets.now }
+{
+    match octets.first() {
+        Some(first) if *first >= 128 => -1 - number_of_complement(octets) as i64,
+        _ => number(octets) as i64,
+    }
+}
+
+/// Whether contents are a KerberosTime: fourteen digits and a Z (RFC 4120, 5.2.3).
+#[inline(always)]
+fn is_time(octets: &[u8]) -> bool
+    ensures { (result ≡ true) → (length octets.now ≡ 15) × (each_contents time_octet why.Time 15 0 octets.now ≡ Done 15) }
+{
+    if octets.len() != 15 {
+        return false;
+    }
+    for (place, octet) in octets.iter().enumerate() {
+        if !is_time_octet(place, *octet) {
+            return false;
+        }
+    }
+    true
+}
+
+/// Whether an octet may stand at a place of a time.
+#[inline(always)]
+fn is_time_octet(place: usize, octet: u8) -> bool
+    ensures { result ≡ time_octet place octet }
+{
+    if place < 14 {
+        octet.is_ascii_digit()
+    } else {
+        octet == b'Z'
+    }
+}
+
+/// Whether contents are a BIT STRING: the count of the unused bits, which are clear, and the octets
+/// (X.690, 8.6 and 11.2).
+#[inline(always)]
+fn are_bits(octets: &[u8]) -> bool
+    ensures { (result ≡ true) → (0 < length octets.now) × (bits_contents 0 (length octets.now) octets.now ≡ Done (length octets.now)) }
+{
+    let [unused, rest @ ..] = octets else {
+        return false;
+    };
+    if *unused > 7 || rest.is_empty() && *unused > 0 {
+        return false;
+    }
+    last_or_zero(rest) % (1 << *unused) == 0
+}
