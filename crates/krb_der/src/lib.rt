@@ -42,7 +42,7 @@ pub use kstring::KString;
 pub use many::Many;
 pub use memory::Memory;
 pub use micros::Micros;
-pub use number::{integer_size, put_integer};
+pub use number::{integer_size, integer_value, number_of, put_integer};
 pub use octets::Octets;
 pub use slice_reader::SliceReader;
 pub use stream_reader::StreamReader;

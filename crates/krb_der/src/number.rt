@@ -1,9 +1,9 @@
 //! Numbers as octets, the highest first (X.690, 8.1.3.5 and 8.3).
 
-ghost use Rattle.std.specs.Prelude.{◌≡◌, ◌+◌, ◌<◌, ◌≤◌, ◌++◌, length};
+ghost use Rattle.std.specs.Prelude.{◌≡◌, ◌+◌, ◌^◌, ◌<◌, ◌≤◌, ◌++◌, length};
 ghost use Rattle.std.specs.Vec.{vec_len, vec_capacity};
 ghost use Rattle.krb_der.specs.Puts.{Puts};
-ghost use Rattle.krb_der.specs.Octets.{spelled, complement, item, integer_octets};
+ghost use Rattle.krb_der.specs.Octets.{spelled, complement, item, integer_octets, number as number_spelled, integer_value as value_of_octets};
 ghost use Rattle.krb_der.specs.Sizes.{magnitude as magnitude_of};
 
 use crate::item::put_header;
@@ -79,5 +79,44 @@ pub fn put_integer(out: &mut Vec<u8>, number: i64)
         put_complement(out, magnitude);
     } else {
         put_number(out, 128, magnitude);
+    }
+}
+
+/// The number that at most five octets spell, the first the highest.
+#[inline(always)]
+pub fn number_of(octets: &[u8]) -> u64
+    requires { length octets.now ≤ 5 }
+    ensures value { result ≡ number_spelled octets.now }
+    ensures small { result < 2 ^ 40 }
+{
+    let mut number = 0;
+    for octet in octets {
+        number = number * 256 + u64::from(*octet);
+    }
+    number
+}
+
+/// The number that the complements of octets spell.
+fn number_of_complement(octets: &[u8]) -> u64
+    requires { length octets.now ≤ 5 }
+    ensures value { result ≡ number_spelled (complement octets.now) }
+    ensures small { result < 2 ^ 40 }
+{
+    let mut number = 0;
+    for octet in octets {
+        number = number * 256 + u64::from(255 - *octet);
+    }
+    number
+}
+
+/// The number of an INTEGER's contents of at most five octets, in two's complement (X.690, 8.3.3).
+#[inline(always)]
+pub fn integer_value(octets: &[u8]) -> i64
+    requires { length octets.now ≤ 5 }
+    ensures { result ≡ value_of_octets octets.now }
+{
+    match octets.first() {
+        Some(first) if *first >= 128 => -1 - number_of_complement(octets) as i64,
+        _ => number_of(octets) as i64,
     }
 }

@@ -1,4 +1,3 @@
-pub mod Leaves
 pub mod Within
 pub mod Splits
 pub mod Slices

@@ -19,7 +19,7 @@ use Rattle.krb_msg.proofs.Laws.{bad_within, done_within}
 use Rattle.krb_msg.proofs.TermsDecided.{item-count, contents-count}
 use Rattle.krb_judge.specs.declared.judging.Left.{Left}
 use Rattle.krb_judge.specs.inner.Outcomes.{IsLeft, IsNext, outcome_in, sized_outcome}
-use Rattle.krb_judge.proofs.Leaves.{text-any}
+use Rattle.krb_msg.proofs.EachOctet.{text-any}
 
 pub refused : (term : Term) (room : ℕ) (sole : Bool) (octets : List ℕ) (offset : ℕ) (reason : Why) → length octets ≤ room → Bad offset reason ≡ item_outcome term room sole octets → offset < length octets
 refused term room sole octets offset reason h e = bad_within term room sole octets offset reason h (sym e)

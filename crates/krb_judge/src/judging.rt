@@ -6,7 +6,6 @@
 
 pub(crate) mod head;
 mod leaf;
-pub(crate) mod number;
 mod outcome;
 
 ghost use Rattle.std.specs.Prelude.{◌≡◌, ◌+◌, ◌^◌, ◌<◌, ◌≤◌, length, true, false};

@@ -22,3 +22,4 @@ pub mod Noted
 pub mod Read
 pub mod MessageRead
 pub mod Puts
+pub mod EachOctet

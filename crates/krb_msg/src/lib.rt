@@ -11,6 +11,7 @@
 
 mod ap_rep;
 mod ap_req;
+mod contents;
 mod decoding;
 mod encoding;
 mod encrypted_data;
@@ -33,6 +34,7 @@ mod ticket;
 
 pub use ap_rep::ApRep;
 pub use ap_req::ApReq;
+pub use contents::{is_padded, is_time_octet};
 pub use decoding::{decode, decode_whole};
 pub use encoding::{EncodeFault, encode, put, size};
 pub use encrypted_data::EncryptedData;

@@ -2,15 +2,15 @@
 //! items, which are accepted at once or left to be judged octet by octet.
 
 ghost use Rattle.std.specs.Prelude.{◌≡◌, ◌≤◌, ◌<◌, ◌^◌, length, true};
-ghost use Rattle.krb_der.specs.Octets.{number as spelled, complement, integer_value as value_of_octets};
 ghost use Rattle.krb_der.specs.declared.why.Why.TheVariants as why;
 ghost use Rattle.krb_msg.specs.Term.{Term};
-ghost use Rattle.krb_msg.specs.Judgement.{Done, is_padded as padded, time_octet, each_contents, bits_contents};
+ghost use Rattle.krb_msg.specs.Judgement.{Done, time_octet, each_contents, bits_contents};
 ghost use Rattle.krb_scan.specs.inner.Places.{AreContents};
 ghost use Rattle.krb_scan.specs.inner.Wholes.{IsNarrow, IsHead, IsLeafOf, IsIntegerIn};
 
 use crate::places::Contents;
-use krb_der::last_or_zero;
+use krb_der::{integer_value, last_or_zero};
+use krb_msg::{is_padded, is_time_octet};
 
 /// How many octets an item's tag and length take, and how many its contents.
 #[derive(Clone, Copy)]
@@ -75,56 +75,6 @@ fn integer(low: i64, high: i64, widest: u32, octets: &[u8]) -> Option<i64>
     }
 }
 
-/// Whether the first nine bits are equal (X.690, 8.3.2).
-#[inline(always)]
-fn is_padded(octets: &[u8]) -> bool
-    ensures { result ≡ padded octets.now }
-{
-    match octets {
-        [first, second, ..] => *first == 0 && *second < 128 || *first == 255 && *second >= 128,
-        _ => false,
-    }
-}
-
-/// The number that octets spell, the first the highest.
-#[inline(always)]
-fn number(octets: &[u8]) -> u64
-    requires { length octets.now ≤ 5 }
-    ensures value { result ≡ spelled octets.now }
-    ensures small { result < 2 ^ 40 }
-{
-    let mut number = 0;
-    for octet in octets {
-        number = number * 256 + u64::from(*octet);
-    }
-    number
-}
-
-/// The number that the complements of octets spell.
-fn number_of_complement(octets: &[u8]) -> u64
-    requires { length octets.now ≤ 5 }
-    ensures value { result ≡ spelled (complement octets.now) }
-    ensures small { result < 2 ^ 40 }
-{
-    let mut number = 0;
-    for octet in octets {
-        number = number * 256 + u64::from(255 - *octet);
-    }
-    number
-}
-
-/// The number of an INTEGER's contents, in two's complement (X.690, 8.3.3).
-#[inline(always)]
-fn integer_value(octets: &[u8]) -> i64
-    requires { length octets.now ≤ 5 }
-    ensures { result ≡ value_of_octets octets.now }
-{
-    match octets.first() {
-        Some(first) if *first >= 128 => -1 - number_of_complement(octets) as i64,
-        _ => number(octets) as i64,
-    }
-}
-
 /// Whether contents are a KerberosTime: fourteen digits and a Z (RFC 4120, 5.2.3).
 #[inline(always)]
 fn is_time(octets: &[u8]) -> bool
@@ -139,18 +89,6 @@ fn is_time(octets: &[u8]) -> bool
         }
     }
     true
-}
-
-/// Whether an octet may stand at a place of a time.
-#[inline(always)]
-fn is_time_octet(place: usize, octet: u8) -> bool
-    ensures { result ≡ time_octet place octet }
-{
-    if place < 14 {
-        octet.is_ascii_digit()
-    } else {
-        octet == b'Z'
-    }
 }
 
 /// Whether contents are a BIT STRING: the count of the unused bits, which are clear, and the octets

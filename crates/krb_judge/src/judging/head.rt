@@ -4,8 +4,7 @@ ghost use Rattle.std.specs.Prelude.{◌≡◌, ◌<◌, ◌≤◌, length, take,
 ghost use Rattle.krb_msg.specs.Judgement.{head as head_from, short_head, long_head as long_head_from, fitting as fits};
 ghost use Rattle.krb_judge.specs.inner.Outcomes.{head_of};
 
-use crate::judging::number::number;
-use krb_der::Why;
+use krb_der::{Why, number_of};
 
 /// What an item's first octets say.
 #[derive(Clone, Copy)]
@@ -74,7 +73,7 @@ fn long_head(room: u32, count: u8, octets: &[u8]) -> Head
         fitting(
             room,
             2 + u32::from(count),
-            number(&octets[..usize::from(count)]),
+            number_of(&octets[..usize::from(count)]),
         )
     }
 }

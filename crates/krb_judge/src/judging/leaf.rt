@@ -1,13 +1,13 @@
 //! The contents of the items that hold no others, after their tag and length octets.
 
 ghost use Rattle.std.specs.Prelude.{◌≡◌, ◌+◌, ◌^◌, ◌<◌, ◌≤◌, length, ℤ, ◌&&◌};
-ghost use Rattle.krb_msg.specs.Judgement.{after, any_contents, integer_contents, each_contents, time_octet, bits_contents, int_le, is_padded as padded};
+ghost use Rattle.krb_msg.specs.Judgement.{after, any_contents, integer_contents, each_contents, time_octet, bits_contents, int_le};
 ghost use Rattle.krb_judge.specs.inner.Outcomes.{outcome_of};
 ghost use Rattle.krb_der.specs.declared.why.Why.TheVariants as why;
 
-use crate::judging::number::integer_value;
 use crate::judging::outcome::Outcome;
-use krb_der::{Why, last_or_zero};
+use krb_der::{Why, integer_value, last_or_zero};
+use krb_msg::{is_padded, is_time_octet};
 
 /// A KerberosString or an OCTET STRING: any octets (X.690, 8.7 and 8.23).
 pub(crate) fn string(before: u32, size: u32, octets: &[u8]) -> Outcome
@@ -50,16 +50,6 @@ pub(crate) fn integer(low: i64, high: i64, before: u32, size: u32, octets: &[u8]
     }
 }
 
-/// Whether the first nine bits are equal (X.690, 8.3.2).
-fn is_padded(octets: &[u8]) -> bool
-    ensures { result ≡ padded octets.now }
-{
-    match octets {
-        [first, second, ..] => *first == 0 && *second < 128 || *first == 255 && *second >= 128,
-        _ => false,
-    }
-}
-
 /// Whether a number is in a range.
 fn is_between(low: i64, high: i64, value: i64) -> bool
     ensures { result ≡ (int_le low value && int_le value high) }
@@ -75,7 +65,7 @@ pub(crate) fn time(before: u32, octets: &[u8]) -> Outcome
 {
     let mut place = 0;
     for octet in octets {
-        if !is_time_octet(place, *octet) {
+        if !is_time_octet(place as usize, *octet) {
             return Outcome::Bad {
                 offset: before + place,
                 why: Why::Time,
@@ -87,17 +77,6 @@ pub(crate) fn time(before: u32, octets: &[u8]) -> Outcome
         Outcome::Open
     } else {
         Outcome::Done { count: before + 15 }
-    }
-}
-
-/// Whether an octet may stand at a place of a time.
-fn is_time_octet(place: u32, octet: u8) -> bool
-    ensures { result ≡ time_octet place octet }
-{
-    if place < 14 {
-        octet.is_ascii_digit()
-    } else {
-        octet == b'Z'
     }
 }
 

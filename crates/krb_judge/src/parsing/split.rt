@@ -4,7 +4,7 @@ ghost use Rattle.std.specs.Prelude.{◌^◌, ◌<◌, length};
 ghost use Rattle.krb_msg.specs.Reads.{HasItem, HasNumber, IsSplit, IsNumber};
 
 use crate::judging::head::{Head, read_head};
-use crate::judging::number::integer_value;
+use krb_der::integer_value;
 use krb_msg::Source;
 
 /// A slice of octets.

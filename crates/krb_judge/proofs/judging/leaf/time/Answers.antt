@@ -1,7 +1,7 @@
 use Rattle.std.proofs.Common.{arith, ap, sym, ◌∙◌}
 use Rattle.krb_der.specs.declared.why.Why.TheVariants as why
 use Rattle.krb_msg.specs.Judgement.{after, time_octet}
-use Rattle.krb_judge.proofs.Leaves.{each-next, each-bad, each-open, each-done}
+use Rattle.krb_msg.proofs.EachOctet.{each-next, each-bad, each-open, each-done}
 use Rattle.krb_judge.proofs.judging.leaf.time.Goals as goal
 
 pub loop-octet-preserved : goal.loop-octet-preserved
