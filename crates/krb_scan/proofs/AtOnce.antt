@@ -19,7 +19,7 @@ use Rattle.krb_scan.specs.Places.{IsPlace, due_at, offered, item_at, item_of}
 use Rattle.krb_scan.specs.State.{AreMarks, AreOpen, IsFrame, AreFrames, TipIs, mark_value}
 use Rattle.krb_scan.specs.inner.Machine.{settle, pick}
 use Rattle.krb_scan.specs.inner.Stands.{HasFrames, StaysOpen, BeginsWith}
-use Rattle.krb_scan.specs.inner.Paths.{StandsFor, IsReached, IsWhole}
+use Rattle.krb_scan.specs.inner.Paths.{StandsFor, IsReached}
 use Rattle.krb_scan.specs.inner.Places.{IsPlaceOf, IsItem, IsOffer, AreContents}
 use Rattle.krb_scan.specs.inner.Wholes.{IsAccepted, Decides, ClosesTo, IsFound, AreLeaf}
 use Rattle.krb_scan.specs.declared.at_once.Found.{Found}
@@ -107,12 +107,13 @@ mark_added items marks mark given a n e = record {
 -- ---- octets that are accepted
 pub accepted : (old new : Path) (before octets : List ℕ) (it : Accepted) (stack : List Frame) (marks : List Marked) (place : ℕ) → StandsFor old before → AreOctets octets → 0 < it.count → it.count ≤ length octets →
     reading.reading messages old.size (before ++ take it.count octets) ≡ settle stack marks place → ClosesTo new marks place (settle stack marks place) (Some it.verdict) → AreMarks new.marks.items marks →
-    new.size ≡ old.size → new.tip ≡ tip.Between → new.looked ≡ place → new.looked ≡ old.looked + it.count → IsAccepted old new before octets it
-accepted old new before octets it stack marks place s are some there reads closes are_marks size at looked count = record {
+    new.size ≡ old.size → new.tip ≡ tip.Between → new.looked ≡ place → new.looked ≡ old.looked + it.count → place ≤ old.size → IsAccepted old new before octets it
+accepted old new before octets it stack marks place s are some there reads closes are_marks size at looked count within = record {
   some = some;
   there = there;
   size = size;
   looked = count;
+  fits = omega (arith, within, looked, size);
   decides = by_verdict it.verdict closes;
 }
   where
@@ -379,7 +380,7 @@ leaf_accepted old new octets it decided row contents value e f r c n l are close
     (leaf_reading old before octets it k f row contents value s.some r c n l)
     (closes_to (frame_of old.inner.end (due_at row.next) ∷ k.outer) (k.marks ++ mark_of (term_at row.node) (old.looked + it.header) it.size value ∷ []) (open_next old before k row.next i.leads))
     (subst (λ items. AreMarks items (k.marks ++ mark_of (term_at row.node) (old.looked + it.header) it.size value ∷ [])) (sym marks) (mark_added old.marks.items k.marks (record { node = row.node; start = old.looked + it.header; len = it.size; value = value }) (mark_of (term_at row.node) (old.looked + it.header) it.size value) k.are_marks i.known refl))
-    size (same ∙ e) looked (omega (arith, looked))
+    size (same ∙ e) looked (omega (arith, looked)) (omega (arith, f.fits, k.within))
 
 -- the octets from a place on, as a slice has them
 pub all_after : (before : ℕ) (octets : List ℕ) → take (length octets - before) (drop before octets) ≡ drop before octets
@@ -419,6 +420,7 @@ head_accepted old new octets it row first e f r known b some are size same looke
       there = f.begins.there;
       size = size;
       looked = looked;
+      fits = omega (arith, looked, size, f.fits, k.within);
       decides = record {
         are_octets = AreOctets-append before (take it.header octets) s.are_octets (AreOctets-take it.header octets are);
         some = omega (arith, s.some, size);
@@ -457,4 +459,4 @@ tag_accepted old new octets it only decided row only_row first contents leaf val
     (subst (λ items. AreMarks items all_marks) (sym marks)
     (mark_added (old.marks.items ++ record { node = row.node; start = old.looked + it.header; len = it.size; value = pos 0 } ∷ []) tag_marks (record { node = only_row.node; start = old.looked + it.header + only.header; len = only.size; value = value }) (mark_of (term_at only_row.node) (old.looked + it.header + only.header) only.size value)
     (mark_added old.marks.items k.marks (record { node = row.node; start = old.looked + it.header; len = it.size; value = pos 0 }) (mark_of (term_at row.node) (old.looked + it.header) it.size (pos 0)) k.are_marks i.known refl) j.known refl))
-    size (same ∙ e) looked (omega (arith, looked))
+    size (same ∙ e) looked (omega (arith, looked)) (omega (arith, f.fits, k.within))

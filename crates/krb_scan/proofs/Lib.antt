@@ -1,3 +1,4 @@
+pub mod Accepting
 pub mod Basics
 pub mod Progress
 pub mod Stable

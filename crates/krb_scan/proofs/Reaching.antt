@@ -31,7 +31,7 @@ use Rattle.krb_scan.proofs.Resume.{ReachedAnswer, reading_step, run_reading}
 use Rattle.krb_scan.proofs.Room.{open_short}
 
 -- what a reading says of the octets is their judgement
-judged : (n : ℕ) (octets : List ℕ) (given : Answer) → 0 < n → length octets ≤ n → reading.reading messages n octets ≡ given → judgement n octets ≡ verdict_of (outcome_of n given)
+pub judged : (n : ℕ) (octets : List ℕ) (given : Answer) → 0 < n → length octets ≤ n → reading.reading messages n octets ≡ given → judgement n octets ≡ verdict_of (outcome_of n given)
 judged n octets given some le e = ap verdict_of (reading_outcome messages n octets some le ∙ ap (outcome_of n) e)
 
 -- a path whose octets decide nothing stands for them

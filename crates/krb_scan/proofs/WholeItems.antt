@@ -1,12 +1,11 @@
 -- What the reading makes of an item that is there whole, and of the tag and length octets of a container.
-use Rattle.std.proofs.Common.{◌≡◌, ℕ, zero, suc, ◌+◌, ◌-◌, ◌<◌, ◌≤◌, Bool, true, false, ◌&&◌, ◌==◌, nat_lt, List, [], ◌∷◌, ◌++◌, length, take, drop, Some, refl, sym, ap, ◌∙◌, arith, subst, ltb-true, ltb-false, ne_eqb, le-ltb, lt-ltb}
+use Rattle.std.proofs.Common.{◌≡◌, ℕ, ◌+◌, ◌-◌, ◌<◌, ◌≤◌, Bool, true, false, ◌&&◌, ◌==◌, nat_lt, List, [], ◌∷◌, ◌++◌, length, take, drop, Some, refl, sym, ap, ◌∙◌, arith, ne_eqb, le-ltb, lt-ltb}
 use Rattle.std.proofs.lemmas.List.{take_all, drop_all}
 use Rattle.krb_der.specs.Octets.{when}
-use Rattle.krb_der.specs.declared.why.Why.{Why}
 use Rattle.krb_der.specs.declared.why.Why.TheVariants as why
-use Rattle.krb_msg.specs.Term.{Term, Integer, Text, Octets, Time, Bits, Sequence, SequenceOf, Tagged, Application, tag_of}
-use Rattle.krb_msg.specs.Judgement.{Outcome, Done, Head, Got, head, has_size}
-use Rattle.krb_scan.specs.Reading.{Mark, Due, Each, Listed, OneOf, Frame, Between, State, Seen, Past, Fault, then_seen, limit, sole_in, is_sole, frame_of, mark_of, state_of, with_mark, leaf_outcome, leaf_value, of_leaf, leaf_seen, of_head_seen, head_seen, begun, contents_seen, Answer, Ongoing, answer, reading}
+use Rattle.krb_msg.specs.Term.{Term, Integer, Text, Octets, Time, Bits, Sequence, SequenceOf, Tagged, Application}
+use Rattle.krb_msg.specs.Judgement.{Done, Got, head, has_size}
+use Rattle.krb_scan.specs.Reading.{Mark, Due, OneOf, Frame, Between, State, Fault, then_seen, is_sole, frame_of, mark_of, state_of, with_mark, leaf_outcome, leaf_value, of_leaf, leaf_seen, of_head_seen, head_seen, begun, contents_seen, Answer, Ongoing, answer, reading}
 use Rattle.krb_scan.specs.inner.Machine.{pick, settle, enter, opened, step, go_on, initial}
 use Rattle.krb_scan.specs.inner.Stands.{IsLeaf, BeginsWith}
 use Rattle.krb_scan.proofs.Basics.{then_assoc}

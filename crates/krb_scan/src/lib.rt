@@ -19,9 +19,11 @@ mod open;
 mod path;
 mod places;
 mod scanner;
+mod taken;
 mod tip;
 mod whole;
 
 pub use krb_der::{Memory, Refusal, Verdict, Why};
 pub use mark::Mark;
 pub use scanner::Scanner;
+pub use taken::Taken;

@@ -3,9 +3,11 @@
 ghost use Rattle.std.specs.Prelude.{ℕ, List};
 ghost use Rattle.krb_scan.specs.At.{IsAt};
 
+use crate::at_once::Accepted;
 use crate::ledger::Ledger;
 use crate::mark::Mark;
 use crate::path::{Path, message};
+use crate::taken::Taken;
 use crate::tip::Tip;
 use arrayvec::ArrayVec;
 use krb_der::{Memory, Verdict};
@@ -22,8 +24,9 @@ pub struct Scanner {
 }
 
 impl Scanner {
-    ghost use Rattle.std.specs.Prelude.{◌≡◌, ◌<◌, ◌≤◌, ◌*◌, ◌+◌, ◌^◌, [], ◌∷◌, ◌++◌, length, min, take, OnOk, OnErr, IfOk};
+    ghost use Rattle.std.specs.Prelude.{◌≡◌, ◌<◌, ◌≤◌, ◌*◌, ◌+◌, ◌^◌, [], ◌∷◌, ◌++◌, length, min, take, Ok, None, OnOk, OnErr, IfOk, IfSome};
     ghost use Rattle.krb_msg.specs.Grammar.{messages};
+    ghost use Rattle.krb_msg.specs.Judgement.{judgement};
     ghost use Rattle.krb_scan.specs.At.{Marks, open_count};
     ghost use Rattle.krb_scan.specs.Runs.{string_left};
     ghost use Rattle.krb_scan.specs.Scanner.{At, verdict_of, ledger_of, looked_of, marks_of, room_of};
@@ -72,6 +75,99 @@ impl Scanner {
         self.verdict = decided;
         self.ledger = self.ledger.raised(&1);
         Ok(decided)
+    }
+
+    /// Takes octets as `run` and `step` would, one after another, until something is decided or none
+    /// is left. Where memory is refused, it stays as it was before the octet that was not taken.
+    pub fn take(&mut self, octets: &[u8]) -> Taken
+        requires { verdict_of self.old ≡ Verdict.Open }
+        ensures at { (n : ℕ) (before : List ℕ) → At self.old n before → At self.new n (before ++ take result.used octets.now) }
+        ensures within { result.used ≤ length octets.now }
+        ensures answer { IfOk result.verdict (λ decided. decided ≡ verdict_of self.new) }
+        ensures all { result.verdict ≡ Ok Verdict.Open → result.used ≡ length octets.now }
+        ensures sooner { (n : ℕ) (before : List ℕ) (k : ℕ) → At self.old n before → k < result.used → judgement n (before ++ take k octets.now) ≡ Verdict.Open }
+        ensures ledger { ledger_of self.new ≡ ledger_of self.old + result.used }
+        ensures memory { OnErr result.verdict (verdict_of self.new ≡ Verdict.Open) }
+        ensures full { OnErr result.verdict (room_of self.old ≤ length (marks_of self.new)) }
+        ensures ends { (n : ℕ) (before : List ℕ) → At self.old n before → OnErr result.verdict (length (Marks n (before ++ take (result.used + 1) octets.now)) ≡ length (Marks n (before ++ take result.used octets.now)) + 1) }
+        ensures room { room_of self.old ≤ room_of self.new }
+    {
+        let mut used = 0;
+        'octets: while used < octets.len() {
+            let taken = self.take_some(&octets[used..]);
+            used += taken.used;
+            let Ok(Verdict::Open) = taken.verdict else {
+                return Taken {
+                    used,
+                    verdict: taken.verdict,
+                };
+            };
+        }
+        Taken {
+            used,
+            verdict: Ok(Verdict::Open),
+        }
+    }
+
+    /// Takes some octets at once, of which there is one at least: an item that is there whole, or a
+    /// container's tag and length; or what `run` takes; or else an octet.
+    fn take_some(&mut self, octets: &[u8]) -> Taken
+        requires open { verdict_of self.old ≡ Verdict.Open }
+        requires some { 0 < length octets.now }
+        ensures at { (n : ℕ) (before : List ℕ) → At self.old n before → At self.new n (before ++ take result.used octets.now) }
+        ensures within { result.used ≤ length octets.now }
+        ensures answer { IfOk result.verdict (λ decided. decided ≡ verdict_of self.new) }
+        ensures some { result.verdict ≡ Ok Verdict.Open → 0 < result.used }
+        ensures sooner { (n : ℕ) (before : List ℕ) (k : ℕ) → At self.old n before → k < result.used → judgement n (before ++ take k octets.now) ≡ Verdict.Open }
+        ensures ledger { ledger_of self.new ≡ ledger_of self.old + result.used }
+        ensures memory { OnErr result.verdict (verdict_of self.new ≡ Verdict.Open) }
+        ensures full { OnErr result.verdict (room_of self.old ≤ length (marks_of self.new)) }
+        ensures ends { (n : ℕ) (before : List ℕ) → At self.old n before → OnErr result.verdict (length (Marks n (before ++ take (result.used + 1) octets.now)) ≡ length (Marks n (before ++ take result.used octets.now)) + 1) }
+        ensures room { room_of self.old ≤ room_of self.new }
+    {
+        if let Some(item) = self.take_item(octets) {
+            return Taken {
+                used: item.count as usize,
+                verdict: Ok(item.verdict),
+            };
+        }
+        let count = self.run(octets);
+        if count > 0 {
+            return Taken {
+                used: count,
+                verdict: Ok(Verdict::Open),
+            };
+        }
+        match self.step(octets[0]) {
+            Ok(verdict) => Taken {
+                used: 1,
+                verdict: Ok(verdict),
+            },
+            Err(memory) => Taken {
+                used: 0,
+                verdict: Err(memory),
+            },
+        }
+    }
+
+    /// Takes the item at the front of octets, or a container's tag and length, where they are there
+    /// and nothing is odd.
+    #[inline(always)]
+    fn take_item(&mut self, octets: &[u8]) -> Option<Accepted>
+        requires { verdict_of self.old ≡ Verdict.Open }
+        ensures at { IfSome result (λ it. (n : ℕ) (before : List ℕ) → At self.old n before → At self.new n (before ++ take it.count octets.now)) }
+        ensures within { IfSome result (λ it. it.count ≤ length octets.now) }
+        ensures some { IfSome result (λ it. 0 < it.count) }
+        ensures answer { IfSome result (λ it. it.verdict ≡ verdict_of self.new) }
+        ensures sooner { IfSome result (λ it. (n : ℕ) (before : List ℕ) (k : ℕ) → At self.old n before → k < it.count → judgement n (before ++ take k octets.now) ≡ Verdict.Open) }
+        ensures ledger { IfSome result (λ it. ledger_of self.new ≡ ledger_of self.old + it.count) }
+        ensures none { result ≡ None → self.new ≡ self.old }
+        ensures room { room_of self.new ≡ room_of self.old }
+    {
+        let item = self.path.take_item(octets)?;
+        self.verdict = item.verdict;
+        self.ledger = self.ledger.raised(&item.count);
+        Some(item)
     }
 
     /// The number of octets taken.
@@ -130,6 +226,7 @@ impl Scanner {
         ensures verdict { verdict_of self.new ≡ verdict_of self.old }
         ensures ledger { ledger_of self.new ≡ ledger_of self.old + result }
         ensures marks { marks_of self.new ≡ marks_of self.old }
+        ensures room { room_of self.new ≡ room_of self.old }
     {
         let Verdict::Open = self.verdict else {
             return 0;

@@ -85,6 +85,7 @@ pub record IsAccepted (old new : Path) (before octets : List ℕ) (it : Accepted
   pub there : it.count ≤ length octets
   pub size : new.size ≡ old.size
   pub looked : new.looked ≡ old.looked + it.count
+  pub fits : new.looked ≤ new.size
   pub decides : Decides new (before ++ take it.count octets) it.verdict
 
 -- containers close as a settling says, the innermost first

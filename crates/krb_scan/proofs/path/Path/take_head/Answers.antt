@@ -1,4 +1,4 @@
-use Rattle.std.proofs.Common.{arith, refl, ap, ◌∙◌, ◌+◌, ◌++◌, [], ◌∷◌}
+use Rattle.std.proofs.Common.{arith, refl}
 use Rattle.krb_der.specs.inner.Numbers.{AreOctets-slice}
 use Rattle.krb_scan.proofs.AtOnce.{short_end, room_outside, head_accepted}
 use Rattle.krb_scan.proofs.path.Path.take_head.Goals as goal

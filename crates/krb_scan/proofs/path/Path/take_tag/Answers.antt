@@ -1,4 +1,4 @@
-use Rattle.std.proofs.Common.{◌≡◌, arith, rules, to_z, of_z, w64, FitsSigned, refl, take, drop, length, ◌∙◌, ap, ◌+◌, ◌-◌, ◌++◌, [], ◌∷◌, pos}
+use Rattle.std.proofs.Common.{◌≡◌, arith, rules, to_z, of_z, w64, refl, take, drop, length, ◌∙◌, ap, ◌+◌, ◌-◌, ◌++◌, [], ◌∷◌, pos}
 use Rattle.krb_der.specs.inner.Numbers.{AreOctets-slice}
 use Rattle.krb_scan.specs.Places.{item_at}
 use Rattle.krb_scan.specs.declared.path.Path.{Path}

@@ -1,0 +1,162 @@
+-- A scanner's path and verdict after octets that were taken at once; and that nothing is decided sooner.
+use Rattle.std.proofs.Common.{◌≡◌, ℕ, ◌⊎◌, inl, inr, Result, OnErr, ◌+◌, ◌-◌, ◌<◌, ◌≤◌, List, ◌++◌, length, take, drop, refl, sym, ap, ◌∙◌, subst, arith}
+use Rattle.std.proofs.Common.{append_assoc, take-take}
+use Rattle.std.proofs.Math.Seq.{take-add, take-append_seam}
+use Rattle.std.proofs.lemmas.List.{length-append, length-take, length-drop, take-append-drop}
+use Rattle.std.proofs.lemmas.Bool.{cases_lt}
+use Rattle.std.proofs.Math.Logic.{∥∥₁_elim, ∥∥₁_map}
+use Rattle.std.specs.Coded.{le_prop}
+use Rattle.krb_der.specs.Octets.{AreOctets}
+use Rattle.krb_der.specs.inner.Numbers.{AreOctets-append, AreOctets-take}
+use Rattle.krb_der.specs.declared.why.Why.{Why}
+use Rattle.krb_der.specs.declared.verdict.Refusal.{Refusal}
+use Rattle.krb_der.specs.declared.verdict.Verdict.{Verdict}
+use Rattle.krb_der.specs.declared.verdict.Verdict.TheVariants as verdict
+use Rattle.krb_msg.specs.Grammar.{messages}
+use Rattle.krb_msg.specs.Judgement.{judgement}
+use Rattle.krb_msg.specs.Laws.{AreOneOf}
+use Rattle.krb_msg.proofs.Grammars.{whole_is_one_of}
+use Rattle.krb_scan.specs.Reading as reading
+use Rattle.krb_scan.specs.Reading.{Answer, Ongoing, Refusing, Whole, Mark as Marked}
+use Rattle.krb_scan.specs.State as kept
+use Rattle.krb_scan.specs.State.{AreMarks}
+use Rattle.krb_scan.specs.inner.Machine.{go_on}
+use Rattle.krb_scan.specs.inner.Paths.{StandsFor, IsWhole}
+use Rattle.krb_scan.specs.inner.Wholes.{IsAccepted, Decides}
+use Rattle.krb_scan.specs.At.{IsAt, Keeps, Marks, marks_from, lengths_from}
+use Rattle.krb_scan.specs.declared.at_once.Accepted.{Accepted}
+use Rattle.krb_scan.specs.declared.path.Path.{Path}
+use Rattle.krb_scan.proofs.Prefix.{reading_append}
+use Rattle.krb_scan.proofs.Reaching.{SomeAt, judged, stands_for}
+use Rattle.krb_scan.proofs.Resume.{run}
+use Rattle.krb_scan.proofs.Running.{standing_at}
+
+-- ---- a path after octets that were accepted
+whole_at : (old new : Path) (decided : Verdict) (n : ℕ) (before octets : List ℕ) (marks : List Marked) → IsAt old decided n before → AreOctets octets → new.size ≡ old.size → new.looked ≡ old.looked + length octets → new.looked ≤ new.size → reading.reading messages n (before ++ octets) ≡ Whole marks → IsWhole new marks → IsAt new verdict.Whole n (before ++ octets)
+whole_at old new decided n before octets marks at are size looked le e w = record {
+  are_octets = AreOctets-append before octets at.are_octets are;
+  some = at.some;
+  short = at.short;
+  fits = fits;
+  size = size ∙ at.size;
+  decides = sym (judged n (before ++ octets) (Whole marks) at.some fits e);
+  looked = omega (arith, looked, at.looked, length-append before octets);
+  marks = subst (λ given. AreMarks new.marks.items (marks_from given (λ place. reading.reading messages n (take place (before ++ octets))))) (sym e) w.marks;
+  lengths = ap (λ t. kept.lengths_at t (length new.outer.items)) w.tip ∙ ap length w.outer ∙ ap (λ given. lengths_from given (λ place. reading.reading messages n (take place (before ++ octets)))) (sym e);
+  keeps = subst (Keeps new) (sym e) (tt {0});
+}
+  where
+    fits : length (before ++ octets) ≤ n
+    fits = omega (arith, length-append before octets, looked, at.looked, le, size, at.size)
+
+pub accepted_at : (old new : Path) (decided : Verdict) (n : ℕ) (before given : List ℕ) (it : Accepted) → IsAt old decided n before → AreOctets given → IsAccepted old new before given it → IsAt new it.verdict n (before ++ take it.count given)
+accepted_at old new decided n before given it at are is = by_verdict it.verdict is.decides
+  where
+    octets : List ℕ
+    octets = take it.count given
+
+    long : length octets ≡ it.count
+    long = omega (arith, length-take it.count given, is.there)
+
+    size : new.size ≡ n
+    size = is.size ∙ at.size
+
+    by_verdict : (now : Verdict) → Decides new (before ++ octets) now → IsAt new now n (before ++ octets)
+    by_verdict verdict.Open s = subst (λ k. IsAt new verdict.Open k (before ++ octets)) size (standing_at new (before ++ octets) s)
+    by_verdict verdict.Whole w =
+        whole_at old new decided n before octets w.0 at (AreOctets-take it.count given are) is.size (omega (arith, is.looked, long)) is.fits
+        (ap (λ k. reading.reading messages k (before ++ octets)) (sym size) ∙ w.1) w.2
+    by_verdict (verdict.Refused refusal) w = absurd w
+
+pub some_accepted : (old new : Path) (decided : Verdict) (given : List ℕ) (it : Accepted) → SomeAt old decided → decided ≡ verdict.Open → AreOctets given → ((before : List ℕ) → StandsFor old before → IsAccepted old new before given it) → SomeAt new it.verdict
+some_accepted old new decided given it r still are is =
+    ∥∥₁_map r (λ (k : (octets : List ℕ) × IsAt old decided old.size octets).
+    let a : IsAccepted old new k.0 given it = is k.0 (stands_for old decided old.size k.0 k.1 still) in
+    (k.0 ++ take it.count given, subst (λ n. IsAt new it.verdict n (k.0 ++ take it.count given)) (sym a.size) (accepted_at old new decided old.size k.0 given it k.1 are a)))
+
+pub accepted_within : (old new : Path) (decided : Verdict) (given : List ℕ) (it : Accepted) → SomeAt old decided → decided ≡ verdict.Open → ((before : List ℕ) → StandsFor old before → IsAccepted old new before given it) → it.count ≤ length given
+accepted_within old new decided given it r still is =
+    ∥∥₁_elim r le_prop (λ (k : (octets : List ℕ) × IsAt old decided old.size octets). (is k.0 (stands_for old decided old.size k.0 k.1 still)).there)
+
+pub accepted_any : (old new : Path) (decided : Verdict) (given : List ℕ) (it : Accepted) → SomeAt old decided → decided ≡ verdict.Open → ((before : List ℕ) → StandsFor old before → IsAccepted old new before given it) → 0 < it.count
+accepted_any old new decided given it r still is =
+    ∥∥₁_elim r le_prop (λ (k : (octets : List ℕ) × IsAt old decided old.size octets). (is k.0 (stands_for old decided old.size k.0 k.1 still)).some)
+
+-- ---- nothing is decided sooner
+front_open : (n : ℕ) (front more : List ℕ) → 0 < n → AreOctets front → length front + length more ≤ n → 0 < length more → (given : Answer) → reading.reading messages n (front ++ more) ≡ given → ((place : ℕ) (reason : Why) → given ≡ Refusing place reason → ⊥) → judgement n front ≡ verdict.Open
+front_open n front more some are fits nonempty given e not = by_answer (reading.reading messages n front) refl
+  where
+    here : length front ≤ n
+    here = omega (arith, fits)
+
+    by_answer : (first : Answer) → reading.reading messages n front ≡ first → judgement n front ≡ verdict.Open
+    by_answer (Ongoing state) f = judged n front (Ongoing state) some here f
+    by_answer (Refusing place reason) f =
+        absurd (not place reason (sym e ∙ reading_append messages n front more some ∙ ap (λ it. go_on it (λ state. run state more)) f))
+    by_answer (Whole marks) f =
+        let all : AreOneOf messages n front = whole_is_one_of messages n front are here (judged n front (Whole marks) some here f) in
+        absurd (omega (arith, all.all, fits, nonempty))
+
+not_refused : (path : Path) (decided : Verdict) (n : ℕ) (octets : List ℕ) → IsAt path decided n octets → ((refusal : Refusal) → decided ≡ verdict.Refused refusal → ⊥) → (place : ℕ) (reason : Why) → reading.reading messages n octets ≡ Refusing place reason → ⊥
+not_refused path decided n octets at not place reason e =
+    not (record { place = place; why = reason }) (at.decides ∙ judged n octets (Refusing place reason) at.some at.fits e)
+
+-- of octets that are not refused, those before some of them decide nothing
+pub sooner : (path : Path) (decided : Verdict) (n : ℕ) (before octets : List ℕ) (used k : ℕ) → IsAt path decided n (before ++ take used octets) → ((refusal : Refusal) → decided ≡ verdict.Refused refusal → ⊥) → used ≤ length octets → k < used → judgement n (before ++ take k octets) ≡ verdict.Open
+sooner path decided n before octets used k at not within lt =
+    front_open n front more at.some are (omega (arith, at.fits, all_long)) (omega (arith, more_long, lt)) (reading.reading messages n (front ++ more)) refl
+    (λ place reason e. not_refused path decided n (before ++ take used octets) at not place reason (ap (reading.reading messages n) same ∙ e))
+  where
+    front : List ℕ
+    front = before ++ take k octets
+
+    more : List ℕ
+    more = drop k (take used octets)
+
+    fronts : take k (take used octets) ≡ take k octets
+    fronts = take-take k used octets (omega (arith, lt))
+
+    same : before ++ take used octets ≡ front ++ more
+    same =
+        ap (λ l. before ++ l) (sym (take-append-drop k (take used octets)) ∙ ap (λ l. l ++ more) fronts)
+        ∙ sym (append_assoc before (take k octets) more)
+
+    all_long : length (before ++ take used octets) ≡ length front + length more
+    all_long = ap length same ∙ length-append front more
+
+    more_long : length more ≡ used - k
+    more_long = omega (arith, length-drop k (take used octets), length-take used octets, within)
+
+    are : AreOctets front
+    are = subst AreOctets (take-append_seam front more) (AreOctets-take (length front) (front ++ more) (subst AreOctets same at.are_octets))
+
+pub accepted_sooner : (old new : Path) (decided : Verdict) (n : ℕ) (before given : List ℕ) (it : Accepted) (k : ℕ) → IsAt old decided n before → AreOctets given → IsAccepted old new before given it → k < it.count → judgement n (before ++ take k given) ≡ verdict.Open
+accepted_sooner old new decided n before given it k at are is lt =
+    sooner new it.verdict n before given it.count k (accepted_at old new decided n before given it at are is) (λ refusal e. subst (Decides new (before ++ take it.count given)) e is.decides) is.there lt
+
+-- ---- octets that are taken after others
+pub then_taken : (before octets rest : List ℕ) (used count : ℕ) → rest ≡ drop used octets → (before ++ take used octets) ++ take count rest ≡ before ++ take (used + count) octets
+then_taken before octets rest used count e =
+    append_assoc before (take used octets) (take count rest) ∙ ap (λ l. before ++ (take used octets ++ take count l)) e ∙ ap (λ l. before ++ l) (sym (take-add used count octets))
+
+pub then_at : (path : Path) (decided : Verdict) (n : ℕ) (before octets rest : List ℕ) (used count : ℕ) → rest ≡ drop used octets → IsAt path decided n ((before ++ take used octets) ++ take count rest) → IsAt path decided n (before ++ take (used + count) octets)
+then_at path decided n before octets rest used count e at = subst (IsAt path decided n) (then_taken before octets rest used count e) at
+
+-- where neither some octets nor those after them decide anything sooner, all of them do not
+pub then_sooner : (n : ℕ) (before octets rest : List ℕ) (used count k : ℕ) → rest ≡ drop used octets → (k < used → judgement n (before ++ take k octets) ≡ verdict.Open) →
+    ((j : ℕ) → j < count → judgement n ((before ++ take used octets) ++ take j rest) ≡ verdict.Open) → k < used + count → judgement n (before ++ take k octets) ≡ verdict.Open
+then_sooner n before octets rest used count k e first then lt = by_place (cases_lt k used)
+  where
+    by_place : (k < used) ⊎ (used ≤ k) → judgement n (before ++ take k octets) ≡ verdict.Open
+    by_place (inl less) = first less
+    by_place (inr more) =
+        let same : used + (k - used) ≡ k = omega (arith, more) in
+        ap (judgement n) (ap (λ j. before ++ take j octets) (sym same) ∙ sym (then_taken before octets rest used (k - used) e)) ∙ then (k - used) (omega (arith, more, lt))
+
+pub then_ends : {A E : Type 0} (result : Result A E) (n : ℕ) (before octets rest : List ℕ) (used count : ℕ) → rest ≡ drop used octets →
+    OnErr result (length (Marks n ((before ++ take used octets) ++ take (count + 1) rest)) ≡ length (Marks n ((before ++ take used octets) ++ take count rest)) + 1) →
+    OnErr result (length (Marks n (before ++ take (used + count + 1) octets)) ≡ length (Marks n (before ++ take (used + count) octets)) + 1)
+then_ends result n before octets rest used count e ends =
+    let next : used + (count + 1) ≡ used + count + 1 = omega arith in
+    subst (λ l. OnErr result (length (Marks n l) ≡ length (Marks n (before ++ take (used + count) octets)) + 1)) (then_taken before octets rest used (count + 1) e ∙ ap (λ k. before ++ take k octets) next)
+    (subst (λ l. OnErr result (length (Marks n ((before ++ take used octets) ++ take (count + 1) rest)) ≡ length (Marks n l) + 1)) (then_taken before octets rest used count e) ends)
