@@ -1,11 +1,11 @@
 -- What readers of fields read of a cache, one item after another.
-use Rattle.std.proofs.Common.{◌≡◌, ℕ, ◌+◌, ◌-◌, ◌<◌, ◌≤◌, Bool, true, false, Option, Some, None, Result, Ok, Err, List, [], ◌∷◌, ◌++◌, length, refl, sym, ◌∙◌, ap, subst, arith}
+use Rattle.std.proofs.Common.{◌≡◌, ℕ, ◌+◌, ◌-◌, ◌<◌, ◌≤◌, ◌⊎◌, inl, inr, Bool, true, false, Option, Some, None, Result, Ok, Err, List, [], ◌∷◌, ◌++◌, length, refl, sym, ◌∙◌, ap, subst, arith}
 use Rattle.krb_der.specs.Octets.{when}
 use Rattle.krb_der.specs.Fields.{Source, Fault, Bounds, Reader, onward, ◌>>=◌, gives, is_empty, within, Fails}
 use Rattle.krb_der.specs.FieldReaders.{Held, MayHave, source_at, HasRead, FailsBy, bounded}
 use Rattle.krb_der.specs.declared.file.FileFault.{FileFault}
 use Rattle.krb_der.specs.declared.file.FileFault.TheVariants as faults
-use Rattle.krb_der.proofs.Fields.{ok_is, onward-ok}
+use Rattle.krb_der.proofs.Fields.{done, ok_is, onward-ok, onward-err}
 use Rattle.krb_der.proofs.FieldReaders.{SomeRest, some_rest}
 use Rattle.krb_der.proofs.Loops.{with_front}
 use Rattle.krb_ccache.proofs.Loops.{field-goes_on, field-few, field-less, field-fails, fields-done}
@@ -28,6 +28,9 @@ differ : (x : Credential) (s t : Source) → found (Some x) s ≡ found None t �
 differ x s t e =
     let first : Some x ≡ None = ap (λ (p : Option Credential × Source). p.0) e in
     cc
+
+not_err : (read : Option Credential × Source) (f : Fault) → done read ≡ Err f → ⊥
+not_err read f e = cc
 
 -- ---- what the next credential of known octets was
 pub record IsNext (b : Bounds) (s t : Source) (c : Credential) : Type 0 where
@@ -58,6 +61,17 @@ is_end b s t = go (is_empty s.octets) refl
     go false test e =
         let a = onward-ok (credential_at b s) (λ p. Ok (Some p.0, p.1)) (None, t) e in
         absurd (differ a.0.0 a.0.1 t (ok_is (found (Some a.0.0) a.0.1) (found None t) a.2))
+
+pub is_fault : (b : Bounds) (s : Source) (f : Fault) → next_at b s ≡ Err f → (is_empty s.octets ≡ false) × (credential_at b s ≡ Err f)
+is_fault b s f = go (is_empty s.octets) refl
+  where
+    refused : (credential_at b s ≡ Err f) ⊎ ((read : Credential × Source) × (credential_at b s ≡ Ok read) × (Ok (found (Some read.0) read.1) ≡ Err f)) → credential_at b s ≡ Err f
+    refused (inl e) = e
+    refused (inr e) = absurd (not_err (found (Some e.0.0) e.0.1) f e.2)
+
+    go : (none : Bool) → is_empty s.octets ≡ none → choice b s none ≡ Err f → (is_empty s.octets ≡ false) × (credential_at b s ≡ Err f)
+    go true test e = absurd (not_err (found None s) f e)
+    go false test e = (test, refused (onward-err (credential_at b s) (λ p. Ok (Some p.0, p.1)) f e))
 
 -- ---- the fields of a header, as a loop reads them
 -- Those in front were read; the rest of what may be left tells the others.

@@ -10,3 +10,4 @@ pub mod Followed
 pub mod Offsets
 pub mod Layouts
 pub mod Tickets
+pub mod Streams

@@ -8,16 +8,13 @@ use Rattle.krb_der.proofs.Loops.{with_front, regroup as fields-regroup}
 use Rattle.krb_der.specs.declared.file.FileFault.{FileFault}
 use Rattle.krb_der.specs.declared.file.FileFault.TheVariants as faults
 use Rattle.krb_ccache.specs.Reading.{Items, with_first, items_after, all_items, header_field_at, header_fields_at}
+use Rattle.krb_ccache.specs.Streaming.{before}
 use Rattle.krb_ccache.specs.declared.value.HeaderField.{HeaderField}
 use Rattle.krb_ccache.proofs.Faults.{Steps-header_field}
 use Rattle.krb_ccache.proofs.Stepwise.{Shortens, Shortens-header_field, after-item, after-fault, after-end}
 
 module _ {A : Type 0} where
-  -- what was read before, and what stands after it
-  abbrev pub before : List A → Items A → Items A
-  before front found = record { items = front ++ found.items; end = found.end }
-
-  regroup : (front : List A) (x : A) (found : Items A) → before front (with_first x found) ≡ before (front ++ x ∷ []) found
+  pub regroup : (front : List A) (x : A) (found : Items A) → before front (with_first x found) ≡ before (front ++ x ∷ []) found
   regroup front x found = ap (λ (xs : List A). let it : Items A = record { items = xs; end = found.end } in it) (sym (append_assoc front (x ∷ []) found.items))
 
   abbrev ended : ℕ → List A → Result (List A) Fault

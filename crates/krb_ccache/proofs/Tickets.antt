@@ -13,7 +13,6 @@ use Rattle.krb_judge.specs.declared.parsing.ParseFault.TheVariants as faults
 use Rattle.krb_judge.specs.Parses.{ticket_refusal, AreOfTicket}
 use Rattle.krb_judge.proofs.Values.{ticket_not_refused}
 use Rattle.krb_ccache.specs.declared.value.Credential.{Credential}
-use Rattle.krb_ccache.specs.declared.ticket.TicketState.{TicketState}
 use Rattle.krb_ccache.specs.declared.ticket.TicketState.TheVariants as states
 use Rattle.krb_ccache.specs.Spelling.{is_config}
 use Rattle.krb_ccache.specs.Tickets.{ticket_read, judged_state, field_state, state_of, IsTicket}

@@ -4,3 +4,4 @@ pub mod Writing
 pub mod Tickets
 pub mod Laws
 pub mod Examples
+pub mod Streaming

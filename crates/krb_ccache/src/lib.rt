@@ -2,9 +2,11 @@
 //!
 //! `specs/` reads from the bottom: `Spelling` (which octets spell a cache), `Reading` (a file from
 //! left to right, up to the first fault), `Writing` (what keeps a cache from being written), `Tickets`
-//! (what a ticket field holds), and `Laws`, which the functions of [`law`] prove.
+//! (what a ticket field holds), and `Laws`, which the functions of [`law`] prove. `Streaming` is the
+//! same as `Reading`, one credential after another.
 #![tactic(auto)]
 
+mod credentials;
 pub mod law;
 mod part;
 mod reading;
@@ -12,6 +14,7 @@ mod ticket;
 mod value;
 mod writing;
 
+pub use credentials::Credentials;
 pub use reading::read;
 pub use ticket::{TicketState, ticket_of};
 pub use value::{Ccache, Credential, FilePrincipal, Header, HeaderField, Typed};

@@ -54,6 +54,7 @@ impl<R: Read> Records<R> {
     pub fn next_record(&mut self, alloc: Global) -> Result<Next, FileFault>
         // The records of a file that its reader tells, one after another, and then the stop or the fault.
         ensures next { (file : List ℕ) (limit : ℕ) (given : ℕ) → Reads (Some limit) self.old.reader self.old.state file given → GivesNext (Some limit) file given result self.new.reader self.new.state }
+        ensures ends { (stop : StopValue) → result ≡ Ok (nexts.Done stop) → self.new.state ≡ states.Done stop }
         ensures ended { (stop : StopValue) → self.old.state ≡ states.Done stop → (result ≡ Ok (nexts.Done stop)) × (self.new.state ≡ states.Done stop) }
         ensures failed { (fault : FaultValue) → self.old.state ≡ states.Failed fault → (result ≡ Err fault) × (self.new.state ≡ states.Failed fault) }
         ensures fails { IfErr result (λ fault. self.new.state ≡ states.Failed fault) }
@@ -75,6 +76,7 @@ impl<R: Read> Records<R> {
     /// The next record after the version.
     fn next_open(&mut self, alloc: Global) -> Result<Next, FileFault>
         ensures next { (file : List ℕ) (limit : ℕ) (given : ℕ) → Reads (Some limit) self.old.reader states.Open file given → GivesNext (Some limit) file given result self.new.reader self.new.state }
+        ensures ends { (stop : StopValue) → result ≡ Ok (nexts.Done stop) → self.new.state ≡ states.Done stop }
         ensures fails { IfErr result (λ fault. self.new.state ≡ states.Failed fault) }
     {
         match record(alloc, &mut self.reader) {

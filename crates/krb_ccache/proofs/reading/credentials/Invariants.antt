@@ -1,7 +1,7 @@
 use Rattle.std.proofs.Common.{◌≡◌, None, length}
 use Rattle.krb_der.specs.FieldReaders.{source_at}
 use Rattle.krb_ccache.specs.Reading.{credential_at, items_after}
-use Rattle.krb_ccache.proofs.Loops.{before}
+use Rattle.krb_ccache.specs.Streaming.{before}
 use Rattle.krb_ccache.proofs.reading.credentials.Given as goal
 
 -- the credentials so far

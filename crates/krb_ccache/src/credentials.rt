@@ -1,0 +1,109 @@
+//! Caches, read one credential at a time.
+
+ghost use Rattle.std.specs.Prelude.{◌≡◌, ℕ, List, None, Some, Ok, Err, IfOk, IfErr};
+ghost use Rattle.krb_ccache.specs.declared.credentials.State.TheVariants as states;
+ghost use Rattle.krb_der.specs.declared.file.FileFault.{FileFault as FaultValue};
+ghost use Rattle.krb_ccache.specs.Reading.{Start};
+ghost use Rattle.krb_ccache.specs.Streaming.{Reads, FailsStart, GivesNext};
+
+use crate::reading::{Front, beginning, next};
+use crate::value::{Credential, FilePrincipal, Header};
+use krb_der::{FieldLimit, FileFault, StreamReader};
+use std::alloc::Global;
+use std::io::Read;
+
+/// What a reader of credentials came to. Only contracts read it from outside.
+#[derive(Clone, Copy)]
+pub enum State {
+    /// Any number of credentials was read.
+    Open,
+    /// The credentials ended.
+    Done,
+    /// A fault was met.
+    Failed(FileFault),
+}
+
+/// A reader of the credentials of a cache, which takes no octet of its reader after the credential
+/// that it gives. It keeps none of the credentials that it gave, and takes memory for the octets that
+/// came.
+#[derive(Drop)]
+pub struct Credentials<R: Read> {
+    reader: StreamReader<R>,
+    header: Header,
+    principal: FilePrincipal,
+    state: State,
+}
+
+impl<R: Read + Drop> Credentials<R> {
+    /// The credentials of what a reader gives, where a field of octets may have so many. What stands
+    /// before them is read: the header and the default principal.
+    pub fn start(alloc: Global, reader: R, limit: FieldLimit) -> Result<Credentials<R>, FileFault>
+        ensures begins { IfOk result (λ made. (file : List ℕ) → R.remaining reader ≡ Some file → Reads (Some limit) made.reader (record { header = made.header; principal = made.principal }) made.state file 0) }
+        ensures fault { IfErr result (λ fault. (file : List ℕ) → R.remaining reader ≡ Some file → FailsStart (Some limit) file fault) }
+    {
+        let mut reader = StreamReader::new(reader, limit);
+        let Front { header, principal } = beginning(alloc, &mut reader)?;
+        Ok(Credentials {
+            reader,
+            header,
+            principal,
+            state: State::Open,
+        })
+    }
+
+    /// The header of the cache.
+    pub fn header(&self) -> &Header
+        ensures { result.now ≡ self.now.header }
+    {
+        &self.header
+    }
+
+    /// The default principal of the cache.
+    pub fn principal(&self) -> &FilePrincipal
+        ensures { result.now ≡ self.now.principal }
+    {
+        &self.principal
+    }
+
+    /// The next credential, and none where the file ends. A cache is refused as
+    /// [`read`](crate::read) refuses it, but that a field of octets is TooLong where it is longer than
+    /// the limit: after Overrun, and before Truncated. After a fault of any kind each call answers this
+    /// fault, and after the end each call answers that none is left.
+    pub fn next_credential(&mut self, alloc: Global) -> Result<Option<Credential>, FileFault>
+        // The credentials of a file that its reader tells, one after another, and then the end or the fault.
+        ensures next { (file : List ℕ) (limit : ℕ) (given : ℕ) → Reads (Some limit) self.old.reader (record { header = self.old.header; principal = self.old.principal }) self.old.state file given → GivesNext (Some limit) file given result self.new.reader (record { header = self.new.header; principal = self.new.principal }) self.new.state }
+        ensures same_header { self.new.header ≡ self.old.header }
+        ensures same_principal { self.new.principal ≡ self.old.principal }
+        ensures ends { result ≡ Ok None → self.new.state ≡ states.Done }
+        ensures ended { self.old.state ≡ states.Done → (result ≡ Ok None) × (self.new.state ≡ states.Done) }
+        ensures failed { (fault : FaultValue) → self.old.state ≡ states.Failed fault → (result ≡ Err fault) × (self.new.state ≡ states.Failed fault) }
+        ensures fails { IfErr result (λ fault. self.new.state ≡ states.Failed fault) }
+    {
+        match self.state {
+            State::Open => self.next_open(alloc),
+            State::Done => Ok(None),
+            State::Failed(fault) => Err(fault),
+        }
+    }
+
+    /// The next credential of a reader that met neither the end nor a fault.
+    fn next_open(&mut self, alloc: Global) -> Result<Option<Credential>, FileFault>
+        ensures next { (file : List ℕ) (limit : ℕ) (given : ℕ) → Reads (Some limit) self.old.reader (record { header = self.old.header; principal = self.old.principal }) self.old.state file given → GivesNext (Some limit) file given result self.new.reader (record { header = self.new.header; principal = self.new.principal }) self.new.state }
+        ensures same_header { self.new.header ≡ self.old.header }
+        ensures same_principal { self.new.principal ≡ self.old.principal }
+        ensures ends { result ≡ Ok None → self.new.state ≡ states.Done }
+        ensures fails { IfErr result (λ fault. self.new.state ≡ states.Failed fault) }
+    {
+        match next(alloc, &mut self.reader) {
+            Ok(Some(credential)) => Ok(Some(credential)),
+            Ok(None) => {
+                self.state = State::Done;
+                Ok(None)
+            }
+            Err(fault) => {
+                self.state = State::Failed(fault);
+                Err(fault)
+            }
+        }
+    }
+}
