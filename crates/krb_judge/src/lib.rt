@@ -4,8 +4,14 @@
 
 mod judging;
 pub mod law;
+mod opening;
 mod parsing;
+mod viewing;
 
 pub use judging::judge;
 pub use krb_der::{Refusal, Verdict, Why};
-pub use parsing::{ParseFault, parse, parse_method_data, parse_ticket, parse_whole, whole_kind};
+pub use opening::Items;
+pub use parsing::{
+    ParseFault, parse, parse_method_data, parse_ticket, parse_whole, read_ticket, whole_kind,
+};
+pub use viewing::{NameView, SealedView, TicketView};

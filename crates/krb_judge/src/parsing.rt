@@ -13,10 +13,12 @@ ghost use Rattle.krb_msg.specs.Reads.{IsDer};
 ghost use Rattle.krb_msg.specs.Shape.{is_unambiguous};
 ghost use Rattle.krb_msg.specs.Term.{der};
 ghost use Rattle.krb_judge.specs.Parses.{refusal_by, refusal_of as refusal_in, ticket_refusal, method_data_refusal, judged_as, IsKnown, AreOf, AreOfKind, AreOfTicket, AreOfMethodData, HasNoMessage};
+ghost use Rattle.krb_judge.specs.Viewed.{ticket_viewed};
 ghost use Rattle.krb_judge.specs.declared.parsing.ParseFault.TheVariants as fault;
 
 use crate::judging::{judge, judge_node};
 use crate::parsing::split::Slice;
+use crate::viewing::{TicketView, view_ticket};
 use krb_der::{Many, Memory, Refusal, Verdict, Why};
 use krb_msg::grammar::Row;
 use krb_msg::{Decode, Kind, Message, PaData, Ticket, decode, decode_whole};
@@ -102,6 +104,17 @@ pub fn parse_ticket(alloc: Global, octets: &[u8]) -> Result<Ticket, ParseFault>
     ensures none { ((t : Ticket) → AreOfTicket octets.now t → ⊥) ↔ (ticket_refusal octets.now ≢ None) }
 {
     parse_node(alloc, TICKET, octets)
+}
+
+/// The Ticket that octets are, where it stands, or why they are none. It takes no memory.
+pub fn read_ticket(octets: &[u8]) -> Result<TicketView<'_>, Refusal>
+    ensures ticket { IfOk result (λ view. AreOfTicket octets.now (ticket_viewed view)) }
+    ensures refused { (r : Refusal) → IsErrOf result r ↔ (ticket_refusal octets.now ≡ Some r) }
+{
+    match refusal_of(Expected::Node(TICKET), octets) {
+        Some(refusal) => Err(refusal),
+        None => Ok(view_ticket(octets)),
+    }
 }
 
 /// The METHOD-DATA (RFC 4120, 5.9.1) that octets are, or why they are none, as [`parse`] has it of

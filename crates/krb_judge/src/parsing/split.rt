@@ -3,7 +3,7 @@
 ghost use Rattle.std.specs.Prelude.{◌^◌, ◌<◌, length};
 ghost use Rattle.krb_msg.specs.Reads.{HasItem, HasNumber, IsSplit, IsNumber};
 
-use crate::judging::head::{Head, read_head};
+use crate::opening::open;
 use krb_der::integer_value;
 use krb_msg::Source;
 
@@ -37,10 +37,7 @@ fn split_item(octets: &[u8]) -> (&[u8], &[u8])
     requires form { HasItem octets.now }
     ensures { IsSplit octets.now result.0.now result.1.now }
 {
-    match read_head(octets.len() as u32, octets) {
-        Head::Got { header, size } => octets[header as usize..].split_at(size as usize),
-        _ => unreachable!(),
-    }
+    open(octets)
 }
 
 /// The number of the INTEGER that stands first, and what follows it.
