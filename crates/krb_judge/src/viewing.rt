@@ -8,8 +8,8 @@ ghost use Rattle.krb_msg.specs.Reads.{HasNumber, Begins, AreFields};
 ghost use Rattle.krb_msg.specs.Views.{ticket_of, principal_name_of, encrypted_data_of};
 ghost use Rattle.krb_judge.specs.Viewed.{ticket_viewed, name_viewed, sealed_viewed, sealed_from_kvno, sealed_from_cipher};
 
-use crate::judging::number::integer_value;
 use crate::opening::{Items, open};
+use krb_der::integer_value;
 
 /// A Ticket whose octets are borrowed.
 #[derive(Drop)]
