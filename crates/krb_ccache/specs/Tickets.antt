@@ -7,9 +7,12 @@ use Rattle.krb_msg.specs.Reading.{value_read}
 use Rattle.krb_msg.specs.Views.{ticket_of}
 use Rattle.krb_msg.specs.declared.ticket.Ticket.{Ticket}
 use Rattle.krb_judge.specs.Parses.{ticket_refusal, AreOfTicket}
+use Rattle.krb_judge.specs.Viewed.{ticket_viewed}
 use Rattle.krb_ccache.specs.declared.value.Credential.{Credential}
 use Rattle.krb_ccache.specs.declared.ticket.TicketState.{TicketState}
 use Rattle.krb_ccache.specs.declared.ticket.TicketState.TheVariants as states
+use Rattle.krb_ccache.specs.declared.ticket.TicketStateView.{TicketStateView}
+use Rattle.krb_ccache.specs.declared.ticket.TicketStateView.TheVariants as views
 use Rattle.krb_ccache.specs.Spelling.{is_config}
 
 -- the Ticket whose DER octets are
@@ -28,6 +31,13 @@ field_state (octet ∷ octets) = judged_state (ticket_refusal (octet ∷ octets)
 -- A configuration entry is told first, then an empty field, and then whether the octets are a Ticket.
 unfoldable pub state_of : Credential → TicketState
 state_of c = when (is_config c) (λ _. states.Config) (λ _. field_state c.ticket)
+
+-- the state whose octets are borrowed, as the state
+abbrev pub state_viewed : TicketStateView → TicketState
+state_viewed views.Absent = states.Absent
+state_viewed views.Config = states.Config
+state_viewed (views.Ticket view) = states.Ticket (ticket_viewed view)
+state_viewed (views.Refused refusal) = states.Refused refusal
 
 -- a Ticket is told only of its DER
 abbrev pub IsOfDer : List ℕ → TicketState → Type 0

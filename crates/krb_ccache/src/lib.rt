@@ -16,6 +16,6 @@ mod writing;
 
 pub use credentials::Credentials;
 pub use reading::read;
-pub use ticket::{TicketState, ticket_of};
+pub use ticket::{TicketState, TicketStateView, ticket_of, ticket_view_of};
 pub use value::{Ccache, Credential, FilePrincipal, Header, HeaderField, Typed};
 pub use writing::{CcacheFault, write};

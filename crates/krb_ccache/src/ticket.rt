@@ -1,11 +1,11 @@
 //! The ticket of a credential.
 
 ghost use Rattle.std.specs.Prelude.{◌≡◌, IfOk, IfErr};
-ghost use Rattle.krb_ccache.specs.Tickets.{IsOfDer, IsTicket, state_of};
+ghost use Rattle.krb_ccache.specs.Tickets.{IsOfDer, IsTicket, state_of, state_viewed};
 
 use crate::value::Credential;
 use krb_der::{Memory, Refusal};
-use krb_judge::{ParseFault, parse_ticket};
+use krb_judge::{ParseFault, TicketView, parse_ticket, read_ticket};
 use krb_msg::Ticket;
 use std::alloc::Global;
 
@@ -21,6 +21,34 @@ pub enum TicketState {
     /// Octets that are no Ticket: the first place where they cannot be one, counted in the field,
     /// and why.
     Refused(Refusal),
+}
+
+/// What stands in the ticket field of a credential, where it stands: a [`TicketState`] whose octets are
+/// borrowed.
+#[derive(Drop)]
+pub enum TicketStateView<'a> {
+    Absent,
+    Config,
+    Ticket(TicketView<'a>),
+    Refused(Refusal),
+}
+
+/// What stands in the ticket field of a credential, which is [`ticket_of`]'s. It takes no memory.
+#[tactic(auto, unfolding(crate::specs::Tickets::state_of))]
+pub fn ticket_view_of(credential: &Credential) -> TicketStateView<'_>
+    ensures { state_viewed result ≡ state_of credential.now }
+{
+    if credential.is_config() {
+        return TicketStateView::Config;
+    }
+    let octets = credential.ticket.as_slice();
+    if octets.is_empty() {
+        return TicketStateView::Absent;
+    }
+    match read_ticket(octets) {
+        Ok(ticket) => TicketStateView::Ticket(ticket),
+        Err(refusal) => TicketStateView::Refused(refusal),
+    }
 }
 
 /// What stands in the ticket field of a credential. A configuration entry is told first, and an
