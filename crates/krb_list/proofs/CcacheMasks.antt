@@ -1,5 +1,5 @@
 -- The lines of a cache show no octet of a key.
-use Rattle.std.proofs.Common.{◌≡◌, ℕ, Option, List, [], ◌∷◌, ◌++◌, length, map, refl}
+use Rattle.std.proofs.Common.{◌≡◌, ℕ, Option, List, [], ◌∷◌, length, map, refl}
 use Rattle.std.proofs.lemmas.List.{length-map}
 use Rattle.krb_ccache.specs.declared.value.Ccache.{Ccache}
 use Rattle.krb_ccache.specs.declared.value.Credential.{Credential}
@@ -7,7 +7,7 @@ use Rattle.krb_ccache.specs.declared.ticket.TicketState.{TicketState}
 use Rattle.krb_ccache.specs.declared.ticket.TicketState.TheVariants as states
 use Rattle.krb_ccache.specs.Spelling.{masked, masked_credential}
 use Rattle.krb_ccache.specs.Tickets.{state_of}
-use Rattle.krb_list.specs.Ccaches.{who_text, key_text, times_text, flags_text, counts_text, tickets_text, credential_front, credential_text, config_text, state_line, credential_line, credential_lines, cache_end_text, ccache_lines}
+use Rattle.krb_list.specs.Ccaches.{who_text, key_text, times_text, flags_text, counts_text, tickets_text, credential_front, credential_text, config_text, state_line, credential_line, credential_lines, ccache_lines}
 use Rattle.krb_list.proofs.Masks.{length-zeros}
 
 same_front : (now : Option ℕ) (c : Credential) → credential_front now (masked_credential c) ≡ credential_front now c

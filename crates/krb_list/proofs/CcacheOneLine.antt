@@ -1,7 +1,6 @@
 -- All that the lines of a cache show is printable: blanks and graphic characters of ASCII.
-use Rattle.std.proofs.Common.{◌≡◌, ℕ, zero, suc, ◌/◌, ◌%◌, ◌==◌, ◌^◌, ◌<◌, nat_lt, bit_and, Bool, true, false, Option, Some, None, List, [], ◌∷◌, ◌++◌, length, map, refl, arith, codes}
+use Rattle.std.proofs.Common.{ℕ, zero, suc, ◌/◌, ◌%◌, ◌==◌, ◌^◌, ◌<◌, nat_lt, Bool, true, false, Option, Some, None, List, [], ◌∷◌, length, map, refl, arith, codes}
 use Rattle.std.proofs.lemmas.Nat.{and_le_r}
-use Rattle.std.specs.List.{AllByRecursion, list_all}
 use Rattle.krb_der.specs.Octets.{AreOctets, when}
 use Rattle.krb_der.specs.inner.Numbers.{AreOctets-take, AreOctets-drop}
 use Rattle.krb_der.specs.Reasons.{reason_number}
@@ -20,7 +19,7 @@ use Rattle.krb_list.specs.Laws.{IsPrintable, AllAreOctets, PrincipalIsOfOctets, 
 use Rattle.krb_list.specs.Text.{two_hex}
 use Rattle.krb_list.specs.TicketFlags.{flag_name, set_flags, names_text, other_flags, eight_hex, others_text, ticket_flags_text}
 use Rattle.krb_list.specs.Ccaches.{file_principal_text, offset_text, cache_text, who_text, key_text, times_text, state_text, flags_text, counts_text, tickets_text, credential_front, credential_text, config_text, refused_ticket_text, state_line, credential_line, cache_end_text}
-use Rattle.krb_list.proofs.OneLine.{Prints, is_printable, word, join, either, add, number, signed, in_hex, always, all_joined, every, principal, sealed}
+use Rattle.krb_list.proofs.OneLine.{Prints, word, join, either, add, number, signed, in_hex, always, all_joined, every, principal, sealed}
 use Rattle.krb_list.proofs.KeytabOneLine.{time}
 
 -- ---- the flags of a ticket

@@ -1,16 +1,20 @@
 //! Lines of credentials.
 
 ghost use Rattle.std.specs.Prelude.{◌≡◌, ◌++◌, IfOk, OnOk, string_bytes};
+ghost use Rattle.krb_judge.specs.Viewed.{sealed_viewed, ticket_viewed};
+ghost use Rattle.krb_ccache.specs.Tickets.{state_viewed};
+ghost use Rattle.krb_list.specs.Text.{sealed_text};
 ghost use Rattle.krb_list.specs.Ccaches.{who_text, key_text, times_text, state_text, flags_text, counts_text, tickets_text, credential_front, credential_text, config_text, refused_ticket_text, ticket_server_text, state_line, credential_line};
 
+use crate::escape::put_escaped;
 use crate::field::put_field;
-use crate::principal::put_principal;
+use crate::principal::put_components;
 use crate::shown::{Name, Shown, put_number};
 use crate::ticket_flags::TicketFlags;
 use crate::time::Time;
-use krb_ccache::{Credential, TicketState, ticket_of};
+use krb_ccache::{Credential, TicketStateView, ticket_view_of};
 use krb_der::{Memory, Refusal, why_number};
-use krb_msg::Ticket;
+use krb_judge::{SealedView, TicketView};
 use std::alloc::{AllocError, Global};
 
 #[tactic(auto, unfolding(crate::specs::Ccaches::who_text))]
@@ -129,12 +133,28 @@ impl Shown for Refusal {
     }
 }
 
-/// The server of the ticket.
-impl Shown for Ticket {
-    ghost text = { ticket_server_text };
+/// The encryption type, the key version or `-`, and the number of cipher octets, with `:` between.
+impl<'a> Shown for SealedView<'a> {
+    ghost text = { λ view. sealed_text (sealed_viewed view) };
 
     fn put(&self, line: &mut String) -> Result<(), AllocError> {
-        put_principal(line, self.sname.name.as_slice(), &self.realm)
+        put_number(line, self.etype)?;
+        line.push(':')?;
+        self.kvno.put(line)?;
+        line.push(':')?;
+        put_number(line, self.cipher.len())
+    }
+}
+
+/// The server of the ticket.
+impl<'a> Shown for TicketView<'a> {
+    ghost text = { λ view. ticket_server_text (ticket_viewed view) };
+
+    #[tactic(auto, unfolding(crate::specs::Text::principal_text))]
+    fn put(&self, line: &mut String) -> Result<(), AllocError> {
+        put_components(line, &self.sname.name)?;
+        line.push('@')?;
+        put_escaped(line, self.realm)
     }
 }
 
@@ -143,17 +163,19 @@ fn put_with_state(
     line: &mut String,
     now: Option<u32>,
     credential: &Credential,
-    state: &TicketState,
+    state: &TicketStateView<'_>,
 ) -> Result<(), AllocError>
-    ensures { OnOk result (string_bytes line.new ≡ string_bytes line.old ++ state_line now credential.now state.now) }
+    ensures { OnOk result (string_bytes line.new ≡ string_bytes line.old ++ state_line now credential.now (state_viewed state.now)) }
 {
     match state {
-        TicketState::Config => put_config(line, credential),
-        TicketState::Absent => { put_ticketed(line, now, credential, &Name("absent"), &Name("-")) }
-        TicketState::Ticket(ticket) => {
+        TicketStateView::Config => put_config(line, credential),
+        TicketStateView::Absent => {
+            put_ticketed(line, now, credential, &Name("absent"), &Name("-"))
+        }
+        TicketStateView::Ticket(ticket) => {
             put_ticketed(line, now, credential, &ticket.enc_part, ticket)
         }
-        TicketState::Refused(refusal) => {
+        TicketStateView::Refused(refusal) => {
             put_ticketed(line, now, credential, refusal, &Name("-"))
         }
     }
@@ -162,15 +184,14 @@ fn put_with_state(
 /// Appends the line of a credential, which is [`credential_line`]'s.
 #[tactic(auto, unfolding(crate::specs::Ccaches::credential_line))]
 pub fn put_credential(
-    alloc: Global,
+    _alloc: Global,
     line: &mut String,
     credential: &Credential,
     now: Option<u32>,
 ) -> Result<(), Memory>
     ensures { OnOk result (string_bytes line.new ≡ string_bytes line.old ++ credential_line now credential.now) }
 {
-    let state = ticket_of(alloc, credential)?;
-    put_with_state(line, now, credential, &state)?;
+    put_with_state(line, now, credential, &ticket_view_of(credential))?;
     Ok(())
 }
 

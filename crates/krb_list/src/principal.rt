@@ -1,10 +1,13 @@
 //! Names of principals.
 
-ghost use Rattle.std.specs.Prelude.{◌≡◌, ◌++◌, IfOk, OnOk, string_bytes};
-ghost use Rattle.krb_list.specs.Text.{principal_text};
+ghost use Rattle.std.specs.Prelude.{◌≡◌, ◌++◌, IfOk, OnOk, codes, string_bytes};
+ghost use Rattle.std.specs.List.{flat_map};
+ghost use Rattle.krb_list.specs.Text.{escape, components_text, principal_text};
 
+use crate::escape::put_escaped;
 use crate::shown::{Shown, put_joined};
 use krb_der::{KString, Memory};
+use krb_judge::Items;
 use std::alloc::{AllocError, Global};
 
 /// Appends the text of a principal, which is [`principal_text`]'s.
@@ -19,6 +22,32 @@ pub fn put_principal(
     put_joined(line, "\\-", "/", components)?;
     line.push('@')?;
     realm.put(line)
+}
+
+/// Appends `/` and the text of a component, for each of the components.
+fn put_other_components(line: &mut String, components: Items<'_>) -> Result<(), AllocError>
+    ensures { OnOk result (string_bytes line.new ≡ string_bytes line.old ++ flat_map (λ c. codes "/" ++ escape c) components.entry) }
+{
+    let mut others = components;
+    'others: while let Some((component, rest)) = others.split_first() {
+        line.push('/')?;
+        put_escaped(line, component)?;
+        others = rest;
+    }
+    Ok(())
+}
+
+/// Appends the components of a principal that stand in octets, as [`put_principal`] does.
+pub(crate) fn put_components(line: &mut String, components: &Items<'_>) -> Result<(), AllocError>
+    ensures { OnOk result (string_bytes line.new ≡ string_bytes line.old ++ components_text components.now) }
+{
+    match components.split_first() {
+        None => line.push_str("\\-"),
+        Some((first, others)) => {
+            put_escaped(line, first)?;
+            put_other_components(line, others)
+        }
+    }
 }
 
 /// The text of a principal: its components with `/` between them, `@`, and the realm, each escaped.

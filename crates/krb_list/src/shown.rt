@@ -98,6 +98,14 @@ impl Shown for i32 {
     }
 }
 
+impl Shown for i64 {
+    ghost text = { signed_decimal };
+
+    fn put(&self, line: &mut String) -> Result<(), AllocError> {
+        put_number(line, *self)
+    }
+}
+
 impl Shown for Int32 {
     ghost text = { signed_decimal };
 
