@@ -4,3 +4,6 @@ pub mod Runs
 pub mod Files
 pub mod Messages
 pub mod Matched
+pub mod Records
+pub mod KeytabLines
+pub mod CredentialLines

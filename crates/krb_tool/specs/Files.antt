@@ -1,13 +1,16 @@
 -- The listings of files, and what a run on one does to its reader and its writer.
-use Rattle.std.specs.Prelude.{ℕ, ◌≡◌, List, ◌++◌, Option, Result, Ok, Err}
+use Rattle.std.specs.Prelude.{ℕ, ◌≡◌, List, [], ◌++◌, length, Option, Some, Result, Ok, Err}
+use Rattle.std.specs.List.{flat_map}
 use Rattle.std.specs.Io.KnownBytes.{Consumes, Appends, Keeps, IsAtEnd}
-use Rattle.krb_der.specs.Fields.{Fault}
-use Rattle.krb_keytab.specs.declared.value.Keytab.{Keytab}
-use Rattle.krb_keytab.specs.Reading.{read}
-use Rattle.krb_ccache.specs.declared.value.Ccache.{Ccache}
-use Rattle.krb_ccache.specs.Reading.{read as read_ccache}
-use Rattle.krb_list.specs.Keytabs.{keytab_lines}
-use Rattle.krb_list.specs.Ccaches.{ccache_lines}
+use Rattle.krb_der.specs.Fields.{Source, Fault}
+use Rattle.krb_keytab.specs.declared.value.Stop.{Stop}
+use Rattle.krb_keytab.specs.Reading.{Items as Records, items as keytab_records}
+use Rattle.krb_ccache.specs.declared.value.Credential.{Credential}
+use Rattle.krb_ccache.specs.Reading.{Start, Items}
+use Rattle.krb_ccache.specs.Streaming.{begun, credentials}
+use Rattle.krb_list.specs.Text.{line_feed}
+use Rattle.krb_list.specs.Keytabs.{record_text, keytab_end_text}
+use Rattle.krb_list.specs.Ccaches.{cache_text, credential_line, cache_end_text}
 use Rattle.krb_list.specs.Refusals.{file_refused_line}
 use Rattle.krb_tool.specs.declared.run.RunEnd.{RunEnd}
 use Rattle.krb_tool.specs.declared.run.RunEnd.TheVariants as run
@@ -24,33 +27,58 @@ pub record FileListing : Type 0 where
   pub text : List ℕ
   pub end : RunEnd
 
--- the one line of a refused file
-abbrev pub refused_listing : Fault → FileListing
-refused_listing refusal = record { text = file_refused_line refusal.place refusal.why; end = run.Refused }
-
 -- ---- the listings of keytabs and of caches
 
--- the lines of a keytab and of its end, or the one line of a refusal
-abbrev pub keytab_outcome : Result (Keytab × ℕ) Fault → FileListing
-keytab_outcome (Ok found) = record { text = keytab_lines found.0; end = run.Clean }
-keytab_outcome (Err refusal) = refused_listing refusal
+-- What is written of a file that is read one record at a time: a line for each record before the stop or the first fault, and the last line. And how its run ends.
+pub record RecordListing : Type 0 where
+  pub lines : List ℕ
+  pub last : List ℕ
+  pub end : RunEnd
 
-unfoldable pub keytab_listing : List ℕ → FileListing
-keytab_listing file = keytab_outcome (read file)
+abbrev pub text_of : RecordListing → List ℕ
+text_of listing = listing.lines ++ listing.last
 
-abbrev pub IsKeytabListing : List ℕ → FileListing → Type 0
-IsKeytabListing file listing = listing ≡ keytab_listing file
+abbrev pub after_line : List ℕ → RecordListing → RecordListing
+after_line line listing = record { lines = line ++ listing.lines; last = listing.last; end = listing.end }
 
--- the lines of a cache and of its end, or the one line of a refusal
-abbrev pub ccache_outcome : Option ℕ → Result Ccache Fault → FileListing
-ccache_outcome now (Ok found) = record { text = ccache_lines now found; end = run.Clean }
-ccache_outcome now (Err refusal) = refused_listing refusal
+abbrev pub end_of : {A : Type 0} → Result A Fault → RunEnd
+end_of (Ok end) = run.Clean
+end_of (Err fault) = run.Refused
 
-unfoldable pub ccache_listing : Option ℕ → List ℕ → FileListing
-ccache_listing now file = ccache_outcome now (read_ccache file)
+-- the one line of what is refused before any record
+abbrev pub refused_listing : Fault → RecordListing
+refused_listing refusal = record { lines = []; last = file_refused_line refusal.place refusal.why; end = run.Refused }
 
-abbrev pub IsCcacheListing : Option ℕ → List ℕ → FileListing → Type 0
-IsCcacheListing now file listing = listing ≡ ccache_listing now file
+-- how many octets a field of a file may have
+abbrev pub field_limit : Option ℕ
+field_limit = Some 16777216
+
+abbrev pub keytab_last : ℕ → Result (Stop × ℕ) Fault → List ℕ
+keytab_last count (Ok end) = keytab_end_text count end.0 ++ line_feed
+keytab_last count (Err fault) = file_refused_line fault.place fault.why
+
+-- the lines of records, and the line of the end or of a refusal
+abbrev pub records_listing : Records → RecordListing
+records_listing found = record { lines = flat_map (λ r. record_text r ++ line_feed) found.records; last = keytab_last (length found.records) found.end; end = end_of found.end }
+
+unfoldable pub keytab_listing : List ℕ → RecordListing
+keytab_listing file = records_listing (keytab_records field_limit file)
+
+abbrev pub ccache_last : ℕ → Result ℕ Fault → List ℕ
+ccache_last count (Ok size) = cache_end_text count ++ line_feed
+ccache_last count (Err fault) = file_refused_line fault.place fault.why
+
+-- the lines of credentials, and the line of the end or of a refusal
+abbrev pub credentials_listing : Option ℕ → Items Credential → RecordListing
+credentials_listing now found = record { lines = flat_map (λ c. credential_line now c ++ line_feed) found.items; last = ccache_last (length found.items) found.end; end = end_of found.end }
+
+-- the line of a cache before them, or the refusal of what stands there
+abbrev pub cache_listing : Option ℕ → Result (Start × Source) Fault → Items Credential → RecordListing
+cache_listing now (Err fault) found = refused_listing fault
+cache_listing now (Ok start) found = after_line (cache_text start.0.header start.0.principal ++ line_feed) (credentials_listing now found)
+
+unfoldable pub ccache_listing : Option ℕ → List ℕ → RecordListing
+ccache_listing now file = cache_listing now (begun field_limit file) (credentials field_limit file)
 
 -- ---- what a run does
 
@@ -92,3 +120,10 @@ abbrev pub FailsFile : (List ℕ → FileListing → Type 0) → Option (List �
 FailsFile Lists had left held holds fault.Read = WritesNothing had left held holds
 FailsFile Lists had left held holds fault.Write = ListsFront Lists had left held holds
 FailsFile Lists had left held holds fault.Memory = WritesNothing had left held holds
+
+-- What a run on records adds to what its writer held: the listing; a front of it where a write fails; and where a read fails or memory runs out, a front of the lines of records.
+abbrev pub ListsRecords : RecordListing → Option (List ℕ) → Option (List ℕ) → Result RunEnd RunFault → Type 0
+ListsRecords listing held holds (Ok ended) = Appends held holds (text_of listing) × (ended ≡ listing.end)
+ListsRecords listing held holds (Err fault.Write) = AddsFront held holds (text_of listing)
+ListsRecords listing held holds (Err fault.Read) = AddsFront held holds listing.lines
+ListsRecords listing held holds (Err fault.Memory) = AddsFront held holds listing.lines

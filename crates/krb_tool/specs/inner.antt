@@ -1,3 +1,4 @@
 pub mod Listers
 pub mod Transfers
 pub mod FileRuns
+pub mod RecordRuns

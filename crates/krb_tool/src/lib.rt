@@ -9,12 +9,13 @@
 mod file_run;
 mod listing;
 mod message_run;
+mod record_run;
 mod run;
 mod transfer;
 mod words;
 
-pub use file_run::{run_ccache, run_keytab};
 pub use krb_frame::Limit;
 pub use message_run::run_message;
+pub use record_run::{run_ccache, run_keytab};
 pub use run::{RunEnd, RunFault, run_stream, status};
 pub use words::{Job, Order, WordsFault, read_words};

@@ -1,0 +1,137 @@
+-- A run on records, one line after another.
+use Rattle.std.proofs.Common.{◌≡◌, ◌≢◌, ℕ, suc, ◌<◌, ◌≤◌, List, [], ◌∷◌, ◌++◌, length, drop, Option, Some, None, Result, Ok, Err, IfErr, refl, sym, ◌∙◌, ap, ap₂, subst, arith, append-nil, append_assoc, length-append, drop_of_length-le, drop_at}
+use Rattle.std.proofs.lemmas.List.Concat.{flat_map-cons}
+use Rattle.std.specs.List.{flat_map}
+use Rattle.std.specs.Io.KnownBytes.{Appends}
+use Rattle.std.proofs.KnownBytes.{Appends-nil, Appends-trans}
+use Rattle.krb_tool.specs.declared.run.RunEnd.{RunEnd}
+use Rattle.krb_tool.specs.declared.run.RunFault.{RunFault}
+use Rattle.krb_tool.specs.declared.run.RunFault.TheVariants as fault
+use Rattle.krb_tool.specs.Files.{RecordListing, text_of, after_line, AddsFront, ListsRecords}
+use Rattle.krb_tool.specs.inner.RecordRuns.{Adds, Moves, AddsLine, left_of}
+
+-- ---- what is left of items, one after another
+module _ {A : Type 0} (line : A → List ℕ) (items : List A) (last : List ℕ) (end : RunEnd) where
+  pub item_left : (count : ℕ) (front back : List A) (item : A) → length front ≡ count → items ≡ front ++ item ∷ back → left_of line items count last end ≡ after_line (line item) (left_of line items (suc count) last end)
+  item_left count front back item counted parts =
+      let here : drop count items ≡ item ∷ back = ap (drop count) parts ∙ drop_at front (item ∷ back) count counted in
+      let there : drop (suc count) items ≡ back = ap (drop (suc count)) (parts ∙ sym (append_assoc front (item ∷ []) back)) ∙ drop_at (front ++ item ∷ []) back (suc count) (omega (arith, counted, length-append front (item ∷ []))) in
+      let lines : flat_map line (drop count items) ≡ line item ++ flat_map line (drop (suc count) items) = ap (flat_map line) here ∙ flat_map-cons line item back ∙ ap (λ (xs : List A). line item ++ flat_map line xs) (sym there) in
+      ap (λ (ls : List ℕ). let it : RecordListing = record { lines = ls; last = last; end = end } in it) lines
+
+  pub none_left : (count : ℕ) → length items ≡ count → (left_of line items count last end).lines ≡ []
+  none_left count counted = ap (flat_map line) (drop_of_length-le items {i = count} (omega (arith, counted)))
+
+-- ---- what a run has written
+-- What was written, then the text that is not written yet, and then what is left, are the listing.
+pub record Listed (IsLeft : RecordListing → Type 0) (all : RecordListing) (held holds : Option (List ℕ)) (text : List ℕ) : Type 0 where
+  pub written : List ℕ
+  pub left : RecordListing
+  pub added : Appends held holds written
+  pub is_left : IsLeft left
+  pub parts : all ≡ after_line (written ++ text) left
+
+pub Listed-start : (IsLeft : RecordListing → Type 0) (left : RecordListing) (held : Option (List ℕ)) (text : List ℕ) → IsLeft left → Listed IsLeft (after_line text left) held held text
+Listed-start IsLeft left held text is_left = record { written = []; left = left; added = Appends-nil held; is_left = is_left; parts = refl }
+
+module _ (IsLeft : RecordListing → Type 0) (all : RecordListing) (held holds : Option (List ℕ)) (text : List ℕ) (listed : Listed IsLeft all held holds text) where
+  -- a front of the text was written
+  pub Listed-moved : (after : Option (List ℕ)) (new : List ℕ) → Moves holds after text new → Listed IsLeft all held after new
+  Listed-moved after new moves = record {
+    written = listed.written ++ moves.0;
+    left = listed.left;
+    added = Appends-trans held holds after listed.written moves.0 listed.added moves.1;
+    is_left = listed.is_left;
+    parts = listed.parts ∙ ap (λ (ls : List ℕ). after_line ls listed.left) (ap (λ (t : List ℕ). listed.written ++ t) moves.2 ∙ sym (append_assoc listed.written moves.0 new));
+  }
+
+  -- a line was added
+  pub Listed-more : (IsLeftAfter : RecordListing → Type 0) (new : List ℕ) → AddsLine IsLeftAfter listed.left text new (Ok None) → Listed IsLeftAfter all held holds new
+  Listed-more IsLeftAfter new adds = record {
+    written = listed.written;
+    left = adds.1;
+    added = listed.added;
+    is_left = adds.4;
+    parts =
+        listed.parts
+        ∙ ap (after_line (listed.written ++ text)) adds.3
+        ∙ ap (λ (ls : List ℕ). let it : RecordListing = record { lines = ls; last = (adds.1).last; end = (adds.1).end } in it) (together (adds.1).lines)
+        ∙ ap (λ (t : List ℕ). after_line (listed.written ++ t) adds.1) (sym adds.2);
+  }
+    where
+      together : (ls : List ℕ) → (listed.written ++ text) ++ (adds.0 ++ ls) ≡ (listed.written ++ (text ++ adds.0)) ++ ls
+      together ls = sym (append_assoc (listed.written ++ text) adds.0 ls) ∙ ap (λ (l : List ℕ). l ++ ls) (append_assoc listed.written text adds.0)
+
+  -- the last line was added
+  whole : (IsLeftAfter : RecordListing → Type 0) (new : List ℕ) (ended : RunEnd) → AddsLine IsLeftAfter listed.left text new (Ok (Some ended)) → text_of all ≡ listed.written ++ new
+  whole IsLeftAfter new ended adds =
+      ap text_of listed.parts
+      ∙ ap (λ (ls : List ℕ). ((listed.written ++ text) ++ ls) ++ (listed.left).last) adds.1
+      ∙ ap (λ (ls : List ℕ). ls ++ (listed.left).last) (append-nil (listed.written ++ text))
+      ∙ append_assoc listed.written text (listed.left).last
+      ∙ ap (λ (t : List ℕ). listed.written ++ t) (sym adds.0)
+
+  pub Listed-ended : (IsLeftAfter : RecordListing → Type 0) (new : List ℕ) (ended : RunEnd) (after : Option (List ℕ)) → AddsLine IsLeftAfter listed.left text new (Ok (Some ended)) → Appends holds after new → ListsRecords all held after (Ok ended)
+  Listed-ended IsLeftAfter new ended after adds added = (
+    subst (Appends held after) (sym (whole IsLeftAfter new ended adds)) (Appends-trans held holds after listed.written new listed.added added),
+    adds.2 ∙ ap (λ (l : RecordListing). l.end) (sym listed.parts),
+  )
+
+  pub last-fails : (IsLeftAfter : RecordListing → Type 0) (new : List ℕ) (ended : RunEnd) (after : Option (List ℕ)) → AddsLine IsLeftAfter listed.left text new (Ok (Some ended)) → AddsFront holds after new → AddsFront held after (text_of all)
+  last-fails IsLeftAfter new ended after adds front = record {
+    front = listed.written ++ front.front;
+    rest = front.rest;
+    added = Appends-trans held holds after listed.written front.front listed.added front.added;
+    whole = whole IsLeftAfter new ended adds ∙ ap (λ (t : List ℕ). listed.written ++ t) front.whole ∙ sym (append_assoc listed.written front.front front.rest);
+  }
+
+  -- a write of the text failed
+  pub write-fails : (after : Option (List ℕ)) → AddsFront holds after text → AddsFront held after (text_of all)
+  write-fails after front = record {
+    front = listed.written ++ front.front;
+    rest = front.rest ++ ((listed.left).lines ++ (listed.left).last);
+    added = Appends-trans held holds after listed.written front.front listed.added front.added;
+    whole =
+        ap text_of listed.parts
+        ∙ append_assoc (listed.written ++ text) (listed.left).lines (listed.left).last
+        ∙ ap (λ (t : List ℕ). (listed.written ++ t) ++ ((listed.left).lines ++ (listed.left).last)) front.whole
+        ∙ ap (λ (t : List ℕ). t ++ ((listed.left).lines ++ (listed.left).last)) (sym (append_assoc listed.written front.front front.rest))
+        ∙ append_assoc (listed.written ++ front.front) front.rest ((listed.left).lines ++ (listed.left).last);
+  }
+
+  -- another fault
+  stops : AddsFront held holds all.lines
+  stops = record {
+    front = listed.written;
+    rest = text ++ (listed.left).lines;
+    added = listed.added;
+    whole = ap (λ (l : RecordListing). l.lines) listed.parts ∙ append_assoc listed.written text (listed.left).lines;
+  }
+
+  pub Listed-fails : (e : RunFault) → e ≢ fault.Write → ListsRecords all held holds (Err e)
+  Listed-fails fault.Read other = stops
+  Listed-fails fault.Memory other = stops
+  Listed-fails fault.Write other = absurd (other refl)
+
+-- ---- what a line makes of what is left
+module _ {A : Type 0} (line : A → List ℕ) (items : List A) (count : ℕ) (last : List ℕ) (end : RunEnd) (IsLeft : RecordListing → Type 0) (left : RecordListing) (is : left ≡ left_of line items count last end) (old new : List ℕ) (ended : Option RunEnd) where
+  pub item_added : (front back : List A) (item : A) → length front ≡ count → items ≡ front ++ item ∷ back → IsLeft (left_of line items (suc count) last end) → Adds (line item) None old new ended → AddsLine IsLeft left old new (Ok ended)
+  item_added front back item counted parts after adds =
+      subst (λ (e : Option RunEnd). AddsLine IsLeft left old new (Ok e)) (sym adds.0)
+      (line item, left_of line items (suc count) last end, adds.1, is ∙ item_left line items last end count front back item counted parts, after)
+
+  pub last_added : (text : List ℕ) (stop : RunEnd) → length items ≡ count → last ≡ text → end ≡ stop → Adds text (Some stop) old new ended → AddsLine IsLeft left old new (Ok ended)
+  last_added text stop counted told stops adds =
+      subst (λ (e : Option RunEnd). AddsLine IsLeft left old new (Ok e)) (sym adds.0) (
+        adds.1 ∙ ap (λ (t : List ℕ). old ++ t) (sym (ap (λ (l : RecordListing). l.last) is ∙ told)),
+        ap (λ (l : RecordListing). l.lines) is ∙ none_left line items last end count counted,
+        sym (ap (λ (l : RecordListing). l.end) is ∙ stops),
+      )
+
+-- a write failed
+pub write-fault : (all : RecordListing) (held after : Option (List ℕ)) (e : RunFault) → e ≡ fault.Write → AddsFront held after (text_of all) → ListsRecords all held after (Err e)
+write-fault all held after e is front = subst (λ (f : RunFault). ListsRecords all held after (Err f)) (sym is) front
+
+-- memory ran out before anything was written
+pub none_written : (all : RecordListing) (held : Option (List ℕ)) (e : RunFault) → e ≡ fault.Memory → ListsRecords all held held (Err e)
+none_written all held e is = subst (λ (f : RunFault). ListsRecords all held held (Err f)) (sym is) (record { front = []; rest = all.lines; added = Appends-nil held; whole = refl })

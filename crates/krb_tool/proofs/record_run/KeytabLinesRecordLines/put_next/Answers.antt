@@ -1,0 +1,15 @@
+use Rattle.std.proofs.Common.{string_bytes}
+use Rattle.krb_tool.proofs.KeytabLines.{record_added, stop_added, refusal_added}
+use Rattle.krb_tool.proofs.record_run.KeytabLinesRecordLines.put_next.Goals as goal
+
+pub returns-in-Ok-Item-clause-line : goal.returns-in-Ok-Item-clause-line
+returns-in-Ok-Item-clause-line g c = λ left is_left.
+    record_added c.args.self.now.records.reader c.next_record.new.self.reader c.args.self.now.records.state c.next_record.new.self.state c.args.count left (string_bytes c.args.text.now) (string_bytes c.put_record.new.text) is_left c.in-Ok-Item.record c.put_record.result (rw c.in-Ok-Item.field-0-is at c.in-Ok-Item.ensures.next) c.put_record.ensures.line
+
+pub returns-in-Ok-Done-clause-line : goal.returns-in-Ok-Done-clause-line
+returns-in-Ok-Done-clause-line g c = λ left is_left.
+    stop_added c.args.self.now.records.reader c.next_record.new.self.reader c.args.self.now.records.state c.next_record.new.self.state c.args.count left (string_bytes c.args.text.now) (string_bytes c.put_stop.new.text) is_left c.in-Ok-Done.stop c.put_stop.result (rw c.in-Ok-Done.field-0-is at c.in-Ok-Done.ensures.next) c.put_stop.ensures.line
+
+pub returns-in-Err-clause-line : goal.returns-in-Err-clause-line
+returns-in-Err-clause-line g c = λ left is_left.
+    refusal_added c.args.self.now.records.reader c.next_record.new.self.reader c.args.self.now.records.state c.next_record.new.self.state c.args.count left (string_bytes c.args.text.now) (string_bytes c.put_fault.new.text) is_left c.in-Err.fault c.put_fault.result c.in-Err.ensures.next c.put_fault.ensures.refused

@@ -1,0 +1,41 @@
+use Rattle.std.proofs.Common.{◌≡◌, ◌++◌, ℕ, List, [], ◌∙◌, ap, ap₂, subst, string_bytes}
+use Rattle.std.proofs.lemmas.Result.{err_from_is_err_and}
+use Rattle.krb_ccache.specs.Reading.{Start}
+use Rattle.krb_ccache.specs.Streaming.{credentials}
+use Rattle.krb_ccache.specs.declared.value.Header.{Header}
+use Rattle.krb_ccache.specs.declared.value.FilePrincipal.{FilePrincipal}
+use Rattle.krb_list.specs.Text.{line_feed}
+use Rattle.krb_list.specs.Ccaches.{cache_text}
+use Rattle.krb_tool.specs.Files.{RecordListing, after_line, field_limit, credentials_listing, ccache_listing, ListsRecords}
+use Rattle.krb_tool.proofs.Records.{none_written}
+use Rattle.krb_tool.proofs.CredentialLines.{all_left, first_line, start_refused}
+use Rattle.krb_tool.proofs.record_run.run_ccache.Goals as goal
+
+pub returns-in-Ok : goal.returns-in-Ok
+returns-in-Ok g c = record {
+  listed = λ file known.
+      let made = c.in-Ok.credentials in
+      let start : Start = record { header = made.header; principal = made.principal } in
+      let reads = rw c.field_limit.ensures at (c.in-Ok.ensures.begins file (c.in_ok-reader.ensures.same file known)) in
+      let listing = credentials_listing c.args.now (credentials field_limit file) in
+      let text : string_bytes c.put_first.new.text ≡ cache_text made.header made.principal ++ line_feed =
+      c.in_ok-put_first-in-Ok.ensures.line
+      ∙ ap₂ (λ (text cache : List ℕ). text ++ (cache ++ line_feed)) c.new-text.ensures.bytes (ap₂ cache_text c.header.ensures c.principal.ensures) in
+      let whole = ap (λ (t : List ℕ). after_line t listing) text ∙ first_line c.args.now file made.reader start made.state reads in
+      subst (λ (l : RecordListing). ListsRecords l (g.W.Write.contents c.args.writer.now) (g.W.Write.contents c.list_records.new.writer) c.list_records.result) whole (c.list_records.ensures listing (all_left c.args.now file made.reader start made.state reads));
+}
+
+pub returns : goal.returns
+returns g c = record {
+  listed = λ file known.
+      let fails = rw c.field_limit.ensures at (c.in-Err.ensures.fault file (c.in_ok-reader.ensures.same file known)) in
+      subst (λ (text : List ℕ). ListsRecords (after_line text (ccache_listing c.args.now file)) (g.W.Write.contents c.args.writer.now) (g.W.Write.contents c.list_records-in-Err.new.writer) c.list_records-in-Err.result) c.new-text.ensures.bytes
+      (c.list_records-in-Err.ensures (ccache_listing c.args.now file) (start_refused c.args.now file c.in-Err.fault fails));
+}
+
+pub returns-in_err-put_first-in-Ok : goal.returns-in_err-put_first-in-Ok
+returns-in_err-put_first-in-Ok g c = record {
+  listed = λ file known.
+      let p = err_from_is_err_and c.from_residual-in_err-put_first-in-Ok.result c.from_residual-in_err-put_first-in-Ok.ensures.1 in
+      rw (p.1, p.2) (none_written (ccache_listing c.args.now file) (g.W.Write.contents c.args.writer.now) _ c.in_err-put_first-in-Ok.ensures.fault);
+}

@@ -1,0 +1,70 @@
+-- What the parts of a run on the records of a file promise each other.
+use Rattle.std.specs.Prelude.{ℕ, ◌≡◌, List, [], ◌++◌, length, drop, Option, Some, None, Result, Ok, Err}
+use Rattle.std.specs.List.{flat_map}
+use Rattle.std.specs.Io.KnownBytes.{Appends}
+use Rattle.krb_der.specs.FieldReaders.{Held}
+use Rattle.krb_der.specs.declared.file.FileFault.{FileFault}
+use Rattle.krb_der.specs.declared.file.FileFault.TheVariants as faults
+use Rattle.krb_keytab.specs.Reading.{Items as Records, items as keytab_records}
+use Rattle.krb_keytab.specs.Streaming.{Reads as ReadsRecords}
+use Rattle.krb_keytab.specs.declared.records.State.{State as RecordsState}
+use Rattle.krb_ccache.specs.declared.value.Credential.{Credential}
+use Rattle.krb_ccache.specs.Reading.{Start, Items}
+use Rattle.krb_ccache.specs.Streaming.{Reads as ReadsCredentials, credentials}
+use Rattle.krb_ccache.specs.declared.credentials.State.{State as CredentialsState}
+use Rattle.krb_list.specs.Text.{line_feed}
+use Rattle.krb_list.specs.Keytabs.{record_text}
+use Rattle.krb_list.specs.Ccaches.{credential_line}
+use Rattle.krb_list.specs.Refusals.{file_refused_line}
+use Rattle.krb_tool.specs.declared.run.RunEnd.{RunEnd}
+use Rattle.krb_tool.specs.declared.run.RunEnd.TheVariants as run
+use Rattle.krb_tool.specs.declared.run.RunFault.{RunFault}
+use Rattle.krb_tool.specs.Files.{RecordListing, after_line, end_of, field_limit, keytab_last, ccache_last, refused_listing}
+
+-- What is added to a text where this is left to be listed: a line, after which others are left; or the last line, where it alone was left.
+abbrev pub AddsLine : (RecordListing → Type 0) → RecordListing → List ℕ → List ℕ → Result (Option RunEnd) RunFault → Type 0
+AddsLine IsLeft left old new (Ok None) = (line : List ℕ) × (others : RecordListing) × (new ≡ old ++ line) × (left ≡ after_line line others) × IsLeft others
+AddsLine IsLeft left old new (Ok (Some ended)) = (new ≡ old ++ left.last) × (left.lines ≡ []) × (ended ≡ left.end)
+AddsLine IsLeft left old new (Err fault) = Unit {0}
+
+-- A line was added, and the run ends so, or goes on.
+abbrev pub Adds : List ℕ → Option RunEnd → List ℕ → List ℕ → Option RunEnd → Type 0
+Adds line wanted old new ended = (ended ≡ wanted) × (new ≡ old ++ line)
+
+-- The line of a refusal was added, which ends the run.
+abbrev pub AddsRefusal : FileFault → List ℕ → List ℕ → Option RunEnd → Type 0
+AddsRefusal (faults.Refused place why) old new ended = Adds (file_refused_line place why) (Some run.Refused) old new ended
+AddsRefusal faults.Read old new ended = ⊥
+AddsRefusal faults.Memory old new ended = ⊥
+
+-- a front of a text was written, and the rest is kept
+abbrev pub Moves : Option (List ℕ) → Option (List ℕ) → List ℕ → List ℕ → Type 0
+Moves held holds old new = (front : List ℕ) × Appends held holds front × (old ≡ front ++ new)
+
+-- what is left after so many items
+abbrev pub left_of : {A : Type 0} → (A → List ℕ) → List A → ℕ → List ℕ → RunEnd → RecordListing
+left_of line items count last end = record { lines = flat_map line (drop count items); last = last; end = end }
+
+abbrev pub records_left : ℕ → Records → RecordListing
+records_left count found = left_of (λ r. record_text r ++ line_feed) found.records count (keytab_last (length found.records) found.end) (end_of found.end)
+
+abbrev pub credentials_left : Option ℕ → ℕ → Items Credential → RecordListing
+credentials_left now count found = left_of (λ c. credential_line now c ++ line_feed) found.items count (ccache_last (length found.items) found.end) (end_of found.end)
+
+-- A reader gave so many records of a file, and this is left of its listing.
+pub record AreRecordsLeft (held : Held) (state : RecordsState) (count : ℕ) (left : RecordListing) : Type 0 where
+  pub file : List ℕ
+  pub reads : ReadsRecords field_limit held state file count
+  pub is : left ≡ records_left count (keytab_records field_limit file)
+
+-- The same of credentials, at a time where one is given.
+pub record AreCredentialsLeft (held : Held) (start : Start) (state : CredentialsState) (now : Option ℕ) (count : ℕ) (left : RecordListing) : Type 0 where
+  pub file : List ℕ
+  pub reads : ReadsCredentials field_limit held start state file count
+  pub is : left ≡ credentials_left now count (credentials field_limit file)
+
+-- where a file is refused, the line of the refusal is what is left
+abbrev pub IsRefusal : FileFault → RecordListing → Type 0
+IsRefusal (faults.Refused place why) left = left ≡ refused_listing (record { place = place; why = why })
+IsRefusal faults.Read left = Unit {0}
+IsRefusal faults.Memory left = Unit {0}

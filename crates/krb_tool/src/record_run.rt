@@ -1,0 +1,299 @@
+//! Runs over files whose lines are written as their records end.
+
+ghost use Rattle.std.specs.Prelude.{◌≡◌, ◌≢◌, ◌++◌, ℕ, suc, List, None, Some, IfErr, IfOk, OnErr, OnOk, string_bytes};
+ghost use Rattle.std.specs.Io.Buffered.{reader_remaining};
+ghost use Rattle.krb_list.specs.Text.{line_feed};
+ghost use Rattle.krb_list.specs.Keytabs.{record_text, keytab_end_text};
+ghost use Rattle.krb_list.specs.Ccaches.{cache_text, credential_line, cache_end_text};
+ghost use Rattle.krb_tool.specs.declared.run.RunEnd.TheVariants as run;
+ghost use Rattle.krb_tool.specs.Files.{RecordListing, after_line, keytab_listing, ccache_listing, AddsFront, ListsRecords};
+ghost use Rattle.krb_tool.specs.inner.RecordRuns.{Adds, AddsRefusal, AddsLine, Moves, AreRecordsLeft, AreCredentialsLeft, IsRefusal};
+
+use crate::run::{PIECE_OCTETS, RunEnd, RunFault};
+use crate::transfer::{MOST_ASKS, write_all};
+use krb_ccache::{Credential, Credentials, FilePrincipal, Header};
+use krb_der::{FieldLimit, FileFault};
+use krb_keytab::{Next, Record, Records, Stop};
+use krb_list::{Shown, put_cache, put_cache_end, put_credential, put_file_refusal, put_keytab_end};
+use std::alloc::Global;
+use std::cell::Cell;
+use std::io;
+use std::io::{BufReader, Read, Write};
+
+/// A reader that says whether it gave as many octets as it was asked for, as that of a fast file
+/// does.
+#[derive(Drop)]
+struct Watched<'a, R> {
+    reader: &'a mut R,
+    is_fast: &'a Cell<bool>,
+}
+
+impl<R: Read> Read for Watched<'_, R> {
+    ghost remaining = { λ watched. R.remaining watched.reader.now };
+
+    fn read(&mut self, octets: &mut [u8]) -> io::Result<usize> {
+        let count = self.reader.read(octets)?;
+        self.is_fast.set(count == octets.len());
+        Ok(count)
+    }
+}
+
+/// A reader that is asked for large pieces.
+fn in_pieces<R: Read + Drop>(alloc: Global, reader: R) -> Result<BufReader<R>, RunFault>
+    ensures same { IfOk result (λ made. (file : List ℕ) → R.remaining reader ≡ Some file → reader_remaining R.remaining made ≡ Some file) }
+    ensures fault { IfErr result (λ e. e ≡ RunFault.Memory) }
+{
+    match BufReader::with_capacity(alloc, PIECE_OCTETS, reader) {
+        Ok(reader) => Ok(reader),
+        Err(_) => Err(RunFault::Memory),
+    }
+}
+
+/// How many octets a field of a file may have.
+fn field_limit() -> FieldLimit
+    ensures { result ≡ 16777216 }
+{
+    match FieldLimit::new(16777216) {
+        Some(limit) => limit,
+        None => unreachable!(),
+    }
+}
+
+/// A file that is listed a line for each record.
+trait RecordLines {
+    /// What is left to be listed after so many records.
+    ghost IsLeft: { Self → ℕ → RecordListing → Type 0 };
+
+    /// Appends the line of the record after so many, or else the last line, and answers how the run
+    /// ends with that.
+    fn put_next(
+        &mut self,
+        alloc: Global,
+        count: u64,
+        text: &mut String,
+    ) -> Result<Option<RunEnd>, RunFault>
+        ensures line { (left : RecordListing) → IsLeft self.old count left → AddsLine (IsLeft self.new (suc count)) left (string_bytes text.old) (string_bytes text.new) result }
+        ensures fault { IfErr result (λ e. e ≢ RunFault.Write) };
+}
+
+/// Appends the line of a record.
+fn put_record(text: &mut String, record: &Record) -> Result<Option<RunEnd>, RunFault>
+    ensures line { IfOk result (Adds (record_text «record».now ++ line_feed) None (string_bytes text.old) (string_bytes text.new)) }
+    ensures fault { IfErr result (λ e. e ≡ RunFault.Memory) }
+{
+    record.put(text)?;
+    text.push('\n')?;
+    Ok(None)
+}
+
+/// Appends the line of the end of a keytab.
+fn put_stop(text: &mut String, count: u64, stop: &Stop) -> Result<Option<RunEnd>, RunFault>
+    ensures line { IfOk result (Adds (keytab_end_text count stop.now ++ line_feed) (Some run.Clean) (string_bytes text.old) (string_bytes text.new)) }
+    ensures fault { IfErr result (λ e. e ≡ RunFault.Memory) }
+{
+    put_keytab_end(text, count, stop)?;
+    text.push('\n')?;
+    Ok(Some(RunEnd::Clean))
+}
+
+/// The lines of a keytab.
+#[derive(Drop)]
+struct KeytabLines<R: Read> {
+    records: Records<R>,
+}
+
+impl<R: Read> RecordLines for KeytabLines<R> {
+    ghost IsLeft = { λ lines. AreRecordsLeft lines.records.reader lines.records.state };
+
+    fn put_next(
+        &mut self,
+        alloc: Global,
+        count: u64,
+        text: &mut String,
+    ) -> Result<Option<RunEnd>, RunFault> {
+        match self.records.next_record(alloc) {
+            Ok(Next::Item(record)) => put_record(text, &record),
+            Ok(Next::Done(stop)) => put_stop(text, count, &stop),
+            Err(fault) => put_fault(text, fault),
+        }
+    }
+}
+
+/// Appends the line of a refusal, which ends the run. Other faults have no line.
+fn put_fault(text: &mut String, fault: FileFault) -> Result<Option<RunEnd>, RunFault>
+    ensures refused { IfOk result (AddsRefusal fault (string_bytes text.old) (string_bytes text.new)) }
+    ensures fault { IfErr result (λ e. e ≢ RunFault.Write) }
+{
+    match fault {
+        FileFault::Refused { place, why } => {
+            put_file_refusal(text, place, why)?;
+            Ok(Some(RunEnd::Refused))
+        }
+        FileFault::Read => Err(RunFault::Read),
+        FileFault::Memory => Err(RunFault::Memory),
+    }
+}
+
+/// A file that is at fault before its records.
+#[derive(Clone, Copy)]
+struct NoLines {
+    fault: FileFault,
+}
+
+impl RecordLines for NoLines {
+    ghost IsLeft = { λ lines _ left. IsRefusal lines.fault left };
+
+    fn put_next(
+        &mut self,
+        _alloc: Global,
+        _count: u64,
+        text: &mut String,
+    ) -> Result<Option<RunEnd>, RunFault> {
+        put_fault(text, self.fault)
+    }
+}
+
+/// Appends the line of a cache.
+fn put_first(text: &mut String, header: &Header, principal: &FilePrincipal) -> Result<(), RunFault>
+    ensures line { OnOk result (string_bytes text.new ≡ string_bytes text.old ++ (cache_text header.now principal.now ++ line_feed)) }
+    ensures fault { IfErr result (λ e. e ≡ RunFault.Memory) }
+{
+    put_cache(text, header, principal)?;
+    text.push('\n')?;
+    Ok(())
+}
+
+/// Appends the line of a credential.
+fn put_one(
+    alloc: Global,
+    text: &mut String,
+    credential: &Credential,
+    now: Option<u32>,
+) -> Result<Option<RunEnd>, RunFault>
+    ensures line { IfOk result (Adds (credential_line now credential.now ++ line_feed) None (string_bytes text.old) (string_bytes text.new)) }
+    ensures fault { IfErr result (λ e. e ≡ RunFault.Memory) }
+{
+    put_credential(alloc, text, credential, now)?;
+    text.push('\n')?;
+    Ok(None)
+}
+
+/// Appends the line of the end of a cache.
+fn put_end(text: &mut String, count: u64) -> Result<Option<RunEnd>, RunFault>
+    ensures line { IfOk result (Adds (cache_end_text count ++ line_feed) (Some run.Clean) (string_bytes text.old) (string_bytes text.new)) }
+    ensures fault { IfErr result (λ e. e ≡ RunFault.Memory) }
+{
+    put_cache_end(text, count)?;
+    text.push('\n')?;
+    Ok(Some(RunEnd::Clean))
+}
+
+/// The lines of the credentials of a cache, at a time in seconds since 1970 where one is given.
+#[derive(Drop)]
+struct CredentialLines<R: Read> {
+    credentials: Credentials<R>,
+    now: Option<u32>,
+}
+
+impl<R: Read + Drop> RecordLines for CredentialLines<R> {
+    ghost IsLeft = { λ lines. AreCredentialsLeft lines.credentials.reader (record { header = lines.credentials.header; principal = lines.credentials.principal }) lines.credentials.state lines.now };
+
+    fn put_next(
+        &mut self,
+        alloc: Global,
+        count: u64,
+        text: &mut String,
+    ) -> Result<Option<RunEnd>, RunFault> {
+        match self.credentials.next_credential(alloc) {
+            Ok(Some(credential)) => put_one(alloc, text, &credential, self.now),
+            Ok(None) => put_end(text, count),
+            Err(fault) => put_fault(text, fault),
+        }
+    }
+}
+
+/// Writes a text if it is due, and forgets what is written.
+fn write_early<W: Write>(writer: &mut W, text: &mut String, is_due: bool) -> Result<(), RunFault>
+    ensures moved { OnOk result (Moves (W.contents writer.old) (W.contents writer.new) (string_bytes text.old) (string_bytes text.new)) }
+    ensures front { OnErr result (AddsFront (W.contents writer.old) (W.contents writer.new) (string_bytes text.old)) }
+    ensures fault { IfErr result (λ e. e ≡ RunFault.Write) }
+{
+    if is_due {
+        write_all(writer, text.as_bytes())?;
+        text.clear();
+    }
+    Ok(())
+}
+
+/// Lists a file after a text that is not written yet. What is not written is written before the next
+/// record is read, but that of a fast file is kept until it is large.
+fn list_records<L: RecordLines, W: Write>(
+    alloc: Global,
+    lines: &mut L,
+    text: &mut String,
+    is_fast: &Cell<bool>,
+    writer: &mut W,
+) -> Result<RunEnd, RunFault>
+    ensures { (left : RecordListing) → L.IsLeft lines.old 0 left → ListsRecords (after_line (string_bytes text.old) left) (W.contents writer.old) (W.contents writer.new) result }
+{
+    'records: for count in 0..MOST_ASKS {
+        let is_due = (text.len() >= PIECE_OCTETS) | !is_fast.get();
+        write_early(writer, text, is_due)?;
+        if let Some(ended) = lines.put_next(alloc, count, text)? {
+            write_all(writer, text.as_bytes())?;
+            return Ok(ended);
+        }
+    }
+    Err(RunFault::Read)
+}
+
+/// Lists a keytab of format 0x0502: a line for each record, then the line of the end, or that of the
+/// refusal. A field of more than 16777216 octets is refused. The reader is asked at most 2^40 times,
+/// for 64 KiB or the octets of a field, and not again after its end or an error. Each line is written
+/// as its record ends, but the lines of a reader that gives all that it is asked for are written
+/// together.
+pub fn run_keytab<R: Read, W: Write>(
+    alloc: Global,
+    reader: &mut R,
+    writer: &mut W,
+) -> Result<RunEnd, RunFault>
+    ensures listed { (file : List ℕ) → R.remaining reader.old ≡ Some file → ListsRecords (keytab_listing file) (W.contents writer.old) (W.contents writer.new) result }
+{
+    let is_fast = Cell::new(true);
+    let is_fast = &is_fast;
+    let reader = in_pieces(alloc, Watched { reader, is_fast })?;
+    let records = Records::new(reader, field_limit());
+    let mut text = String::new(alloc);
+    list_records(
+        alloc,
+        &mut KeytabLines { records },
+        &mut text,
+        is_fast,
+        writer,
+    )
+}
+
+/// Lists a credential cache of version 4: a line for the cache, one for each credential, and the line
+/// of the end, or that of the refusal. Where a now is given, in seconds since 1970, each line of a
+/// credential says whether it has ended. It reads and writes as [`run_keytab`] does.
+pub fn run_ccache<R: Read, W: Write>(
+    alloc: Global,
+    reader: &mut R,
+    writer: &mut W,
+    now: Option<u32>,
+) -> Result<RunEnd, RunFault>
+    ensures listed { (file : List ℕ) → R.remaining reader.old ≡ Some file → ListsRecords (ccache_listing now file) (W.contents writer.old) (W.contents writer.new) result }
+{
+    let is_fast = Cell::new(true);
+    let is_fast = &is_fast;
+    let reader = in_pieces(alloc, Watched { reader, is_fast })?;
+    let mut text = String::new(alloc);
+    match Credentials::start(alloc, reader, field_limit()) {
+        Ok(credentials) => {
+            put_first(&mut text, credentials.header(), credentials.principal())?;
+            let mut lines = CredentialLines { credentials, now };
+            list_records(alloc, &mut lines, &mut text, is_fast, writer)
+        }
+        Err(fault) => list_records(alloc, &mut NoLines { fault }, &mut text, is_fast, writer),
+    }
+}
