@@ -35,13 +35,16 @@ gate:
 test:
 	tests/all
 
-# More than `make test` tries: 100000 made-up streams, and each change of the messages of krb_damage.
+# More than `make test` tries: 100000 made-up streams, each change of the messages of krb_damage, and the marks of
+# 2000 made-up messages.
 fuzz: build
 	cd crates/krb_damage && rt run < stdin > /dev/null
 	tests/fuzz damage
+	tests/marks
 	tests/fuzz 100000 1
 
-# Octets per second: of the listing of streams, of a keytab and of a cache, and of messages parsed and encoded.
+# Octets per second: of the listing of streams, of a keytab and of a cache, and of messages judged, scanned, parsed
+# and encoded.
 bench: build
 	cd crates/krb_roundtrip && rt run < stdin > /dev/null
 	bench/stream

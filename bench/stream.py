@@ -1,13 +1,14 @@
 """Times bin/krbls on streams of framed messages, beside cat, in 8 MiB of address space: real messages
-of six kinds, and AP-REPs. Then what krb_roundtrip does with streams: to parse their messages, and to encode
-them again, beside a memcpy of the same octets."""
+of six kinds, and AP-REPs. Then what krb_roundtrip does with streams: to judge their messages, to take them by
+a scanner octet by octet and at once, to parse them, and to encode them again, beside a memcpy of the same
+octets."""
 
 import ctypes
 import pathlib
 import sys
 import tempfile
 
-from timing import best_of, best_run, rate
+from timing import best_of, best_run, best_runs, rate
 
 KRBLS = ["bash", "-c", "ulimit -v 8192; exec bin/krbls stream"]
 AGAIN = "crates/krb_roundtrip/out/krb_roundtrip"
@@ -69,6 +70,19 @@ def time_again(name, frames, messages, count):
     )
 
 
+def time_judging(name, frames, messages, count):
+    """Prints what it takes to judge the messages of this many times some frames, and to scan them."""
+    size, messages = count * len(frames), count * messages
+    words = ["frames", "judge", "step", "take"]
+    with repeated(frames, count) as stream:
+        cutting, *ways = best_runs(([AGAIN, word] for word in words), stream.name)
+    parts = (
+        f"{word} {rate(size, seconds - cutting)}, {(seconds - cutting) / messages * 1e9:.0f} ns a message"
+        for word, seconds in zip(words[1:], ways)
+    )
+    print(f"{messages} {name}, {size} octets: {'; '.join(parts)}")
+
+
 def main():
     messages = int(sys.argv[1])
     frames, kinds = mixed_frames()
@@ -78,6 +92,7 @@ def main():
     time_listing(*mixed)
     time_listing("AP-REPs", ap_rep, 1, messages)
     time_listing("AP-REPs", ap_rep, 1, 2 * messages)
+    time_judging(*mixed)
     time_again(*mixed)
     time_again("AS-REPs", as_rep, 1, max(messages // 5, 1))
 

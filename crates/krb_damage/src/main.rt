@@ -1,15 +1,22 @@
 //! Reads messages, a line for each with its name and its octets in hexadecimal, and changes each octet
-//! to each other value. It is a test of `krb_judge` on what is nearly a message: `judge` of each front
-//! of such octets and `parse` of all of them have to give one answer. The line of a message counts
-//! the changes, and those after which the octets are still a message. With the word `answers` there
-//! is a line for each change instead: its place, the new octet, and the answer.
+//! to each other value. It is a test of `krb_judge` and `krb_scan` on what is nearly a message: `judge`
+//! of each front of such octets, `parse` of all of them, and scanners that take them one after another
+//! and in pieces of some sizes have to give one answer. The line of a message counts the changes, and
+//! those after which the octets are still a message. With the word `answers` there is a line for each
+//! change instead: its place, the new octet, and the answer. With the word `marks` nothing is changed,
+//! and the octets need not be a message: the line of each has the answer, how many lengths are open,
+//! and the marks, each as where the contents begin, how many octets they are, and the number.
 #![tactic(auto)]
+
+mod scanning;
 
 ghost use Rattle.std.specs.Prelude.{◌^◌, ◌<◌, length};
 
 use krb_der::{Refusal, Verdict, why_number};
 use krb_judge::{ParseFault, judge, parse};
 use krb_msg::encode;
+use krb_scan::{Mark, Scanner};
+use scanning::{scanned, step_all};
 use std::alloc::Global;
 use std::process::ExitCode;
 use std::{env, io};
@@ -21,6 +28,17 @@ enum Answer {
     Message,
     /// None.
     Refused(Refusal),
+}
+
+impl Answer {
+    /// What is decided of all octets, if it is.
+    fn of(verdict: Verdict) -> Option<Answer> {
+        match verdict {
+            Verdict::Open => None,
+            Verdict::Whole => Some(Answer::Message),
+            Verdict::Refused(refusal) => Some(Answer::Refused(refusal)),
+        }
+    }
 }
 
 /// What `judge` answers to all octets of a slice, the fronts of up to `open` octets being open. `None`
@@ -59,11 +77,12 @@ fn parsed(alloc: Global, octets: &[u8]) -> Option<Answer> {
 
 /// The one answer that octets get, if it is one.
 fn one_answer(alloc: Global, octets: &[u8], open: usize) -> Option<Answer> {
-    if octets.len() > 2147483647 {
+    if octets.is_empty() || octets.len() > 2147483647 {
         return None;
     }
     let answer = judged(octets, open)?;
-    (parsed(alloc, octets)? == answer).then_some(answer)
+    let alike = parsed(alloc, octets)? == answer && Answer::of(scanned(alloc, octets)?)? == answer;
+    alike.then_some(answer)
 }
 
 /// What is printed.
@@ -73,18 +92,53 @@ enum Output {
     Counts,
     /// The answer after each change.
     Answers,
+    /// The answer to what is given, and its marks.
+    Marks,
 }
 
-/// Prints what a change made of a message.
-fn print_answer(rt: &impl Print, place: usize, octet: u8, answer: Answer) -> io::Result<()> {
+/// Prints an answer, and no line feed.
+fn print_answer(rt: &impl Print, answer: Answer) -> io::Result<()> {
     match answer {
-        Answer::Message => println!(rt; "{place} {octet} message"),
+        Answer::Message => print!(rt; "message"),
         Answer::Refused(refusal) => {
             let at = refusal.place;
             let why = why_number(refusal.why);
-            println!(rt; "{place} {octet} refused {at} {why}")
+            print!(rt; "refused {at} {why}")
         }
     }
+}
+
+/// Prints the answer that octets get, and what a scanner of them tells.
+fn print_scan(rt: &impl Print, name: &str, answer: Answer, scanner: &Scanner) -> io::Result<()> {
+    print!(rt; "{name} ")?;
+    print_answer(rt, answer)?;
+    let open = scanner.open_lengths();
+    print!(rt; " open={open}")?;
+    for mark in scanner.marks() {
+        let Mark {
+            start,
+            len,
+            value,
+            ..
+        } = *mark;
+        print!(rt; " {start}+{len}={value}")?;
+    }
+    println!(rt)
+}
+
+/// Prints what octets are and the marks in them, and whether they get one answer.
+fn mark<R: Print + AllocGlobal>(rt: &R, name: &str, octets: &[u8]) -> io::Result<bool> {
+    let alloc = rt.alloc();
+    let Some(answer) = one_answer(alloc, octets, 0) else {
+        println!(rt; "{name} has two answers")?;
+        return Ok(false);
+    };
+    if octets.is_empty() || octets.len() > 2147483647 {
+        return Ok(false);
+    }
+    let mut scanner = Scanner::new(alloc, octets.len() as u32);
+    let has_all = step_all(&mut scanner, octets);
+    print_scan(rt, name, answer, &scanner).map(|()| has_all)
 }
 
 /// Makes each change to a message, one at a time, and whether each had one answer.
@@ -117,7 +171,9 @@ fn damage<R: Print + AllocGlobal>(
                 messages = messages.saturating_add(1);
             }
             if output == Output::Answers {
-                print_answer(rt, place, octet, found)?;
+                print!(rt; "{place} {octet} ")?;
+                print_answer(rt, found)?;
+                println!(rt)?;
             }
         }
         octets[place] = kept;
@@ -134,6 +190,7 @@ fn main(rt: HostRuntime) -> io::Result<ExitCode> {
     let _program = words.next();
     let output = match words.next() {
         Some(word) if word.as_str() == "answers" => Output::Answers,
+        Some(word) if word.as_str() == "marks" => Output::Marks,
         _ => Output::Counts,
     };
     let text = io::read_to_string(alloc, rt.stdin())?;
@@ -144,7 +201,11 @@ fn main(rt: HostRuntime) -> io::Result<ExitCode> {
         let Ok(mut octets) = hex::decode(alloc, digits) else {
             return Ok(ExitCode::FAILURE);
         };
-        if !damage(&rt, name, octets.as_mut_slice(), output)? {
+        let is_right = match output {
+            Output::Marks => mark(&rt, name, octets.as_slice())?,
+            _ => damage(&rt, name, octets.as_mut_slice(), output)?,
+        };
+        if !is_right {
             return Ok(ExitCode::FAILURE);
         }
     }

@@ -2,13 +2,18 @@
 //! octets. A frame may also hold a keytab or a credential cache, which begin with 05: it is read,
 //! written again and compared. It is a test of `krb_judge`, `krb_msg`, `krb_keytab` and `krb_ccache`
 //! on real octets, and what the benchmark measures: with the word `parse` it only parses, and with
-//! `frames` it only cuts the frames.
+//! `frames` it only cuts the frames. With `judge` it judges each message, with `step` a scanner takes
+//! its octets one after another, and with `take` at once; there are only messages then.
 #![tactic(auto)]
 
+mod judging;
+
+use judging::{Judging, is_whole};
 use krb_ccache::Ccache;
 use krb_judge::parse;
 use krb_keytab::Keytab;
 use krb_msg::{Message, encode};
+use krb_scan::Scanner;
 use std::alloc::Global;
 use std::io::Read;
 use std::process::ExitCode;
@@ -19,6 +24,8 @@ use std::{env, io};
 enum Work {
     /// It is cut from the stream.
     Frames,
+    /// Its message is judged, too.
+    Judge(Judging),
     /// Its message is parsed, too.
     Parse,
     /// The message is encoded again, and the octets are compared.
@@ -30,6 +37,9 @@ impl Work {
     fn of(word: Option<&str>) -> Work {
         match word {
             Some("frames") => Work::Frames,
+            Some("judge") => Work::Judge(Judging::AtOnce),
+            Some("step") => Work::Judge(Judging::Step),
+            Some("take") => Work::Judge(Judging::Take),
             Some("parse") => Work::Parse,
             _ => Work::Encode,
         }
@@ -90,9 +100,17 @@ impl Counts {
 }
 
 /// Parses octets, and compares them with those of what they are.
-fn again(alloc: Global, octets: &[u8], work: Work) -> Found {
-    if work == Work::Frames {
-        return Found::Same;
+fn again(alloc: Global, scanner: &mut Scanner, octets: &[u8], work: Work) -> Found {
+    match work {
+        Work::Frames => return Found::Same,
+        Work::Judge(judging) => {
+            return if is_whole(scanner, octets, judging) {
+                Found::Same
+            } else {
+                Found::Nothing
+            };
+        }
+        Work::Parse | Work::Encode => {}
     }
     match Kind::of(octets) {
         Kind::Message => match parse(alloc, octets) {
@@ -162,15 +180,15 @@ fn first_frame(octets: &[u8]) -> Option<(&[u8], &[u8])> {
     Some(rest.split_at(size))
 }
 
-fn main(rt: HostRuntime) -> io::Result<ExitCode> {
+/// Does the work with each frame of a stream, up to the first that does not come again.
+fn work_on<R: Print + AllocGlobal>(
+    rt: &R,
+    scanner: &mut Scanner,
+    stream: &[u8],
+    work: Work,
+) -> io::Result<ExitCode> {
     let alloc = rt.alloc();
-    let mut words = env::args(&rt)?;
-    let _program = words.next();
-    let word = words.next();
-    let work = Work::of(word.as_deref());
-    let mut stream = Vec::new(alloc);
-    rt.stdin().read_to_end(&mut stream)?;
-    let mut rest = stream.as_slice();
+    let mut rest = stream;
     let mut counts = Counts {
         messages: 0,
         keytabs: 0,
@@ -181,7 +199,7 @@ fn main(rt: HostRuntime) -> io::Result<ExitCode> {
         let Some((contents, others)) = first_frame(rest) else {
             break;
         };
-        if again(alloc, contents, work) != Found::Same {
+        if again(alloc, scanner, contents, work) != Found::Same {
             println!(rt; "frame {frames} does not come again")?;
             return Ok(ExitCode::FAILURE);
         }
@@ -199,4 +217,16 @@ fn main(rt: HostRuntime) -> io::Result<ExitCode> {
         "{messages} messages, {keytabs} keytabs and {caches} caches came again, {left} octets are left"
     )?;
     Ok(ExitCode::SUCCESS)
+}
+
+fn main(rt: HostRuntime) -> io::Result<ExitCode> {
+    let alloc = rt.alloc();
+    let mut words = env::args(&rt)?;
+    let _program = words.next();
+    let word = words.next();
+    let work = Work::of(word.as_deref());
+    let mut stream = Vec::new(alloc);
+    rt.stdin().read_to_end(&mut stream)?;
+    let mut scanner = Scanner::new(alloc, 1);
+    work_on(&rt, &mut scanner, stream.as_slice(), work)
 }
