@@ -46,6 +46,35 @@ fn run(alloc: Global, octets: &[u8]) -> Result<Scanner, Fail> {
     Ok(scanner)
 }
 
+/// A scanner after the octets of a message of `n` octets, taken in pieces of a size up to the one that
+/// decides.
+fn taken(alloc: Global, n: u32, octets: &[u8], size: usize) -> Result<Scanner, Fail>
+    requires some { 0 < n }
+    requires short { n < 2 ^ 31 }
+    requires size { 0 < size }
+{
+    let mut scanner = Scanner::new(alloc, n);
+    for piece in octets.chunks(size) {
+        if let Verdict::Open = scanner.verdict() {
+            let _ = scanner.take(piece).verdict.ok().ok_or("memory")?;
+        }
+    }
+    Ok(scanner)
+}
+
+/// Whether two scanners tell the same.
+fn tell_the_same(scanner: &Scanner, other: &Scanner) -> bool {
+    let marks = scanner.marks().iter().zip(other.marks());
+    scanner.verdict() == other.verdict()
+        && scanner.looked() == other.looked()
+        && scanner.open_lengths() == other.open_lengths()
+        && scanner.marks().len() == other.marks().len()
+        && marks.into_iter().all(|(mark, same)| {
+            (mark.node, mark.start, mark.len, mark.value)
+                == (same.node, same.start, same.len, same.value)
+        })
+}
+
 /// Whether a scanner answers of each front of a message what `judge` does.
 fn judges_alike(alloc: Global, octets: &[u8]) -> Result<bool, Fail> {
     let n = octets.len();
@@ -122,6 +151,65 @@ fn tells_open_lengths(rt: HostRuntime) -> Result<(), Fail> {
     for (front, open) in [(93, 13), (94, 8), (109, 0)] {
         let octets = request.as_slice().get(..front).ok_or("a front")?;
         assert_eq!(rt; fed(alloc, 109, octets)?.open_lengths(), open, "{front}");
+    }
+    Ok(())
+}
+
+#[test]
+fn takes_pieces_as_it_takes_octets(rt: HostRuntime) -> Result<(), Fail> {
+    let alloc = rt.alloc();
+    for frame in [AP_REP, AP_REQ, AS_REP, AS_REQ, TGS_REP, TGS_REQ, KRB_ERROR] {
+        let octets = contents(alloc, frame)?;
+        let n = octets.len();
+        if n == 0 || n >= 1 << 31 {
+            return Err(Fail::from("a message"));
+        }
+        for front in 1..n + 1 {
+            let octets = octets.as_slice().get(..front).ok_or("a front")?;
+            let scanner = fed(alloc, n as u32, octets)?;
+            for size in [1, 2, 3, 7, n] {
+                let same = taken(alloc, n as u32, octets, size)?;
+                assert!(rt; tell_the_same(&same, &scanner), "{frame} {front} {size}");
+            }
+        }
+    }
+    Ok(())
+}
+
+/// Fronts of an AP-REP of 31 octets in which the last octet is refused, and why.
+const REFUSED: [(&[u8], Why); 6] = [
+    // a padded INTEGER
+    (
+        b"\x6F\x1D\x30\x1B\xA0\x03\x02\x01\x05\xA1\x03\x02\x01\x0F\xA2\x0F\x30\x0D\xA0\x04\x02\x02\x00\x12",
+        Why::IntegerNotMinimal,
+    ),
+    // another version
+    (b"\x6F\x1D\x30\x1B\xA0\x03\x02\x01\x04", Why::Range),
+    // the second field in place of the first
+    (b"\x6F\x1D\x30\x1B\xA1", Why::Tag),
+    // an INTEGER of more octets than its tag has left, and of fewer
+    (b"\x6F\x1D\x30\x1B\xA0\x03\x02\x02", Why::Overrun),
+    (b"\x6F\x1D\x30\x1B\xA0\x04\x02\x01", Why::Loose),
+    // a length that is too long for its octets
+    (b"\x6F\x1D\x30\x81\x1B", Why::LengthNotMinimal),
+];
+
+#[test]
+fn takes_nothing_after_an_octet_that_is_refused(rt: HostRuntime) -> Result<(), Fail> {
+    let alloc = rt.alloc();
+    for (front, why) in REFUSED {
+        let mut octets = Vec::new(alloc);
+        octets.extend_from_slice(front)?;
+        octets.extend_from_slice(b"\x01\x05\xA1\x03\x02\x01\x0F")?;
+        let mut scanner = Scanner::new(alloc, 31);
+        let taken = scanner.take(octets.as_slice());
+        let Ok(Verdict::Refused(refusal)) = taken.verdict else {
+            return Err(Fail::from("no refusal"));
+        };
+        assert_eq!(rt; taken.used, front.len(), "{why}");
+        assert_eq!(rt; refusal.place as usize + 1, front.len(), "{why}");
+        assert_eq!(rt; refusal.why, why);
+        assert!(rt; tell_the_same(&scanner, &fed(alloc, 31, front)?), "{why}");
     }
     Ok(())
 }
