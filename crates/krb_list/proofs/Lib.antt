@@ -9,3 +9,4 @@ pub mod OneLine
 pub mod KeytabOneLine
 pub mod CcacheOneLine
 pub mod EndOneLine
+pub mod Counts

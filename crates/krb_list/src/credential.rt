@@ -7,7 +7,7 @@ ghost use Rattle.krb_list.specs.Text.{sealed_text};
 ghost use Rattle.krb_list.specs.Ccaches.{who_text, key_text, times_text, state_text, flags_text, counts_text, tickets_text, credential_front, credential_text, config_text, refused_ticket_text, ticket_server_text, state_line, credential_line};
 
 use crate::escape::put_escaped;
-use crate::field::put_field;
+use crate::field::put_labelled;
 use crate::principal::put_components;
 use crate::shown::{Name, Shown, put_number};
 use crate::ticket_flags::TicketFlags;
@@ -17,30 +17,30 @@ use krb_der::{Memory, Refusal, why_number};
 use krb_judge::{SealedView, TicketView};
 use std::alloc::{AllocError, Global};
 
-#[tactic(auto, unfolding(crate::specs::Ccaches::who_text))]
+#[tactic(auto, unfolding(crate::specs::Ccaches::who_text, crate::specs::Text::field))]
 fn put_who(line: &mut String, credential: &Credential) -> Result<(), AllocError>
     ensures { OnOk result (string_bytes line.new ≡ string_bytes line.old ++ who_text credential.now) }
 {
-    put_field(line, "client", &credential.client)?;
-    put_field(line, "server", &credential.server)
+    put_labelled(line, " client=", &credential.client)?;
+    put_labelled(line, " server=", &credential.server)
 }
 
-#[tactic(auto, unfolding(crate::specs::Ccaches::key_text))]
+#[tactic(auto, unfolding(crate::specs::Ccaches::key_text, crate::specs::Text::field))]
 fn put_key(line: &mut String, credential: &Credential) -> Result<(), AllocError>
     ensures { OnOk result (string_bytes line.new ≡ string_bytes line.old ++ key_text credential.now) }
 {
-    put_field(line, "enctype", &credential.enctype)?;
-    put_field(line, "key", &credential.key.as_slice().len())
+    put_labelled(line, " enctype=", &credential.enctype)?;
+    put_labelled(line, " key=", &credential.key.as_slice().len())
 }
 
-#[tactic(auto, unfolding(crate::specs::Ccaches::times_text))]
+#[tactic(auto, unfolding(crate::specs::Ccaches::times_text, crate::specs::Text::field))]
 fn put_times(line: &mut String, credential: &Credential) -> Result<(), AllocError>
     ensures { OnOk result (string_bytes line.new ≡ string_bytes line.old ++ times_text credential.now) }
 {
-    put_field(line, "auth", &Time(credential.authtime))?;
-    put_field(line, "start", &Time(credential.starttime))?;
-    put_field(line, "end", &Time(credential.endtime))?;
-    put_field(line, "renew", &Time(credential.renew_till))
+    put_labelled(line, " auth=", &Time(credential.authtime))?;
+    put_labelled(line, " start=", &Time(credential.starttime))?;
+    put_labelled(line, " end=", &Time(credential.endtime))?;
+    put_labelled(line, " renew=", &Time(credential.renew_till))
 }
 
 /// Whether a credential that ends then has ended now, where a now is given.
@@ -54,24 +54,24 @@ fn state_name(now: Option<u32>, endtime: u32) -> Name
     }
 }
 
-#[tactic(auto, unfolding(crate::specs::Ccaches::flags_text))]
+#[tactic(auto, unfolding(crate::specs::Ccaches::flags_text, crate::specs::Text::field))]
 fn put_flags(line: &mut String, now: Option<u32>, credential: &Credential) -> Result<(), AllocError>
     ensures { OnOk result (string_bytes line.new ≡ string_bytes line.old ++ flags_text now credential.now) }
 {
-    put_field(line, "skey", &credential.is_skey)?;
-    put_field(line, "flags", &TicketFlags(credential.flags))?;
-    put_field(line, "state", &state_name(now, credential.endtime))
+    put_labelled(line, " skey=", &credential.is_skey)?;
+    put_labelled(line, " flags=", &TicketFlags(credential.flags))?;
+    put_labelled(line, " state=", &state_name(now, credential.endtime))
 }
 
-#[tactic(auto, unfolding(crate::specs::Ccaches::counts_text))]
+#[tactic(auto, unfolding(crate::specs::Ccaches::counts_text, crate::specs::Text::field))]
 fn put_counts(line: &mut String, credential: &Credential) -> Result<(), AllocError>
     ensures { OnOk result (string_bytes line.new ≡ string_bytes line.old ++ counts_text credential.now) }
 {
-    put_field(line, "addresses", &credential.addresses.as_slice().len())?;
-    put_field(line, "authdata", &credential.authdata.as_slice().len())
+    put_labelled(line, " addresses=", &credential.addresses.as_slice().len())?;
+    put_labelled(line, " authdata=", &credential.authdata.as_slice().len())
 }
 
-#[tactic(auto, unfolding(crate::specs::Ccaches::tickets_text))]
+#[tactic(auto, unfolding(crate::specs::Ccaches::tickets_text, crate::specs::Text::field))]
 fn put_tickets<T: Shown, S: Shown>(
     line: &mut String,
     credential: &Credential,
@@ -80,9 +80,9 @@ fn put_tickets<T: Shown, S: Shown>(
 ) -> Result<(), AllocError>
     ensures { OnOk result (string_bytes line.new ≡ string_bytes line.old ++ tickets_text credential.now (T.text ticket.now) (S.text server.now)) }
 {
-    put_field(line, "ticket", ticket)?;
-    put_field(line, "tserver", server)?;
-    put_field(line, "second", &credential.second_ticket.as_slice().len())
+    put_labelled(line, " ticket=", ticket)?;
+    put_labelled(line, " tserver=", server)?;
+    put_labelled(line, " second=", &credential.second_ticket.as_slice().len())
 }
 
 #[tactic(auto, unfolding(crate::specs::Ccaches::credential_front))]
@@ -111,13 +111,13 @@ fn put_ticketed<T: Shown, S: Shown>(
     put_tickets(line, credential, ticket, server)
 }
 
-#[tactic(auto, unfolding(crate::specs::Ccaches::config_text))]
+#[tactic(auto, unfolding(crate::specs::Ccaches::config_text, crate::specs::Text::field))]
 fn put_config(line: &mut String, credential: &Credential) -> Result<(), AllocError>
     ensures { OnOk result (string_bytes line.new ≡ string_bytes line.old ++ config_text credential.now) }
 {
     line.push_str("config")?;
     put_who(line, credential)?;
-    put_field(line, "size", &credential.ticket.as_slice().len())
+    put_labelled(line, " size=", &credential.ticket.as_slice().len())
 }
 
 /// `refused`, the place and the number of the reason, with `:` between.

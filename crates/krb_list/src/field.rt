@@ -29,6 +29,18 @@ pub fn put_field<T: Shown>(line: &mut String, name: &str, value: &T) -> Result<(
     value.put(line)
 }
 
+/// Appends a field whose blank, name and `=` are one text, its label.
+pub(crate) fn put_labelled<T: Shown>(
+    line: &mut String,
+    label: &str,
+    value: &T,
+) -> Result<(), AllocError>
+    ensures { OnOk result (string_bytes line.new ≡ string_bytes line.old ++ label.now ++ T.text value.now) }
+{
+    line.push_str(label)?;
+    value.put(line)
+}
+
 /// Appends a field that shows the principal of these components and this realm.
 #[tactic(auto, unfolding(crate::specs::Text::field))]
 pub(crate) fn put_components_field(

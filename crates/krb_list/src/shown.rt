@@ -86,7 +86,12 @@ impl Shown for usize {
     ghost text = { decimal };
 
     fn put(&self, line: &mut String) -> Result<(), AllocError> {
-        put_number(line, *self)
+        // Most counts are one digit, which needs no buffer.
+        if *self < 10 {
+            line.push(char::from(b'0' + *self as u8))
+        } else {
+            put_number(line, *self)
+        }
     }
 }
 
