@@ -60,15 +60,14 @@ pub fn cache_line(
 }
 
 fn put_lines(
-    alloc: Global,
     lines: &mut String,
     now: Option<u32>,
     credentials: &[Credential],
-) -> Result<(), Memory>
+) -> Result<(), AllocError>
     ensures { OnOk result (string_bytes lines.new ≡ string_bytes lines.old ++ credential_lines now credentials.now) }
 {
     for credential in credentials {
-        put_credential(alloc, lines, credential, now)?;
+        put_credential(lines, credential, now)?;
         lines.push_str("\n")?;
     }
     Ok(())
@@ -94,21 +93,15 @@ pub fn cache_end_line(alloc: Global, credentials: u64) -> Result<String, Memory>
 
 /// Appends the lines of a cache, those of [`ccache_lines`].
 #[tactic(auto, unfolding(crate::specs::Ccaches::ccache_lines))]
-pub fn put_ccache(
-    alloc: Global,
-    lines: &mut String,
-    ccache: &Ccache,
-    now: Option<u32>,
-) -> Result<(), Memory>
+pub fn put_ccache(lines: &mut String, ccache: &Ccache, now: Option<u32>) -> Result<(), AllocError>
     ensures { OnOk result (string_bytes lines.new ≡ string_bytes lines.old ++ ccache_lines now ccache.now) }
 {
     let credentials = ccache.credentials.as_slice();
     put_cache(lines, &ccache.header, &ccache.principal)?;
     lines.push_str("\n")?;
-    put_lines(alloc, lines, now, credentials)?;
+    put_lines(lines, now, credentials)?;
     put_cache_end(lines, credentials.len() as u64)?;
-    lines.push_str("\n")?;
-    Ok(())
+    lines.push_str("\n")
 }
 
 /// The lines of a cache: [`cache_line`], [`credential_line`](crate::credential_line) of each
@@ -118,6 +111,6 @@ pub fn ccache_lines(alloc: Global, ccache: &Ccache, now: Option<u32>) -> Result<
     ensures { IfOk result (λ text. string_bytes text ≡ ccache_lines now ccache.now) }
 {
     let mut text = String::new(alloc);
-    put_ccache(alloc, &mut text, ccache, now)?;
+    put_ccache(&mut text, ccache, now)?;
     Ok(text)
 }

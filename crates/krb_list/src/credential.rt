@@ -184,15 +184,13 @@ fn put_with_state(
 /// Appends the line of a credential, which is [`credential_line`]'s.
 #[tactic(auto, unfolding(crate::specs::Ccaches::credential_line))]
 pub fn put_credential(
-    _alloc: Global,
     line: &mut String,
     credential: &Credential,
     now: Option<u32>,
-) -> Result<(), Memory>
+) -> Result<(), AllocError>
     ensures { OnOk result (string_bytes line.new ≡ string_bytes line.old ++ credential_line now credential.now) }
 {
-    put_with_state(line, now, credential, &ticket_view_of(credential))?;
-    Ok(())
+    put_with_state(line, now, credential, &ticket_view_of(credential))
 }
 
 /// The line of a credential, without its line feed. Where a now is given, in seconds since 1970, the
@@ -206,6 +204,6 @@ pub fn credential_line(
     ensures { IfOk result (λ line. string_bytes line ≡ credential_line now credential.now) }
 {
     let mut line = String::new(alloc);
-    put_credential(alloc, &mut line, credential, now)?;
+    put_credential(&mut line, credential, now)?;
     Ok(line)
 }

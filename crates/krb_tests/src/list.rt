@@ -227,7 +227,7 @@ fn cache_line_by_line(alloc: Global, cache: &Ccache, now: u32) -> Result<String,
 fn cache_text(alloc: Global, cache: &Ccache, now: u32) -> Result<String, Fail> {
     let lines = ccache_lines(alloc, cache, Some(now))?;
     let mut text = String::new(alloc);
-    put_ccache(alloc, &mut text, cache, Some(now))?;
+    put_ccache(&mut text, cache, Some(now))?;
     let alone = cache_line_by_line(alloc, cache, now)?;
     if text.as_str() != lines.as_str() || alone.as_str() != lines.as_str() {
         return Err(Fail::from("the same lines"));

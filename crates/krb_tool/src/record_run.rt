@@ -165,7 +165,6 @@ fn put_first(text: &mut String, header: &Header, principal: &FilePrincipal) -> R
 
 /// Appends the line of a credential.
 fn put_one(
-    alloc: Global,
     text: &mut String,
     credential: &Credential,
     now: Option<u32>,
@@ -173,7 +172,7 @@ fn put_one(
     ensures line { IfOk result (Adds (credential_line now credential.now ++ line_feed) None (string_bytes text.old) (string_bytes text.new)) }
     ensures fault { IfErr result (λ e. e ≡ RunFault.Memory) }
 {
-    put_credential(alloc, text, credential, now)?;
+    put_credential(text, credential, now)?;
     text.push('\n')?;
     Ok(None)
 }
@@ -205,7 +204,7 @@ impl<R: Read + Drop> RecordLines for CredentialLines<R> {
         text: &mut String,
     ) -> Result<Option<RunEnd>, RunFault> {
         match self.credentials.next_credential(alloc) {
-            Ok(Some(credential)) => put_one(alloc, text, &credential, self.now),
+            Ok(Some(credential)) => put_one(text, &credential, self.now),
             Ok(None) => put_end(text, count),
             Err(fault) => put_fault(text, fault),
         }
