@@ -7,6 +7,9 @@ from .judging import REASONS, Refused, fault, whole
 from .messages import ticket_server
 from .texts import line, principal, sealed
 
+# how many octets a field of octets may have
+FIELD_LIMIT = 16777216
+
 FILE_REASONS = "Magic Version Truncated Overrun TooLong".split()
 
 TICKET_FLAGS = {
@@ -34,10 +37,12 @@ class Fields:
         self.place = 0
         self.room_end = None
 
-    def take(self, size):
+    def take(self, size, most=None):
         end = self.place + size
         if size > 0 and self.room_end is not None and end > self.room_end:
             raise Refused(self.place, "Overrun")
+        if most is not None and size > most:
+            raise Refused(self.place, "TooLong")
         if size > 0 and end > len(self.octets):
             raise Refused(self.place, "Truncated")
         start, self.place = self.place, end
@@ -47,7 +52,7 @@ class Fields:
         return int.from_bytes(self.take(size), "big", signed=signed)
 
     def data(self, size_of_length):
-        return self.take(self.number(size_of_length))
+        return self.take(self.number(size_of_length), FIELD_LIMIT)
 
     def version(self, version):
         for place, wanted, why in ((0, 0x05, "Magic"), (1, version, "Version")):
@@ -64,11 +69,14 @@ def file_time(seconds):
 
 
 def file_listing(lines_of, octets):
-    """The lines of a file, or the one of its refusal, and the status of the program."""
+    """The lines of a file up to its end or its refusal, and the status of the program."""
+    lines = []
     try:
-        return list(lines_of(octets)), 0
+        for one in lines_of(octets):
+            lines.append(one)
     except Refused as refusal:
-        return [f"refused {fault(refusal, FILE_REASONS)}"], 1
+        return [*lines, f"refused {fault(refusal, FILE_REASONS)}"], 1
+    return lines, 0
 
 
 def entry(fields):
@@ -81,7 +89,7 @@ def entry(fields):
     kvno = fields.number(1)
     enctype = fields.number(2)
     key = fields.data(2)
-    rest = fields.take(fields.room_end - fields.place)
+    rest = fields.take(fields.room_end - fields.place, FIELD_LIMIT)
     if len(rest) >= 4:
         kvno = int.from_bytes(rest[:4], "big") or kvno
     shown = {

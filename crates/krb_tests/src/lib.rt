@@ -9,6 +9,10 @@
 #[cfg(test)]
 mod ccache;
 #[cfg(test)]
+mod credentials;
+#[cfg(test)]
+mod damage;
+#[cfg(test)]
 mod der;
 #[cfg(test)]
 mod examples;

@@ -1,6 +1,5 @@
 -- The lines of a keytab, one record after another.
-use Rattle.std.proofs.Common.{◌≡◌, ℕ, suc, ◌++◌, List, length, Option, Some, None, Result, Ok, Err, IfOk, refl, sym, ◌∙◌, ap, ap₂}
-use Rattle.krb_der.specs.Fields.{Fault}
+use Rattle.std.proofs.Common.{ℕ, suc, ◌++◌, List, length, Option, Some, None, Result, Ok, Err, IfOk, refl, ap, ap₂}
 use Rattle.krb_der.specs.FieldReaders.{Held}
 use Rattle.krb_der.specs.declared.file.FileFault.{FileFault}
 use Rattle.krb_der.specs.declared.file.FileFault.TheVariants as faults

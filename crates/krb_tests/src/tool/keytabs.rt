@@ -1,19 +1,33 @@
-//! Keytabs listed from readers and to writers of every kind. The texts that are expected were worked
+//! Keytabs and caches listed from readers and to writers of every kind. The texts that are expected were worked
 //! out by hand from the rules of `docs/FORMATS.md`.
 
 use super::fakes::{Failing, Narrow, Slowly};
+use crate::ccache::CACHE;
 use crate::examples::{KEYTAB, KEYTAB_LINES, is_keytab, octets_of};
-use krb_tool::{RunEnd, RunFault, run_keytab, status};
+use krb_tool::{RunEnd, RunFault, run_ccache, run_keytab, status};
 use std::alloc::Global;
 use std::io::Read;
 use std::test::Fail;
 
+const ENTRY_LINE: &str =
+    "entry principal=h@A type=1 time=2000-01-01T00:00:00Z kvno=258 enctype=18 key=2 rest=4\n";
+
+const RECORD_LINES: &str =
+    "entry principal=h@A type=1 time=2000-01-01T00:00:00Z kvno=258 enctype=18 key=2 rest=4\nhole size=8 clean=yes\n";
+
+const CUT_CACHE_LINES: &str =
+    "cache principal=u@A type=1 offset=0:0 fields=1\nconfig client=u@A server=krb5_ccache_conf_data/pa_type@X-CACHECONF: size=1\nrefused place=225 why=3 Truncated\n";
+
 /// Octets in hexadecimal, and their listing.
 struct Case(&'static str, &'static str);
 
-const CASES: [Case; 16] = [
+const CASES: [Case; 17] = [
     Case(KEYTAB, KEYTAB_LINES),
     Case("", "refused place=0 why=3 Truncated\n"),
+    Case(
+        "05020000001B000100014100016800000001386D43800200120002ABCD00000102FFFFFFF8000000",
+        "entry principal=h@A type=1 time=2000-01-01T00:00:00Z kvno=258 enctype=18 key=2 rest=4\nrefused place=37 why=3 Truncated\n",
+    ),
     Case("05", "refused place=1 why=3 Truncated\n"),
     Case("06", "refused place=0 why=1 Magic\n"),
     Case("0601", "refused place=0 why=1 Magic\n"),
@@ -55,7 +69,7 @@ fn lists_at_once_and_octet_by_octet(rt: HostRuntime) -> Result<(), Fail> {
         assert_eq!(rt; at_once.as_slice(), text.as_bytes(), "{digits} at once");
         assert_eq!(rt;
             end == RunEnd::Refused,
-            text.starts_with("refused"),
+            text.contains("refused "),
             "{digits}"
         );
         let octets = octets.as_slice();
@@ -81,6 +95,15 @@ fn lists_cut_in_two(rt: HostRuntime) -> Result<(), Fail> {
     Ok(())
 }
 
+/// The first lines of the keytab above whose records end in its first octets.
+fn lines_before(count: usize) -> &'static str {
+    match count {
+        0..=32 => "",
+        33..=44 => ENTRY_LINE,
+        _ => RECORD_LINES,
+    }
+}
+
 #[test]
 fn takes_the_fronts_that_are_keytabs(rt: HostRuntime) -> Result<(), Fail> {
     let alloc = rt.alloc();
@@ -89,20 +112,21 @@ fn takes_the_fronts_that_are_keytabs(rt: HostRuntime) -> Result<(), Fail> {
         let (lines, end) = listing(alloc, &mut &octets.as_slice()[..count])?;
         let clean = is_keytab(count);
         assert_eq!(rt; end == RunEnd::Clean, clean, "{count} octets");
-        assert_eq!(rt;
-            lines.as_slice().starts_with(b"refused"),
-            !clean,
-            "{count} octets"
-        );
+        let last = lines
+            .as_slice()
+            .strip_prefix(lines_before(count).as_bytes());
+        let last = last.ok_or("the lines of the records that are there")?;
+        assert_eq!(rt; last.starts_with(b"refused"), !clean, "{count} octets");
+        assert_eq!(rt; last.starts_with(b"end"), clean, "{count} octets");
     }
     Ok(())
 }
 
 #[test]
-fn writes_nothing_where_a_read_fails(rt: HostRuntime) -> Result<(), Fail> {
+fn writes_the_lines_before_a_read_that_fails(rt: HostRuntime) -> Result<(), Fail> {
     let alloc = rt.alloc();
     let octets = octets_of(alloc, KEYTAB)?;
-    for count in 0..=octets.len() {
+    for count in 0..49 {
         let mut text = Vec::new(alloc);
         let mut reader = Failing {
             octets: &octets.as_slice()[..count],
@@ -110,8 +134,26 @@ fn writes_nothing_where_a_read_fails(rt: HostRuntime) -> Result<(), Fail> {
         let outcome = run_keytab(alloc, &mut reader, &mut text);
         assert_eq!(rt; outcome, Err(RunFault::Read), "after {count} octets");
         assert_eq!(rt; status(&outcome), 3);
-        assert_eq!(rt; text.len(), 0, "after {count} octets");
+        assert_eq!(rt;
+            text.as_slice(),
+            lines_before(count).as_bytes(),
+            "after {count} octets"
+        );
     }
+    Ok(())
+}
+
+#[test]
+fn refuses_after_the_lines_that_stand_before(rt: HostRuntime) -> Result<(), Fail> {
+    let alloc = rt.alloc();
+    let octets = octets_of(alloc, CACHE)?;
+    let mut cut = Vec::new(alloc);
+    cut.extend_from_slice(octets.as_slice().get(..221).ok_or("a front")?)?;
+    cut.extend_from_slice(b"\xFF\xFF\xFF\xFF")?;
+    let mut text = Vec::new(alloc);
+    let outcome = run_ccache(alloc, &mut cut.as_slice(), &mut text, None);
+    assert_eq!(rt; outcome, Ok(RunEnd::Refused));
+    assert_eq!(rt; text.as_slice(), CUT_CACHE_LINES.as_bytes());
     Ok(())
 }
 

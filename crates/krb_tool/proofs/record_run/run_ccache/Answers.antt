@@ -1,9 +1,7 @@
-use Rattle.std.proofs.Common.{◌≡◌, ◌++◌, ℕ, List, [], ◌∙◌, ap, ap₂, subst, string_bytes}
+use Rattle.std.proofs.Common.{◌≡◌, ◌++◌, ℕ, List, ◌∙◌, ap, ap₂, subst, string_bytes}
 use Rattle.std.proofs.lemmas.Result.{err_from_is_err_and}
 use Rattle.krb_ccache.specs.Reading.{Start}
 use Rattle.krb_ccache.specs.Streaming.{credentials}
-use Rattle.krb_ccache.specs.declared.value.Header.{Header}
-use Rattle.krb_ccache.specs.declared.value.FilePrincipal.{FilePrincipal}
 use Rattle.krb_list.specs.Text.{line_feed}
 use Rattle.krb_list.specs.Ccaches.{cache_text}
 use Rattle.krb_tool.specs.Files.{RecordListing, after_line, field_limit, credentials_listing, ccache_listing, ListsRecords}
