@@ -173,6 +173,10 @@ impl Path {
         ensures none { result ≡ None → self.new ≡ self.old }
         ensures room { vec_capacity self.new.marks ≡ vec_capacity self.old.marks }
     {
+        let due = place_at(first);
+        if !due.sole || matches!(due.contents, Contents::Items { .. }) {
+            return None;
+        }
         let rest = &octets[found.header as usize..];
         if rest.len() < found.size as usize {
             return None;
