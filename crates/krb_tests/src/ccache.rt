@@ -3,8 +3,8 @@
 use crate::examples;
 use crate::examples::octets_of;
 use krb_ccache::{
-    Ccache, CcacheFault, Credential, FilePrincipal, Header, HeaderField, TicketState, Typed, read,
-    ticket_of, write,
+    Ccache, CcacheFault, Credential, FilePrincipal, Header, HeaderField, TicketState,
+    TicketStateView, Typed, read, ticket_of, ticket_view_of, write,
 };
 use krb_der::{FileFault, FileWhy, KString, Many, Octets, Refusal, Why};
 use std::alloc::Global;
@@ -181,12 +181,26 @@ fn has_each_state(alloc: Global, credentials: &[Credential]) -> bool {
     }
 }
 
+/// The same, where each ticket stands.
+fn shows_each_state(credentials: &[Credential]) -> bool {
+    match credentials {
+        [config, whole, cut, absent] => {
+            matches!(ticket_view_of(config), TicketStateView::Config)
+                && matches!(ticket_view_of(whole), TicketStateView::Ticket(_))
+                && matches!(ticket_view_of(cut), TicketStateView::Refused(_))
+                && matches!(ticket_view_of(absent), TicketStateView::Absent)
+        }
+        _ => false,
+    }
+}
+
 #[test]
 fn tells_what_a_ticket_field_holds(rt: HostRuntime) -> Result<(), Fail> {
     let alloc = rt.alloc();
     let octets = examples::cache(alloc)?;
     let cache = cache(alloc, octets.as_slice())?;
     assert!(rt; has_each_state(alloc, cache.credentials.as_slice()));
+    assert!(rt; shows_each_state(cache.credentials.as_slice()));
     Ok(())
 }
 

@@ -4,7 +4,7 @@ use crate::examples::{
     AP_REP, AP_REQ, AS_REP, AS_REQ, KRB_ERROR, TGS_REP, TGS_REQ, TICKET, contents, octets_of,
 };
 use krb_der::{Refusal, Why};
-use krb_judge::{ParseFault, parse, parse_method_data, parse_ticket};
+use krb_judge::{ParseFault, TicketView, parse, parse_method_data, parse_ticket, read_ticket};
 use krb_msg::{
     ApReq, EncryptedData, KdcRep, KdcReq, Kind, KrbError, Message, PaData, PrincipalName, Ticket,
 };
@@ -241,6 +241,37 @@ fn reads_a_ticket_and_method_data_alone(rt: HostRuntime) -> Result<(), Fail> {
     assert!(rt; is_ticket, "a ticket for h");
     assert_eq!(rt; methods(alloc, b"\x30\x00"), Some(0));
     assert_eq!(rt; methods(alloc, &METHOD_DATA), Some(1));
+    Ok(())
+}
+
+/// Whether a Ticket that is read where it stands is the one for h of the realm A.
+fn is_seen_for_h(ticket: &TicketView<'_>) -> bool {
+    match ticket.sname.name.split_first() {
+        Some((name, others)) => {
+            name == b"h".as_slice()
+                && others.split_first().is_none()
+                && ticket.realm == b"A".as_slice()
+                && ticket.enc_part.etype == 18
+                && ticket.enc_part.kvno.is_none()
+                && ticket.enc_part.cipher == b"\xBE\xEF".as_slice()
+        }
+        None => false,
+    }
+}
+
+#[test]
+fn reads_a_ticket_where_it_stands(rt: HostRuntime) -> Result<(), Fail> {
+    let octets = octets_of(rt.alloc(), TICKET)?;
+    let is_ticket = match read_ticket(octets.as_slice()) {
+        Ok(ticket) => is_seen_for_h(&ticket),
+        Err(_) => false,
+    };
+    assert!(rt; is_ticket, "a ticket for h");
+    let (place, why) = (1, Why::Indefinite);
+    assert_eq!(rt;
+        read_ticket(b"\x61\x80").err(),
+        Some(Refusal { place, why })
+    );
     Ok(())
 }
 
