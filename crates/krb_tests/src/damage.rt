@@ -122,6 +122,13 @@ fn differ<F: Format>(
     None
 }
 
+/// Changes bits of an octet.
+fn flip(octets: &mut [u8], place: usize, bits: u8) {
+    if let Some(octet) = octets.get_mut(place) {
+        *octet ^= bits;
+    }
+}
+
 /// The place of the first octet that makes a difference where it is changed to other values, and
 /// which.
 fn differ_when_changed<F: Format>(
@@ -132,11 +139,11 @@ fn differ_when_changed<F: Format>(
     let mut octets = octets_of(alloc, digits)?;
     for place in 0..octets.len() {
         for change in [0, 1, 2, 4, 8, 16, 32, 64, 128, 255] {
-            octets.as_mut_slice()[place] ^= change;
+            flip(octets.as_mut_slice(), place, change);
             if let Some((end, wanted)) = differ::<F>(alloc, octets.as_slice(), place, limit) {
                 return Ok(Some((place, end, wanted)));
             }
-            octets.as_mut_slice()[place] ^= change;
+            flip(octets.as_mut_slice(), place, change);
         }
     }
     Ok(None)
