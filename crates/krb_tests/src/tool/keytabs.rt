@@ -128,9 +128,8 @@ fn writes_the_lines_before_a_read_that_fails(rt: HostRuntime) -> Result<(), Fail
     let octets = octets_of(alloc, KEYTAB)?;
     for count in 0..49 {
         let mut text = Vec::new(alloc);
-        let mut reader = Failing {
-            octets: &octets.as_slice()[..count],
-        };
+        let octets = octets.as_slice().get(..count).ok_or("a front")?;
+        let mut reader = Failing { octets };
         let outcome = run_keytab(alloc, &mut reader, &mut text);
         assert_eq!(rt; outcome, Err(RunFault::Read), "after {count} octets");
         assert_eq!(rt; status(&outcome), 3);
