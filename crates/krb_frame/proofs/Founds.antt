@@ -1,7 +1,7 @@
 -- What the fields of a decoder come to: the frames of the octets that they hold.
-use Rattle.std.proofs.Common.{◌≡◌, ℕ, zero, suc, ◌+◌, ◌^◌, ◌<◌, ◌≤◌, List, [], ◌∷◌, ◌++◌, length, take, drop, Some, None, refl, sym, ◌∙◌, ap, ap₂, subst, arith, append-nil, length-append, length-take, length-drop, drop_at}
+use Rattle.std.proofs.Common.{◌≡◌, ℕ, zero, suc, ◌+◌, ◌^◌, ◌<◌, ◌≤◌, inl, inr, List, [], ◌∷◌, ◌++◌, length, take, drop, Some, None, refl, sym, ◌∙◌, ap, ap₂, subst, arith, append-nil, length-append, length-take, drop_at}
 use Rattle.std.specs.Int.{w32, from_be_bytes}
-use Rattle.std.proofs.lemmas.List.{take_all, take_at}
+use Rattle.std.proofs.lemmas.List.{take_all, take_at, drop_all, nil_from_length}
 use Rattle.krb_der.specs.Octets.{number}
 use Rattle.krb_der.specs.declared.why.Why.TheVariants as why
 use Rattle.krb_der.specs.declared.verdict.Refusal.{Refusal}
@@ -11,8 +11,11 @@ use Rattle.krb_msg.specs.Judgement.{Open, Bad, Done, message_outcome, judgement_
 use Rattle.krb_msg.specs.Stream.{Frames, Boundary, Within, Refused, ends, with_first, frames}
 use Rattle.krb_msg.proofs.Fronts.{MayFollow, frames-high, frames-long, frames-empty, frames-open, frames-bad, frames-done_more, frames-short, frames-nil}
 use Rattle.krb_msg.proofs.Grammars.{whole_outcome, refused_outcome, open_outcome}
-use Rattle.krb_frame.specs.Decoding.{Decoding, found, status_at, status_of, first_of, borrowed, finish_at, finish_of, AreOfOne, IsOfOneFrame}
-use Rattle.krb_frame.specs.inner.Phases.{end_after, octets_of, IsRefusedIn, IsTaken, phase_of, IsAccepted, HasPartOfLength, HasPart, HasFrame, HasRefused, IsAt, phase_status}
+use Rattle.krb_scan.specs.At.{open_count}
+use Rattle.krb_scan.specs.Scanner.{At}
+use Rattle.krb_scan.specs.declared.scanner.Scanner.{Scanner}
+use Rattle.krb_frame.specs.Decoding.{Decoding, found, status_at, status_of, first_of, borrowed, open_lengths_of, finish_at, finish_of, AreOfOne, IsOfOneFrame}
+use Rattle.krb_frame.specs.inner.Phases.{end_after, octets_of, decoding_of, IsRefusedIn, IsTaken, phase_of, IsAccepted, HasPartOfLength, HasPart, HasFrame, HasRefused, IsAt, IsScanned, length_present, phase_status}
 use Rattle.krb_frame.specs.declared.decoder.Phase.{Phase}
 use Rattle.krb_frame.specs.declared.decoder.Phase.TheVariants as phase
 use Rattle.krb_frame.specs.declared.decoder.Status.{Status}
@@ -84,6 +87,11 @@ none_ready (phase.Length count) contents n = refl
 none_ready (phase.Contents size) contents n = refl
 none_ready phase.Ready contents n = absurd (n refl)
 none_ready (phase.Refused refusal) contents n = refl
+
+-- no length is open where nothing came
+none_open : (n : ℕ) → open_count n [] ≡ 0
+none_open zero = refl
+none_open (suc n) = refl
 
 -- ---- by any messages
 module _ (messages : List Term) where
@@ -176,39 +184,67 @@ module _ (messages : List Term) where
     pub is : status_of messages d ≡ answer
     pub one : IsOfOneFrame messages d
 
-  pub comes : (limit : ℕ) (announced contents : List ℕ) (p : Phase) → IsAt messages limit announced contents p → Comes (record { limit = limit; octets = octets_of p announced contents }) (phase_status p)
+  pub comes : (limit looks : ℕ) (announced contents : List ℕ) (p : Phase) → IsAt messages limit announced contents p → Comes (decoding_of limit looks announced contents p) (phase_status p)
   unfolding found
-  comes limit announced contents p h = record {
+  comes limit looks announced contents p h = record {
     is = ap (λ f. status_at f.contents f.end) (found-at limit announced contents p h) ∙ status-at p contents;
     one = subst (λ f. AreOfOne (octets_of p announced contents) f.contents f.end) (sym (found-at limit announced contents p h)) (one-at limit announced contents p h);
   }
 
-  pub one-nothing : (limit : ℕ) → IsOfOneFrame messages (record { limit = limit; octets = [] })
+  pub one-nothing : (limit looks : ℕ) → IsOfOneFrame messages (record { limit = limit; octets = []; looks = looks })
   unfolding found
-  one-nothing limit = subst (λ f. AreOfOne [] f.contents f.end) (sym (frames-nil messages limit)) refl
+  one-nothing limit looks = subst (λ f. AreOfOne [] f.contents f.end) (sym (frames-nil messages limit)) refl
 
-  pub more-nothing : (limit : ℕ) → status_of messages (record { limit = limit; octets = [] }) ≡ status.More
+  pub more-nothing : (limit looks : ℕ) → status_of messages (record { limit = limit; octets = []; looks = looks }) ≡ status.More
   unfolding found
-  more-nothing limit = ap (λ f. status_at f.contents f.end) (frames-nil messages limit)
+  more-nothing limit looks = ap (λ f. status_at f.contents f.end) (frames-nil messages limit)
 
-  pub borrowed-none : (limit : ℕ) (announced contents : List ℕ) (p : Phase) → IsAt messages limit announced contents p → (p ≡ phase.Ready → ⊥) → borrowed messages (record { limit = limit; octets = octets_of p announced contents }) ≡ None
+  pub borrowed-none : (limit looks : ℕ) (announced contents : List ℕ) (p : Phase) → IsAt messages limit announced contents p → (p ≡ phase.Ready → ⊥) → borrowed messages (decoding_of limit looks announced contents p) ≡ None
   unfolding found
-  borrowed-none limit announced contents p h n = ap (λ f. first_of f.contents) (found-at limit announced contents p h) ∙ none_ready p contents n
+  borrowed-none limit looks announced contents p h n = ap (λ f. first_of f.contents) (found-at limit announced contents p h) ∙ none_ready p contents n
 
-  pub borrowed-ready : (limit : ℕ) (announced contents : List ℕ) (p : Phase) → IsAt messages limit announced contents p → p ≡ phase.Ready → borrowed messages (record { limit = limit; octets = octets_of p announced contents }) ≡ Some contents
+  pub borrowed-ready : (limit looks : ℕ) (announced contents : List ℕ) (p : Phase) → IsAt messages limit announced contents p → p ≡ phase.Ready → borrowed messages (decoding_of limit looks announced contents p) ≡ Some contents
   unfolding found
-  borrowed-ready limit announced contents p h e = ap (λ f. first_of f.contents) (found-at limit announced contents p h ∙ ap (λ q. frames_at q contents) e)
+  borrowed-ready limit looks announced contents p h e = ap (λ f. first_of f.contents) (found-at limit announced contents p h ∙ ap (λ q. frames_at q contents) e)
 
-  pub finish-at : (limit : ℕ) (announced contents : List ℕ) (p : Phase) → IsAt messages limit announced contents p → finish_of messages (record { limit = limit; octets = octets_of p announced contents }) ≡ finish_at (frames_at p contents).end
+  pub finish-at : (limit looks : ℕ) (announced contents : List ℕ) (p : Phase) → IsAt messages limit announced contents p → finish_of messages (decoding_of limit looks announced contents p) ≡ finish_at (frames_at p contents).end
   unfolding found
-  finish-at limit announced contents p h = ap (λ f. finish_at f.end) (found-at limit announced contents p h)
+  finish-at limit looks announced contents p h = ap (λ f. finish_at f.end) (found-at limit announced contents p h)
 
   -- the contents are those that are kept
-  pub kept-at : (limit : ℕ) (announced contents : List ℕ) (p : Phase) → IsAt messages limit announced contents p → length contents ≡ length (drop 4 (octets_of p announced contents))
-  kept-at limit announced contents (phase.Length count) h = omega (arith, length_of-part announced contents count h, h.part, ap length h.none, length-drop 4 (take count announced ++ contents))
-  kept-at limit announced contents (phase.Contents size) h = omega (arith, h.accepted.four, length-append (take 4 announced) contents, length-take 4 announced, length-drop 4 (take 4 announced ++ contents))
-  kept-at limit announced contents phase.Ready h = omega (arith, h.accepted.four, length-append (take 4 announced) contents, length-take 4 announced, length-drop 4 (take 4 announced ++ contents))
-  kept-at limit announced contents (phase.Refused refusal) h = omega (arith, h.four, length-append (take 4 announced) contents, length-take 4 announced, length-drop 4 (take 4 announced ++ contents))
+  pub contents-at : (limit : ℕ) (announced contents : List ℕ) (p : Phase) → IsAt messages limit announced contents p → drop 4 (octets_of p announced contents) ≡ contents
+  contents-at limit announced contents (phase.Length count) h = drop_all 4 (take count announced ++ contents) (omega (arith, length_of-part announced contents count h, h.part)) ∙ sym h.none
+  contents-at limit announced contents (phase.Contents size) h = ap (drop 4) (four_octets announced contents h.accepted.four) ∙ drop_at announced contents 4 h.accepted.four
+  contents-at limit announced contents phase.Ready h = ap (drop 4) (four_octets announced contents h.accepted.four) ∙ drop_at announced contents 4 h.accepted.four
+  contents-at limit announced contents (phase.Refused refusal) h = ap (drop 4) (four_octets announced contents h.four) ∙ drop_at announced contents 4 h.four
+
+  -- how many octets they are, with those of the length
+  pub looked-at : (limit : ℕ) (announced contents : List ℕ) (p : Phase) → IsAt messages limit announced contents p → length (octets_of p announced contents) ≡ length_present p + length contents
+  looked-at limit announced contents (phase.Length count) h = omega (arith, length_of-part announced contents count h, ap length h.none)
+  looked-at limit announced contents (phase.Contents size) h = omega (arith, h.accepted.four, length-append (take 4 announced) contents, length-take 4 announced)
+  looked-at limit announced contents phase.Ready h = omega (arith, h.accepted.four, length-append (take 4 announced) contents, length-take 4 announced)
+  looked-at limit announced contents (phase.Refused refusal) h = omega (arith, h.four, length-append (take 4 announced) contents, length-take 4 announced)
+
+  -- ---- the lengths that are open
+  pub open-none : (limit looks : ℕ) (announced contents : List ℕ) (p : Phase) → IsAt messages limit announced contents p → length contents ≡ 0 → open_lengths_of (decoding_of limit looks announced contents p) ≡ 0
+  open-none limit looks announced contents p h e =
+      ap (open_count (number (take 4 (octets_of p announced contents)))) (contents-at limit announced contents p h ∙ nil_from_length contents e) ∙ none_open (number (take 4 (octets_of p announced contents)))
+
+  pub open-some : (limit looks count : ℕ) (announced contents : List ℕ) (p : Phase) (scanner : Scanner) → IsAt messages limit announced contents p → IsScanned scanner announced contents p → 0 < length contents → ((n : ℕ) (octets : List ℕ) → At scanner n octets → count ≡ open_count n octets) → count ≡ open_lengths_of (decoding_of limit looks announced contents p)
+  open-some limit looks count announced contents p scanner h s some each = by p h s
+    where
+      of_length : (n : ℕ) → length announced ≡ 4 → number announced ≡ n → At scanner n contents → count ≡ open_count (number (take 4 (take 4 announced ++ contents))) (drop 4 (take 4 announced ++ contents))
+      of_length n four e at =
+          let all : take 4 announced ++ contents ≡ announced ++ contents = four_octets announced contents four in
+          each n contents at
+          ∙ ap₂ open_count (sym (ap number (ap (take 4) all ∙ take_at announced contents 4 four) ∙ e)) (sym (ap (drop 4) all ∙ drop_at announced contents 4 four))
+
+      by : (p : Phase) → IsAt messages limit announced contents p → IsScanned scanner announced contents p → count ≡ open_lengths_of (decoding_of limit looks announced contents p)
+      by (phase.Length k) h s = absurd (omega (arith, some, ap length h.none))
+      by (phase.Contents size) h s = of_length size h.accepted.four h.accepted.is s
+      by phase.Ready h s = of_length (length contents) h.accepted.four h.accepted.is s
+      by (phase.Refused refusal) h (inl e) = absurd (omega (arith, some, ap length e))
+      by (phase.Refused refusal) h (inr at) = of_length (number announced) h.four refl at
 
   pub few-at : (limit : ℕ) (announced contents : List ℕ) (p : Phase) → limit < 2 ^ 31 → IsAt messages limit announced contents p → (length contents ≤ limit) × (length contents < 2 ^ 31)
   few-at limit announced contents (phase.Length count) l h = (omega (arith, ap length h.none), omega (arith, ap length h.none))
@@ -241,3 +277,10 @@ module _ (messages : List Term) where
     whole = subst (λ n. judgement_by messages n after ≡ verdict.Whole) (sym t.decided.1) t.decided.0;
   }
   taken-at limit announced before piece after size used (status.Refused refusal) h t = refused_within limit announced after size refusal h.accepted t.present t.decided
+
+  -- the scanner stands for them
+  pub scanned-at : (limit : ℕ) (announced before piece after : List ℕ) (size used : ℕ) (answer : Status) (scanner : Scanner) → HasPart messages limit announced before size → IsTaken messages size before piece after (record { used = used; status = answer }) → At scanner size after → IsScanned scanner announced after (phase_of size answer)
+  scanned-at limit announced before piece after size used status.More scanner h t at = at
+  scanned-at limit announced before piece after size used status.Memory scanner h t at = at
+  scanned-at limit announced before piece after size used status.Ready scanner h t at = subst (λ n. At scanner n after) (sym t.decided.1) at
+  scanned-at limit announced before piece after size used (status.Refused refusal) scanner h t at = inr (subst (λ n. At scanner n after) (sym h.accepted.is) at)

@@ -1,14 +1,14 @@
 -- What a decoder stands for when it is fed, and when a frame is cleared.
-use Rattle.std.proofs.Common.{◌≡◌, ◌≢◌, ℕ, ◌+◌, ◌<◌, ◌≤◌, ◌⊎◌, inl, inr, List, [], ◌∷◌, ◌++◌, length, take, drop, true, false, Some, None, refl, sym, ◌∙◌, ap, subst, arith, append_assoc, append-nil, length-append, length-take, length-drop}
+use Rattle.std.proofs.Common.{◌≡◌, ◌≢◌, ℕ, ◌+◌, ◌-◌, ◌<◌, ◌≤◌, ◌⊎◌, inl, inr, List, [], ◌∷◌, ◌++◌, length, take, drop, true, false, Some, None, refl, sym, ◌∙◌, ap, subst, arith, append_assoc, append-nil, length-append, length-take, length-drop}
 use Rattle.std.proofs.lemmas.Bool.{cases_lt}
 use Rattle.std.proofs.Math.Seq.{take-add}
 use Rattle.std.specs.Prelude.{is_some}
 use Rattle.krb_msg.specs.Term.{Term}
 use Rattle.krb_msg.specs.Stream.{with_first, frames}
-use Rattle.krb_frame.specs.Decoding.{Decoding, status_of, borrowed, IsOfOneFrame}
+use Rattle.krb_frame.specs.Decoding.{Decoding, status_of, borrowed, kept_contents, IsOfOneFrame}
 use Rattle.krb_frame.specs.Stands.{Stands, after_frames}
 use Rattle.krb_frame.specs.Feeds.{IsAnswer, Feeds, Clears}
-use Rattle.krb_frame.specs.inner.Phases.{octets_of, length_present, IsDecided, IsTaken, phase_of, HasPartOfLength, HasPart, HasFrame, IsAt, IsPut, FeedsLength, phase_status}
+use Rattle.krb_frame.specs.inner.Phases.{octets_of, decoding_of, length_present, IsDecided, IsTaken, phase_of, HasPartOfLength, HasPart, HasFrame, IsAt, IsPut, FeedsLength, phase_status}
 use Rattle.krb_frame.specs.declared.decoder.Phase.{Phase}
 use Rattle.krb_frame.specs.declared.decoder.Phase.TheVariants as phase
 use Rattle.krb_frame.specs.declared.decoder.Fed.{Fed}
@@ -32,8 +32,8 @@ same_contents contents other e = cc
 
 -- ---- by any messages
 module _ (messages : List Term) where
-  pub Stands-new : (limit : ℕ) → Stands messages (record { limit = limit; octets = [] }) [] []
-  Stands-new limit = record { goes_on = λ more. refl; last = record { before = []; parts = refl }; one = one-nothing messages limit }
+  pub Stands-new : (limit looks : ℕ) → Stands messages (record { limit = limit; octets = []; looks = looks }) [] []
+  Stands-new limit looks = record { goes_on = λ more. refl; last = record { before = []; parts = refl }; one = one-nothing messages limit looks }
 
   -- octets more
   pub Stands-fed : (old new : Decoding) (used : List ℕ) → new.limit ≡ old.limit → new.octets ≡ old.octets ++ used → IsOfOneFrame messages new → (stream : List ℕ) (cleared : List (List ℕ)) → Stands messages old stream cleared → Stands messages new (stream ++ used) cleared
@@ -49,22 +49,23 @@ module _ (messages : List Term) where
   }
 
   -- one frame less
-  pub Stands-cleared : (limit : ℕ) (octets contents : List ℕ) → ((more : List ℕ) → frames messages limit (octets ++ more) ≡ with_first contents (frames messages limit more)) → (stream : List ℕ) (cleared : List (List ℕ)) → Stands messages (record { limit = limit; octets = octets }) stream cleared → Stands messages (record { limit = limit; octets = [] }) stream (cleared ++ contents ∷ [])
-  Stands-cleared limit octets contents first stream cleared s = record {
+  pub Stands-cleared : (limit looks : ℕ) (octets contents : List ℕ) → ((more : List ℕ) → frames messages limit (octets ++ more) ≡ with_first contents (frames messages limit more)) → (stream : List ℕ) (cleared : List (List ℕ)) → Stands messages (record { limit = limit; octets = octets; looks = looks }) stream cleared → Stands messages (record { limit = limit; octets = []; looks = looks }) stream (cleared ++ contents ∷ [])
+  Stands-cleared limit looks octets contents first stream cleared s = record {
     goes_on = λ more.
         s.goes_on more
         ∙ ap (after_frames cleared) (first more)
         ∙ ap (λ l. record { contents = l; end = (frames messages limit more).end }) (sym (append_assoc cleared (contents ∷ []) (frames messages limit more).contents));
     last = record { before = stream; parts = sym (append-nil stream) };
-    one = one-nothing messages limit;
+    one = one-nothing messages limit looks;
   }
 
   -- ---- feeds
-  pub Feeds-made : (old new : Decoding) (piece : List ℕ) (count : ℕ) (answer came : Status) → count ≤ length piece → new.limit ≡ old.limit → new.octets ≡ old.octets ++ take count piece → status_of messages old ≡ status.More → Comes messages new came → (answer ≡ came) ⊎ ((answer ≡ status.Memory) × (came ≡ status.More)) → (answer ≡ status.More → count ≡ length piece) → (answer ≡ status.Memory → (4 ≤ length new.octets) × (count < length piece)) → Feeds messages old piece new (record { used = count; status = answer })
-  Feeds-made old new piece count answer came k l o w c a more memory = record {
+  pub Feeds-made : (old new : Decoding) (piece : List ℕ) (count : ℕ) (answer came : Status) → count ≤ length piece → new.limit ≡ old.limit → new.octets ≡ old.octets ++ take count piece → new.looks ≡ old.looks + (length (kept_contents new) - length (kept_contents old)) → status_of messages old ≡ status.More → Comes messages new came → (answer ≡ came) ⊎ ((answer ≡ status.Memory) × (came ≡ status.More)) → (answer ≡ status.More → count ≡ length piece) → (answer ≡ status.Memory → (4 ≤ length new.octets) × (count < length piece)) → Feeds messages old piece new (record { used = count; status = answer })
+  Feeds-made old new piece count answer came k l o s w c a more memory = record {
     within = k;
     same_limit = l;
     octets = o;
+    looks = s;
     answer = by a;
     all = more;
     again = λ n. absurd (n w);
@@ -82,6 +83,7 @@ module _ (messages : List Term) where
     within = omega arith;
     same_limit = refl;
     octets = sym (append-nil d.octets);
+    looks = omega arith;
     answer = inl (sym c.is);
     all = λ e. omega (arith, ap length (none e));
     again = λ n. (refl, sym c.is);
@@ -89,10 +91,10 @@ module _ (messages : List Term) where
     stands = Stands-fed d d [] refl (sym (append-nil d.octets)) c.one;
   }
 
-  pub Feeds-idle : (limit : ℕ) (announced contents piece : List ℕ) (p : Phase) (answer : Status) → IsAt messages limit announced contents p → phase_status p ≡ answer → (answer ≡ status.More → piece ≡ []) → answer ≢ status.Memory → Feeds messages (record { limit = limit; octets = octets_of p announced contents }) piece (record { limit = limit; octets = octets_of p announced contents }) (record { used = 0; status = answer })
-  Feeds-idle limit announced contents piece p answer h e none n =
-      Feeds-nothing (record { limit = limit; octets = octets_of p announced contents }) piece answer
-      (subst (Comes messages (record { limit = limit; octets = octets_of p announced contents })) e (comes messages limit announced contents p h)) none n
+  pub Feeds-idle : (limit looks : ℕ) (announced contents piece : List ℕ) (p : Phase) (answer : Status) → IsAt messages limit announced contents p → phase_status p ≡ answer → (answer ≡ status.More → piece ≡ []) → answer ≢ status.Memory → Feeds messages (decoding_of limit looks announced contents p) piece (decoding_of limit looks announced contents p) (record { used = 0; status = answer })
+  Feeds-idle limit looks announced contents piece p answer h e none n =
+      Feeds-nothing (decoding_of limit looks announced contents p) piece answer
+      (subst (Comes messages (decoding_of limit looks announced contents p)) e (comes messages limit looks announced contents p h)) none n
 
   answer_of : (size used : ℕ) (after piece : List ℕ) (answer : Status) → IsDecided messages size after piece used answer → (answer ≡ phase_status (phase_of size answer)) ⊎ ((answer ≡ status.Memory) × (phase_status (phase_of size answer) ≡ status.More))
   answer_of size used after piece status.More d = inl refl
@@ -112,30 +114,39 @@ module _ (messages : List Term) where
   memory_of size used after piece status.Ready d e = absurd cc
   memory_of size used after piece (status.Refused refusal) d e = absurd cc
 
-  pub Feeds-contents : (limit : ℕ) (announced before piece after : List ℕ) (size : ℕ) (p : Phase) (fed : Fed) → HasPart messages limit announced before size → IsTaken messages size before piece after fed → p ≡ phase_of size fed.status → Feeds messages (record { limit = limit; octets = octets_of (phase.Contents size) announced before }) piece (record { limit = limit; octets = octets_of p announced after }) fed
-  Feeds-contents limit announced before piece after size p fed h t e =
-      let old : Decoding = record { limit = limit; octets = octets_of (phase.Contents size) announced before } in
+  pub Feeds-contents : (limit looks looked : ℕ) (announced before piece after : List ℕ) (size : ℕ) (p : Phase) (fed : Fed) → HasPart messages limit announced before size → IsTaken messages size before piece after fed → looked ≡ looks + fed.used → p ≡ phase_of size fed.status → Feeds messages (decoding_of limit looks announced before (phase.Contents size)) piece (decoding_of limit looked announced after p) fed
+  Feeds-contents limit looks looked announced before piece after size p fed h t k e =
+      let old : Decoding = decoding_of limit looks announced before (phase.Contents size) in
       let octets : octets_of (phase_of size fed.status) announced after ≡ octets_of (phase.Contents size) announced before ++ take fed.used piece =
       ap (λ n. take n announced ++ after) (four_present size fed.status) ∙ ap (λ l. take 4 announced ++ l) t.contents ∙ sym (append_assoc (take 4 announced) before (take fed.used piece)) in
       let four : 4 ≤ length (octets_of (phase_of size fed.status) announced after) =
       let n : length_present (phase_of size fed.status) ≡ 4 = four_present size fed.status in
       omega (arith, n, h.accepted.four, length-append (take (length_present (phase_of size fed.status)) announced) after, length-take (length_present (phase_of size fed.status)) announced) in
-      subst (λ q. Feeds messages old piece (record { limit = limit; octets = octets_of q announced after }) fed) (sym e)
-      (Feeds-made old (record { limit = limit; octets = octets_of (phase_of size fed.status) announced after }) piece fed.used fed.status (phase_status (phase_of size fed.status)) t.within refl octets (comes messages limit announced before (phase.Contents size) h).is
-      (comes messages limit announced after (phase_of size fed.status) (taken-at messages limit announced before piece after size fed.used fed.status h t))
+      let seen : looked ≡ looks + (length (drop 4 (octets_of (phase_of size fed.status) announced after)) - length (drop 4 (octets_of (phase.Contents size) announced before))) =
+      let n : length_present (phase_of size fed.status) ≡ 4 = four_present size fed.status in
+      omega (
+        arith, k, n, t.within, h.accepted.four, ap length t.contents, length-append before (take fed.used piece), length-take fed.used piece,
+        length-append (take (length_present (phase_of size fed.status)) announced) after, length-take (length_present (phase_of size fed.status)) announced, length-append (take 4 announced) before, length-take 4 announced,
+        length-drop 4 (octets_of (phase_of size fed.status) announced after), length-drop 4 (octets_of (phase.Contents size) announced before),
+      ) in
+      subst (λ q. Feeds messages old piece (decoding_of limit looked announced after q) fed) (sym e)
+      (Feeds-made old (decoding_of limit looked announced after (phase_of size fed.status)) piece fed.used fed.status (phase_status (phase_of size fed.status)) t.within refl octets seen (comes messages limit looks announced before (phase.Contents size) h).is
+      (comes messages limit looked announced after (phase_of size fed.status) (taken-at messages limit announced before piece after size fed.used fed.status h t))
       (answer_of size fed.used after piece fed.status t.decided)
       (all_of size fed.used after piece fed.status t.decided)
       (λ m. (four, memory_of size fed.used after piece fed.status t.decided m)))
 
   -- no octet of a length is missing
-  pub FeedsLength-none : (limit : ℕ) (announced contents piece : List ℕ) (p : Phase) → IsAt messages limit announced contents p → ((count : ℕ) → p ≡ phase.Length count → ⊥) → FeedsLength messages (record { limit = limit; octets = octets_of p announced contents }) piece (record { limit = limit; octets = octets_of p announced contents }) 0
-  FeedsLength-none limit announced contents piece p h n = record {
+  pub FeedsLength-none : (limit looks : ℕ) (announced contents piece : List ℕ) (p : Phase) → IsAt messages limit announced contents p → ((count : ℕ) → p ≡ phase.Length count → ⊥) → FeedsLength messages (decoding_of limit looks announced contents p) piece (decoding_of limit looks announced contents p) 0
+  FeedsLength-none limit looks announced contents piece p h n = record {
     within = omega arith;
     same_limit = refl;
     octets = sym (append-nil (octets_of p announced contents));
+    looks = refl;
+    contents = refl;
     again = λ m. refl;
     on = inr (four p h n);
-    one = (comes messages limit announced contents p h).one;
+    one = (comes messages limit looks announced contents p h).one;
   }
     where
       four : (p : Phase) → IsAt messages limit announced contents p → ((count : ℕ) → p ≡ phase.Length count → ⊥) → 4 ≤ length (octets_of p announced contents)
@@ -145,8 +156,8 @@ module _ (messages : List Term) where
       four (phase.Refused refusal) h n = omega (arith, h.four, length-append (take 4 announced) contents, length-take 4 announced)
 
   -- octets of a length
-  pub FeedsLength-made : (limit : ℕ) (announced contents piece after : List ℕ) (present used : ℕ) (p : Phase) → HasPartOfLength announced contents present → IsPut announced present piece after used → length after ≡ 4 → length_present p ≡ present + used → IsAt messages limit after contents p → FeedsLength messages (record { limit = limit; octets = take present announced ++ contents }) piece (record { limit = limit; octets = octets_of p after contents }) used
-  FeedsLength-made limit announced contents piece after present used p h put four n at = record {
+  pub FeedsLength-made : (limit looks looked : ℕ) (announced contents piece after : List ℕ) (present used : ℕ) (p : Phase) → HasPartOfLength announced contents present → IsPut announced present piece after used → length after ≡ 4 → length_present p ≡ present + used → looked ≡ looks → IsAt messages limit after contents p → FeedsLength messages (record { limit = limit; octets = take present announced ++ contents; looks = looks }) piece (decoding_of limit looked after contents p) used
+  FeedsLength-made limit looks looked announced contents piece after present used p h put four n k at = record {
     within = omega (arith, put.many);
     same_limit = refl;
     octets =
@@ -155,9 +166,14 @@ module _ (messages : List Term) where
         ∙ ap (λ k. take k after) n
         ∙ put.front
         ∙ ap (λ l. l ++ take used piece) (sym (ap (λ l. take present announced ++ l) h.none ∙ append-nil (take present announced)));
-    again = λ m. absurd (m (comes messages limit announced contents (phase.Length present) h).is);
+    looks = k;
+    contents = omega (
+      arith, put.many, n, four, h.part, h.four, ap length h.none, length-append (take (length_present p) after) contents, length-take (length_present p) after,
+      length-append (take present announced) contents, length-take present announced, length-drop 4 (octets_of p after contents), length-drop 4 (take present announced ++ contents),
+    );
+    again = λ m. absurd (m (comes messages limit looks announced contents (phase.Length present) h).is);
     on = by (cases_lt used (length piece));
-    one = (comes messages limit after contents p at).one;
+    one = (comes messages limit looked after contents p at).one;
   }
     where
       by : (used < length piece) ⊎ (length piece ≤ used) → (used ≡ length piece) ⊎ (4 ≤ length (octets_of p after contents))
@@ -170,6 +186,7 @@ module _ (messages : List Term) where
     within = omega (arith, f.within, g.within, length-drop used piece);
     same_limit = g.same_limit ∙ f.same_limit;
     octets = octets;
+    looks = omega (arith, f.looks, f.contents, g.looks);
     answer = g.answer;
     all = λ e. omega (arith, g.all e, f.within, length-drop used piece);
     again = λ n. again n (f.again n);
@@ -188,7 +205,7 @@ module _ (messages : List Term) where
           ∙ ap (λ l. old.octets ++ l) (sym (take-add used fed.used piece))
 
       same : used ≡ 0 → between ≡ old
-      same e = λ i. record { limit = f.same_limit i; octets = (f.octets ∙ ap (λ n. old.octets ++ take n piece) e ∙ append-nil old.octets) i }
+      same e = λ i. record { limit = f.same_limit i; octets = (f.octets ∙ ap (λ n. old.octets ++ take n piece) e ∙ append-nil old.octets) i; looks = f.looks i }
 
       again : status_of messages old ≢ status.More → used ≡ 0 → (used + fed.used ≡ 0) × (fed.status ≡ status_of messages old)
       again n e =
@@ -207,18 +224,17 @@ module _ (messages : List Term) where
       no_contents : (contents : List ℕ) → None ≡ Some contents → ⊥
       no_contents contents n = cc
 
-  pub Clears-frame : (limit : ℕ) (announced contents after : List ℕ) → HasFrame messages limit announced contents → after ≡ [] → Clears messages (record { limit = limit; octets = take 4 announced ++ contents }) (record { limit = limit; octets = after }) true
-  Clears-frame limit announced contents after h e =
-      let d : Decoding = record { limit = limit; octets = take 4 announced ++ contents } in
-      let there : borrowed messages d ≡ Some contents = borrowed-ready messages limit announced contents phase.Ready h refl in
+  pub Clears-frame : (limit looks looked : ℕ) (announced contents after : List ℕ) → HasFrame messages limit announced contents → after ≡ [] → looked ≡ looks → Clears messages (decoding_of limit looks announced contents phase.Ready) (record { limit = limit; octets = after; looks = looked }) true
+  Clears-frame limit looks looked announced contents after h e k =
+      let d : Decoding = decoding_of limit looks announced contents phase.Ready in
+      let there : borrowed messages d ≡ Some contents = borrowed-ready messages limit looks announced contents phase.Ready h refl in
       let first : (more : List ℕ) → frames messages limit ((take 4 announced ++ contents) ++ more) ≡ with_first contents (frames messages limit more) =
       λ more. ap (λ l. frames messages limit (l ++ more)) (four_octets announced contents h.accepted.four) ∙ found-frame messages limit announced contents more h in
       record {
         is_ready = sym (ap is_some there);
-        left = rw (there, e) refl;
+        left = rw (there, e, k) refl;
         stands = λ stream other cleared s m.
             let same : contents ≡ other = same_contents contents other (sym there ∙ m) in
-            subst (λ o. Stands messages (record { limit = limit; octets = after }) stream (cleared ++ o ∷ [])) same
-            (subst (λ l. Stands messages (record { limit = limit; octets = l }) stream (cleared ++ contents ∷ [])) (sym e)
-            (Stands-cleared limit (take 4 announced ++ contents) contents first stream cleared s));
+            subst (λ o. Stands messages (record { limit = limit; octets = after; looks = looked }) stream (cleared ++ o ∷ [])) same
+            (rw (e, k) (Stands-cleared limit looks (take 4 announced ++ contents) contents first stream cleared s));
       }

@@ -1,19 +1,25 @@
 -- The contents of a frame as they come.
-use Rattle.std.specs.Prelude.{if◌then◌else◌, is_ok, is_err}
-use Rattle.std.proofs.Common.{◌≡◌, ℕ, suc, ◌+◌, ◌-◌, ◌^◌, ◌<◌, ◌≤◌, min, inl, inr, List, ◌++◌, length, take, false, Result, Ok, Err, refl, sym, ◌∙◌, ap, arith, length-append, length-take}
+use Rattle.std.specs.Prelude.{if◌then◌else◌, is_ok, is_err, IfOk, OnErr}
+use Rattle.std.proofs.Common.{◌≡◌, ℕ, suc, ◌+◌, ◌-◌, ◌^◌, ◌<◌, ◌≤◌, min, inl, inr, List, ◌++◌, length, take, false, Result, Ok, Err, refl, sym, ◌∙◌, ap, subst, arith, length-append, length-take}
 use Rattle.std.proofs.lemmas.Bool.{cases_lt}
-use Rattle.std.proofs.lemmas.List.{take-append-le, take-take}
+use Rattle.std.proofs.lemmas.List.{take-append-le, take-take, take_all}
 use Rattle.std.proofs.Math.Seq.{take-append-add}
 use Rattle.krb_der.specs.Octets.{AreOctets}
+use Rattle.krb_der.specs.declared.memory.Memory.{Memory}
 use Rattle.krb_der.specs.declared.why.Why.{Why}
 use Rattle.krb_der.specs.declared.verdict.Refusal.{Refusal}
+use Rattle.krb_der.specs.declared.verdict.Verdict.{Verdict}
 use Rattle.krb_der.specs.declared.verdict.Verdict.TheVariants as verdict
 use Rattle.krb_msg.specs.Term.{Term}
-use Rattle.krb_msg.specs.Judgement.{judgement_by}
+use Rattle.krb_msg.specs.Grammar.{messages as grammar}
+use Rattle.krb_msg.specs.Judgement.{judgement, judgement_by}
 use Rattle.krb_msg.specs.Laws.{IsFinal}
 use Rattle.krb_msg.proofs.Grammars.{refusal_is_final, all_is_decided, whole_is_one_of}
+use Rattle.krb_scan.specs.At.{Marks}
+use Rattle.krb_scan.specs.Scanner.{At, verdict_of}
+use Rattle.krb_scan.specs.declared.scanner.Scanner.{Scanner}
 use Rattle.krb_frame.specs.declared.decoder.Status.TheVariants as status
-use Rattle.krb_frame.specs.inner.Phases.{IsTaken}
+use Rattle.krb_frame.specs.inner.Phases.{IsTaken, IsEarly, status_by}
 
 -- what a vector holds that was extended
 pub extended : {A B : Type 0} (r : Result A B) (held all kept : List ℕ) → held ≡ (if is_ok r then all else kept) → false ≡ is_err r → held ≡ all
@@ -48,25 +54,41 @@ module _ (messages : List Term) where
         let f = refusal_is_final messages size (before ++ take count piece) refusal.place refusal.why (omega (arith, all)) e in
         record { final = f; later = refused_later size refusal before (take count piece) (omega (arith, all)) o e; inside = omega (arith, f.within, all); small = omega (arith, f.within, all) }
 
-    -- what is taken up to an octet that is refused
-    pub taken-refused : (place : ℕ) (reason : Why) → Stops (record { place = place; why = reason }) → IsTaken messages size before piece (take (place + 1) (before ++ take count piece)) (record { used = place + 1 - length before; status = status.Refused (record { place = 4 + place; why = reason }) })
-    taken-refused place reason s = record {
-      within = omega (arith, s.later, s.inside);
-      contents =
-          (let n : place + 1 ≡ length before + (place + 1 - length before) = omega (arith, s.later) in ap (λ (k : ℕ). take k (before ++ take count piece)) n)
-          ∙ take-append-add before (take count piece) (place + 1 - length before)
-          ∙ ap (λ (l : List ℕ). before ++ l) (take-take (place + 1 - length before) count piece (omega (arith, s.later, s.inside)));
-      present = omega (arith, cut, s.inside);
-      decided = record {
-        offset = place;
-        place = refl;
-        judged = s.final.same (take (place + 1) (before ++ take count piece)) (omega (arith, cut, s.inside)) (take-take (suc place) (place + 1) (before ++ take count piece) (omega arith));
-        last = omega (arith, cut, s.inside, all);
-      };
+    -- the last of the octets that were taken is refused, where each front before it left all open
+    pub taken-refused : (place : ℕ) (reason : Why) → judgement_by messages size before ≡ verdict.Open → ((k : ℕ) → k < count → judgement_by messages size (before ++ take k piece) ≡ verdict.Open) → judgement_by messages size (before ++ take count piece) ≡ verdict.Refused (record { place = place; why = reason }) → IsTaken messages size before piece (before ++ take count piece) (record { used = count; status = status.Refused (record { place = 4 + place; why = reason }) })
+    taken-refused place reason o sooner e = record {
+      within = few;
+      contents = refl;
+      present = omega (arith, all);
+      decided = record { offset = place; place = refl; judged = e; last = omega (arith, last, all) };
     }
       where
+        refusal : Refusal
+        refusal = record { place = place; why = reason }
+
+        s : Stops refusal
+        s = stops refusal o e
+
         cut : length (take (place + 1) (before ++ take count piece)) ≡ min (place + 1) (length (before ++ take count piece))
         cut = length-take (place + 1) (before ++ take count piece)
+
+        front : take (place + 1) (before ++ take count piece) ≡ before ++ take (place + 1 - length before) piece
+        front =
+            (let n : place + 1 ≡ length before + (place + 1 - length before) = omega (arith, s.later) in ap (λ (k : ℕ). take k (before ++ take count piece)) n)
+            ∙ take-append-add before (take count piece) (place + 1 - length before)
+            ∙ ap (λ (l : List ℕ). before ++ l) (take-take (place + 1 - length before) count piece (omega (arith, s.later, s.inside)))
+
+        again : judgement_by messages size (take (place + 1) (before ++ take count piece)) ≡ verdict.Refused refusal
+        again = s.final.same (take (place + 1) (before ++ take count piece)) (omega (arith, cut, s.inside)) (take-take (suc place) (place + 1) (before ++ take count piece) (omega arith))
+
+        both : verdict.Open ≡ verdict.Refused refusal → ⊥
+        both e = cc
+
+        last : place + 1 ≡ length before + count
+        last = elim (cases_lt (place + 1) (length before + count)) [
+          | inl h ↦ absurd (both (sym (sooner (place + 1 - length before) (omega (arith, s.later, h))) ∙ ap (judgement_by messages size) (sym front) ∙ again))
+          | inr h ↦ omega (arith, s.inside, h)
+        ]
 
     pub taken-whole : AreOctets (before ++ take count piece) → verdict.Whole ≡ judgement_by messages size (before ++ take count piece) → IsTaken messages size before piece (before ++ take count piece) (record { used = count; status = status.Ready })
     taken-whole are e = record {
@@ -90,3 +112,74 @@ module _ (messages : List Term) where
         ],
       );
     }
+
+-- ---- by the messages of the grammar
+both_err : {A B : Type 0} (P Q : Type 0) (r : Result A B) → OnErr r P → OnErr r Q → OnErr r (P × Q)
+both_err P Q (Ok done) p q = tt
+both_err P Q (Err error) p q = (p, q)
+
+-- What a scanner took of octets of a piece, as many as are missing and come.
+pub record Took (size n used : ℕ) (before piece : List ℕ) (scanner : Scanner) (result : Result Verdict Memory) : Type 0 where
+  pub some : 0 < size
+  pub room : length before ≤ size
+  pub many : n ≡ min (length piece) (size - length before)
+  pub undecided : judgement size before ≡ verdict.Open
+  pub within : used ≤ length (take n piece)
+  pub at : At scanner size (before ++ take used (take n piece))
+  pub answer : IfOk result (λ decided. decided ≡ verdict_of scanner)
+  pub all : result ≡ Ok verdict.Open → used ≡ length (take n piece)
+  pub sooner : (k : ℕ) → k < used → judgement size (before ++ take k (take n piece)) ≡ verdict.Open
+  pub memory : OnErr result (verdict_of scanner ≡ verdict.Open)
+  pub ends : OnErr result (length (Marks size (before ++ take (used + 1) (take n piece))) ≡ length (Marks size (before ++ take used (take n piece))) + 1)
+
+pub took : (size n used : ℕ) (before piece : List ℕ) (scanner : Scanner) (result : Result Verdict Memory) → 0 < size → length before ≤ size → n ≡ min (length piece) (size - length before) → judgement size before ≡ verdict.Open → used ≤ length (take n piece) → At scanner size (before ++ take used (take n piece)) → IfOk result (λ decided. decided ≡ verdict_of scanner) → (result ≡ Ok verdict.Open → used ≡ length (take n piece)) → ((k : ℕ) → k < used → judgement size (before ++ take k (take n piece)) ≡ verdict.Open) → OnErr result (verdict_of scanner ≡ verdict.Open) → OnErr result (length (Marks size (before ++ take (used + 1) (take n piece))) ≡ length (Marks size (before ++ take used (take n piece))) + 1) → Took size n used before piece scanner result
+took size n used before piece scanner result some room many undecided within at answer all sooner memory ends = record { some = some; room = room; many = many; undecided = undecided; within = within; at = at; answer = answer; all = all; sooner = sooner; memory = memory; ends = ends }
+
+module _ (size n used : ℕ) (before piece : List ℕ) (scanner : Scanner) (result : Result Verdict Memory) (t : Took size n used before piece scanner result) where
+  few : used ≤ length piece
+  few = omega (arith, t.within, length-take n piece)
+
+  room : length before + used ≤ size
+  room = omega (arith, t.within, t.room, t.many, length-take n piece)
+
+  front : (k : ℕ) → k ≤ used → before ++ take k (take n piece) ≡ before ++ take k piece
+  front k h = ap (λ l. before ++ l) (take-take k n piece (omega (arith, h, t.within, length-take n piece)))
+
+  -- the contents that are kept
+  pub took-cut : (held : List ℕ) → held ≡ before ++ take n piece → take (length before + used) held ≡ before ++ take used piece
+  took-cut held e = ap (take (length before + used)) e ∙ take-append-add before (take n piece) used ∙ front used (omega arith)
+
+  pub took-at : At scanner size (before ++ take used piece)
+  took-at = subst (At scanner size) (front used (omega arith)) t.at
+
+  -- out of memory, there is an octet that was not taken
+  some_left : (r : Result Verdict Memory) → OnErr r (length (Marks size (before ++ take (used + 1) (take n piece))) ≡ length (Marks size (before ++ take used (take n piece))) + 1) → OnErr r (used < length piece)
+  some_left (Ok decided) e = tt
+  some_left (Err error) e = elim (cases_lt used (length (take n piece))) [
+    | inl h ↦ omega (arith, h, length-take n piece)
+    | inr h ↦
+        let same = ap (λ l. length (Marks size (before ++ l))) (take_all (used + 1) (take n piece) (omega (arith, h)) ∙ sym (take_all used (take n piece) h)) in
+        absurd (omega (arith, e, same))
+  ]
+
+  -- a refusal is of one of the octets
+  pub took-early : size < 2 ^ 31 → IfOk result IsEarly
+  took-early short = by result t.answer
+    where
+      by : (r : Result Verdict Memory) → IfOk r (λ decided. decided ≡ verdict_of scanner) → IfOk r IsEarly
+      by (Ok verdict.Open) a = tt
+      by (Ok verdict.Whole) a = tt
+      by (Ok (verdict.Refused refusal)) a = omega (arith, short, (stops grammar size used before piece few room refusal t.undecided (sym (a ∙ took-at.decides))).small)
+      by (Err error) a = tt
+
+  pub took-taken : IsTaken grammar size before piece (before ++ take used piece) (record { used = used; status = status_by result })
+  took-taken = by result t.answer t.all (both_err _ _ result t.memory (some_left result t.ends))
+    where
+      sooner : (k : ℕ) → k < used → judgement size (before ++ take k piece) ≡ verdict.Open
+      sooner k h = ap (judgement size) (sym (front k (omega (arith, h)))) ∙ t.sooner k h
+
+      by : (r : Result Verdict Memory) → IfOk r (λ decided. decided ≡ verdict_of scanner) → (r ≡ Ok verdict.Open → used ≡ length (take n piece)) → OnErr r ((verdict_of scanner ≡ verdict.Open) × (used < length piece)) → IsTaken grammar size before piece (before ++ take used piece) (record { used = used; status = status_by r })
+      by (Ok verdict.Open) a all m = taken-open grammar size used before piece few room t.some (omega (arith, all refl, t.many, length-take n piece)) (a ∙ took-at.decides)
+      by (Ok verdict.Whole) a all m = taken-whole grammar size used before piece few room took-at.are_octets (a ∙ took-at.decides)
+      by (Ok (verdict.Refused refusal)) a all m = taken-refused grammar size used before piece few room refusal.place refusal.why t.undecided sooner (sym (a ∙ took-at.decides))
+      by (Err error) a all m = record { within = few; contents = refl; present = took-at.fits; decided = (sym took-at.decides ∙ m.0, m.1) }

@@ -1,16 +1,19 @@
 -- What a decoder by any messages stands for, and what it answers.
-use Rattle.std.specs.Prelude.{ℕ, ◌+◌, ◌≡◌, if◌then◌else◌, List, [], ◌∷◌, length, drop, Option, Some, None, is_some, Result, Ok, Err}
+use Rattle.std.specs.Prelude.{ℕ, ◌+◌, ◌≡◌, if◌then◌else◌, List, [], ◌∷◌, length, take, drop, Option, Some, None, is_some, Result, Ok, Err}
+use Rattle.krb_der.specs.Octets.{number}
 use Rattle.krb_der.specs.declared.verdict.Refusal.{Refusal}
 use Rattle.krb_der.specs.declared.why.Why.TheVariants as why
 use Rattle.krb_msg.specs.Term.{Term}
 use Rattle.krb_msg.specs.Stream.{Frames, End, Boundary, Within, Refused, frames}
+use Rattle.krb_scan.specs.At.{open_count}
 use Rattle.krb_frame.specs.declared.decoder.Status.{Status}
 use Rattle.krb_frame.specs.declared.decoder.Status.TheVariants as status
 
--- the greatest length of a frame, and the octets of the current frame that were used, its length first
+-- the greatest length of a frame; the octets of the current frame that were used, its length first; and how many octets of contents were looked at in all, which only contracts see
 pub record Decoding : Type 0 where
   pub limit : ℕ
   pub octets : List ℕ
+  pub looks : ℕ
 
 -- the frames of these octets: the current one, where it is whole, and the end
 unfoldable pub found : List Term → Decoding → Frames
@@ -36,7 +39,7 @@ borrowed messages d = first_of (found messages d).contents
 
 -- what is left where the frame that is ready is cleared, if one is
 abbrev pub after_next : List Term → Decoding → Decoding
-after_next messages d = if is_some (borrowed messages d) then record { limit = d.limit; octets = [] } else d
+after_next messages d = if is_some (borrowed messages d) then record { limit = d.limit; octets = []; looks = d.looks } else d
 
 -- what a stream that ends so is refused for
 abbrev pub finish_at : End → Result (Unit {0}) Refusal
@@ -50,6 +53,10 @@ finish_of messages d = finish_at (found messages d).end
 -- the contents of the current frame that are kept
 abbrev pub kept_contents : Decoding → List ℕ
 kept_contents d = drop 4 d.octets
+
+-- how many lengths in the current frame are whole whose contents are not complete
+abbrev pub open_lengths_of : Decoding → ℕ
+open_lengths_of d = open_count (number (take 4 d.octets)) (kept_contents d)
 
 -- the octets are of one frame alone: none is after a whole frame, nor after an octet that is refused
 abbrev pub AreOfOne : List ℕ → List (List ℕ) → End → Type 0

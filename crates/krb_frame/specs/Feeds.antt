@@ -1,7 +1,7 @@
 -- What the calls of a decoder by any messages do.
-use Rattle.std.specs.Prelude.{ℕ, ◌≡◌, ◌≢◌, ◌<◌, ◌≤◌, ◌⊎◌, Bool, List, [], ◌∷◌, ◌++◌, length, take, Some, is_some}
+use Rattle.std.specs.Prelude.{ℕ, ◌+◌, ◌-◌, ◌≡◌, ◌≢◌, ◌<◌, ◌≤◌, ◌⊎◌, Bool, List, [], ◌∷◌, ◌++◌, length, take, Some, is_some}
 use Rattle.krb_msg.specs.Term.{Term}
-use Rattle.krb_frame.specs.Decoding.{Decoding, status_of, borrowed, after_next}
+use Rattle.krb_frame.specs.Decoding.{Decoding, status_of, borrowed, after_next, kept_contents}
 use Rattle.krb_frame.specs.Stands.{Stands}
 use Rattle.krb_frame.specs.declared.decoder.Fed.{Fed}
 use Rattle.krb_frame.specs.declared.decoder.Status.{Status}
@@ -16,6 +16,8 @@ pub record Feeds (messages : List Term) (old : Decoding) (piece : List ℕ) (new
   pub within : fed.used ≤ length piece
   pub same_limit : new.limit ≡ old.limit
   pub octets : new.octets ≡ old.octets ++ take fed.used piece
+  -- each octet of the contents that was used was looked at once, and no other
+  pub looks : new.looks ≡ old.looks + (length (kept_contents new) - length (kept_contents old))
   pub answer : IsAnswer messages new fed.status
   -- more octets are asked for only where the whole piece was used
   pub all : fed.status ≡ status.More → fed.used ≡ length piece

@@ -1,50 +1,91 @@
 //! The contents of a frame, as they come.
 
-ghost use Rattle.std.specs.Prelude.{◌≡◌, ◌<◌, ◌≤◌, ◌^◌, ◌++◌, length, take};
+ghost use Rattle.std.specs.Prelude.{◌≡◌, ◌+◌, ◌<◌, ◌≤◌, ◌^◌, [], length, IfOk};
 ghost use Rattle.krb_der.specs.declared.verdict.Verdict.TheVariants.{Open};
 ghost use Rattle.krb_msg.specs.Grammar.{messages};
 ghost use Rattle.krb_msg.specs.Judgement.{judgement};
-ghost use Rattle.krb_frame.specs.inner.Phases.{IsTaken};
+ghost use Rattle.krb_scan.specs.Scanner.{At, ledger_of};
+ghost use Rattle.krb_frame.specs.inner.Phases.{IsTaken, IsEarly, status_by};
 
 use crate::decoder::{Fed, LENGTH_OCTETS, Status};
-use krb_der::{Refusal, Verdict};
-use krb_judge::judge;
+use krb_der::{Memory, Refusal, Verdict};
+use krb_scan::Scanner;
+use std::alloc::Global;
+
+/// How many octets contents may be whose room is kept for those of the next frame: 4 MiB.
+const CONTENTS_KEPT: usize = 1 << 22;
+
+/// How many marks a scanner may have made whose room is kept for the next frame: 3 MiB, at 24 octets
+/// each.
+const MARKS_KEPT: usize = 1 << 17;
 
 /// Takes octets of the contents of a frame of `size` octets, as many as are missing and come, up to
-/// one that is refused. They are judged once, whatever their number. Where memory is refused none
-/// is taken.
-pub(crate) fn take_contents(contents: &mut Vec<u8>, size: u32, piece: &[u8]) -> Fed
+/// one that is refused. The scanner looks at each of them once. Where memory is refused none is
+/// taken after those that it has looked at.
+pub(crate) fn take_contents(
+    contents: &mut Vec<u8>,
+    scanner: &mut Scanner,
+    size: u32,
+    piece: &[u8],
+) -> Fed
     requires some { 0 < size }
     requires short { size < 2 ^ 31 }
     requires present { length contents.old.items ≤ size }
     requires undecided { judgement size contents.old.items ≡ Open }
-    ensures { IsTaken messages size contents.old.items piece.now contents.new.items result }
+    requires scanned { At scanner.old size contents.old.items }
+    ensures taken { IsTaken messages size contents.old.items piece.now contents.new.items result }
+    ensures scanned { At scanner.new size contents.new.items }
+    ensures looks { ledger_of scanner.new ≡ ledger_of scanner.old + result.used }
 {
     let before = contents.len();
     let count = piece.len().min(size as usize - before);
-    if contents.extend_from_slice(&piece[..count]).is_err() {
+    let octets = &piece[..count];
+    if contents.extend_from_slice(octets).is_err() {
         return Fed {
             used: 0,
             status: Status::Memory,
         };
     }
-    match judge(size, contents.as_slice()) {
-        Verdict::Open => Fed {
-            used: count,
-            status: Status::More,
-        },
-        Verdict::Whole => Fed {
-            used: count,
-            status: Status::Ready,
-        },
-        Verdict::Refused(Refusal { place, why }) => {
-            let end = place as usize + 1;
-            contents.truncate(end);
-            let place = LENGTH_OCTETS as u32 + place;
-            Fed {
-                used: end - before,
-                status: Status::Refused(Refusal { place, why }),
-            }
-        }
+    let taken = scanner.take(octets);
+    contents.truncate(before + taken.used);
+    Fed {
+        used: taken.used,
+        status: status_after(taken.verdict),
+    }
+}
+
+/// What is answered where a scanner decides so, or was out of memory.
+fn status_after(verdict: Result<Verdict, Memory>) -> Status
+    requires { IfOk verdict IsEarly }
+    ensures { result ≡ status_by verdict }
+{
+    match verdict {
+        Ok(Verdict::Open) => Status::More,
+        Ok(Verdict::Whole) => Status::Ready,
+        Ok(Verdict::Refused(Refusal { place, why })) => Status::Refused(Refusal {
+            place: LENGTH_OCTETS as u32 + place,
+            why,
+        }),
+        Err(_) => Status::Memory,
+    }
+}
+
+/// Forgets contents. The room of many is given back.
+pub(crate) fn clear_contents(contents: &mut Vec<u8>, alloc: Global)
+    ensures { contents.new.items ≡ [] }
+{
+    if contents.len() > CONTENTS_KEPT {
+        *contents = Vec::new(alloc);
+    } else {
+        contents.clear();
+    }
+}
+
+/// Gives back the room of many marks.
+pub(crate) fn clear_marks(scanner: &mut Scanner, alloc: Global)
+    ensures { ledger_of scanner.new ≡ ledger_of scanner.old }
+{
+    if scanner.marks().len() > MARKS_KEPT {
+        scanner.restart(alloc, 1);
     }
 }

@@ -1,9 +1,10 @@
 //! Frames out of a stream that comes in pieces.
 
-use crate::contents::take_contents;
+use crate::contents::{clear_contents, clear_marks, take_contents};
 use crate::framed::Framed;
 use crate::limit::Limit;
 use krb_der::{Refusal, Why};
+use krb_scan::Scanner;
 use std::alloc::Global;
 use std::marker::Model;
 
@@ -46,14 +47,16 @@ pub enum Status {
 }
 
 /// Decodes a stream of framed messages (RFC 4120, 7.2.2) that comes in pieces: four octets of
-/// length, the highest first, and then a message of that length. What is refused is so with the
-/// octet that shows it.
+/// length, the highest first, and then a message of that length. It looks at each octet once, and
+/// what is refused is so with the octet that shows it.
 #[derive(Drop)]
 pub struct Decoder {
+    alloc: Global,
     limit: Limit,
     length: [u8; LENGTH_OCTETS],
     phase: Phase,
     contents: Vec<u8>,
+    scanner: Scanner,
 }
 
 impl Model for Decoder {
@@ -62,32 +65,36 @@ impl Model for Decoder {
     ghost Value = { Decoding };
 
     ghost use Rattle.krb_msg.specs.Grammar.{messages};
-    ghost use Rattle.krb_frame.specs.inner.Phases.{octets_of, IsAt};
+    ghost use Rattle.krb_scan.specs.Scanner.{ledger_of};
+    ghost use Rattle.krb_frame.specs.inner.Phases.{decoding_of, IsAt, IsScanned};
 
-    ghost view = { λ d. record { limit = d.limit; octets = octets_of d.phase d.length d.contents.items } };
+    ghost view = { λ d. decoding_of d.limit (ledger_of d.scanner) d.length d.contents.items d.phase };
 
-    ghost invariant = { λ d. IsAt messages d.limit d.length d.contents.items d.phase };
+    ghost invariant = { λ d. IsAt messages d.limit d.length d.contents.items d.phase × IsScanned d.scanner d.length d.contents.items d.phase };
 }
 
 ghost use Rattle.std.specs.Prelude.{◌≡◌, ◌≤◌, ◌<◌, ◌⊎◌, ◌^◌, [], length};
 ghost use Rattle.krb_msg.specs.Grammar.{messages};
-ghost use Rattle.krb_frame.specs.Decoding.{borrowed, finish_at, finish_of, kept_contents};
+ghost use Rattle.krb_scan.specs.Scanner.{ledger_of};
+ghost use Rattle.krb_frame.specs.Decoding.{borrowed, finish_at, finish_of, kept_contents, open_lengths_of};
 ghost use Rattle.krb_frame.specs.Stands.{Stands};
 ghost use Rattle.krb_frame.specs.Feeds.{Feeds, Clears};
-ghost use Rattle.krb_frame.specs.inner.Phases.{end_after, phase_of, IsLengthJudged, IsPut, FeedsLength};
+ghost use Rattle.krb_frame.specs.inner.Phases.{end_after, phase_of, IsLengthJudged, IsPut, IsScanned, FeedsLength};
 ghost use Rattle.krb_frame.specs.declared.decoder.Phase.TheVariants as phase;
 
 impl Decoder {
     /// A decoder of a stream of which nothing came yet. It takes no memory.
     pub fn new(alloc: Global, limit: Limit) -> Decoder
-        ensures nothing { result ≡ record { limit = limit; octets = [] } }
+        ensures nothing { result ≡ record { limit = limit; octets = []; looks = result.looks } }
         ensures stands { Stands messages result [] [] }
     {
         Decoder {
+            alloc,
             limit,
             length: [0; LENGTH_OCTETS],
             phase: Phase::Length(0),
             contents: Vec::new(alloc),
+            scanner: Scanner::new(alloc, 1),
         }
     }
 
@@ -120,7 +127,7 @@ impl Decoder {
         self.phase = if present + used < LENGTH_OCTETS {
             Phase::Length(present + used)
         } else {
-            judge_length(self.limit, self.length)
+            judge_length(&mut self.scanner, self.limit, self.length)
         };
         used
     }
@@ -136,7 +143,7 @@ impl Decoder {
             Phase::Refused(refusal) => return answer(Status::Refused(refusal)),
             Phase::Contents(size) => size,
         };
-        let fed = take_contents(&mut self.contents, size, piece);
+        let fed = take_contents(&mut self.contents, &mut self.scanner, size, piece);
         self.phase = phase_after(size, fed.status);
         fed
     }
@@ -152,14 +159,16 @@ impl Decoder {
     }
 
     /// Clears the frame that is ready, so that the next one may be fed, and answers whether there
-    /// was one. Where there was none nothing changes.
+    /// was one. Where there was none nothing changes. The room of a frame that took much is given
+    /// back.
     pub fn next(&mut self) -> bool
         ensures { Clears messages self.old self.new result }
     {
         let Phase::Ready = self.phase else {
             return false;
         };
-        self.contents.clear();
+        clear_contents(&mut self.contents, self.alloc);
+        clear_marks(&mut self.scanner, self.alloc);
         self.phase = Phase::Length(0);
         true
     }
@@ -175,6 +184,29 @@ impl Decoder {
             Phase::Contents(_) => ended(LENGTH_OCTETS + self.contents.len()),
             Phase::Ready => Ok(()),
             Phase::Refused(refusal) => Err(refusal),
+        }
+    }
+
+    /// The number of octets of the current frame that were used, those of its length with them.
+    pub fn looked(&self) -> u32
+        ensures { result ≡ length self.now.octets }
+    {
+        match self.phase {
+            Phase::Length(present) => present as u32,
+            _ => (LENGTH_OCTETS + self.contents.len()) as u32,
+        }
+    }
+
+    /// The number of lengths in the current frame's message that are whole and whose contents are
+    /// not complete (X.690, 8.1): how deep the message is open.
+    pub fn open_lengths(&self) -> usize
+        ensures count { result ≡ open_lengths_of self.now }
+        ensures few { result ≤ 13 }
+    {
+        if self.contents.is_empty() {
+            0
+        } else {
+            self.scanner.open_lengths()
         }
     }
 
@@ -237,10 +269,12 @@ fn put_octets(length: &mut [u8; LENGTH_OCTETS], present: usize, piece: &[u8]) ->
     count
 }
 
-/// What the four octets of a length come to.
-fn judge_length(limit: Limit, announced: [u8; LENGTH_OCTETS]) -> Phase
+/// What the four octets of a length come to. Where contents follow, the scanner is cleared for them.
+fn judge_length(scanner: &mut Scanner, limit: Limit, announced: [u8; LENGTH_OCTETS]) -> Phase
     requires { length announced ≡ 4 }
-    ensures { IsLengthJudged messages limit announced result }
+    ensures judged { IsLengthJudged messages limit announced result }
+    ensures scanned { IsScanned scanner.new announced [] result }
+    ensures looks { ledger_of scanner.new ≡ ledger_of scanner.old }
 {
     let size = u32::from_be_bytes(announced);
     if size >= 1 << 31 {
@@ -250,6 +284,7 @@ fn judge_length(limit: Limit, announced: [u8; LENGTH_OCTETS]) -> Phase
     } else if size == 0 {
         refused_length(Why::Empty)
     } else {
+        scanner.clear(size);
         Phase::Contents(size)
     }
 }

@@ -208,6 +208,18 @@ impl Scanner {
         self.verdict = Verdict::Open;
     }
 
+    /// As [`Scanner::clear`], but the room for marks is given back.
+    pub fn restart(&mut self, alloc: Global, n: u32)
+        requires some { 0 < n }
+        requires short { n < 2 ^ 31 }
+        ensures at { At self.new n [] }
+        ensures ledger { ledger_of self.new ≡ ledger_of self.old }
+    {
+        self.path.clear(n);
+        self.path.marks = Vec::new(alloc);
+        self.verdict = Verdict::Open;
+    }
+
     /// Takes room for a number of marks in all.
     pub fn reserve(&mut self, marks: usize) -> Result<(), Memory>
         ensures ok { OnOk result (marks ≤ room_of self.new) }

@@ -55,7 +55,10 @@ pub some_used : (old new : Decoding) (piece : List ℕ) (fed : Fed) → Uses mes
 some_used old new piece fed f w e = by fed.used refl
   where
     same : fed.used ≡ 0 → new ≡ old
-    same z = λ i. record { limit = f.same_limit i; octets = (f.octets ∙ ap (λ n. old.octets ++ take n piece) z ∙ append-nil old.octets) i }
+    same z =
+        let octets : new.octets ≡ old.octets = f.octets ∙ ap (λ n. old.octets ++ take n piece) z ∙ append-nil old.octets in
+        let looks : new.looks ≡ old.looks = omega (arith, f.looks, ap (λ l. length (drop 4 l)) octets) in
+        λ i. record { limit = f.same_limit i; octets = octets i; looks = looks i }
 
     no : status.More ≡ status.Ready → ⊥
     no e = cc
@@ -72,11 +75,11 @@ pub goes_no_more : (lister : Lister) (old : Decoding) (piece rest : List ℕ) (f
 goes_no_more lister old piece rest fed refusal f e = (refusal, is_status old lister.decoder rest fed (status.Refused refusal) f e (memory_refused refusal))
 
 -- ---- a frame that is listed
-cleared_is : (old new : Decoding) (contents : List ℕ) → Clears messages old new true → borrowed messages old ≡ Some contents → new ≡ record { limit = old.limit; octets = [] }
-cleared_is old new contents c e = c.left ∙ ap (λ o. if is_some o then record { limit = old.limit; octets = [] } else old) e
+cleared_is : (old new : Decoding) (contents : List ℕ) → Clears messages old new true → borrowed messages old ≡ Some contents → new ≡ record { limit = old.limit; octets = []; looks = old.looks }
+cleared_is old new contents c e = c.left ∙ ap (λ o. if is_some o then record { limit = old.limit; octets = []; looks = old.looks } else old) e
 
 pub ready_waits : (old new : Lister) → ListsReady old new → status_of messages new.decoder ≡ status.More
-ready_waits old new l = ap (status_of messages) (cleared_is old.decoder new.decoder l.contents l.cleared l.is_ready) ∙ more-nothing messages old.decoder.limit
+ready_waits old new l = ap (status_of messages) (cleared_is old.decoder new.decoder l.contents l.cleared l.is_ready) ∙ more-nothing messages old.decoder.limit old.decoder.looks
 
 pub ready_limit : (old new : Lister) → ListsReady old new → new.decoder.limit ≡ old.decoder.limit
 ready_limit old new l = ap (λ d. d.limit) (cleared_is old.decoder new.decoder l.contents l.cleared l.is_ready)

@@ -1,12 +1,16 @@
 -- What the parts of a decoder by any messages promise each other.
-use Rattle.std.specs.Prelude.{ℕ, zero, suc, ◌≡◌, ◌≢◌, ◌+◌, ◌-◌, ◌<◌, ◌≤◌, ◌^◌, ◌⊎◌, List, [], ◌++◌, length, take, min}
+use Rattle.std.specs.Prelude.{ℕ, zero, suc, ◌≡◌, ◌≢◌, ◌+◌, ◌-◌, ◌<◌, ◌≤◌, ◌^◌, ◌⊎◌, List, [], ◌++◌, length, take, min, Result, Ok, Err}
 use Rattle.krb_der.specs.Octets.{number}
+use Rattle.krb_der.specs.declared.memory.Memory.{Memory}
 use Rattle.krb_der.specs.declared.verdict.Refusal.{Refusal}
+use Rattle.krb_der.specs.declared.verdict.Verdict.{Verdict}
 use Rattle.krb_der.specs.declared.verdict.Verdict.TheVariants as verdict
 use Rattle.krb_msg.specs.Term.{Term}
 use Rattle.krb_msg.specs.Judgement.{judgement_by}
 use Rattle.krb_msg.specs.Stream.{End, Boundary, Within, Refused, ends, frames}
-use Rattle.krb_frame.specs.Decoding.{Decoding, status_of, IsOfOneFrame}
+use Rattle.krb_scan.specs.Scanner.{At}
+use Rattle.krb_scan.specs.declared.scanner.Scanner.{Scanner}
+use Rattle.krb_frame.specs.Decoding.{Decoding, status_of, kept_contents, IsOfOneFrame}
 use Rattle.krb_frame.specs.declared.decoder.Fed.{Fed}
 use Rattle.krb_frame.specs.declared.decoder.Status.{Status}
 use Rattle.krb_frame.specs.declared.decoder.Status.TheVariants as status
@@ -34,6 +38,18 @@ pub record IsTaken (messages : List Term) (size : ℕ) (before piece after : Lis
   pub present : length after ≤ size
   pub decided : IsDecided messages size after piece fed.used fed.status
 
+-- a refusal is of one of so many octets as a frame may have
+abbrev pub IsEarly : Verdict → Type 0
+IsEarly (verdict.Refused refusal) = refusal.place < 2 ^ 31
+IsEarly other = Unit {0}
+
+-- what is answered where a scanner decides so, or was out of memory
+abbrev pub status_by : Result Verdict Memory → Status
+status_by (Ok verdict.Open) = status.More
+status_by (Ok verdict.Whole) = status.Ready
+status_by (Ok (verdict.Refused refusal)) = status.Refused (record { place = 4 + refusal.place; why = refusal.why })
+status_by (Err memory) = status.Memory
+
 -- the phase after them
 abbrev pub phase_of : ℕ → Status → Phase
 phase_of size status.More = phase.Contents size
@@ -56,6 +72,10 @@ length_present (phase.Refused refusal) = 4
 
 abbrev pub octets_of : Phase → List ℕ → List ℕ → List ℕ
 octets_of phase announced contents = take (length_present phase) announced ++ contents
+
+-- what they stand for, with the octets that were looked at
+abbrev pub decoding_of : ℕ → ℕ → List ℕ → List ℕ → Phase → Decoding
+decoding_of limit looks announced contents phase = record { limit = limit; octets = octets_of phase announced contents; looks = looks }
 
 -- a length that may be followed by contents
 pub record IsAccepted (limit : ℕ) (announced : List ℕ) (size : ℕ) : Type 0 where
@@ -96,6 +116,13 @@ IsAt messages limit announced contents (phase.Contents size) = HasPart messages 
 IsAt messages limit announced contents phase.Ready = HasFrame messages limit announced contents
 IsAt messages limit announced contents (phase.Refused refusal) = HasRefused messages limit announced contents refusal
 
+-- where there are contents, the scanner stands for them
+abbrev pub IsScanned : Scanner → List ℕ → List ℕ → Phase → Type 0
+IsScanned scanner announced contents (phase.Length count) = Unit {0}
+IsScanned scanner announced contents (phase.Contents size) = At scanner size contents
+IsScanned scanner announced contents phase.Ready = At scanner (length contents) contents
+IsScanned scanner announced contents (phase.Refused refusal) = (contents ≡ []) ⊎ At scanner (number announced) contents
+
 -- what is judged with the last octet of a length
 pub record IsLengthJudged (messages : List Term) (limit : ℕ) (announced : List ℕ) (phase : Phase) : Type 0 where
   pub at : IsAt messages limit announced [] phase
@@ -112,6 +139,8 @@ pub record FeedsLength (messages : List Term) (old : Decoding) (piece : List ℕ
   pub within : used ≤ length piece
   pub same_limit : new.limit ≡ old.limit
   pub octets : new.octets ≡ old.octets ++ take used piece
+  pub looks : new.looks ≡ old.looks
+  pub contents : length (kept_contents new) ≡ length (kept_contents old)
   pub again : status_of messages old ≢ status.More → used ≡ 0
   pub on : (used ≡ length piece) ⊎ (4 ≤ length new.octets)
   pub one : IsOfOneFrame messages new

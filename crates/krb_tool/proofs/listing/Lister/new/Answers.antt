@@ -8,7 +8,7 @@ pub returns : goal.returns
 returns c =
     record {
       same_limit = ap (λ d. d.limit) c.new.ensures.nothing;
-      waits = ap (status_of messages) c.new.ensures.nothing ∙ more-nothing messages c.args.limit;
+      waits = ap (status_of messages) c.new.ensures.nothing ∙ more-nothing messages c.args.limit _;
       none = refl;
       no_text = c.new-2.ensures.bytes;
       listed = record { messages = []; stands = c.new.ensures.stands; lines = c.new-2.ensures.bytes; counted = refl };
