@@ -125,9 +125,20 @@ module _ (messages : List Term) where
       let seen : looked ≡ looks + (length (drop 4 (octets_of (phase_of size fed.status) announced after)) - length (drop 4 (octets_of (phase.Contents size) announced before))) =
       let n : length_present (phase_of size fed.status) ≡ 4 = four_present size fed.status in
       omega (
-        arith, k, n, t.within, h.accepted.four, ap length t.contents, length-append before (take fed.used piece), length-take fed.used piece,
-        length-append (take (length_present (phase_of size fed.status)) announced) after, length-take (length_present (phase_of size fed.status)) announced, length-append (take 4 announced) before, length-take 4 announced,
-        length-drop 4 (octets_of (phase_of size fed.status) announced after), length-drop 4 (octets_of (phase.Contents size) announced before),
+        arith,
+        k,
+        n,
+        t.within,
+        h.accepted.four,
+        ap length t.contents,
+        length-append before (take fed.used piece),
+        length-take fed.used piece,
+        length-append (take (length_present (phase_of size fed.status)) announced) after,
+        length-take (length_present (phase_of size fed.status)) announced,
+        length-append (take 4 announced) before,
+        length-take 4 announced,
+        length-drop 4 (octets_of (phase_of size fed.status) announced after),
+        length-drop 4 (octets_of (phase.Contents size) announced before),
       ) in
       subst (λ q. Feeds messages old piece (decoding_of limit looked announced after q) fed) (sym e)
       (Feeds-made old (decoding_of limit looked announced after (phase_of size fed.status)) piece fed.used fed.status (phase_status (phase_of size fed.status)) t.within refl octets seen (comes messages limit looks announced before (phase.Contents size) h).is
@@ -168,8 +179,19 @@ module _ (messages : List Term) where
         ∙ ap (λ l. l ++ take used piece) (sym (ap (λ l. take present announced ++ l) h.none ∙ append-nil (take present announced)));
     looks = k;
     contents = omega (
-      arith, put.many, n, four, h.part, h.four, ap length h.none, length-append (take (length_present p) after) contents, length-take (length_present p) after,
-      length-append (take present announced) contents, length-take present announced, length-drop 4 (octets_of p after contents), length-drop 4 (take present announced ++ contents),
+      arith,
+      put.many,
+      n,
+      four,
+      h.part,
+      h.four,
+      ap length h.none,
+      length-append (take (length_present p) after) contents,
+      length-take (length_present p) after,
+      length-append (take present announced) contents,
+      length-take present announced,
+      length-drop 4 (octets_of p after contents),
+      length-drop 4 (take present announced ++ contents),
     );
     again = λ m. absurd (m (comes messages limit looks announced contents (phase.Length present) h).is);
     on = by (cases_lt used (length piece));

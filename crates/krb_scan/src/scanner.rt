@@ -215,8 +215,9 @@ impl Scanner {
         ensures at { At self.new n [] }
         ensures ledger { ledger_of self.new ≡ ledger_of self.old }
     {
-        self.path.clear(n);
-        self.path.marks = Vec::new(alloc);
+        let path = &mut self.path;
+        path.clear(n);
+        path.marks = Vec::new(alloc);
         self.verdict = Verdict::Open;
     }
 

@@ -32,35 +32,50 @@ impl Answer {
 }
 
 /// Octets in hexadecimal, the limit that they are fed with, how many of them are used, the answer,
-/// and how many octets are kept.
-struct Row(&'static str, u32, usize, Answer, u32);
+/// how many octets are kept, and how many lengths are open.
+struct Row(&'static str, u32, usize, Answer, u32, usize);
 
 const USUAL: u32 = 16777216;
 
 const GREATEST: u32 = 2147483647;
 
 const ROWS: [Row; 29] = [
-    Row("", USUAL, 0, Answer::More, 0),
-    Row("000000", USUAL, 3, Answer::More, 0),
-    Row(AP_REP, USUAL, 35, Answer::Ready, 31),
-    Row(AP_REP, 31, 35, Answer::Ready, 31),
-    Row(AP_REP, 30, 4, Answer::Refused(3, Why::TooLong), 0),
-    Row(AP_REQ, USUAL, 89, Answer::Ready, 85),
-    Row(AS_REP, USUAL, 101, Answer::Ready, 97),
-    Row(TGS_REQ, USUAL, 113, Answer::Ready, 109),
-    Row(KRB_ERROR, USUAL, 85, Answer::Ready, 81),
-    Row(AS_REQ, USUAL, 64, Answer::Ready, 60),
-    Row("80000005", USUAL, 4, Answer::Refused(3, Why::HighBit), 0),
-    Row("80000005", GREATEST, 4, Answer::Refused(3, Why::HighBit), 0),
-    Row("00000000", USUAL, 4, Answer::Refused(3, Why::Empty), 0),
-    Row("7FFFFFFF6F", GREATEST, 5, Answer::More, 1),
-    Row(WRONG_VERSION, USUAL, 13, Answer::Refused(12, Why::Range), 9),
+    Row("", USUAL, 0, Answer::More, 0, 0),
+    Row("000000", USUAL, 3, Answer::More, 0, 0),
+    Row(AP_REP, USUAL, 35, Answer::Ready, 31, 0),
+    Row(AP_REP, 31, 35, Answer::Ready, 31, 0),
+    Row(AP_REP, 30, 4, Answer::Refused(3, Why::TooLong), 0, 0),
+    Row(AP_REQ, USUAL, 89, Answer::Ready, 85, 0),
+    Row(AS_REP, USUAL, 101, Answer::Ready, 97, 0),
+    Row(TGS_REQ, USUAL, 113, Answer::Ready, 109, 0),
+    Row(KRB_ERROR, USUAL, 85, Answer::Ready, 81, 0),
+    Row(AS_REQ, USUAL, 64, Answer::Ready, 60, 0),
+    Row("80000005", USUAL, 4, Answer::Refused(3, Why::HighBit), 0, 0),
+    Row(
+        "80000005",
+        GREATEST,
+        4,
+        Answer::Refused(3, Why::HighBit),
+        0,
+        0,
+    ),
+    Row("00000000", USUAL, 4, Answer::Refused(3, Why::Empty), 0, 0),
+    Row("7FFFFFFF6F", GREATEST, 5, Answer::More, 1, 0),
+    Row(
+        WRONG_VERSION,
+        USUAL,
+        13,
+        Answer::Refused(12, Why::Range),
+        9,
+        4,
+    ),
     Row(
         "0000001F6F80",
         USUAL,
         6,
         Answer::Refused(5, Why::Indefinite),
         2,
+        0,
     ),
     Row(
         "0000001F6F85",
@@ -68,14 +83,23 @@ const ROWS: [Row; 29] = [
         6,
         Answer::Refused(5, Why::LengthWide),
         2,
+        0,
     ),
-    Row("000000016F", USUAL, 5, Answer::Refused(4, Why::Overrun), 1),
+    Row(
+        "000000016F",
+        USUAL,
+        5,
+        Answer::Refused(4, Why::Overrun),
+        1,
+        0,
+    ),
     Row(
         "000000026F81",
         USUAL,
         6,
         Answer::Refused(5, Why::Overrun),
         2,
+        0,
     ),
     Row(
         "0000001F6F1E",
@@ -83,23 +107,33 @@ const ROWS: [Row; 29] = [
         6,
         Answer::Refused(5, Why::Overrun),
         2,
+        0,
     ),
-    Row("0000001F6F1C", USUAL, 6, Answer::Refused(5, Why::Loose), 2),
+    Row(
+        "0000001F6F1C",
+        USUAL,
+        6,
+        Answer::Refused(5, Why::Loose),
+        2,
+        0,
+    ),
     Row(
         "000000206F811D",
         USUAL,
         7,
         Answer::Refused(6, Why::LengthNotMinimal),
         3,
+        0,
     ),
-    Row("0000001F30", USUAL, 5, Answer::Refused(4, Why::Tag), 1),
-    Row("0000001F76", USUAL, 5, Answer::Refused(4, Why::Tag), 1),
+    Row("0000001F30", USUAL, 5, Answer::Refused(4, Why::Tag), 1, 0),
+    Row("0000001F76", USUAL, 5, Answer::Refused(4, Why::Tag), 1, 0),
     Row(
         "0000000E6F0C300AA003020105A10302010F",
         USUAL,
         18,
         Answer::Refused(17, Why::Missing),
         14,
+        4,
     ),
     Row(
         "0000000E6F0C300AA003020105A10302010E",
@@ -107,6 +141,7 @@ const ROWS: [Row; 29] = [
         18,
         Answer::Refused(17, Why::Range),
         14,
+        4,
     ),
     Row(
         "000000026F00",
@@ -114,6 +149,7 @@ const ROWS: [Row; 29] = [
         6,
         Answer::Refused(5, Why::Missing),
         2,
+        0,
     ),
     Row(
         "000000206F1E301CA003020105A10302010FA210300EA00402020012",
@@ -121,6 +157,7 @@ const ROWS: [Row; 29] = [
         28,
         Answer::Refused(27, Why::IntegerNotMinimal),
         24,
+        6,
     ),
     Row(
         "0000001F6F1D301BA0040202",
@@ -128,6 +165,7 @@ const ROWS: [Row; 29] = [
         12,
         Answer::Refused(11, Why::Size),
         8,
+        3,
     ),
 ];
 
@@ -163,7 +201,7 @@ fn feed_pieces(decoder: &mut Decoder, octets: &[u8], at_most: usize) -> Fed {
 /// Checks what a decoder came to: the answer again at every further piece, none of which is used
 /// where something is ready or refused.
 fn has_come_to(decoder: &mut Decoder, fed: Fed, row: &Row) -> bool {
-    let Row(_, _, used, answer, kept) = row;
+    let Row(_, _, used, answer, kept, open) = row;
     let status = answer.status();
     let again = match answer {
         Answer::More => decoder.feed(&[]),
@@ -174,12 +212,14 @@ fn has_come_to(decoder: &mut Decoder, fed: Fed, row: &Row) -> bool {
         && fed.status == status
         && again == Fed { used: 0, status }
         && decoder.kept() == *kept
+        && decoder.looked() as usize == *used
+        && decoder.open_lengths() == *open
         && is_ready == (status == Status::Ready)
 }
 
 /// Whether a decoder fed in pieces of `at_most` octets comes to what a row says.
 fn comes_to(alloc: Global, row: &Row, octets: &[u8], at_most: usize) -> Result<bool, Fail> {
-    let Row(_, limit, _, _, _) = row;
+    let Row(_, limit, _, _, _, _) = row;
     let mut pieces = decoder(alloc, *limit)?;
     let fed = feed_pieces(&mut pieces, octets, at_most);
     Ok(has_come_to(&mut pieces, fed, row))
@@ -187,7 +227,7 @@ fn comes_to(alloc: Global, row: &Row, octets: &[u8], at_most: usize) -> Result<b
 
 /// Whether a decoder fed two pieces comes to what a row says.
 fn comes_to_cut(alloc: Global, row: &Row, front: &[u8], back: &[u8]) -> Result<bool, Fail> {
-    let Row(_, limit, _, _, _) = row;
+    let Row(_, limit, _, _, _, _) = row;
     let mut cut = decoder(alloc, *limit)?;
     let mut fed = cut.feed(front);
     if fed.status == Status::More {
@@ -204,7 +244,7 @@ fn comes_to_cut(alloc: Global, row: &Row, front: &[u8], back: &[u8]) -> Result<b
 fn decodes_in_pieces_of_every_kind(rt: HostRuntime) -> Result<(), Fail> {
     let alloc = rt.alloc();
     for row in &ROWS {
-        let Row(digits, _, _, _, _) = row;
+        let Row(digits, _, _, _, _, _) = row;
         let octets = octets_of(alloc, digits)?;
         let octets = octets.as_slice();
         for at_most in [octets.len().max(1), 1, 2, 3, 7] {
@@ -247,10 +287,34 @@ fn leaves_what_is_after_a_frame(rt: HostRuntime) -> Result<(), Fail> {
     assert_eq!(rt; frames.feed(octets.as_slice()), Fed { used: 35, status });
     assert_eq!(rt; frames.feed(rest), Fed { used: 0, status });
     assert_eq!(rt; frames.kept(), 31);
+    assert_eq!(rt; frames.looked(), 35);
     assert!(rt; frames.next(), "one is ready");
     assert!(rt; !frames.next(), "none is ready");
     assert_eq!(rt; frames.kept(), 0);
+    assert_eq!(rt; frames.looked(), 0);
+    assert_eq!(rt; frames.open_lengths(), 0);
     assert_eq!(rt; frames.feed(rest), Fed { used: 35, status });
+    Ok(())
+}
+
+// The octet at 96 leaves thirteen lengths open, and no message has more; the one at 97 ends five.
+#[test]
+fn says_how_many_lengths_are_open(rt: HostRuntime) -> Result<(), Fail> {
+    let alloc = rt.alloc();
+    let octets = octets_of(alloc, TGS_REQ)?;
+    let mut frame = decoder(alloc, USUAL)?;
+    for (place, octet) in octets.iter().enumerate() {
+        let fed = frame.feed(&[*octet]);
+        let open = frame.open_lengths();
+        assert_eq!(rt; fed.used, 1, "at {place}");
+        assert!(rt; open <= 13, "at {place}");
+        match place {
+            0..=4 | 112 => assert_eq!(rt; open, 0, "at {place}"),
+            96 => assert_eq!(rt; open, 13, "at {place}"),
+            97 => assert_eq!(rt; open, 8, "at {place}"),
+            _ => assert!(rt; open > 0, "at {place}"),
+        }
+    }
     Ok(())
 }
 
