@@ -1,23 +1,13 @@
 -- The contents of a frame, and a frame as octets.
 use Rattle.std.specs.Prelude.{ℕ, ◌≡◌, ◌<◌, ◌^◌, ◌/◌, ◌%◌, List, [], ◌∷◌, ◌++◌, length}
 use Rattle.krb_der.specs.declared.verdict.Verdict.TheVariants.{Whole}
-use Rattle.krb_msg.specs.declared.message.Message.{Message}
-use Rattle.krb_msg.specs.declared.message.Kind.{Kind}
 use Rattle.krb_msg.specs.Term.{Term}
 use Rattle.krb_msg.specs.Judgement.{judgement_by}
-use Rattle.krb_msg.specs.Views.{kind_of, message_der, IsInProfile}
 
 -- the octets are judged to be one of some messages
 pub record IsWholeFrame (messages : List Term) (octets : List ℕ) : Type 0 where
   pub short : length octets < 2 ^ 31
   pub whole : judgement_by messages (length octets) octets ≡ Whole
-
--- the octets are the DER of a message of this kind
-pub record AreOfKind (octets : List ℕ) (kind : Kind) : Type 0 where
-  pub message : Message
-  pub in_profile : IsInProfile message
-  pub form : message_der message ≡ octets
-  pub same_kind : kind_of message ≡ kind
 
 -- the four octets of a frame's length, the highest first
 abbrev pub frame_length : ℕ → List ℕ

@@ -7,36 +7,18 @@ use Rattle.krb_der.specs.declared.verdict.Refusal.{Refusal}
 use Rattle.krb_der.specs.declared.verdict.Verdict.{Verdict}
 use Rattle.krb_der.specs.declared.verdict.Verdict.TheVariants as verdict
 use Rattle.krb_msg.specs.declared.message.Message.{Message}
-use Rattle.krb_msg.specs.declared.message.Kind.{Kind}
 use Rattle.krb_msg.specs.Term.{Term, Value, Fits, der, tag_of}
 use Rattle.krb_msg.specs.Shape.{is_unambiguous}
-use Rattle.krb_msg.specs.Views.{kind_of, kind_term, kind_of_tag, message_value, message_der, IsInProfile}
+use Rattle.krb_msg.specs.Views.{message_der, IsInProfile}
 use Rattle.krb_msg.specs.Judgement.{judgement, term_judgement}
 use Rattle.krb_msg.specs.Laws.{AreMessage}
-use Rattle.krb_msg.proofs.Judged.{kind_of_tag-tag, whole_is_message, message_is_whole, whole_is_value, value_is_whole, value_is_decided, der_is_prefix_free}
+use Rattle.krb_msg.proofs.Judged.{whole_is_message, message_is_whole, whole_is_value, value_is_whole, value_is_decided, der_is_prefix_free}
 use Rattle.krb_msg.proofs.Grammars.{all_is_decided}
 use Rattle.krb_msg.specs.Grammar.{messages}
 use Rattle.krb_msg.proofs.Laws.{same_value}
-use Rattle.krb_msg.specs.inner.Values.{der_is, der_begins}
+use Rattle.krb_msg.specs.inner.Values.{der_begins}
 use Rattle.krb_msg.specs.Reads.{IsDer}
 use Rattle.krb_judge.specs.Parses.{refused, refusal_by, refusal_of, AreOf, AreOfValue, HasNoMessage}
-
--- ---- the kind
-first_octet : {term : Term} {octets : List ℕ} → IsDer term octets → get_or octets 0 0 ≡ tag_of term
-first_octet {term = term} f = ap (λ (l : List ℕ). get_or l 0 0) (f.form ∙ der_is term f.value)
-
-of_kind : {octets : List ℕ} (k other : Kind) → IsDer (kind_term k) octets → kind_of_tag (get_or octets 0 0) ≡ other → IsDer (kind_term other) octets
-of_kind {octets = octets} k other f e = subst (λ k. IsDer (kind_term k) octets) (sym (kind_of_tag-tag k) ∙ ap kind_of_tag (sym (first_octet f)) ∙ e) f
-
-pub message_of_kind : (octets : List ℕ) (k : Kind) → length octets < 2 ^ 31 → AreOctets octets → judgement (length octets) octets ≡ verdict.Whole → kind_of_tag (get_or octets 0 0) ≡ k → IsDer (kind_term k) octets
-message_of_kind octets k short a whole e =
-    let w = whole_is_message (length octets) octets short a (omega arith) whole in
-    of_kind (kind_of w.message) k (record { value = message_value w.message; fits = w.in_profile.fits; form = sym w.form }) e
-
-pub kind_of_octets : {octets : List ℕ} (m : Message) → message_der m ≡ octets → kind_of m ≡ kind_of_tag (get_or octets 0 0)
-kind_of_octets m e =
-    sym (kind_of_tag-tag (kind_of m))
-    ∙ ap (λ (l : List ℕ). kind_of_tag (get_or l 0 0)) (sym (der_is (kind_term (kind_of m)) (message_value m)) ∙ e)
 
 -- ---- the message
 pub same_message : {octets : List ℕ} (m other : Message) → message_der m ≡ octets → message_der other ≡ octets → m ≡ other

@@ -4,7 +4,6 @@ use Rattle.krb_der.specs.declared.verdict.Refusal.{Refusal}
 use Rattle.krb_der.specs.declared.verdict.Verdict.{Verdict}
 use Rattle.krb_der.specs.declared.verdict.Verdict.TheVariants as verdict
 use Rattle.krb_der.specs.declared.why.Why.TheVariants as why
-use Rattle.krb_msg.specs.declared.message.Kind.{Kind}
 use Rattle.krb_msg.specs.declared.message.Message.{Message}
 use Rattle.krb_msg.specs.declared.ticket.Ticket.{Ticket}
 use Rattle.krb_msg.specs.declared.pa_data.PaData.{PaData}
@@ -12,7 +11,7 @@ use Rattle.krb_msg.specs.Term.{Term, Value, der, Fits}
 use Rattle.krb_msg.specs.Grammar.{ticket, method_data}
 use Rattle.krb_msg.specs.Nodes.{term_at}
 use Rattle.krb_msg.specs.Table.{IsNode}
-use Rattle.krb_msg.specs.Views.{ticket_value, pa_data_value, kind_of, message_der, IsInProfile}
+use Rattle.krb_msg.specs.Views.{ticket_value, pa_data_value, message_der, IsInProfile}
 use Rattle.krb_msg.specs.Judgement.{judgement, term_judgement}
 use Rattle.krb_judge.specs.declared.parsing.Expected.{Expected}
 use Rattle.krb_judge.specs.declared.parsing.Expected.TheVariants as expected
@@ -53,12 +52,6 @@ IsKnown (expected.Node node) = IsNode node
 pub record AreOf (octets : List ℕ) (m : Message) : Type 0 where
   pub in_profile : IsInProfile m
   pub form : message_der m ≡ octets
-
--- they are those of some message of this kind
-pub record AreOfKind (octets : List ℕ) (kind : Kind) : Type 0 where
-  pub message : Message
-  pub are : AreOf octets message
-  pub same_kind : kind_of message ≡ kind
 
 -- no message of the profile has these octets
 abbrev pub HasNoMessage : List ℕ → Type 0

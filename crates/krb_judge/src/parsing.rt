@@ -7,12 +7,12 @@ ghost use Rattle.krb_der.specs.declared.verdict.Verdict.TheVariants.{Whole};
 ghost use Rattle.krb_msg.specs.Judgement.{judgement, term_judgement};
 ghost use Rattle.krb_msg.specs.Nodes.{term_at};
 ghost use Rattle.krb_msg.specs.Table.{IsNode};
-ghost use Rattle.krb_msg.specs.Views.{kind_of_tag, message_der};
+ghost use Rattle.krb_msg.specs.Views.{message_der};
 ghost use Rattle.krb_judge.specs.Faults.{parse_fault_text};
 ghost use Rattle.krb_msg.specs.Reads.{IsDer};
 ghost use Rattle.krb_msg.specs.Shape.{is_unambiguous};
 ghost use Rattle.krb_msg.specs.Term.{der};
-ghost use Rattle.krb_judge.specs.Parses.{refusal_by, refusal_of as refusal_in, ticket_refusal, method_data_refusal, judged_as, IsKnown, AreOf, AreOfKind, AreOfTicket, AreOfMethodData, HasNoMessage};
+ghost use Rattle.krb_judge.specs.Parses.{refusal_by, refusal_of as refusal_in, ticket_refusal, method_data_refusal, judged_as, IsKnown, AreOf, AreOfTicket, AreOfMethodData, HasNoMessage};
 ghost use Rattle.krb_judge.specs.Viewed.{ticket_viewed};
 ghost use Rattle.krb_judge.specs.declared.parsing.ParseFault.TheVariants as fault;
 
@@ -21,7 +21,7 @@ use crate::parsing::split::Slice;
 use crate::viewing::{TicketView, view_ticket};
 use krb_der::{Many, Memory, Refusal, Verdict, Why};
 use krb_msg::grammar::Row;
-use krb_msg::{Decode, Kind, Message, PaData, Ticket, decode, decode_whole};
+use krb_msg::{Decode, Message, PaData, Ticket, decode, decode_whole, whole_kind};
 use std::alloc::{AllocError, Global};
 use std::error::Error;
 use std::fmt;
@@ -188,21 +188,5 @@ pub fn parse_whole(alloc: Global, octets: &[u8]) -> Result<Message, Memory>
     requires whole { judgement (length octets.now) octets.now ≡ Whole }
     ensures { IfOk result (λ m. message_der m ≡ octets.now) }
 {
-    Ok(decode(alloc, kind(octets[0]), Slice { octets })?)
-}
-
-/// The kind of the message whose octets these are, which [`judge`] found whole. It takes no memory.
-pub fn whole_kind(octets: &[u8]) -> Kind
-    requires short { length octets.now < 2 ^ 31 }
-    requires whole { judgement (length octets.now) octets.now ≡ Whole }
-    ensures { AreOfKind octets.now result }
-{
-    kind(octets[0])
-}
-
-/// The kind of the messages that begin with a tag octet (RFC 4120, 5.10).
-fn kind(tag: u8) -> Kind
-    ensures { result ≡ kind_of_tag tag }
-{
-    Kind::of_tag(tag).unwrap_or(Kind::KrbError)
+    Ok(decode(alloc, whole_kind(octets), Slice { octets })?)
 }

@@ -1,5 +1,5 @@
 -- The laws of the judgement and of DER, at the messages of the crate.
-use Rattle.std.proofs.Common.{◌≡◌, ℕ, suc, ◌^◌, ◌<◌, ◌≤◌, inl, inr, ℤ, pos, negsuc, true, List, [], ◌∷◌, ◌++◌, length, map, take, Option, Some, None, refl, sym, ◌∙◌, ap, ap₂, subst, arith, append-nil}
+use Rattle.std.proofs.Common.{◌≡◌, ℕ, suc, ◌^◌, ◌<◌, ◌≤◌, inl, inr, ℤ, pos, negsuc, true, List, [], ◌∷◌, ◌++◌, length, get_or, map, take, Option, Some, None, refl, sym, ◌∙◌, ap, ap₂, subst, arith, append-nil}
 use Rattle.std.specs.Prelude.{◌≤ℤ◌}
 use Rattle.std.specs.Option.{option_map}
 use Rattle.std.proofs.lemmas.Int.{ints}
@@ -19,13 +19,14 @@ use Rattle.std.specs.List.{AllByRecursion}
 use Rattle.krb_msg.specs.Grammar.{messages, sequence_of, ticket, principal_name, kdc_req_body, microseconds, krb_error, pa_data, host_address, encrypted_data, ap_req, ap_rep}
 use Rattle.krb_msg.specs.Shape.{IsOneOf, IsGrammar}
 use Rattle.krb_msg.specs.Judgement.{judgement}
-use Rattle.krb_msg.specs.Views.{kind_of, kind_term, kind_of_tag, message_value, message_of, message_der, pa_data_value, pa_data_of, principal_name_value, principal_name_of, host_address_value, host_address_of, encrypted_data_value, encrypted_data_of, ticket_value, ticket_of, kdc_req_body_value, kdc_req_body_of, KdcReqValue, kdc_req_value, kdc_req_of, KdcRepValue, kdc_rep_value, kdc_rep_of, micros_of, krb_error_value, krb_error_of, ap_req_value, ap_req_of, ap_rep_value, ap_rep_of, IsInProfile}
+use Rattle.krb_msg.specs.Views.{kind_of, kind_term, kind_of_tag, message_value, message_of, message_der, pa_data_value, pa_data_of, principal_name_value, principal_name_of, host_address_value, host_address_of, encrypted_data_value, encrypted_data_of, ticket_value, ticket_of, kdc_req_body_value, kdc_req_body_of, KdcReqValue, kdc_req_value, kdc_req_of, KdcRepValue, kdc_rep_value, kdc_rep_of, micros_of, krb_error_value, krb_error_of, ap_req_value, ap_req_of, ap_rep_value, ap_rep_of, IsInProfile, AreOfKind}
 use Rattle.krb_msg.specs.inner.RoundTrips.{kdc_req_body-back, krb_error-back}
 use Rattle.krb_msg.specs.inner.Told.{option-back, list-back}
 use Rattle.krb_msg.specs.Laws.{AreOneOf, AreMessage}
 use Rattle.krb_der.specs.inner.Items.{same_from_cons}
 use Rattle.krb_der.specs.inner.PrefixFree.{same_pair}
-use Rattle.krb_msg.specs.inner.Values.{der-append}
+use Rattle.krb_msg.specs.Reads.{IsDer}
+use Rattle.krb_msg.specs.inner.Values.{der-append, der_is}
 use Rattle.krb_msg.proofs.Laws.{same_value}
 use Rattle.krb_msg.proofs.Grammars.{whole_is_one_of, unambiguous_message, one_of_is_whole, refusal_is_none_of}
 pub use Rattle.krb_msg.specs.inner.MessageTold.{kind_of_tag-tag, message_round_trips, der_is_prefix_free}
@@ -176,3 +177,12 @@ message_is_whole m p = one_of_is_whole messages messages_are_grammar (kind_term 
 pub refusal_is_right : (n : ℕ) (octets : List ℕ) (place : ℕ) (reason : Why) → length octets ≤ n → judgement n octets ≡ verdict.Refused (record { place = place; why = reason }) → (m : Message) → IsInProfile m → length (message_der m) ≡ n → take (suc place) (message_der m) ≡ take (suc place) octets → ⊥
 refusal_is_right n octets place reason l e m p same begins =
     refusal_is_none_of messages messages_are_grammar n octets place reason l e (kind_term (kind_of m)) (kind_is_one_of (kind_of m)) (message_value m) p.fits (omega (arith, p.short)) same begins
+
+-- ---- the kind of a message
+pub kind_of_octets : {octets : List ℕ} (m : Message) → message_der m ≡ octets → kind_of m ≡ kind_of_tag (get_or octets 0 0)
+kind_of_octets m e =
+    sym (kind_of_tag-tag (kind_of m))
+    ∙ ap (λ (l : List ℕ). kind_of_tag (get_or l 0 0)) (sym (der_is (kind_term (kind_of m)) (message_value m)) ∙ e)
+
+pub der_of_kind : {octets : List ℕ} {k : Kind} → AreOfKind octets k → IsDer (kind_term k) octets
+der_of_kind {octets = octets} a = subst (λ k. IsDer (kind_term k) octets) a.same_kind (record { value = message_value a.message; fits = a.in_profile.fits; form = sym a.form })

@@ -268,3 +268,10 @@ message_der m = der (kind_term (kind_of m)) (message_value m)
 pub record IsInProfile (m : Message) : Type 0 where
   pub fits : Fits (kind_term (kind_of m)) (message_value m)
   pub short : length (message_der m) < 2 ^ 31
+
+-- the octets are those of some message of the profile, of this kind
+pub record AreOfKind (octets : List ℕ) (kind : Kind) : Type 0 where
+  pub message : Message
+  pub in_profile : IsInProfile message
+  pub form : message_der message ≡ octets
+  pub same_kind : kind_of message ≡ kind

@@ -1,7 +1,9 @@
 //! Messages from octets.
 
 ghost use Rattle.std.specs.Prelude.{◌≡◌, ◌^◌, ◌<◌, true, IfOk, length};
-ghost use Rattle.krb_msg.specs.Views.{kind_term, message_der};
+ghost use Rattle.krb_der.specs.declared.verdict.Verdict.TheVariants.{Whole};
+ghost use Rattle.krb_msg.specs.Judgement.{judgement};
+ghost use Rattle.krb_msg.specs.Views.{AreOfKind, kind_of_tag, kind_term, message_der};
 ghost use Rattle.krb_msg.specs.Term.{der};
 ghost use Rattle.krb_msg.specs.Shape.{is_unambiguous};
 ghost use Rattle.krb_msg.specs.Reads.{IsDer};
@@ -31,6 +33,22 @@ pub fn decode<S: Source>(alloc: Global, kind: Kind, octets: S) -> Result<Message
         Kind::ApRep => Ok(Message::ApRep(decode_whole(alloc, octets)?)),
         Kind::KrbError => Ok(Message::KrbError(decode_whole(alloc, octets)?)),
     }
+}
+
+/// The kind of the message whose octets these are, which are judged whole. It takes no memory.
+pub fn whole_kind(octets: &[u8]) -> Kind
+    requires short { length octets.now < 2 ^ 31 }
+    requires whole { judgement (length octets.now) octets.now ≡ Whole }
+    ensures { AreOfKind octets.now result }
+{
+    kind(octets[0])
+}
+
+/// The kind of the messages that begin with a tag octet (RFC 4120, 5.10).
+fn kind(tag: u8) -> Kind
+    ensures { result ≡ kind_of_tag tag }
+{
+    Kind::of_tag(tag).unwrap_or(Kind::KrbError)
 }
 
 /// The value whose octets these are. Nothing is judged again.

@@ -35,7 +35,7 @@ mod ticket;
 pub use ap_rep::ApRep;
 pub use ap_req::ApReq;
 pub use contents::{is_padded, is_time_octet};
-pub use decoding::{decode, decode_whole};
+pub use decoding::{decode, decode_whole, whole_kind};
 pub use encoding::{EncodeFault, encode, put, size};
 pub use encrypted_data::EncryptedData;
 pub use host_address::HostAddress;
