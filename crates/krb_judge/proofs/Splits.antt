@@ -10,7 +10,7 @@ use Rattle.krb_judge.specs.inner.Outcomes.{head_of}
 use Rattle.krb_judge.specs.declared.judging.head.Head.{Head as Found}
 use Rattle.krb_judge.specs.declared.judging.head.Head.TheVariants as found
 use Rattle.krb_judge.proofs.Within.{rest_taken}
-use Rattle.krb_msg.specs.Reads.{HasItem, HasNumber, IsSplit, IsNumber}
+use Rattle.krb_msg.specs.Reads.{HasItem, HasNumber, IsEntered, IsSplit, IsNumber}
 
 -- ---- an item
 pub head_of_item : (octets : List ℕ) (tag : ℕ) (contents rest : List ℕ) → length octets < 2 ^ 31 → octets ≡ item tag contents ++ rest → head (length octets) octets ≡ Got (1 + length (length_octets (length contents))) (length contents)
@@ -47,6 +47,17 @@ is_split octets front rest header size h e f r =
       parts = λ tag inner after p. let q : (take size (drop header octets) ≡ inner) × (drop size (drop header octets) ≡ after) = split_parts octets header size tag inner after h e p in (g ∙ q.0, s ∙ q.1);
       contents_within = rw g (rw (length-take, length-drop) (omega arith));
       rest_within = rw s (rw (length-drop, length-drop) (omega arith));
+    }
+
+pub is_entered : (octets contents : List ℕ) (header size : ℕ) → length octets < 2 ^ 31 → Got header size ≡ head (length octets) octets → contents ≡ take (length octets - header) (drop header octets) → IsEntered octets contents (length contents - size)
+is_entered octets contents header size h e f =
+    let d : contents ≡ drop header octets = f ∙ rest_taken octets header in
+    record {
+      parts = λ tag inner after p.
+          let q : (header ≡ 1 + length (length_octets (length inner))) × (size ≡ length inner) = got_parts _ _ _ _ (e ∙ head_of_item octets tag inner after h p) in
+          let c : contents ≡ inner ++ after = d ∙ ap (λ n. drop n octets) q.0 ∙ after_header octets tag inner after p in
+          (c, omega (arith, ap length c, length-append inner after, q.1));
+      contents_within = rw d (rw length-drop (omega arith));
     }
 
 -- ---- an INTEGER

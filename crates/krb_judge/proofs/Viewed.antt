@@ -1,16 +1,16 @@
 -- The parts of a Ticket that stands in octets.
-use Rattle.std.proofs.Common.{◌≡◌, ℕ, ◌^◌, ◌<◌, List, [], length, None, refl, sym, ap, ◌∙◌, arith, append-nil}
+use Rattle.std.proofs.Common.{◌≡◌, ℕ, ◌+◌, ◌^◌, ◌<◌, List, [], ◌++◌, length, None, refl, sym, ap, ◌∙◌, arith, append-nil}
 use Rattle.std.proofs.lemmas.Int.{ints}
 use Rattle.krb_der.specs.Octets.{AreOctets}
 use Rattle.krb_msg.specs.declared.ticket.Ticket.{Ticket}
-use Rattle.krb_msg.specs.Term.{Term, Fields, Sequence, Tagged, Application, Required, der}
+use Rattle.krb_msg.specs.Term.{Term, Fields, Sequence, Tagged, Application, Required, der, der_of_fields}
 use Rattle.krb_msg.specs.Grammar.{int32, wide32, ticket}
 use Rattle.krb_msg.specs.Judgement.{term_judgement}
 use Rattle.krb_msg.specs.Nodes.{term_at}
 use Rattle.krb_msg.specs.Reading.{value_read}
 use Rattle.krb_msg.specs.Views.{ticket_value, ticket_of}
-use Rattle.krb_msg.specs.Reads.{IsDer, Begins, AreFields, HasItem, HasNumber, IsSplit}
-use Rattle.krb_msg.proofs.Layouts.{first_item, contents_are, application_begins, required_item, required_begins, required_rest}
+use Rattle.krb_msg.specs.Reads.{IsDer, Begins, FieldsBegin, HasItem, HasNumber, IsSplit}
+use Rattle.krb_msg.proofs.Layouts.{first_item, contents_are, field_parts, required_constructed}
 use Rattle.krb_msg.proofs.Judged.{ticket_value-of}
 use Rattle.krb_msg.proofs.Read.{value_is_read}
 use Rattle.krb_judge.specs.Parses.{refusal_by, AreOfTicket}
@@ -23,16 +23,21 @@ abbrev Opens : List ℕ → List ℕ → List ℕ → Type 0
 Opens octets inner rest = HasItem octets → IsSplit octets inner rest
 
 pub in_application : {octets inner rest : List ℕ} (number : ℕ) (term : Term) → Begins (Application number term) octets → Opens octets inner rest → Begins term inner
-in_application number term f opens = application_begins number term f (opens (first_item f))
+in_application number term f opens = record { value = f.value; fits = f.fits; rest = []; parts = contents_are f (opens (first_item f)) ∙ sym (append-nil (der term f.value)) }
 
-pub in_sequence : {octets inner rest : List ℕ} (fields : Fields) → Begins (Sequence fields) octets → Opens octets inner rest → AreFields fields inner
-in_sequence fields f opens = record { values = f.value; fit = f.fits; parts = contents_are f (opens (first_item f)) }
+pub in_sequence : {octets inner rest : List ℕ} (fields : Fields) → Begins (Sequence fields) octets → Opens octets inner rest → FieldsBegin fields inner 0
+in_sequence fields f opens = record { values = f.value; fit = f.fits; rest = []; parts = contents_are f (opens (first_item f)) ∙ sym (append-nil (der_of_fields fields f.value)); left = refl }
 
-pub in_field : {octets inner rest : List ℕ} (index : ℕ) (term : Term) (fields : Fields) → AreFields (Required (Tagged index term) fields) octets → Opens octets inner rest → Begins term inner
-in_field index term fields f opens = required_begins index term fields f (opens (required_item index term fields f))
+-- the first field, and those after it
+field_opened : {octets inner rest : List ℕ} (index : ℕ) (term : Term) (fields : Fields) (f : FieldsBegin (Required (Tagged index term) fields) octets 0) → Opens octets inner rest → (inner ≡ der term f.values.0) × (rest ≡ der_of_fields fields f.values.1 ++ f.rest)
+field_opened index term fields f opens =
+    (opens (required_constructed index term fields f).first).parts (0xA0 + index) (der term f.values.0) (der_of_fields fields f.values.1 ++ f.rest) (field_parts index term fields f.values f.rest f.parts)
 
-pub after_field : {octets inner rest : List ℕ} (index : ℕ) (term : Term) (fields : Fields) → AreFields (Required (Tagged index term) fields) octets → Opens octets inner rest → AreFields fields rest
-after_field index term fields f opens = required_rest index term fields f (opens (required_item index term fields f))
+pub in_field : {octets inner rest : List ℕ} (index : ℕ) (term : Term) (fields : Fields) → FieldsBegin (Required (Tagged index term) fields) octets 0 → Opens octets inner rest → Begins term inner
+in_field index term fields f opens = record { value = f.values.0; fits = f.fit.0; rest = []; parts = (field_opened index term fields f opens).0 ∙ sym (append-nil (der term f.values.0)) }
+
+pub after_field : {octets inner rest : List ℕ} (index : ℕ) (term : Term) (fields : Fields) → FieldsBegin (Required (Tagged index term) fields) octets 0 → Opens octets inner rest → FieldsBegin fields rest 0
+after_field index term fields f opens = record { values = f.values.1; fit = f.fit.1; rest = f.rest; parts = (field_opened index term fields f opens).1; left = f.left }
 
 pub int32_number : {octets : List ℕ} → Begins int32 octets → HasNumber octets
 int32_number f = record { number = f.value; rest = f.rest; low = f.fits.0; high = omega (arith, ints, f.fits.1); parts = f.parts }

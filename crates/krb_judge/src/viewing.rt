@@ -4,7 +4,7 @@ ghost use Rattle.std.specs.Prelude.{◌≡◌, ◌^◌, ◌<◌, ◌≤◌, leng
 ghost use Rattle.krb_der.specs.Octets.{integer_value as value_of_octets};
 ghost use Rattle.krb_msg.specs.Grammar.{ticket, principal_name, encrypted_data};
 ghost use Rattle.krb_msg.specs.Reading.{opened, value_read, values_of};
-ghost use Rattle.krb_msg.specs.Reads.{HasNumber, Begins, AreFields};
+ghost use Rattle.krb_msg.specs.Reads.{HasNumber, Begins, FieldsBegin};
 ghost use Rattle.krb_msg.specs.Views.{ticket_of, principal_name_of, encrypted_data_of};
 ghost use Rattle.krb_judge.specs.Viewed.{ticket_viewed, name_viewed, sealed_viewed, sealed_from_kvno, sealed_from_cipher};
 
@@ -69,7 +69,7 @@ fn view_name(item: &[u8]) -> NameView<'_>
 /// The version of a key, where it is said, and the fields after it.
 fn view_kvno(fields: &[u8]) -> (Option<i64>, &[u8])
     requires short { length fields.now < 2 ^ 31 }
-    requires form { AreFields sealed_from_kvno fields.now }
+    requires form { FieldsBegin sealed_from_kvno fields.now 0 }
     ensures values { values_of sealed_from_kvno fields.now ≡ (result.0, values_of sealed_from_cipher result.1.now) }
     ensures rest_within { length result.1.now ≤ length fields.now }
 {

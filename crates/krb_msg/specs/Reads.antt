@@ -1,5 +1,5 @@
 -- Octets that are known to begin with the DER of a value, and what is read of them.
-use Rattle.std.specs.Prelude.{ℕ, ℤ, pos, negsuc, ◌≡◌, ◌≤◌, ◌≤ℤ◌, List, ◌++◌, length}
+use Rattle.std.specs.Prelude.{ℕ, ℤ, pos, negsuc, ◌≡◌, ◌<◌, ◌≤◌, ◌≤ℤ◌, List, ◌++◌, length, get_or}
 use Rattle.std.specs.List.{flat_map, AllByRecursion}
 use Rattle.krb_der.specs.Octets.{item, integer_octets}
 use Rattle.krb_msg.specs.Term.{Term, Fields, Value, Values, Fits, AllFit, der, der_of_fields}
@@ -18,26 +18,36 @@ pub record IsTaken (term : Term) (octets : List ℕ) (value : Value term) (rest 
   pub rest_within : length rest ≤ length octets
 
 -- ---- the values of fields
--- they are the DER of some
-pub record AreFields (fields : Fields) (octets : List ℕ) : Type 0 where
+-- the DER of some stands first, and so many octets follow it
+pub record FieldsBegin (fields : Fields) (octets : List ℕ) (after : ℕ) : Type 0 where
   pub values : Values fields
   pub fit : AllFit fields values
-  pub parts : octets ≡ der_of_fields fields values
+  pub rest : List ℕ
+  pub parts : octets ≡ der_of_fields fields values ++ rest
+  pub left : length rest ≡ after
 
--- they are the DER of none but these
-abbrev pub AreRead : (fields : Fields) → List ℕ → Values fields → Type 0
-AreRead fields octets values = (those : Values fields) → octets ≡ der_of_fields fields those → values ≡ those
+-- a tag stands first, and is not among the octets that follow them
+abbrev pub HasTag : (tag : ℕ) → List ℕ → (after : ℕ) → Type 0
+HasTag tag octets after = (after < length octets) × (get_or octets 0 0 ≡ tag)
+
+-- the values whose DER stands before so many octets, and these
+pub record FieldsAreTaken (fields : Fields) (octets : List ℕ) (after : ℕ) (values : Values fields) (rest : List ℕ) : Type 0 where
+  pub parts : (those : Values fields) (more : List ℕ) → octets ≡ der_of_fields fields those ++ more → length more ≡ after → (values ≡ those) × (rest ≡ more)
+  pub rest_within : length rest ≤ length octets
 
 -- ---- values one after another
--- they are the DER of some
-pub record AreItems (term : Term) (octets : List ℕ) : Type 0 where
+-- the DER of some stands first, and so many octets follow it
+pub record ItemsBegin (term : Term) (octets : List ℕ) (after : ℕ) : Type 0 where
   pub values : List (Value term)
   pub fit : AllByRecursion (Fits term) values
-  pub parts : octets ≡ flat_map (der term) values
+  pub rest : List ℕ
+  pub parts : octets ≡ flat_map (der term) values ++ rest
+  pub left : length rest ≡ after
 
--- they are the DER of none but these
-abbrev pub AreItemsRead : (term : Term) → List ℕ → List (Value term) → Type 0
-AreItemsRead term octets values = (those : List (Value term)) → octets ≡ flat_map (der term) those → values ≡ those
+-- the values whose DER stands before so many octets, and these
+pub record ItemsAreTaken (term : Term) (octets : List ℕ) (after : ℕ) (values : List (Value term)) (rest : List ℕ) : Type 0 where
+  pub parts : (those : List (Value term)) (more : List ℕ) → octets ≡ flat_map (der term) those ++ more → length more ≡ after → (values ≡ those) × (rest ≡ more)
+  pub rest_within : length rest ≤ length octets
 
 -- ---- items
 -- an item stands first
@@ -52,6 +62,21 @@ pub record IsSplit (octets contents rest : List ℕ) : Type 0 where
   pub parts : (tag : ℕ) (inner more : List ℕ) → octets ≡ item tag inner ++ more → (contents ≡ inner) × (rest ≡ more)
   pub contents_within : length contents ≤ length octets
   pub rest_within : length rest ≤ length octets
+
+-- one that has items in it stands first, as its tag says (X.690, 8.1.2.5)
+pub record HasConstructed (octets : List ℕ) : Type 0 where
+  pub first : HasItem octets
+  pub constructed : 0x20 ≤ first.tag
+
+-- one that has none
+pub record HasPrimitive (octets : List ℕ) : Type 0 where
+  pub first : HasItem octets
+  pub primitive : first.tag < 0x20
+
+-- the octets from the contents of the item that stands first on, and how many of them follow these
+pub record IsEntered (octets contents : List ℕ) (after : ℕ) : Type 0 where
+  pub parts : (tag : ℕ) (inner more : List ℕ) → octets ≡ item tag inner ++ more → (contents ≡ inner ++ more) × (length more ≡ after)
+  pub contents_within : length contents ≤ length octets
 
 -- ---- an INTEGER
 -- one of 32 bits, with or without a sign, stands first

@@ -191,8 +191,13 @@ impl DecodeFields for Cut<Rest<Owned>> {
 
     ghost values = { λ cut. ⟦<Rest<Owned> as DecodeFields>⟧.values cut.0 };
 
-    fn read<S: Source>(alloc: Global, contents: S) -> Result<Cut<Rest<Owned>>, AllocError> {
-        Ok(Cut(Rest::<Owned>::read(alloc, contents)?))
+    fn read<S: Source>(
+        alloc: Global,
+        front: S,
+        after: usize,
+    ) -> Result<(Cut<Rest<Owned>>, S), AllocError> {
+        let (fields, rest) = Rest::<Owned>::read(alloc, front, after)?;
+        Ok((Cut(fields), rest))
     }
 }
 

@@ -187,8 +187,13 @@ impl DecodeFields for Cut<Names<Owned>> {
 
     ghost values = { λ cut. ⟦<Names<Owned> as DecodeFields>⟧.values cut.0 };
 
-    fn read<S: Source>(alloc: Global, contents: S) -> Result<Cut<Names<Owned>>, AllocError> {
-        Ok(Cut(Names::<Owned>::read(alloc, contents)?))
+    fn read<S: Source>(
+        alloc: Global,
+        front: S,
+        after: usize,
+    ) -> Result<(Cut<Names<Owned>>, S), AllocError> {
+        let (fields, rest) = Names::<Owned>::read(alloc, front, after)?;
+        Ok((Cut(fields), rest))
     }
 }
 

@@ -3,7 +3,7 @@
 ghost use Rattle.std.specs.Prelude.{◌≡◌, ◌^◌, ◌<◌, true, pos, IfOk, length, map, refl};
 ghost use Rattle.krb_msg.specs.Shape.{is_unambiguous};
 ghost use Rattle.krb_msg.specs.Grammar.{int32, wide32, microseconds, kerberos_string, octet_string, kerberos_time, kerberos_flags, sequence_of};
-ghost use Rattle.krb_msg.specs.Reads.{AreItems, AreItemsRead};
+ghost use Rattle.krb_msg.specs.Reads.{ItemsBegin, ItemsAreTaken};
 ghost use Rattle.krb_msg.specs.inner.Told.{many_form};
 ghost use Rattle.krb_msg.specs.inner.Fitting.{micros_fit, string_fits, flags_fit, many_fit};
 
@@ -75,8 +75,8 @@ impl Decode for KString {
     ghost value = { λ octets. octets };
 
     fn decode<S: Source>(alloc: Global, front: S) -> Result<(KString, S), AllocError> {
-        let (contents, rest) = front.split_item();
-        Ok((KString::new(contents.as_slice().to_vec(alloc)?), rest))
+        let (contents, rest) = front.split_primitive();
+        Ok((KString::new(contents.to_vec(alloc)?), rest))
     }
 }
 
@@ -92,8 +92,8 @@ impl Decode for Octets {
     ghost value = { λ octets. octets };
 
     fn decode<S: Source>(alloc: Global, front: S) -> Result<(Octets, S), AllocError> {
-        let (contents, rest) = front.split_item();
-        Ok((Octets::new(contents.as_slice().to_vec(alloc)?), rest))
+        let (contents, rest) = front.split_primitive();
+        Ok((Octets::new(contents.to_vec(alloc)?), rest))
     }
 }
 
@@ -109,8 +109,8 @@ impl Decode for KerberosTime {
     ghost value = { λ octets. octets };
 
     fn decode<S: Source>(_alloc: Global, front: S) -> Result<(KerberosTime, S), AllocError> {
-        let (contents, rest) = front.split_item();
-        let Some((octets, _)) = contents.as_slice().split_first_chunk::<15>() else {
+        let (contents, rest) = front.split_primitive();
+        let Some((octets, _)) = contents.split_first_chunk::<15>() else {
             unreachable!()
         };
         match KerberosTime::new(*octets) {
@@ -132,8 +132,8 @@ impl Decode for Flags {
     ghost value = { λ bits. bits };
 
     fn decode<S: Source>(alloc: Global, front: S) -> Result<(Flags, S), AllocError> {
-        let (contents, rest) = front.split_item();
-        let Some((unused, bits)) = contents.as_slice().split_first() else {
+        let (contents, rest) = front.split_primitive();
+        let Some((unused, bits)) = contents.split_first() else {
             unreachable!()
         };
         match Flags::new(*unused, bits.to_vec(alloc)?) {
@@ -156,8 +156,8 @@ impl<T: Item> Decode for Many<T> {
     ghost value = { λ values. map T.value values };
 
     fn decode<S: Source>(alloc: Global, front: S) -> Result<(Many<T>, S), AllocError> {
-        let (contents, rest) = front.split_item();
-        Ok((items(alloc, contents)?, rest))
+        let (contents, after) = front.enter();
+        items(alloc, contents, after)
     }
 }
 
@@ -167,19 +167,24 @@ impl<T: Item> Item for Many<T> {
     ghost fits = { many_fit T.Fits T.term T.value T.Item.fits };
 }
 
-/// The values of items, one after another.
-fn items<T: Item, S: Source>(alloc: Global, contents: S) -> Result<Many<T>, AllocError>
-    requires short { length (S.octets contents) < 2 ^ 31 }
+/// The values of items, one after another, that stand before the last `after` octets, and what
+/// follows them.
+fn items<T: Item, S: Source>(
+    alloc: Global,
+    front: S,
+    after: usize,
+) -> Result<(Many<T>, S), AllocError>
+    requires short { length (S.octets front) < 2 ^ 31 }
     requires unambiguous { is_unambiguous T.term ≡ true }
-    requires form { AreItems T.term (S.octets contents) }
-    ensures { IfOk result (λ values. AreItemsRead T.term (S.octets contents) (map T.value values)) }
+    requires form { ItemsBegin T.term (S.octets front) after }
+    ensures { IfOk result (λ r. ItemsAreTaken T.term (S.octets front) after (map T.value r.0) (S.octets r.1)) }
 {
     let mut values = Vec::new(alloc);
-    let mut rest = contents;
-    'items: while !rest.as_slice().is_empty() {
+    let mut rest = front;
+    'items: while after < rest.remaining() {
         let (value, left) = T::decode(alloc, rest)?;
         values.push(value)?;
         rest = left;
     }
-    Ok(Many::new(values))
+    Ok((Many::new(values), rest))
 }

@@ -1,22 +1,35 @@
 //! What items are found in.
 
-ghost use Rattle.std.specs.Prelude.{◌≡◌, ◌^◌, ◌<◌, ℕ, List, length};
-ghost use Rattle.krb_msg.specs.Reads.{HasItem, HasNumber, IsSplit, IsNumber};
+ghost use Rattle.std.specs.Prelude.{◌≡◌, ◌^◌, ◌<◌, ℕ, List, length, get_or};
+ghost use Rattle.krb_msg.specs.Reads.{HasConstructed, HasPrimitive, HasNumber, IsEntered, IsSplit, IsNumber};
 
-/// Octets in which items are found.
+/// Octets in which items are found, from one item on. What follows an item with items in it is found
+/// by passing these.
 pub trait Source: Copy {
-    /// The octets.
+    /// The octets, to the last one.
     ghost octets: { Self → List ℕ };
 
-    /// The octets, borrowed.
-    fn as_slice(&self) -> &[u8]
-        ensures { result.now ≡ octets self.now };
+    /// How many octets are left.
+    fn remaining(&self) -> usize
+        ensures { result ≡ length (octets self.now) };
 
-    /// The contents of the first item, and what follows it (X.690, 8.1).
-    fn split_item(self) -> (Self, Self)
+    /// The first octet.
+    fn first(&self) -> u8
+        requires { 0 < length (octets self.now) }
+        ensures { result ≡ get_or (octets self.now) 0 0 };
+
+    /// The octets from the contents of the first item on, which has items in it, and how many of
+    /// them follow these contents (X.690, 8.1).
+    fn enter(self) -> (Self, usize)
         requires short { length (octets self) < 2 ^ 31 }
-        requires form { HasItem (octets self) }
-        ensures { IsSplit (octets self) (octets result.0) (octets result.1) };
+        requires form { HasConstructed (octets self) }
+        ensures { IsEntered (octets self) (octets result.0) result.1 };
+
+    /// The contents of the first item, which has no items in it, borrowed, and what follows it.
+    fn split_primitive(&self) -> (&[u8], Self)
+        requires short { length (octets self.now) < 2 ^ 31 }
+        requires form { HasPrimitive (octets self.now) }
+        ensures { IsSplit (octets self.now) result.0.now (octets result.1) };
 
     /// The number of the INTEGER that stands first, and what follows it (X.690, 8.3).
     fn split_integer(self) -> (i64, Self)

@@ -1,8 +1,9 @@
 //! Slices in which items are found.
 
-ghost use Rattle.std.specs.Prelude.{◌^◌, ◌<◌, length};
-ghost use Rattle.krb_msg.specs.Reads.{HasItem, HasNumber, IsSplit, IsNumber};
+ghost use Rattle.std.specs.Prelude.{◌≡◌, ◌^◌, ◌<◌, length};
+ghost use Rattle.krb_msg.specs.Reads.{HasItem, HasNumber, IsEntered, IsSplit, IsNumber};
 
+use crate::judging::head::{Head, read_head};
 use crate::opening::open;
 use krb_der::integer_value;
 use krb_msg::Source;
@@ -16,18 +17,42 @@ pub(crate) struct Slice<'a> {
 impl<'a> Source for Slice<'a> {
     ghost octets = { λ slice. slice.octets.now };
 
-    fn as_slice(&self) -> &[u8] {
-        self.octets
+    fn remaining(&self) -> usize {
+        self.octets.len()
     }
 
-    fn split_item(self) -> (Slice<'a>, Slice<'a>) {
+    fn first(&self) -> u8 {
+        self.octets[0]
+    }
+
+    fn enter(self) -> (Slice<'a>, usize) {
+        let (contents, after) = enter(self.octets);
+        (Slice { octets: contents }, after)
+    }
+
+    fn split_primitive(&self) -> (&[u8], Slice<'a>) {
         let (contents, rest) = split_item(self.octets);
-        (Slice { octets: contents }, Slice { octets: rest })
+        (contents, Slice { octets: rest })
     }
 
     fn split_integer(self) -> (i64, Slice<'a>) {
         let (number, rest) = split_integer(self.octets);
         (number, Slice { octets: rest })
+    }
+}
+
+/// The octets from the contents of the first item on, and how many of them follow these contents.
+fn enter(octets: &[u8]) -> (&[u8], usize)
+    requires short { length octets.now < 2 ^ 31 }
+    requires form { HasItem octets.now }
+    ensures { IsEntered octets.now result.0.now result.1 }
+{
+    match read_head(octets.len() as u32, octets) {
+        Head::Got { header, size } => {
+            let contents = &octets[header as usize..];
+            (contents, contents.len() - size as usize)
+        }
+        _ => unreachable!(),
     }
 }
 

@@ -1,11 +1,11 @@
 //! Fields read from octets.
 
-ghost use Rattle.std.specs.Prelude.{◌≡◌, ◌^◌, ◌<◌, true, pos, IfOk, length};
+ghost use Rattle.std.specs.Prelude.{◌≡◌, ◌+◌, ◌^◌, ◌<◌, ◌↔◌, true, pos, IfOk, length};
 ghost use Rattle.std.specs.Option.{option_map};
 ghost use Rattle.krb_msg.specs.Term.{Fields as TermFields, Sequence as SequenceTerm, Application as ApplicationTerm, Tagged, End as NoField, Required as RequiredField, Optional as OptionalField, Values};
 ghost use Rattle.krb_msg.specs.Grammar.{exactly};
 ghost use Rattle.krb_msg.specs.Shape.{are_unambiguous};
-ghost use Rattle.krb_msg.specs.Reads.{AreFields, AreRead};
+ghost use Rattle.krb_msg.specs.Reads.{FieldsBegin, FieldsAreTaken, HasTag};
 
 use crate::fields::{Application, End, Fixed, Optional, Required, Sequence};
 use crate::item::{Decode, Item};
@@ -20,13 +20,13 @@ pub trait DecodeFields: Drop {
     /// Their values.
     ghost values: { Self → Values fields };
 
-    /// The fields whose octets these are. Nothing is judged again, and each string of octets is
-    /// copied once.
-    fn read<S: Source>(alloc: Global, contents: S) -> Result<Self, AllocError>
-        requires short { length (S.octets contents) < 2 ^ 31 }
+    /// The fields whose octets stand first, before the last `after` octets, and what follows them.
+    /// Nothing is judged again, and each string of octets is copied once.
+    fn read<S: Source>(alloc: Global, front: S, after: usize) -> Result<(Self, S), AllocError>
+        requires short { length (S.octets front) < 2 ^ 31 }
         requires unambiguous { are_unambiguous fields ≡ true }
-        requires form { AreFields fields (S.octets contents) }
-        ensures { IfOk result (λ list. AreRead fields (S.octets contents) (values list)) };
+        requires form { FieldsBegin fields (S.octets front) after }
+        ensures { IfOk result (λ r. FieldsAreTaken fields (S.octets front) after (values r.0) (S.octets r.1)) };
 }
 
 impl DecodeFields for End {
@@ -34,8 +34,8 @@ impl DecodeFields for End {
 
     ghost values = { λ end. tt };
 
-    fn read<S: Source>(_alloc: Global, _contents: S) -> Result<End, AllocError> {
-        Ok(End)
+    fn read<S: Source>(_alloc: Global, front: S, _after: usize) -> Result<(End, S), AllocError> {
+        Ok((End, front))
     }
 }
 
@@ -44,11 +44,15 @@ impl<const INDEX: u8, T: Item, F: DecodeFields> DecodeFields for Required<INDEX,
 
     ghost values = { λ list. (T.value list.0, F.values list.1) };
 
-    fn read<S: Source>(alloc: Global, contents: S) -> Result<Required<INDEX, T, F>, AllocError> {
-        let (inner, rest) = contents.split_item();
-        let (value, _) = T::decode(alloc, inner)?;
-        let fields = F::read(alloc, rest)?;
-        Ok(Required(value, fields))
+    fn read<S: Source>(
+        alloc: Global,
+        front: S,
+        after: usize,
+    ) -> Result<(Required<INDEX, T, F>, S), AllocError> {
+        let (inner, _) = front.enter();
+        let (value, rest) = T::decode(alloc, inner)?;
+        let (fields, rest) = F::read(alloc, rest, after)?;
+        Ok((Required(value, fields), rest))
     }
 }
 
@@ -57,17 +61,28 @@ impl<const INDEX: u8, T: Item, F: DecodeFields> DecodeFields for Optional<INDEX,
 
     ghost values = { λ list. (option_map T.value list.0, F.values list.1) };
 
-    fn read<S: Source>(alloc: Global, contents: S) -> Result<Optional<INDEX, T, F>, AllocError> {
-        match contents.as_slice().first() {
-            Some(tag) if u16::from(*tag) == 0xA0 + u16::from(INDEX) => {
-                let (inner, rest) = contents.split_item();
-                let (value, _) = T::decode(alloc, inner)?;
-                let fields = F::read(alloc, rest)?;
-                Ok(Optional(Some(value), fields))
-            }
-            _ => Ok(Optional(None, F::read(alloc, contents)?)),
+    fn read<S: Source>(
+        alloc: Global,
+        front: S,
+        after: usize,
+    ) -> Result<(Optional<INDEX, T, F>, S), AllocError> {
+        if has_field(front, INDEX, after) {
+            let (inner, _) = front.enter();
+            let (value, rest) = T::decode(alloc, inner)?;
+            let (fields, rest) = F::read(alloc, rest, after)?;
+            Ok((Optional(Some(value), fields), rest))
+        } else {
+            let (fields, rest) = F::read(alloc, front, after)?;
+            Ok((Optional(None, fields), rest))
         }
     }
+}
+
+/// Whether the field `[index]` stands first, before the last `after` octets.
+fn has_field<S: Source>(front: S, index: u8, after: usize) -> bool
+    ensures { (result ≡ true) ↔ HasTag (0xA0 + index) (S.octets front) after }
+{
+    after < front.remaining() && u16::from(front.first()) == 0xA0 + u16::from(index)
 }
 
 impl<const INDEX: u8, const NUMBER: u8, F: DecodeFields> DecodeFields for Fixed<INDEX, NUMBER, F> {
@@ -75,9 +90,15 @@ impl<const INDEX: u8, const NUMBER: u8, F: DecodeFields> DecodeFields for Fixed<
 
     ghost values = { λ list. (pos NUMBER, F.values list.0) };
 
-    fn read<S: Source>(alloc: Global, contents: S) -> Result<Fixed<INDEX, NUMBER, F>, AllocError> {
-        let (_, rest) = contents.split_item();
-        Ok(Fixed(F::read(alloc, rest)?))
+    fn read<S: Source>(
+        alloc: Global,
+        front: S,
+        after: usize,
+    ) -> Result<(Fixed<INDEX, NUMBER, F>, S), AllocError> {
+        let (inner, _) = front.enter();
+        let (_, rest) = inner.split_primitive();
+        let (fields, rest) = F::read(alloc, rest, after)?;
+        Ok((Fixed(fields), rest))
     }
 }
 
@@ -87,8 +108,9 @@ impl<F: DecodeFields> Decode for Sequence<F> {
     ghost value = { λ sequence. F.values sequence.0 };
 
     fn decode<S: Source>(alloc: Global, front: S) -> Result<(Sequence<F>, S), AllocError> {
-        let (contents, rest) = front.split_item();
-        Ok((Sequence(F::read(alloc, contents)?), rest))
+        let (contents, after) = front.enter();
+        let (fields, rest) = F::read(alloc, contents, after)?;
+        Ok((Sequence(fields), rest))
     }
 }
 
@@ -101,8 +123,8 @@ impl<const NUMBER: u8, E: Decode> Decode for Application<NUMBER, E> {
         alloc: Global,
         front: S,
     ) -> Result<(Application<NUMBER, E>, S), AllocError> {
-        let (inner, rest) = front.split_item();
-        let (item, _) = E::decode(alloc, inner)?;
+        let (inner, _) = front.enter();
+        let (item, rest) = E::decode(alloc, inner)?;
         Ok((Application(item), rest))
     }
 }

@@ -1,6 +1,9 @@
-use Rattle.std.proofs.Common.{◌∙◌, ap, sym}
-use Rattle.krb_msg.proofs.Layouts.{is_taken}
+use Rattle.std.proofs.Common.{◌∙◌, arith}
+use Rattle.krb_msg.proofs.Layouts.{first_primitive, is_taken}
 use Rattle.krb_msg.proofs.scalars.KStringDecode.decode.Goals as goal
 
+pub split_primitive-rest-requires-clause-form : goal.split_primitive-rest-requires-clause-form
+split_primitive-rest-requires-clause-form g c = first_primitive (omega arith) c.requires.form
+
 pub returns : goal.returns
-returns g c = is_taken c.split_item-contents.ensures _ (λ that e. c.new.ensures ∙ c.in_ok-to_vec.ensures.items_if_clones_equal (λ x y e. e) ∙ c.as_slice.ensures ∙ e)
+returns g c = is_taken c.split_primitive-rest.ensures _ (λ that e. c.new.ensures ∙ c.in_ok-to_vec.ensures.items_if_clones_equal (λ x y e. e) ∙ e)

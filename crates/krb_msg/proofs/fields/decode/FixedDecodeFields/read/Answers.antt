@@ -1,9 +1,21 @@
+use Rattle.std.proofs.Common.{pos, arith}
 use Rattle.krb_msg.specs.Grammar.{exactly}
-use Rattle.krb_msg.proofs.Layouts.{required_rest, fixed_read}
+use Rattle.krb_msg.proofs.Layouts.{first_primitive, required_constructed, required_begins, required_rest, required_taken, fixed_taken}
 use Rattle.krb_msg.proofs.fields.decode.FixedDecodeFields.read.Goals as goal
 
+pub enter-inner-requires-clause-form : goal.enter-inner-requires-clause-form
+enter-inner-requires-clause-form g c = required_constructed g.row.INDEX (exactly g.row.NUMBER) g.F.DecodeFields.fields c.requires.form
+
+pub split_primitive-rest-requires-clause-form : goal.split_primitive-rest-requires-clause-form
+split_primitive-rest-requires-clause-form g c =
+    first_primitive (omega arith) (required_begins g.row.INDEX (exactly g.row.NUMBER) g.F.DecodeFields.fields c.requires.form c.enter-inner.ensures)
+
 pub read-requires-clause-form : goal.read-requires-clause-form
-read-requires-clause-form g c = required_rest g.row.INDEX (exactly g.row.NUMBER) g.F.DecodeFields.fields c.requires.form c.split_item-rest.ensures
+read-requires-clause-form g c =
+    let f = required_begins g.row.INDEX (exactly g.row.NUMBER) g.F.DecodeFields.fields c.requires.form c.enter-inner.ensures in
+    required_rest g.row.INDEX (exactly g.row.NUMBER) g.F.DecodeFields.fields (pos g.row.NUMBER) c.requires.form c.enter-inner.ensures (fixed_taken g.row.NUMBER f c.split_primitive-rest.ensures)
 
 pub returns : goal.returns
-returns g c = fixed_read g.row.INDEX g.row.NUMBER g.F.DecodeFields.fields (g.F.DecodeFields.values c.in_ok-read.field-0) c.requires.form c.split_item-rest.ensures c.in_ok-read.ensures
+returns g c =
+    let f = required_begins g.row.INDEX (exactly g.row.NUMBER) g.F.DecodeFields.fields c.requires.form c.enter-inner.ensures in
+    required_taken g.row.INDEX (exactly g.row.NUMBER) g.F.DecodeFields.fields (pos g.row.NUMBER) (g.F.DecodeFields.values c.in_ok-fields.fields) c.enter-inner.ensures (fixed_taken g.row.NUMBER f c.split_primitive-rest.ensures) c.in_ok-fields.ensures
