@@ -26,3 +26,4 @@ pub mod Running
 pub mod WholeItems
 pub mod Leaves
 pub mod AtOnce
+pub mod ValueMarks

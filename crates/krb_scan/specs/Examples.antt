@@ -1,8 +1,11 @@
 -- The worked examples, computed by the definitions.
-use Rattle.std.specs.Prelude.{ℕ, ◌≡◌, List, length, take, codes, refl}
+use Rattle.std.specs.Prelude.{ℕ, pos, ◌≡◌, List, [], ◌∷◌, length, take, codes, refl}
 use Rattle.krb_der.specs.Hex.{hex}
-use Rattle.krb_msg.specs.Grammar.{messages}
-use Rattle.krb_scan.specs.Reading.{Answer, Ongoing, Refusing, Whole, reading, marks_of, open_lengths, taken}
+use Rattle.krb_msg.specs.Term.{Tagged}
+use Rattle.krb_msg.specs.Grammar.{wide32, ap_rep, messages}
+use Rattle.krb_msg.specs.Reading.{value_read}
+use Rattle.krb_scan.specs.Reading.{Answer, Ongoing, Refusing, Whole, mark_of, reading, marks_of, open_lengths, taken}
+use Rattle.krb_scan.specs.ValueMarks.{value_marks}
 
 abbrev ap_rep_octets : List ℕ
 ap_rep_octets = hex (codes "6F1D301B A003020105 A10302010F A20F300D A003020112 A2060404DEADBEEF")
@@ -27,3 +30,10 @@ tgs_req_deepest = refl
 
 tgs_req_after : shown (reading messages 109 (take 94 tgs_req_octets)) ≡ (33, 8, 94)
 tgs_req_after = refl
+
+-- a field of five octets, A1 03 02 01 07, the first of them at 20: its contents are the INTEGER
+kvno_marks : value_marks (Tagged 1 wide32) 20 (pos 7) ≡ mark_of (Tagged 1 wide32) 22 3 (pos 0) ∷ mark_of wide32 24 1 (pos 7) ∷ []
+kvno_marks = refl
+
+ap_rep_value_marks : reading messages 31 ap_rep_octets ≡ Whole (value_marks ap_rep 0 (value_read ap_rep ap_rep_octets))
+ap_rep_value_marks = refl

@@ -1,10 +1,15 @@
--- The law of the reading, by any messages.
-use Rattle.std.specs.Prelude.{ℕ, ◌≡◌, ◌≤◌, ◌<◌, List, length}
+-- The laws of the reading, by any messages, by any grammar and by the messages of krb_msg.
+use Rattle.std.specs.Prelude.{ℕ, ◌≡◌, ◌^◌, ◌≤◌, ◌<◌, List, length}
 use Rattle.krb_der.specs.declared.verdict.Verdict.{Verdict}
 use Rattle.krb_der.specs.declared.verdict.Verdict.TheVariants as verdict
-use Rattle.krb_msg.specs.Term.{Term}
+use Rattle.krb_msg.specs.Term.{Term, Value, der, Fits}
+use Rattle.krb_msg.specs.Shape.{IsOneOf, IsGrammar}
 use Rattle.krb_msg.specs.Judgement.{judgement_by}
+use Rattle.krb_msg.specs.Views.{message_der, IsInProfile}
+use Rattle.krb_msg.specs.declared.message.Message.{Message}
 use Rattle.krb_scan.specs.Reading.{Answer, Ongoing, Refusing, Whole, reading}
+use Rattle.krb_scan.specs.ValueMarks.{value_marks, message_marks}
+use Rattle.krb_scan.specs.At.{Marks}
 
 abbrev pub decided_by : Answer → Verdict
 decided_by (Ongoing state) = verdict.Open
@@ -14,3 +19,11 @@ decided_by (Whole marks) = verdict.Whole
 -- What a reading says of the octets is their judgement.
 abbrev pub ReadingJudges : Type 0
 ReadingJudges = (terms : List Term) (n : ℕ) (octets : List ℕ) → 0 < n → length octets ≤ n → judgement_by terms n octets ≡ decided_by (reading terms n octets)
+
+-- The DER of a value of one of the messages is read as whole, with the marks of the value.
+abbrev pub WholeHasMarksOfValue : Type 0
+WholeHasMarksOfValue = (messages : List Term) → IsGrammar messages → (term : Term) → IsOneOf term messages → (value : Value term) → Fits term value → length (der term value) < 2 ^ 31 → reading messages (length (der term value)) (der term value) ≡ Whole (value_marks term 0 value)
+
+-- The marks of the DER of a message are those of the message.
+abbrev pub WholeHasMarksOfMessage : Type 0
+WholeHasMarksOfMessage = (m : Message) → IsInProfile m → Marks (length (message_der m)) (message_der m) ≡ message_marks m

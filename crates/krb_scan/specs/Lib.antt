@@ -1,8 +1,9 @@
 pub mod Reading
-pub mod Laws
+pub mod ValueMarks
 pub mod Places
 pub mod State
 pub mod At
+pub mod Laws
 pub mod Runs
 pub mod Scanner
 pub mod Examples

@@ -1,7 +1,18 @@
 //! Laws of the reading of a message's octets. Each is the contract of a function that does nothing.
-ghost use Rattle.krb_scan.specs.Laws.{ReadingJudges};
+ghost use Rattle.krb_scan.specs.Laws.{ReadingJudges, WholeHasMarksOfMessage, WholeHasMarksOfValue};
 
 /// By any messages, what a reading says of the octets is their judgement.
 pub fn reading_judges()
     ensures { ReadingJudges }
+{}
+
+/// By any grammar, the DER of a value of one of its messages is read as whole, with the marks of
+/// the value.
+pub fn whole_has_marks_of_value()
+    ensures { WholeHasMarksOfValue }
+{}
+
+/// The marks of the DER of a message are those of the message.
+pub fn whole_has_marks_of_message()
+    ensures { WholeHasMarksOfMessage }
 {}
