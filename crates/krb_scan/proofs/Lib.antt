@@ -27,3 +27,4 @@ pub mod WholeItems
 pub mod Leaves
 pub mod AtOnce
 pub mod ValueMarks
+pub mod MarksLeft

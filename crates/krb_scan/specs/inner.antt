@@ -4,3 +4,4 @@ pub mod Numbers
 pub mod Stands
 pub mod Paths
 pub mod Wholes
+pub mod MarksLeft
