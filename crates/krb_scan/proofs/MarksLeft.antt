@@ -184,20 +184,21 @@ module _ (octets : List ℕ) (place : ℕ) (tag : ℕ) (inner more : List ℕ) (
   all_octets : start_of place (length inner) + length inner + length more ≡ length octets
   all_octets = omega (arith, within, length-drop place octets, ap length (here ∙ item-append tag inner more), length-append (length_octets (length inner)) (inner ++ more), length-append inner more)
 
-pub has_mark : (octets : List ℕ) (place : ℕ) (marks : List Mark) (tag : ℕ) (inner more : List ℕ) → StandsAt octets place marks → drop place octets ≡ item tag inner ++ more → HasMark octets place marks inner more
-has_mark octets place [] tag inner more s here = let none : item tag inner ++ more ≡ [] = sym here ∙ s.left in absurd cc
-has_mark octets place (mark ∷ marks) tag inner more s here =
+pub has_mark : (octets : List ℕ) (place : ℕ) (mark : Mark) (marks : List Mark) (tag : ℕ) (inner more : List ℕ) → StandsAt octets place (mark ∷ marks) → drop place octets ≡ item tag inner ++ more → HasMark octets place mark inner more
+has_mark octets place mark marks tag inner more s here =
     let p : (s.left.0.tag ≡ tag) × (mark.count ≡ length inner) × (s.left.0.rest ≡ inner ++ more) = first_parts place (drop place octets) mark s.left.0 tag inner more here in
     let start : mark.start ≡ start_of place (length inner) = s.left.0.start ∙ ap (start_of place) p.1 in
     record {
-      mark = mark;
-      others = marks;
-      parts = refl;
       start = start;
       count = p.1;
       contents = ap (λ k. drop k octets) start ∙ contents_at octets place tag inner more s.within here;
       after = omega (arith, start, p.1, all_octets octets place tag inner more s.within here);
     }
+
+-- there is one where an item stands
+pub some_mark : (octets : List ℕ) (place : ℕ) (marks : List Mark) (tag : ℕ) (inner more : List ℕ) → StandsAt octets place marks → drop place octets ≡ item tag inner ++ more → 0 < length marks
+some_mark octets place [] tag inner more s here = let none : item tag inner ++ more ≡ [] = sym here ∙ s.left in absurd cc
+some_mark octets place (mark ∷ marks) tag inner more s here = omega arith
 
 -- after the mark of an item with items in it the reader stands at the first of these
 pub enters : (octets : List ℕ) (place : ℕ) (mark : Mark) (marks : List Mark) (tag : ℕ) (inner more : List ℕ) → StandsAt octets place (mark ∷ marks) → drop place octets ≡ item tag inner ++ more → 0x20 ≤ tag → StandsAt octets mark.start marks

@@ -28,11 +28,8 @@ pub record StandsAt (octets : List ℕ) (place : ℕ) (marks : List Mark) : Type
   pub within : place ≤ length octets
   pub left : AreLeft place (drop place octets) marks
 
--- where an item of some contents begins, with so many octets more, the next mark is its own
-pub record HasMark (octets : List ℕ) (place : ℕ) (marks : List Mark) (inner more : List ℕ) : Type 0 where
-  pub mark : Mark
-  pub others : List Mark
-  pub parts : marks ≡ mark ∷ others
+-- a mark is that of an item of some contents, with so many octets more, that stands at a place
+pub record HasMark (octets : List ℕ) (place : ℕ) (mark : Mark) (inner more : List ℕ) : Type 0 where
   pub start : mark.start ≡ start_of place (length inner)
   pub count : mark.count ≡ length inner
   -- where its contents stand, and how many octets follow them
