@@ -153,7 +153,10 @@ impl Decoder {
         ensures { result ≡ borrowed messages self.now }
     {
         match self.phase {
-            Phase::Ready => Some(Framed::new(self.contents.as_slice())),
+            Phase::Ready => {
+                let contents = self.contents.as_slice();
+                Some(Framed::new(contents, self.scanner.marks()))
+            }
             _ => None,
         }
     }

@@ -1,8 +1,8 @@
 //! A frame that is ready, borrowed from its decoder.
 
 use krb_der::Memory;
-use krb_judge::{parse_whole, whole_kind};
-use krb_msg::{Kind, Message};
+use krb_msg::{Kind, Message, whole_kind};
+use krb_scan::{Mark, build};
 use std::alloc::Global;
 use std::marker::Model;
 
@@ -10,32 +10,38 @@ use std::marker::Model;
 #[derive(Drop)]
 pub struct Framed<'a> {
     octets: &'a [u8],
+    marks: &'a [Mark],
 }
 
 impl<'a> Model for Framed<'a> {
     ghost use Rattle.std.specs.Prelude.{ℕ, List, length};
     ghost use Rattle.krb_msg.specs.Grammar.{messages};
+    ghost use Rattle.krb_scan.specs.At.{Marks};
+    ghost use Rattle.krb_scan.specs.State.{AreMarks};
     ghost use Rattle.krb_frame.specs.Frame.{IsWholeFrame};
 
     ghost Value = { List ℕ };
 
     ghost view = { λ framed. framed.octets.now };
 
-    ghost invariant = { λ framed. IsWholeFrame messages framed.octets.now };
+    ghost invariant = { λ framed. IsWholeFrame messages framed.octets.now × AreMarks framed.marks.now (Marks (length framed.octets.now) framed.octets.now) };
 }
 
-ghost use Rattle.std.specs.Prelude.{◌≡◌, IfOk};
+ghost use Rattle.std.specs.Prelude.{◌≡◌, IfOk, length};
 ghost use Rattle.krb_msg.specs.Grammar.{messages};
-ghost use Rattle.krb_frame.specs.Frame.{IsWholeFrame, AreOfKind};
-ghost use Rattle.krb_msg.specs.Views.{message_der};
+ghost use Rattle.krb_msg.specs.Views.{AreOfKind, message_der};
+ghost use Rattle.krb_scan.specs.At.{Marks};
+ghost use Rattle.krb_scan.specs.State.{AreMarks};
+ghost use Rattle.krb_frame.specs.Frame.{IsWholeFrame};
 
 impl<'a> Framed<'a> {
-    /// A frame of the octets of one message.
-    pub(crate) fn new(octets: &'a [u8]) -> Framed<'a>
-        requires { IsWholeFrame messages octets.now }
+    /// A frame of the octets of one message, with its marks.
+    pub(crate) fn new(octets: &'a [u8], marks: &'a [Mark]) -> Framed<'a>
+        requires whole { IsWholeFrame messages octets.now }
+        requires marks { AreMarks marks.now (Marks (length octets.now) octets.now) }
         ensures { result ≡ octets.now }
     {
-        Framed { octets }
+        Framed { octets, marks }
     }
 
     /// The octets of the message, those of the frame's length not with them.
@@ -52,10 +58,10 @@ impl<'a> Framed<'a> {
         whole_kind(self.octets)
     }
 
-    /// The message, whose octets are not judged again.
+    /// The message, by the marks of its octets, which are not judged again.
     pub fn message(&self, alloc: Global) -> Result<Message, Memory>
         ensures { IfOk result (λ m. message_der m ≡ self.now) }
     {
-        parse_whole(alloc, self.octets)
+        build(alloc, self.marks, self.octets)
     }
 }

@@ -5,7 +5,7 @@ ghost use Rattle.krb_msg.specs.Reads.{HasConstructed, HasPrimitive, HasNumber, I
 
 /// Octets in which items are found, from one item on. What follows an item with items in it is found
 /// by passing these.
-pub trait Source: Copy {
+pub trait Source: Drop {
     /// The octets, to the last one.
     ghost octets: { Self → List ℕ };
 

@@ -28,3 +28,4 @@ pub mod Leaves
 pub mod AtOnce
 pub mod ValueMarks
 pub mod MarksLeft
+pub mod MarkedItems

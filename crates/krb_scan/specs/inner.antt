@@ -5,3 +5,4 @@ pub mod Stands
 pub mod Paths
 pub mod Wholes
 pub mod MarksLeft
+pub mod Marked

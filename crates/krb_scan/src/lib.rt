@@ -10,12 +10,14 @@
 #![tactic(auto)]
 
 mod at_once;
+mod building;
 mod closing;
 mod head;
 pub mod law;
 mod leaf;
 mod ledger;
 mod mark;
+mod marked;
 mod open;
 mod path;
 mod places;
@@ -24,6 +26,7 @@ mod taken;
 mod tip;
 mod whole;
 
+pub use building::build;
 pub use krb_der::{Memory, Refusal, Verdict, Why};
 pub use mark::Mark;
 pub use scanner::Scanner;

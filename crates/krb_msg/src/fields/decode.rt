@@ -66,7 +66,7 @@ impl<const INDEX: u8, T: Item, F: DecodeFields> DecodeFields for Optional<INDEX,
         front: S,
         after: usize,
     ) -> Result<(Optional<INDEX, T, F>, S), AllocError> {
-        if has_field(front, INDEX, after) {
+        if has_field(&front, INDEX, after) {
             let (inner, _) = front.enter();
             let (value, rest) = T::decode(alloc, inner)?;
             let (fields, rest) = F::read(alloc, rest, after)?;
@@ -79,8 +79,8 @@ impl<const INDEX: u8, T: Item, F: DecodeFields> DecodeFields for Optional<INDEX,
 }
 
 /// Whether the field `[index]` stands first, before the last `after` octets.
-fn has_field<S: Source>(front: S, index: u8, after: usize) -> bool
-    ensures { (result ≡ true) ↔ HasTag (0xA0 + index) (S.octets front) after }
+fn has_field<S: Source>(front: &S, index: u8, after: usize) -> bool
+    ensures { (result ≡ true) ↔ HasTag (0xA0 + index) (S.octets front.now) after }
 {
     after < front.remaining() && u16::from(front.first()) == 0xA0 + u16::from(index)
 }

@@ -1,0 +1,17 @@
+use Rattle.std.proofs.Common.{subst, sym, arith}
+use Rattle.krb_der.specs.inner.Numbers.{AreOctets-slice}
+use Rattle.krb_msg.proofs.Judged.{der_of_kind}
+use Rattle.krb_scan.specs.inner.MarksLeft.{StandsAt}
+use Rattle.krb_scan.proofs.MarksLeft.{stands_at_message}
+use Rattle.krb_scan.proofs.building.build.Goals as goal
+
+pub decode-requires-clause-form : goal.decode-requires-clause-form
+decode-requires-clause-form c = rw c.new.ensures (der_of_kind c.whole_kind-kind.ensures)
+
+pub new-requires : goal.new-requires
+new-requires c =
+    let octets = c.args.octets.now in
+    record {
+      short = c.requires.short;
+      stands = subst (StandsAt octets 0) (sym c.requires.marks.values) (stands_at_message _ octets c.requires.short (AreOctets-slice octets c.type_inv.octets) (omega arith) c.requires.whole);
+    }

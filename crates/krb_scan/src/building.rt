@@ -1,0 +1,26 @@
+//! Messages from their marks.
+
+ghost use Rattle.std.specs.Prelude.{◌≡◌, ◌<◌, ◌^◌, length, IfOk};
+ghost use Rattle.krb_der.specs.declared.verdict.Verdict.TheVariants.{Whole};
+ghost use Rattle.krb_msg.specs.Judgement.{judgement};
+ghost use Rattle.krb_msg.specs.Views.{message_der};
+ghost use Rattle.krb_scan.specs.At.{Marks};
+ghost use Rattle.krb_scan.specs.State.{AreMarks};
+
+use crate::mark::Mark;
+use crate::marked::Marked;
+use krb_der::Memory;
+use krb_msg::{Message, decode, whole_kind};
+use std::alloc::Global;
+
+/// The message whose octets these are, by the marks of a scanner that took them all. Nothing is
+/// judged again: numbers come from the marks, and each string of octets is copied once.
+pub fn build(alloc: Global, marks: &[Mark], octets: &[u8]) -> Result<Message, Memory>
+    requires short { length octets.now < 2 ^ 31 }
+    requires whole { judgement (length octets.now) octets.now ≡ Whole }
+    requires marks { AreMarks marks.now (Marks (length octets.now) octets.now) }
+    ensures { IfOk result (λ m. message_der m ≡ octets.now) }
+{
+    let kind = whole_kind(octets);
+    Ok(decode(alloc, kind, Marked::new(marks, octets))?)
+}
