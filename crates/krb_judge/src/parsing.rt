@@ -182,8 +182,8 @@ fn verdict_on(expected: Expected, octets: &[u8]) -> Verdict
     }
 }
 
-/// The message whose octets these are, which [`judge`] found whole. They are not judged again.
-pub fn parse_whole(alloc: Global, octets: &[u8]) -> Result<Message, Memory>
+/// The message whose octets these are, which are judged whole.
+fn parse_whole(alloc: Global, octets: &[u8]) -> Result<Message, Memory>
     requires short { length octets.now < 2 ^ 31 }
     requires whole { judgement (length octets.now) octets.now ≡ Whole }
     ensures { IfOk result (λ m. message_der m ≡ octets.now) }
