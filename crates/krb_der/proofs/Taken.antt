@@ -1,13 +1,15 @@
 -- Octets that a reader of fields takes, piece by piece.
-use Rattle.std.proofs.Common.{◌≡◌, ℕ, suc, ◌+◌, ◌-◌, ◌<◌, ◌≤◌, Bool, true, false, ◌&&◌, ◌==◌, ltb, Option, Some, None, Result, Ok, List, [], ◌∷◌, ◌++◌, length, take, refl, sym, ◌∙◌, ap, ap₂, subst, arith, append-nil, append_assoc, length-append, length-take, take-take, zero, nat_eq, slice_index_or, eqb→eq, slice_set, le-ltb, lt-ltb, drop_at}
-use Rattle.std.proofs.lemmas.List.{take_at}
+use Rattle.std.proofs.Common.{◌≡◌, ℕ, suc, ◌+◌, ◌-◌, ◌<◌, ◌≤◌, Bool, true, false, ◌&&◌, ◌==◌, ltb, Option, Some, None, Result, Ok, List, [], ◌∷◌, ◌++◌, length, take, drop, refl, sym, ◌∙◌, ap, ap₂, subst, arith, append-nil, append_assoc, length-append, length-take, length-drop, take-take, zero, nat_eq, eqb→eq, le-ltb, lt-ltb, drop_at}
+use Rattle.std.proofs.Math.Dec.{eqb-suc-zero}
+use Rattle.std.proofs.lemmas.List.{take_at, take-append-drop, drop-take, drop-drop}
+use Rattle.std.specs.List.{between}
 use Rattle.std.proofs.lemmas.Slice.{take-put_mid}
 use lib.Dec.{T}
 use borrow.Rule.Slice.PartMut.{put_mid}
 use Rattle.std.specs.Io.KnownBytes.{Consumes, IsAtEnd}
-use Rattle.krb_der.specs.Fields.{Source, Fault, Bounds, passes, onward, next_octets_at, octets_at, are_zero}
-use Rattle.krb_der.specs.FieldReaders.{Held, GoesOn, MayHave, source_at, HasRead, HasMet, FailsBy, ended_at, skipped_at}
-use Rattle.krb_der.specs.inner.Takes.{Takes, ahead_of, left_of, FallsShort, FailsTaking}
+use Rattle.krb_der.specs.Fields.{Source, Fault, Bounds, passes, onward, gives, is_empty, next_octets_at, octets_at, are_zero}
+use Rattle.krb_der.specs.FieldReaders.{Held, GoesOn, MayHave, HasRead, HasMet, FailsBy, ended_at, skipped_at}
+use Rattle.krb_der.specs.inner.Takes.{Takes, left_of, FallsShort, FailsTaking}
 use Rattle.krb_der.specs.declared.file.FileFault.{FileFault}
 use Rattle.krb_der.specs.declared.file.FileFault.TheVariants as faults
 use Rattle.krb_der.specs.declared.file.FileWhy.{FileWhy}
@@ -40,13 +42,15 @@ ended_left None new taken c none end = tt
 ended_left (Some xs) None taken c none end = absurd c
 ended_left (Some xs) (Some ys) taken c none end = c ∙ ap (λ (o : List ℕ). o ++ ys) none ∙ end
 
--- the octet ahead
-octet_gave : (left : Option (List ℕ)) (octet : ℕ) (rest : List ℕ) → GoesOn [] left rest → GoesOn (octet ∷ []) left (octet ∷ rest)
-octet_gave None octet rest there = (there.0, ap (λ (o : List ℕ). octet ∷ o) there.1)
-octet_gave (Some known) octet rest there = ap (λ (o : List ℕ). octet ∷ o) there
+-- octets that were ahead
+ahead_gave : (taken ahead : List ℕ) (left : Option (List ℕ)) (rest : List ℕ) → GoesOn ahead left rest → GoesOn (taken ++ ahead) left (taken ++ rest)
+ahead_gave taken ahead None rest there = (there.0, ap (λ (o : List ℕ). taken ++ o) there.1 ∙ sym (append_assoc taken ahead there.0))
+ahead_gave taken ahead (Some known) rest there = ap (λ (o : List ℕ). taken ++ o) there ∙ sym (append_assoc taken ahead known)
 
-pub Takes-ahead : (left : Option (List ℕ)) (octet place : ℕ) (bounds : Bounds) → Takes (record { ahead = octet ∷ []; left = left; place = place; bounds = bounds }) (record { ahead = []; left = left; place = place + 1; bounds = bounds }) (octet ∷ [])
-Takes-ahead left octet place bounds = record { same_bounds = refl; place = refl; from = λ rest there. octet_gave left octet rest there }
+pub Takes-ahead : (had ahead taken : List ℕ) (left : Option (List ℕ)) (place count : ℕ) (bounds : Bounds) → had ≡ taken ++ ahead → length taken ≡ count
+    → Takes (record { ahead = had; left = left; place = place; bounds = bounds }) (record { ahead = ahead; left = left; place = place + count; bounds = bounds }) taken
+Takes-ahead had ahead taken left place count bounds is long =
+    rw (is, sym long) (record { same_bounds = refl; place = refl; from = λ rest there. ahead_gave taken ahead left rest there })
 
 asked : (old new : Option (List ℕ)) (place count : ℕ) (bounds : Bounds) (buffer : List ℕ) (none : Bool) → nat_eq count 0 ≡ none → count ≤ length buffer → Consumes old new (take count buffer) → (count ≡ 0 → IsAtEnd new)
     → Takes (record { ahead = []; left = old; place = place; bounds = bounds }) (record { ahead = []; left = left_of none new; place = place + count; bounds = bounds }) (take count buffer)
@@ -58,41 +62,61 @@ asked old new place count bounds buffer true is few c end =
     let told = ended_left old new (take count buffer) c nothing (end zero) in
     rw zero (subst (λ (k : ℕ). Takes (record { ahead = []; left = old; place = place; bounds = bounds }) (record { ahead = []; left = Some []; place = k; bounds = bounds }) []) (omega arith) (Takes-device old (Some []) place bounds [] told))
 
-pub Takes-asked : (old new : Option (List ℕ)) (before : Bool) (ahead : Option ℕ) (place count : ℕ) (bounds : Bounds) (buffer : List ℕ) → before ≡ false → ahead ≡ None → count ≤ length buffer → Consumes old new (take count buffer) → (count ≡ 0 → IsAtEnd new)
-    → Takes (record { ahead = ahead_of ahead; left = left_of before old; place = place; bounds = bounds }) (record { ahead = ahead_of ahead; left = left_of (nat_eq count 0) new; place = place + count; bounds = bounds }) (take count buffer)
+pub Takes-asked : (old new : Option (List ℕ)) (before : Bool) (ahead : List ℕ) (place count : ℕ) (bounds : Bounds) (buffer : List ℕ) → before ≡ false → ahead ≡ [] → count ≤ length buffer → Consumes old new (take count buffer) → (count ≡ 0 → IsAtEnd new)
+    → Takes (record { ahead = ahead; left = left_of before old; place = place; bounds = bounds }) (record { ahead = ahead; left = left_of (nat_eq count 0) new; place = place + count; bounds = bounds }) (take count buffer)
 Takes-asked old new before ahead place count bounds buffer going none few c end = rw (going, none) (asked old new place count bounds buffer (nat_eq count 0) refl few c end)
 
-pub first_set : (xs : List ℕ) (octet : ℕ) → 0 < length xs → take 1 (slice_set xs 0 octet) ≡ octet ∷ []
-first_set [] octet some = absurd (omega arith)
-first_set (x ∷ xs) octet some = refl
+-- ---- octets that are seen before they are read
+pub front_given : (octets rest : List ℕ) (passed filled count : ℕ) → passed + count ≤ filled → filled ≤ length octets → between passed filled octets ≡ take count (between passed (passed + count) octets ++ rest) ++ between (passed + count) filled octets
+front_given octets rest passed filled count fits all =
+    let left = drop passed octets in
+    let more = filled - (passed + count) in
+    let some : length (take count left) ≡ count = omega (arith, length-take count left, length-drop passed octets, fits, all) in
+    let same : between passed (passed + count) octets ≡ take count left = ap (λ (k : ℕ). take k left) (omega arith) in
+    let front : take count left ≡ take count (between passed (passed + count) octets ++ rest) = sym (ap (λ (o : List ℕ). take count (o ++ rest)) same ∙ take_at (take count left) rest count some) in
+    let back : take more (drop count left) ≡ between (passed + count) filled octets = ap (take more) (drop-drop count passed octets ∙ ap (λ (k : ℕ). drop k octets) (omega arith)) in
+    let size : filled - passed ≡ count + more = omega (arith, fits) in
+    ap (λ (k : ℕ). take k left) size ∙ sym (take-append-drop count (take (count + more) left))
+    ∙ ap₂ (λ (a b : List ℕ). a ++ b) (take-take count (count + more) left (omega arith) ∙ front) (drop-take count more left ∙ back)
+
+pub none_long : (xs : List ℕ) → length xs ≡ 0 → xs ≡ []
+none_long [] e = refl
+none_long (x ∷ xs) e = absurd (omega (arith, e))
+
+no_octet : (xs : List ℕ) (count : ℕ) → count ≡ length xs → nat_eq count 0 ≡ true → xs ≡ []
+no_octet xs count is none = none_long xs (sym is ∙ eqb→eq count 0 (subst (λ (b : Bool). T b) (sym none) tt))
+
+seen_so : (old new : Option (List ℕ)) (seen : List ℕ) (none : Bool) (rest : List ℕ) → (none ≡ true → seen ≡ []) → Consumes old new seen → (seen ≡ [] → IsAtEnd new) → GoesOn seen (left_of none new) rest → GoesOn [] old rest
+seen_so None new seen none rest few c end there = (rest, refl)
+seen_so (Some xs) None seen none rest few c end there = absurd c
+seen_so (Some xs) (Some ys) seen false rest few c end there = there ∙ sym c
+seen_so (Some xs) (Some ys) seen true rest few c end there = there ∙ ap (λ (o : List ℕ). seen ++ o) (sym (end (few refl))) ∙ sym c
+
+pub Takes-seen : (old new : Option (List ℕ)) (before : Bool) (ahead seen : List ℕ) (place count : ℕ) (bounds : Bounds) → before ≡ false → ahead ≡ [] → count ≡ length seen → Consumes old new seen → (seen ≡ [] → IsAtEnd new)
+    → Takes (record { ahead = ahead; left = left_of before old; place = place; bounds = bounds }) (record { ahead = seen; left = left_of (nat_eq count 0) new; place = place; bounds = bounds }) []
+Takes-seen old new before ahead seen place count bounds going none is c end =
+    rw (going, none) (record { same_bounds = refl; place = omega arith; from = λ rest there. seen_so old new seen (nat_eq count 0) rest (no_octet seen count is) c end there })
 
 -- ---- whether any octet is left
-goes_cons : (octet : ℕ) (left : Option (List ℕ)) (octets : List ℕ) → GoesOn (octet ∷ []) left octets → (rest : List ℕ) × (octets ≡ octet ∷ rest) × GoesOn [] left rest
-goes_cons octet None octets there = (there.0, there.1, (there.0, refl))
-goes_cons octet (Some known) octets there = (known, there, refl)
+told : (octets rest : List ℕ) (left : Option (List ℕ)) (count : ℕ) → count ≡ length octets → (octets ≡ [] → left ≡ Some []) → GoesOn octets left rest → nat_eq count 0 ≡ is_empty rest
+told [] rest left count is end there = let nothing : rest ≡ [] = rw (end refl) at there in rw (is, nothing) refl
+told (o ∷ octets) rest None count is end there = rw (is, there.1) (eqb-suc-zero (length octets))
+told (o ∷ octets) rest (Some known) count is end there = rw (is, there) (eqb-suc-zero (length octets))
 
-one_octet : (buffer : List ℕ) (count : ℕ) → length buffer ≡ 1 → (count ≡ 0 → ⊥) → count ≤ length buffer → take count buffer ≡ slice_index_or buffer 0 0 ∷ []
-one_octet [] count long some few = absurd (omega arith)
-one_octet (o ∷ []) zero long some few = absurd (some refl)
-one_octet (o ∷ []) (suc zero) long some few = refl
-one_octet (o ∷ []) (suc (suc n)) long some few = absurd (omega arith)
-one_octet (o ∷ p ∷ buffer) count long some few = absurd (omega arith)
-
-looked : (old new : Option (List ℕ)) (octet place : ℕ) (bounds : Bounds) → Consumes old new (octet ∷ []) → HasRead ended_at false (record { ahead = []; left = old; place = place; bounds = bounds }) (record { ahead = octet ∷ []; left = new; place = place; bounds = bounds })
-looked old new octet place bounds c = record {
-  same_bounds = refl;
+pub empty-read : (old new : Held) (count : ℕ) → Takes old new [] → (new.ahead ≡ [] → new.left ≡ Some []) → count ≡ length new.ahead → HasRead ended_at (nat_eq count 0) old new
+empty-read old new count same end is = record {
+  same_bounds = same.same_bounds;
   from = λ rest there.
-      let a = goes_cons octet new rest there in
-      (octet ∷ a.0, device_gave old new (octet ∷ []) a.0 c a.2, ap (λ (o : List ℕ). given (source_at place o)) (sym a.1));
+      let place : old.place ≡ new.place = omega (arith, same.place) in
+      (rest, same.from rest there, rw (place, told new.ahead rest new.left count is end there) refl);
 }
-  where
-    given : Source → Result (Bool × Source) Fault
-    given s = Ok (false, s)
 
-pub not_empty : (old new : Option (List ℕ)) (before : Bool) (ahead : Option ℕ) (place count : ℕ) (bounds : Bounds) (buffer : List ℕ) → before ≡ false → ahead ≡ None → length buffer ≡ 1 → (count ≡ 0 → ⊥) → count ≤ length buffer → Consumes old new (take count buffer)
-    → HasRead ended_at false (record { ahead = ahead_of ahead; left = left_of before old; place = place; bounds = bounds }) (record { ahead = slice_index_or buffer 0 0 ∷ []; left = left_of before new; place = place; bounds = bounds })
-not_empty old new before ahead place count bounds buffer going none long some few c =
-    rw (going, none) (looked old new (slice_index_or buffer 0 0) place bounds (subst (Consumes old new) (one_octet buffer count long some few) c))
+-- nothing was read
+pub nothing-read : (old new : Held) → Takes old new [] → HasRead (gives (tt {0})) (tt {0}) old new
+nothing-read old new same = record {
+  same_bounds = same.same_bounds;
+  from = λ rest there. let place : old.place ≡ new.place = omega (arith, same.place) in (rest, same.from rest there, rw place refl);
+}
 
 -- ---- what reading gives of what was taken
 abbrev bound_by : Held → Bounds

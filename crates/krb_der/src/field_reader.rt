@@ -2,7 +2,7 @@
 
 ghost use Rattle.std.specs.Prelude.{◌≡◌, ◌+◌, ◌^◌, ◌<◌, ◌≤◌, length, None, Some};
 ghost use Rattle.std.specs.Int.{w8, w16, w32};
-ghost use Rattle.krb_der.specs.Fields.{next_octets_at, octets_at, number_at, signed_at, counted_at, names_at, rest_at, times, is_one_of, expect, version_at, Reader};
+ghost use Rattle.krb_der.specs.Fields.{gives, next_octets_at, octets_at, number_at, signed_at, counted_at, names_at, rest_at, times, is_one_of, expect, version_at, Reader};
 ghost use Rattle.krb_der.specs.FieldReaders.{Held, Follows, ended_at, skipped_at, bounded};
 
 use crate::file::{FileFault, FileWhy};
@@ -50,6 +50,11 @@ pub trait FieldReader {
     /// Whether no octet is left.
     fn is_empty(&mut self) -> Result<bool, FileFault>
         ensures { Follows (λ empty. empty) result ended_at MayFail (held self.old) (held self.new) };
+
+    /// Tells the reader that so many octets more belong to what is read, so that it may take them
+    /// before their fields are read.
+    fn look_ahead(&mut self, size: u64) -> Result<(), FileFault>
+        ensures { Follows (λ done. done) result (gives tt) MayFail (held self.old) (held self.new) };
 
     /// The next octets of a field that is no field of octets, as many as there is room for.
     fn fill(&mut self, octets: &mut [u8]) -> Result<(), FileFault>

@@ -10,6 +10,7 @@
 //! Nothing here knows a Kerberos message; `krb_msg` does.
 #![tactic(auto)]
 
+mod ahead;
 mod der;
 mod field_limit;
 mod field_reader;

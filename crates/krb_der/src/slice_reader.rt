@@ -91,6 +91,10 @@ impl<'a> FieldReader for SliceReader<'a> {
         Ok(self.octets.is_empty())
     }
 
+    fn look_ahead(&mut self, _size: u64) -> Result<(), FileFault> {
+        Ok(())
+    }
+
     fn fill(&mut self, octets: &mut [u8]) -> Result<(), FileFault> {
         let taken = self.take(octets.len() as u64)?;
         octets.copy_from_slice(taken);

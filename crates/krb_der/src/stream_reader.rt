@@ -1,5 +1,6 @@
 //! The fields of a file that is read as it comes.
 
+use crate::ahead::Ahead;
 use crate::field_limit::FieldLimit;
 use crate::field_reader::FieldReader;
 use crate::file::{FileFault, FileWhy};
@@ -19,17 +20,18 @@ const LEAST_PIECE: u64 = 4096;
 /// How many octets a reader is asked for at once at most.
 const GREATEST_PIECE: u64 = 1 << 22;
 
-/// A reader of the fields of what a [`Read`] gives. It asks for the octets of a field where the
-/// field is read, and for none after them; and for one where it is asked whether any is left. A
-/// reader is asked at most 2^40 times, and not after it told its end.
+/// A reader of the fields of what a [`Read`] gives. It asks for octets where a field of them is
+/// read, where it is asked whether any is left, and where it is told how many belong to what is
+/// read, and for none after these. A reader is asked at most 2^40 times, and not after it told its
+/// end.
 #[derive(Drop)]
 pub struct StreamReader<R: Read> {
     reader: R,
     limit: FieldLimit,
     place: u64,
     end: Option<u64>,
-    /// An octet that was taken to see whether any is left.
-    ahead: Option<u8>,
+    /// Octets that were taken and are still to be read.
+    ahead: Ahead,
     /// Whether the reader told its end.
     ended: bool,
     asks: u64,
@@ -38,13 +40,13 @@ pub struct StreamReader<R: Read> {
 impl<R: Read> Model for StreamReader<R> {
     ghost use Rattle.std.specs.Prelude.{◌+◌, ◌*◌, ◌^◌, ◌≤◌, Some, length};
     ghost use Rattle.krb_der.specs.FieldReaders.{Held};
-    ghost use Rattle.krb_der.specs.inner.Takes.{ahead_of, left_of};
+    ghost use Rattle.krb_der.specs.inner.Takes.{left_of};
 
     ghost Value = { Held };
 
-    ghost view = { λ s. record { ahead = ahead_of s.ahead; left = left_of s.ended (R.remaining s.reader); place = s.place; bounds = record { end = s.end; limit = Some s.limit } } };
+    ghost view = { λ s. record { ahead = s.ahead; left = left_of s.ended (R.remaining s.reader); place = s.place; bounds = record { end = s.end; limit = Some s.limit } } };
 
-    ghost invariant = { λ s. (s.place + length (ahead_of s.ahead) ≤ s.asks * 2 ^ 22) × (s.asks ≤ 2 ^ 40) };
+    ghost invariant = { λ s. (s.place + length s.ahead ≤ s.asks * 2 ^ 22) × (s.asks ≤ 2 ^ 40) };
 }
 
 ghost use Rattle.std.specs.Prelude.{◌≡◌, ◌+◌, ◌^◌, ◌<◌, ◌≤◌, false, [], length, take, None, Some, IfOk, IfErr, OnOk};
@@ -54,7 +56,11 @@ ghost use Rattle.krb_der.specs.FieldReaders.{MayHave, FailsBy};
 ghost use Rattle.krb_der.specs.inner.Takes.{Takes, FailsTaking};
 
 /// Asks a reader for octets, and answers how many came: 0 at its end.
-fn ask<R: Read>(reader: &mut R, asks: &mut u64, octets: &mut [u8]) -> Result<usize, FileFault>
+pub(crate) fn ask<R: Read>(
+    reader: &mut R,
+    asks: &mut u64,
+    octets: &mut [u8],
+) -> Result<usize, FileFault>
     requires room { 0 < length octets.old }
     requires few { asks.old ≤ 2 ^ 40 }
     ensures count { IfOk result (λ count. count ≤ length octets.new) }
@@ -85,10 +91,25 @@ impl<R: Read> StreamReader<R> {
             limit,
             place: 0,
             end: None,
-            ahead: None,
+            ahead: Ahead::new(),
             ended: false,
             asks: 0,
         }
+    }
+
+    /// Takes octets that are still to be read, unless some are ahead: as many as come at once, but no
+    /// more than so many.
+    fn see(&mut self, most: u64) -> Result<(), FileFault>
+        requires { 0 < most }
+        ensures same { OnOk result (Takes self.old self.new []) }
+        ensures end { OnOk result (self.new.ahead ≡ [] → self.new.left ≡ Some []) }
+        ensures fault { IfErr result (λ e. e ≡ FileFault.Read) }
+    {
+        if self.ahead.count() == 0 && !self.ended {
+            self.ahead.refill(&mut self.reader, &mut self.asks, most)?;
+            self.ended = self.ahead.count() == 0;
+        }
+        Ok(())
     }
 
     /// Takes octets, as many as come at once, and answers how many: 0 where none is left.
@@ -100,23 +121,30 @@ impl<R: Read> StreamReader<R> {
         ensures end { IfOk result (λ count. count ≡ 0 → MayHave self.new []) }
         ensures fault { IfErr result (λ e. e ≡ FileFault.Read) }
     {
-        match self.ahead {
-            Some(octet) => {
-                self.ahead = None;
-                self.place += 1;
-                octets[0] = octet;
-                Ok(1)
-            }
-            None => {
-                if self.ended {
-                    return Ok(0);
-                }
-                let count = ask(&mut self.reader, &mut self.asks, octets)?;
-                self.place += count as u64;
-                self.ended = count == 0;
-                Ok(count)
-            }
+        if self.ahead.count() > 0 {
+            let count = self.ahead.give(octets);
+            self.place += count as u64;
+            return Ok(count);
         }
+        if self.ended {
+            return Ok(0);
+        }
+        let count = ask(&mut self.reader, &mut self.asks, octets)?;
+        self.place += count as u64;
+        self.ended = count == 0;
+        Ok(count)
+    }
+
+    /// Takes so many of the octets that are ahead.
+    fn take_ahead(&mut self, alloc: Global, count: usize) -> Result<Vec<u8>, FileFault>
+        requires { count ≤ length self.old.ahead }
+        ensures taken { IfOk result (λ taken. Takes self.old self.new taken.items) }
+        ensures count { IfOk result (λ taken. length taken.items ≡ count) }
+        ensures fault { IfErr result (λ e. e ≡ FileFault.Memory) }
+    {
+        let taken = self.ahead.copy(alloc, count)?;
+        self.place += count as u64;
+        Ok(taken)
     }
 
     /// Takes octets till there is no more room. Where there are too few left, the field that begins
@@ -220,22 +248,15 @@ impl<R: Read> FieldReader for StreamReader<R> {
     }
 
     fn is_empty(&mut self) -> Result<bool, FileFault> {
-        match self.ahead {
-            Some(_) => Ok(false),
-            None => {
-                if self.ended {
-                    return Ok(true);
-                }
-                let mut octet = [0; 1];
-                let count = ask(&mut self.reader, &mut self.asks, &mut octet)?;
-                if count == 0 {
-                    self.ended = true;
-                    return Ok(true);
-                }
-                self.ahead = Some(octet[0]);
-                Ok(false)
-            }
+        self.see(1)?;
+        Ok(self.ahead.count() == 0)
+    }
+
+    fn look_ahead(&mut self, size: u64) -> Result<(), FileFault> {
+        if size > 0 {
+            self.see(size)?;
         }
+        Ok(())
     }
 
     fn fill(&mut self, octets: &mut [u8]) -> Result<(), FileFault> {
@@ -247,6 +268,10 @@ impl<R: Read> FieldReader for StreamReader<R> {
     fn octets(&mut self, alloc: Global, size: u64) -> Result<Octets, FileFault> {
         let place = self.place;
         self.check_octets(size)?;
+        if size <= self.ahead.count() as u64 {
+            let octets = self.take_ahead(alloc, size as usize)?;
+            return Ok(Octets::new(octets));
+        }
         let mut octets = self.take_piece(alloc, place, size.min(LEAST_PIECE) as usize)?;
         'pieces: while (octets.len() as u64) < size {
             let came = octets.len() as u64;

@@ -21,8 +21,8 @@ pub enum Next {
     Done(Stop),
 }
 
-/// The entry whose content is what is left up to the end that the reader knows.
-fn entry<F: FieldReader>(alloc: Global, reader: &mut F) -> Result<Entry, FileFault>
+/// The fields of an entry, up to the end that the reader knows.
+fn entry_fields<F: FieldReader>(alloc: Global, reader: &mut F) -> Result<Entry, FileFault>
     ensures { Follows (λ entry. entry) result entry_at F.MayFail (F.held reader.old) (F.held reader.new) }
 {
     let Names { realm, components } = reader.names16(alloc)?;
@@ -38,6 +38,14 @@ fn entry<F: FieldReader>(alloc: Global, reader: &mut F) -> Result<Entry, FileFau
     })
 }
 
+/// The entry whose content is the next octets, so many, up to the end that the reader knows.
+fn entry<F: FieldReader>(alloc: Global, size: u32, reader: &mut F) -> Result<Entry, FileFault>
+    ensures { Follows (λ entry. entry) result entry_at F.MayFail (F.held reader.old) (F.held reader.new) }
+{
+    reader.look_ahead(u64::from(size))?;
+    entry_fields(alloc, reader)
+}
+
 /// The entry of so many octets.
 fn entry_within<F: FieldReader>(
     alloc: Global,
@@ -49,7 +57,7 @@ fn entry_within<F: FieldReader>(
     let outer = reader.end();
     let place = reader.place();
     reader.set_end(Some(place + u64::from(size)));
-    let entry = entry(alloc, reader)?;
+    let entry = entry(alloc, size, reader)?;
     reader.set_end(outer);
     Ok(entry)
 }
@@ -74,8 +82,8 @@ fn record_after<F: FieldReader>(
     }
 }
 
-/// The next record, or how the records end.
-pub(crate) fn record<F: FieldReader>(alloc: Global, reader: &mut F) -> Result<Next, FileFault>
+/// The next record where octets are left, or how the records end.
+fn record_or_stop<F: FieldReader>(alloc: Global, reader: &mut F) -> Result<Next, FileFault>
     ensures { Follows (λ next. next) result record_at F.MayFail (F.held reader.old) (F.held reader.new) }
 {
     if reader.is_empty()? {
@@ -83,6 +91,17 @@ pub(crate) fn record<F: FieldReader>(alloc: Global, reader: &mut F) -> Result<Ne
     }
     let length = reader.signed32()?;
     record_after(alloc, length, reader)
+}
+
+/// How many octets the length of a record has.
+const LENGTH_OCTETS: u64 = 4;
+
+/// The next record, or how the records end.
+pub(crate) fn record<F: FieldReader>(alloc: Global, reader: &mut F) -> Result<Next, FileFault>
+    ensures { Follows (λ next. next) result record_at F.MayFail (F.held reader.old) (F.held reader.new) }
+{
+    reader.look_ahead(LENGTH_OCTETS)?;
+    record_or_stop(alloc, reader)
 }
 
 /// The records up to the stop, and the place after it.

@@ -1,5 +1,5 @@
 -- What a reader of fields takes from where its octets come from.
-use Rattle.std.specs.Prelude.{ℕ, ◌+◌, ◌<◌, ◌≡◌, Bool, true, false, List, [], ◌∷◌, ◌++◌, length, Option, Some, None}
+use Rattle.std.specs.Prelude.{ℕ, ◌+◌, ◌<◌, ◌≡◌, Bool, true, false, List, [], ◌++◌, length, Option, Some}
 use Rattle.krb_der.specs.FieldReaders.{Held, MayHave}
 use Rattle.krb_der.specs.declared.file.FileFault.{FileFault}
 use Rattle.krb_der.specs.declared.file.FileFault.TheVariants as faults
@@ -10,11 +10,6 @@ pub record Takes (had left : Held) (taken : List ℕ) : Type 0 where
   pub same_bounds : left.bounds ≡ had.bounds
   pub place : left.place ≡ had.place + length taken
   pub from : (rest : List ℕ) → MayHave left rest → MayHave had (taken ++ rest)
-
--- the octet that is ahead, if there is one
-abbrev pub ahead_of : Option ℕ → List ℕ
-ahead_of None = []
-ahead_of (Some octet) = octet ∷ []
 
 -- what a device has left: nothing, after it told its end
 abbrev pub left_of : Bool → Option (List ℕ) → Option (List ℕ)
