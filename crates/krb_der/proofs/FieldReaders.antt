@@ -1,7 +1,7 @@
 -- What readers of fields read one after another.
-use Rattle.std.proofs.Common.{◌≡◌, ℕ, zero, suc, ◌+◌, ◌<◌, Bool, Option, Some, None, Result, Ok, Err, List, [], ◌∷◌, ◌++◌, refl, sym, ◌∙◌, ap, ap₂, subst, arith}
+use Rattle.std.proofs.Common.{◌≡◌, ℕ, zero, suc, ◌+◌, ◌<◌, Bool, Option, Some, None, Result, Ok, Err, List, [], ◌∷◌, ◌++◌, refl, sym, ◌∙◌, ap, subst, arith}
 use Rattle.krb_der.specs.Fields.{Source, Fault, Bounds, ended, Fails, Reader, onward, ◌>>=◌, gives, next_octets_at, are_zero, times}
-use Rattle.krb_der.specs.FieldReaders.{Held, GoesOn, MayHave, source_at, HasRead, HasMet, FailsBy, Follows, skipped_at, Slice, of_slice}
+use Rattle.krb_der.specs.FieldReaders.{Held, GoesOn, MayHave, source_at, HasRead, FailsBy, skipped_at, Slice, of_slice}
 use Rattle.krb_der.specs.declared.file.FileFault.{FileFault}
 use Rattle.krb_der.specs.declared.file.FileFault.TheVariants as faults
 use Rattle.krb_der.proofs.Fields.{done, ok_is, onward-ok}
@@ -29,33 +29,6 @@ made_of {A} {B} reader make v s t read = record {
 
 pub skipped : (size : ℕ) (octets : List ℕ) (zeros : Bool) (s t : Held) → zeros ≡ are_zero octets → HasRead (next_octets_at None size) octets s t → HasRead (skipped_at size) zeros s t
 skipped size octets zeros s t is read = subst (λ (b : Bool). HasRead (skipped_at size) b s t) (sym is) (made_of (next_octets_at None size) are_zero octets s t read)
-
--- what is read after octets were looked at is read as before
-module _ {A : Type 0} (reader : Reader A) (old mid : Held) where
-  looked_source : (look : HasRead (gives (tt {0})) (tt {0}) old mid) (rest : List ℕ) (there : MayHave mid rest) → source_at old.place (look.from rest there).0 ≡ source_at mid.place rest
-  looked_source look rest there =
-      let a = look.from rest there in
-      ap (λ (p : Unit {0} × Source). p.1) (ok_is (tt {0}, source_at old.place a.0) (tt {0}, source_at mid.place rest) a.2)
-
-  looked_same : (look : HasRead (gives (tt {0})) (tt {0}) old mid) (rest : List ℕ) (there : MayHave mid rest) → reader old.bounds (source_at old.place (look.from rest there).0) ≡ reader mid.bounds (source_at mid.place rest)
-  looked_same look rest there = ap₂ (λ (b : Bounds) (s : Source). reader b s) (sym look.same_bounds) (looked_source look rest there)
-
-  looked_met : (fault : Fault) → HasRead (gives (tt {0})) (tt {0}) old mid → HasMet reader fault mid → HasMet reader fault old
-  looked_met fault look met =
-      let a = look.from met.octets met.there in
-      record { octets = a.0; there = a.1; refused = looked_same look met.octets met.there ∙ met.refused }
-
-  pub looked : {B : Type 0} (view : B → A) (result : Result B FileFault) (MayFail : Type 0) (new : Held) → HasRead (gives (tt {0})) (tt {0}) old mid → Follows view result reader MayFail mid new → Follows view result reader MayFail old new
-  looked view (Ok value) MayFail new look follows = record {
-    same_bounds = follows.same_bounds ∙ look.same_bounds;
-    from = λ rest there.
-        let b = follows.from rest there in
-        let a = look.from b.0 b.1 in
-        (a.0, a.1, looked_same look b.0 b.1 ∙ b.2);
-  }
-  looked view (Err faults.Memory) MayFail new look follows = tt
-  looked view (Err faults.Read) MayFail new look follows = follows
-  looked view (Err (faults.Refused place why)) MayFail new look follows = looked_met (record { place = place; why = why }) look follows
 
 less : (m n : ℕ) → suc m < suc n → m < n
 less m n lt = omega arith

@@ -1,8 +1,7 @@
 -- Octets that a reader of fields takes, piece by piece.
-use Rattle.std.proofs.Common.{◌≡◌, ℕ, suc, ◌+◌, ◌-◌, ◌<◌, ◌≤◌, Bool, true, false, ◌&&◌, ◌==◌, ltb, Option, Some, None, Result, Ok, List, [], ◌∷◌, ◌++◌, length, take, drop, refl, sym, ◌∙◌, ap, ap₂, subst, arith, append-nil, append_assoc, length-append, length-take, length-drop, take-take, zero, nat_eq, eqb→eq, le-ltb, lt-ltb, drop_at}
+use Rattle.std.proofs.Common.{◌≡◌, ℕ, suc, ◌+◌, ◌-◌, ◌<◌, ◌≤◌, Bool, true, false, ◌&&◌, ◌==◌, ltb, Option, Some, None, Result, Ok, List, [], ◌∷◌, ◌++◌, length, take, refl, sym, ◌∙◌, ap, ap₂, subst, arith, append-nil, append_assoc, length-append, length-take, take-take, zero, nat_eq, eqb→eq, le-ltb, lt-ltb, drop_at}
 use Rattle.std.proofs.Math.Dec.{eqb-suc-zero}
-use Rattle.std.proofs.lemmas.List.{take_at, take-append-drop, drop-take, drop-drop}
-use Rattle.std.specs.List.{between}
+use Rattle.std.proofs.lemmas.List.{take_at}
 use Rattle.std.proofs.lemmas.Slice.{take-put_mid}
 use lib.Dec.{T}
 use borrow.Rule.Slice.PartMut.{put_mid}
@@ -67,18 +66,6 @@ pub Takes-asked : (old new : Option (List ℕ)) (before : Bool) (ahead : List �
 Takes-asked old new before ahead place count bounds buffer going none few c end = rw (going, none) (asked old new place count bounds buffer (nat_eq count 0) refl few c end)
 
 -- ---- octets that are seen before they are read
-pub front_given : (octets rest : List ℕ) (passed filled count : ℕ) → passed + count ≤ filled → filled ≤ length octets → between passed filled octets ≡ take count (between passed (passed + count) octets ++ rest) ++ between (passed + count) filled octets
-front_given octets rest passed filled count fits all =
-    let left = drop passed octets in
-    let more = filled - (passed + count) in
-    let some : length (take count left) ≡ count = omega (arith, length-take count left, length-drop passed octets, fits, all) in
-    let same : between passed (passed + count) octets ≡ take count left = ap (λ (k : ℕ). take k left) (omega arith) in
-    let front : take count left ≡ take count (between passed (passed + count) octets ++ rest) = sym (ap (λ (o : List ℕ). take count (o ++ rest)) same ∙ take_at (take count left) rest count some) in
-    let back : take more (drop count left) ≡ between (passed + count) filled octets = ap (take more) (drop-drop count passed octets ∙ ap (λ (k : ℕ). drop k octets) (omega arith)) in
-    let size : filled - passed ≡ count + more = omega (arith, fits) in
-    ap (λ (k : ℕ). take k left) size ∙ sym (take-append-drop count (take (count + more) left))
-    ∙ ap₂ (λ (a b : List ℕ). a ++ b) (take-take count (count + more) left (omega arith) ∙ front) (drop-take count more left ∙ back)
-
 pub none_long : (xs : List ℕ) → length xs ≡ 0 → xs ≡ []
 none_long [] e = refl
 none_long (x ∷ xs) e = absurd (omega (arith, e))

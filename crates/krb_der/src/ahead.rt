@@ -30,7 +30,7 @@ impl Model for Ahead {
     ghost invariant = { λ ahead. (ahead.passed ≤ ahead.filled) × (ahead.filled ≤ 512) };
 }
 
-ghost use Rattle.std.specs.Prelude.{◌≡◌, ◌+◌, ◌++◌, ◌^◌, ◌<◌, ◌≤◌, [], length, min, take, IfOk, IfErr, OnErr, OnOk};
+ghost use Rattle.std.specs.Prelude.{◌≡◌, ◌+◌, ◌++◌, ◌^◌, ◌<◌, ◌≤◌, [], length, IfOk, IfErr, OnErr, OnOk};
 ghost use Rattle.std.specs.Io.KnownBytes.{Consumes, IsAtEnd};
 
 impl Ahead {
@@ -46,6 +46,7 @@ impl Ahead {
     }
 
     /// How many there are.
+    #[inline(always)]
     pub(crate) fn count(&self) -> usize
         ensures count { result ≡ length self.now }
         ensures few { result ≤ 512 }
@@ -53,19 +54,19 @@ impl Ahead {
         self.filled - self.passed
     }
 
-    /// Reads as many as there is room for, and answers how many.
-    pub(crate) fn give(&mut self, octets: &mut [u8]) -> usize
-        ensures count { result ≡ min (length octets.new) (length self.old) }
-        ensures given { self.old ≡ take result octets.new ++ self.new }
+    /// Reads as many as there is room for, which is no more than there are.
+    #[inline(always)]
+    pub(crate) fn fill(&mut self, octets: &mut [u8])
+        requires { length octets.old ≤ length self.old }
+        ensures { self.old ≡ octets.new ++ self.new }
     {
-        let count = octets.len().min(self.count());
-        let end = self.passed + count;
-        octets[..count].copy_from_slice(&self.octets[self.passed..end]);
+        let end = self.passed + octets.len();
+        octets.copy_from_slice(&self.octets[self.passed..end]);
         self.passed = end;
-        count
     }
 
     /// Reads so many.
+    #[inline(always)]
     pub(crate) fn copy(&mut self, alloc: Global, count: usize) -> Result<Vec<u8>, AllocError>
         requires { count ≤ length self.old }
         ensures given { IfOk result (λ copied. self.old ≡ copied.items ++ self.new) }

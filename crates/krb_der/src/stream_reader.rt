@@ -52,7 +52,7 @@ impl<R: Read> Model for StreamReader<R> {
 ghost use Rattle.std.specs.Prelude.{◌≡◌, ◌+◌, ◌^◌, ◌<◌, ◌≤◌, false, [], length, take, None, Some, IfOk, IfErr, OnOk};
 ghost use Rattle.std.specs.Io.KnownBytes.{Consumes, IsAtEnd};
 ghost use Rattle.krb_der.specs.Fields.{passes, next_octets_at, octets_at};
-ghost use Rattle.krb_der.specs.FieldReaders.{MayHave, FailsBy};
+ghost use Rattle.krb_der.specs.FieldReaders.{MayHave, FailsBy, Follows};
 ghost use Rattle.krb_der.specs.inner.Takes.{Takes, FailsTaking};
 
 /// Asks a reader for octets, and answers how many came: 0 at its end.
@@ -121,9 +121,9 @@ impl<R: Read> StreamReader<R> {
         ensures end { IfOk result (λ count. count ≡ 0 → MayHave self.new []) }
         ensures fault { IfErr result (λ e. e ≡ FileFault.Read) }
     {
-        if self.ahead.count() > 0 {
-            let count = self.ahead.give(octets);
-            self.place += count as u64;
+        let count = octets.len().min(self.ahead.count());
+        if count > 0 {
+            self.fill_ahead(&mut octets[..count]);
             return Ok(count);
         }
         if self.ended {
@@ -135,7 +135,18 @@ impl<R: Read> StreamReader<R> {
         Ok(count)
     }
 
+    /// Takes octets that are ahead till there is no more room.
+    #[inline(always)]
+    fn fill_ahead(&mut self, octets: &mut [u8])
+        requires { length octets.old ≤ length self.old.ahead }
+        ensures { Takes self.old self.new octets.new }
+    {
+        self.ahead.fill(octets);
+        self.place += octets.len() as u64;
+    }
+
     /// Takes so many of the octets that are ahead.
+    #[inline(always)]
     fn take_ahead(&mut self, alloc: Global, count: usize) -> Result<Vec<u8>, FileFault>
         requires { count ≤ length self.old.ahead }
         ensures taken { IfOk result (λ taken. Takes self.old self.new taken.items) }
@@ -180,7 +191,26 @@ impl<R: Read> StreamReader<R> {
         Ok(piece)
     }
 
+    /// Takes a field of octets, which come in pieces.
+    #[inline(never)]
+    fn take_octets(&mut self, alloc: Global, size: u64) -> Result<Octets, FileFault>
+        requires inside { passes (self.old.place + size) self.old.bounds.end ≡ false }
+        requires under { passes size self.old.bounds.limit ≡ false }
+        ensures { Follows (λ octets. octets) result (octets_at size) (Unit {0}) self.old self.new }
+    {
+        let place = self.place;
+        let mut octets = self.take_piece(alloc, place, size.min(LEAST_PIECE) as usize)?;
+        'pieces: while (octets.len() as u64) < size {
+            let came = octets.len() as u64;
+            let room = (size - came).min(came).min(GREATEST_PIECE);
+            let piece = self.take_piece(alloc, place, room as usize)?;
+            octets.extend_from_slice(piece.as_slice())?;
+        }
+        Ok(Octets::new(octets))
+    }
+
     /// The place of the next octet.
+    #[inline(always)]
     fn at(&self) -> u64
         ensures { result ≡ self.now.place }
     {
@@ -188,6 +218,7 @@ impl<R: Read> StreamReader<R> {
     }
 
     /// Whether so many octets pass the end of the entry or of the header that they stand in.
+    #[inline(always)]
     fn passes_end(&self, size: u64) -> bool
         ensures { result ≡ passes (self.now.place + size) self.now.bounds.end }
     {
@@ -198,6 +229,7 @@ impl<R: Read> StreamReader<R> {
     }
 
     /// Refuses a field that passes the end of what it stands in, or is longer than it may be.
+    #[inline(always)]
     fn check(&self, size: u64, most: Option<u64>) -> Result<(), FileFault>
         ensures inside { OnOk result (passes (self.now.place + size) self.now.bounds.end ≡ false) }
         ensures under { OnOk result (passes size most ≡ false) }
@@ -220,6 +252,7 @@ impl<R: Read> StreamReader<R> {
     }
 
     /// Refuses a field of octets that passes the end of what it stands in, or is too long.
+    #[inline(always)]
     fn check_octets(&self, size: u64) -> Result<(), FileFault>
         ensures inside { OnOk result (passes (self.now.place + size) self.now.bounds.end ≡ false) }
         ensures under { OnOk result (passes size self.now.bounds.limit ≡ false) }
@@ -259,27 +292,25 @@ impl<R: Read> FieldReader for StreamReader<R> {
         Ok(())
     }
 
+    #[inline(always)]
     fn fill(&mut self, octets: &mut [u8]) -> Result<(), FileFault> {
         let place = self.place;
         self.check(octets.len() as u64, None)?;
+        if octets.len() <= self.ahead.count() {
+            self.fill_ahead(octets);
+            return Ok(());
+        }
         self.take_all(place, octets)
     }
 
+    #[inline(always)]
     fn octets(&mut self, alloc: Global, size: u64) -> Result<Octets, FileFault> {
-        let place = self.place;
         self.check_octets(size)?;
         if size <= self.ahead.count() as u64 {
             let octets = self.take_ahead(alloc, size as usize)?;
             return Ok(Octets::new(octets));
         }
-        let mut octets = self.take_piece(alloc, place, size.min(LEAST_PIECE) as usize)?;
-        'pieces: while (octets.len() as u64) < size {
-            let came = octets.len() as u64;
-            let room = (size - came).min(came).min(GREATEST_PIECE);
-            let piece = self.take_piece(alloc, place, room as usize)?;
-            octets.extend_from_slice(piece.as_slice())?;
-        }
-        Ok(Octets::new(octets))
+        self.take_octets(alloc, size)
     }
 
     fn skip(&mut self, size: u64) -> Result<bool, FileFault> {

@@ -21,8 +21,8 @@ pub enum Next {
     Done(Stop),
 }
 
-/// The fields of an entry, up to the end that the reader knows.
-fn entry_fields<F: FieldReader>(alloc: Global, reader: &mut F) -> Result<Entry, FileFault>
+/// The entry whose content is what is left up to the end that the reader knows.
+fn entry<F: FieldReader>(alloc: Global, reader: &mut F) -> Result<Entry, FileFault>
     ensures { Follows (λ entry. entry) result entry_at F.MayFail (F.held reader.old) (F.held reader.new) }
 {
     let Names { realm, components } = reader.names16(alloc)?;
@@ -38,14 +38,6 @@ fn entry_fields<F: FieldReader>(alloc: Global, reader: &mut F) -> Result<Entry, 
     })
 }
 
-/// The entry whose content is the next octets, so many, up to the end that the reader knows.
-fn entry<F: FieldReader>(alloc: Global, size: u32, reader: &mut F) -> Result<Entry, FileFault>
-    ensures { Follows (λ entry. entry) result entry_at F.MayFail (F.held reader.old) (F.held reader.new) }
-{
-    reader.look_ahead(u64::from(size))?;
-    entry_fields(alloc, reader)
-}
-
 /// The entry of so many octets.
 fn entry_within<F: FieldReader>(
     alloc: Global,
@@ -57,7 +49,7 @@ fn entry_within<F: FieldReader>(
     let outer = reader.end();
     let place = reader.place();
     reader.set_end(Some(place + u64::from(size)));
-    let entry = entry(alloc, size, reader)?;
+    let entry = entry(alloc, reader)?;
     reader.set_end(outer);
     Ok(entry)
 }
@@ -74,23 +66,13 @@ fn record_after<F: FieldReader>(
     if length == 0 {
         Ok(Next::Done(Stop::Zero))
     } else if length > 0 {
+        reader.look_ahead(u64::from(size))?;
         let entry = entry_within(alloc, size, reader)?;
         Ok(Next::Item(Record::Entry(entry)))
     } else {
         let clean = reader.skip(u64::from(size))?;
         Ok(Next::Item(Record::Hole(Hole::of(size, clean))))
     }
-}
-
-/// The next record where octets are left, or how the records end.
-fn record_or_stop<F: FieldReader>(alloc: Global, reader: &mut F) -> Result<Next, FileFault>
-    ensures { Follows (λ next. next) result record_at F.MayFail (F.held reader.old) (F.held reader.new) }
-{
-    if reader.is_empty()? {
-        return Ok(Next::Done(Stop::File));
-    }
-    let length = reader.signed32()?;
-    record_after(alloc, length, reader)
 }
 
 /// How many octets the length of a record has.
@@ -101,7 +83,11 @@ pub(crate) fn record<F: FieldReader>(alloc: Global, reader: &mut F) -> Result<Ne
     ensures { Follows (λ next. next) result record_at F.MayFail (F.held reader.old) (F.held reader.new) }
 {
     reader.look_ahead(LENGTH_OCTETS)?;
-    record_or_stop(alloc, reader)
+    if reader.is_empty()? {
+        return Ok(Next::Done(Stop::File));
+    }
+    let length = reader.signed32()?;
+    record_after(alloc, length, reader)
 }
 
 /// The records up to the stop, and the place after it.

@@ -1,6 +1,6 @@
 use Rattle.std.proofs.Common.{length, ◌-◌, ◌≤◌, ◌<◌}
 use Rattle.krb_der.specs.inner.Takes.{Takes}
-use Rattle.krb_der.proofs.stream_reader.StreamReaderFieldReader.octets.Given as goal
+use Rattle.krb_der.proofs.stream_reader.StreamReader.take_octets.Given as goal
 
 abbrev pub invariant-pieces : goal.invariant-pieces
 invariant-pieces g l = record {
