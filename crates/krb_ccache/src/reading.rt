@@ -47,6 +47,9 @@ fn typed_list<F: FieldReader>(alloc: Global, reader: &mut F) -> Result<Many<Type
     read_many::<OctetsOfKind, F>(alloc, count, reader)
 }
 
+/// How many octets stand at least in a credential after its key.
+const LEAST_AFTER_KEY: u64 = 37;
+
 /// What stands of a credential from its key on.
 fn credential_from<F: FieldReader>(
     alloc: Global,
@@ -58,6 +61,7 @@ fn credential_from<F: FieldReader>(
     ensures { Follows (λ credential. credential) result (credential_from client server enctype) F.MayFail (F.held reader.old) (F.held reader.new) }
 {
     let key = reader.counted32(alloc)?;
+    reader.look_ahead(LEAST_AFTER_KEY)?;
     let authtime = reader.number32()?;
     let starttime = reader.number32()?;
     let endtime = reader.number32()?;
@@ -96,6 +100,9 @@ fn credential<F: FieldReader>(alloc: Global, reader: &mut F) -> Result<Credentia
     credential_from(alloc, client, server, enctype, reader)
 }
 
+/// How many octets a credential has at least.
+const LEAST_CREDENTIAL: u64 = 67;
+
 /// The next credential, and none where the file ends.
 pub(crate) fn next<F: FieldReader>(
     alloc: Global,
@@ -103,6 +110,7 @@ pub(crate) fn next<F: FieldReader>(
 ) -> Result<Option<Credential>, FileFault>
     ensures { Follows (λ next. next) result next_at F.MayFail (F.held reader.old) (F.held reader.new) }
 {
+    reader.look_ahead(LEAST_CREDENTIAL)?;
     if reader.is_empty()? {
         return Ok(None);
     }
