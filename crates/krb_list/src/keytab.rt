@@ -5,7 +5,7 @@ ghost use Rattle.std.specs.List.{flat_map};
 ghost use Rattle.krb_list.specs.Text.{line_feed};
 ghost use Rattle.krb_list.specs.Keytabs.{name_text, version_text, sizes_text, entry_text, hole_text, record_text, stop_text, keytab_end_text, keytab_lines};
 
-use crate::field::{put_components_field, put_field};
+use crate::field::{put_components_field, put_field, put_labelled};
 use crate::shown::Shown;
 use crate::time::Time;
 use krb_der::Memory;
@@ -20,21 +20,21 @@ fn put_name(line: &mut String, entry: &Entry) -> Result<(), AllocError>
     put_field(line, "type", &entry.name_type)
 }
 
-#[tactic(auto, unfolding(crate::specs::Keytabs::version_text))]
+#[tactic(auto, unfolding(crate::specs::Keytabs::version_text, crate::specs::Text::field))]
 fn put_version(line: &mut String, entry: &Entry) -> Result<(), AllocError>
     ensures { OnOk result (string_bytes line.new ≡ string_bytes line.old ++ version_text entry.now) }
 {
-    put_field(line, "time", &Time(entry.time))?;
-    put_field(line, "kvno", &entry.kvno())?;
-    put_field(line, "enctype", &entry.enctype)
+    put_labelled(line, " time=", &Time(entry.time))?;
+    put_labelled(line, " kvno=", &entry.kvno())?;
+    put_labelled(line, " enctype=", &entry.enctype)
 }
 
-#[tactic(auto, unfolding(crate::specs::Keytabs::sizes_text))]
+#[tactic(auto, unfolding(crate::specs::Keytabs::sizes_text, crate::specs::Text::field))]
 fn put_sizes(line: &mut String, entry: &Entry) -> Result<(), AllocError>
     ensures { OnOk result (string_bytes line.new ≡ string_bytes line.old ++ sizes_text entry.now) }
 {
-    put_field(line, "key", &entry.key.as_slice().len())?;
-    put_field(line, "rest", &entry.rest.as_slice().len())
+    put_labelled(line, " key=", &entry.key.as_slice().len())?;
+    put_labelled(line, " rest=", &entry.rest.as_slice().len())
 }
 
 /// The principal and the version of a key. Of the key itself, the number of its octets.
