@@ -11,7 +11,5 @@ mod viewing;
 pub use judging::judge;
 pub use krb_der::{Refusal, Verdict, Why};
 pub use opening::Items;
-pub use parsing::{
-    ParseFault, parse, parse_method_data, parse_ticket, read_ticket,
-};
+pub use parsing::{ParseFault, parse, parse_method_data, parse_ticket, read_ticket};
 pub use viewing::{NameView, SealedView, TicketView};
