@@ -29,7 +29,7 @@ before given left = record { items = given ++ left.items; end = left.end }
 
 -- ---- readers of credentials
 
--- The reader gave so many of the credentials of a file that begins so: these, and then those of what may be left, are the credentials of the file.
+-- The reader gave the first `count` credentials of a file that begins so: these, and then those of what may be left, are the credentials of the file.
 pub record Reads (limit : Option ℕ) (held : Held) (start : Start) (state : State) (file : List ℕ) (count : ℕ) : Type 0 where
   pub bounds : held.bounds ≡ limited limit
   pub is_open : state ≡ states.Open
@@ -45,25 +45,25 @@ FailsStart limit file (faults.Refused place why) = begun limit file ≡ Err (rec
 FailsStart limit file faults.Read = Unit {0}
 FailsStart limit file faults.Memory = Unit {0}
 
--- the item after so many
+-- the item after `count` others
 pub record IsItem (items : Items Credential) (count : ℕ) (item : Credential) : Type 0 where
   pub front : List Credential
   pub back : List Credential
   pub counted : length front ≡ count
   pub parts : items.items ≡ front ++ item ∷ back
 
--- no item after so many, but the end of the file
+-- no item after `count` of them, but the end of the file
 pub record EndsBy (items : Items Credential) (count : ℕ) : Type 0 where
   pub size : ℕ
   pub counted : length items.items ≡ count
   pub is : items.end ≡ Ok size
 
--- no item after so many, but a fault
+-- no item after `count` of them, but a fault
 pub record FailsBy (items : Items Credential) (count : ℕ) (fault : Fault) : Type 0 where
   pub counted : length items.items ≡ count
   pub is : items.end ≡ Err fault
 
--- What a call gives where so many were given: the next credential, after which one more was given; else none, or the fault, where no credential is left. Else the device failed or memory ran out.
+-- What a call gives where `count` were given: the next credential, after which one more was given; else none, or the fault, where no credential is left. Else the device failed or memory ran out.
 abbrev pub GivesNext : Option ℕ → List ℕ → ℕ → Result (Option Credential) FileFault → Held → Start → State → Type 0
 GivesNext limit file count (Ok (Some credential)) held start state = IsItem (credentials limit file) count credential × Reads limit held start state file (suc count)
 GivesNext limit file count (Ok None) held start state = EndsBy (credentials limit file) count

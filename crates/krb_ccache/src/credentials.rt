@@ -35,8 +35,8 @@ pub struct Credentials<R: Read> {
 }
 
 impl<R: Read + Drop> Credentials<R> {
-    /// The credentials of what a reader gives, where a field of octets may have so many. What stands
-    /// before them is read: the header and the default principal.
+    /// The credentials of what a reader gives, where no field of octets may be longer than a limit.
+    /// What stands before them is read: the header and the default principal.
     pub fn start(alloc: Global, reader: R, limit: FieldLimit) -> Result<Credentials<R>, FileFault>
         ensures begins { IfOk result (λ made. (file : List ℕ) → R.remaining reader ≡ Some file → Reads (Some limit) made.reader (record { header = made.header; principal = made.principal }) made.state file 0) }
         ensures fault { IfErr result (λ fault. (file : List ℕ) → R.remaining reader ≡ Some file → FailsStart (Some limit) file fault) }

@@ -65,7 +65,7 @@ impl Ahead {
         self.passed = end;
     }
 
-    /// Reads so many.
+    /// Reads `count` of them.
     #[inline(always)]
     pub(crate) fn copy(&mut self, alloc: Global, count: usize) -> Result<Vec<u8>, AllocError>
         requires { count ≤ length self.old }
@@ -79,8 +79,8 @@ impl Ahead {
         Ok(copied)
     }
 
-    /// Takes octets of a reader where none is left: as many as come at once, but no more than so
-    /// many. There are none at its end.
+    /// Takes octets of a reader where none is left: as many as come at once, at most `most`. There
+    /// are none at its end.
     pub(crate) fn refill<R: Read>(
         &mut self,
         reader: &mut R,

@@ -51,7 +51,7 @@ pub trait FieldReader {
     fn is_empty(&mut self) -> Result<bool, FileFault>
         ensures { Follows (λ empty. empty) result ended_at MayFail (held self.old) (held self.new) };
 
-    /// Tells the reader that so many octets more belong to what is read, so that it may take them
+    /// Tells the reader that `size` octets more belong to what is read, so that it may take them
     /// before their fields are read.
     fn look_ahead(&mut self, size: u64) -> Result<(), FileFault>
         ensures { Follows (λ done. done) result (gives tt) MayFail (held self.old) (held self.new) };

@@ -82,7 +82,7 @@ pub(crate) fn ask<R: Read>(
 }
 
 impl<R: Read> StreamReader<R> {
-    /// What a reader gives, from place 0 on, where a field of octets may have so many.
+    /// What a reader gives, from place 0 on, where no field of octets may be longer than a limit.
     pub fn new(reader: R, limit: FieldLimit) -> StreamReader<R>
         ensures { result ≡ record { ahead = []; left = R.remaining reader; place = 0; bounds = record { end = None; limit = Some limit } } }
     {
@@ -97,8 +97,8 @@ impl<R: Read> StreamReader<R> {
         }
     }
 
-    /// Takes octets that are still to be read, unless some are ahead: as many as come at once, but no
-    /// more than so many.
+    /// Takes octets that are still to be read, unless some are ahead: as many as come at once, at most
+    /// `most`.
     fn see(&mut self, most: u64) -> Result<(), FileFault>
         requires { 0 < most }
         ensures same { OnOk result (Takes self.old self.new []) }
@@ -145,7 +145,7 @@ impl<R: Read> StreamReader<R> {
         self.place += octets.len() as u64;
     }
 
-    /// Takes so many of the octets that are ahead.
+    /// Takes `count` of the octets that are ahead.
     #[inline(always)]
     fn take_ahead(&mut self, alloc: Global, count: usize) -> Result<Vec<u8>, FileFault>
         requires { count ≤ length self.old.ahead }
@@ -179,7 +179,7 @@ impl<R: Read> StreamReader<R> {
         Ok(())
     }
 
-    /// Takes so many octets, as [`take_all`](StreamReader::take_all) does.
+    /// Takes `room` octets, as [`take_all`](StreamReader::take_all) does.
     fn take_piece(&mut self, alloc: Global, start: u64, room: usize) -> Result<Vec<u8>, FileFault>
         requires { room ≤ 2 ^ 22 }
         ensures taken { IfOk result (λ piece. Takes self.old self.new piece.items) }
@@ -217,7 +217,7 @@ impl<R: Read> StreamReader<R> {
         self.place
     }
 
-    /// Whether so many octets pass the end of the entry or of the header that they stand in.
+    /// Whether `size` octets pass the end of the entry or of the header that they stand in.
     #[inline(always)]
     fn passes_end(&self, size: u64) -> bool
         ensures { result ≡ passes (self.now.place + size) self.now.bounds.end }

@@ -2,8 +2,9 @@
 //! octets as they come, and gives each frame whose contents are one message, borrowed. [`frame`]
 //! is the way back.
 //!
-//! In contracts a decoder is what it stands for: its limit, and the octets of the current frame
-//! that it used (`specs/Decoding`). What that has to do with the stream is `specs/Stands`.
+//! In contracts a decoder is what it stands for: its limit, the octets of the current frame that it
+//! used, and how many octets of contents it looked at in all (`specs/Decoding`). What that has to do
+//! with the stream is `specs/Stands`.
 #![tactic(auto)]
 
 mod contents;

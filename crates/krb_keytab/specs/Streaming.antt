@@ -23,14 +23,14 @@ IsLeft states.Open limit source left = left ≡ items_after limit source
 IsLeft (states.Done stop) limit source left = ⊥
 IsLeft (states.Failed fault) limit source left = ⊥
 
--- The reader gave so many of the items of a file: these, and then those of what may be left, are the items of the file.
+-- The reader gave the first `count` items of a file: these, and then those of what may be left, are the items of the file.
 pub record Reads (limit : Option ℕ) (held : Held) (state : State) (file : List ℕ) (count : ℕ) : Type 0 where
   pub bounds : held.bounds ≡ limited limit
   pub given : List Record
   pub counted : length given ≡ count
   pub rest : (octets : List ℕ) → MayHave held octets → (left : Items) × IsLeft state limit (source_at held.place octets) left × (before given left ≡ items limit file)
 
--- the item after so many
+-- the item after `count` others
 pub record IsItem (items : Items) (count : ℕ) (item : Record) : Type 0 where
   pub front : List Record
   pub back : List Record
@@ -42,13 +42,13 @@ abbrev pub end_at : Result Stop Fault → ℕ → Result (Stop × ℕ) Fault
 end_at (Ok stop) place = Ok (stop, place)
 end_at (Err fault) place = Err fault
 
--- no item after so many
+-- no item after `count` of them
 pub record EndsBy (items : Items) (count : ℕ) (end : Result Stop Fault) : Type 0 where
   pub place : ℕ
   pub counted : length items.records ≡ count
   pub is : items.end ≡ end_at end place
 
--- What a call gives where so many were given: the next item, after which one more was given; else the stop or the fault, where no item is left. Else the device failed or memory ran out.
+-- What a call gives where `count` were given: the next item, after which one more was given; else the stop or the fault, where no item is left. Else the device failed or memory ran out.
 abbrev pub GivesNext : Option ℕ → List ℕ → ℕ → Result Next FileFault → Held → State → Type 0
 GivesNext limit file count (Ok (nexts.Item item)) held state = IsItem (items limit file) count item × Reads limit held state file (suc count)
 GivesNext limit file count (Ok (nexts.Done stop)) held state = EndsBy (items limit file) count (Ok stop)

@@ -38,7 +38,7 @@ fn entry<F: FieldReader>(alloc: Global, reader: &mut F) -> Result<Entry, FileFau
     })
 }
 
-/// The entry of so many octets.
+/// The entry that the next `size` octets are.
 fn entry_within<F: FieldReader>(
     alloc: Global,
     size: u32,

@@ -35,8 +35,8 @@ pub struct Records<R: Read> {
 }
 
 impl<R: Read> Records<R> {
-    /// The records of what a reader gives, where a field of octets may have so many. Nothing is read
-    /// yet.
+    /// The records of what a reader gives, where no field of octets may be longer than a limit.
+    /// Nothing is read yet.
     pub fn new(reader: R, limit: FieldLimit) -> Records<R>
         ensures { (file : List ℕ) → R.remaining reader ≡ Some file → Reads (Some limit) result.reader result.state file 0 }
     {

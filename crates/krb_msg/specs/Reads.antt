@@ -18,7 +18,7 @@ pub record IsTaken (term : Term) (octets : List ℕ) (value : Value term) (rest 
   pub rest_within : length rest ≤ length octets
 
 -- ---- the values of fields
--- the DER of some stands first, and so many octets follow it
+-- the DER of some stands first, and `after` octets follow it
 pub record FieldsBegin (fields : Fields) (octets : List ℕ) (after : ℕ) : Type 0 where
   pub values : Values fields
   pub fit : AllFit fields values
@@ -30,13 +30,13 @@ pub record FieldsBegin (fields : Fields) (octets : List ℕ) (after : ℕ) : Typ
 abbrev pub HasTag : (tag : ℕ) → List ℕ → (after : ℕ) → Type 0
 HasTag tag octets after = (after < length octets) × (get_or octets 0 0 ≡ tag)
 
--- the values whose DER stands before so many octets, and these
+-- the values whose DER stands before the last `after` octets, and these octets
 pub record FieldsAreTaken (fields : Fields) (octets : List ℕ) (after : ℕ) (values : Values fields) (rest : List ℕ) : Type 0 where
   pub parts : (those : Values fields) (more : List ℕ) → octets ≡ der_of_fields fields those ++ more → length more ≡ after → (values ≡ those) × (rest ≡ more)
   pub rest_within : length rest ≤ length octets
 
 -- ---- values one after another
--- the DER of some stands first, and so many octets follow it
+-- the DER of some stands first, and `after` octets follow it
 pub record ItemsBegin (term : Term) (octets : List ℕ) (after : ℕ) : Type 0 where
   pub values : List (Value term)
   pub fit : AllByRecursion (Fits term) values
@@ -44,7 +44,7 @@ pub record ItemsBegin (term : Term) (octets : List ℕ) (after : ℕ) : Type 0 w
   pub parts : octets ≡ flat_map (der term) values ++ rest
   pub left : length rest ≡ after
 
--- the values whose DER stands before so many octets, and these
+-- the values whose DER stands before the last `after` octets, and these octets
 pub record ItemsAreTaken (term : Term) (octets : List ℕ) (after : ℕ) (values : List (Value term)) (rest : List ℕ) : Type 0 where
   pub parts : (those : List (Value term)) (more : List ℕ) → octets ≡ flat_map (der term) those ++ more → length more ≡ after → (values ≡ those) × (rest ≡ more)
   pub rest_within : length rest ≤ length octets

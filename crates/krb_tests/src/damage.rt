@@ -10,7 +10,7 @@ use std::alloc::Global;
 use std::io::Read;
 use std::test::Fail;
 
-/// How a file ends: after so many records, or at a field at fault.
+/// How a file ends: after a number of records, or at a field at fault.
 #[derive(Clone, Copy, PartialEq, Eq, Debug)]
 enum End {
     After(usize),

@@ -61,11 +61,11 @@ fn field_limit() -> FieldLimit
 
 /// A file that is listed a line for each record.
 trait RecordLines {
-    /// What is left to be listed after so many records.
+    /// What is left to be listed after a number of records.
     ghost IsLeft: { Self → ℕ → RecordListing → Type 0 };
 
-    /// Appends the line of the record after so many, or else the last line, and answers how the run
-    /// ends with that.
+    /// Appends the line of the record after `count` others, or else the last line, and answers how
+    /// the run ends with that.
     fn put_next(
         &mut self,
         alloc: Global,

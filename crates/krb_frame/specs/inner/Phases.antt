@@ -38,7 +38,7 @@ pub record IsTaken (messages : List Term) (size : ℕ) (before piece after : Lis
   pub present : length after ≤ size
   pub decided : IsDecided messages size after piece fed.used fed.status
 
--- a refusal is of one of so many octets as a frame may have
+-- a refusal is of one of the octets that a frame may have
 abbrev pub IsEarly : Verdict → Type 0
 IsEarly (verdict.Refused refusal) = refusal.place < 2 ^ 31
 IsEarly other = Unit {0}

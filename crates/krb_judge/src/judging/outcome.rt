@@ -9,6 +9,6 @@ pub(crate) enum Outcome {
     Open,
     /// The octet at an offset is refused.
     Bad { offset: u32, why: Why },
-    /// So many octets complete it.
+    /// The first `count` octets complete it.
     Done { count: u32 },
 }

@@ -28,7 +28,7 @@ pub record StandsAt (octets : List ℕ) (place : ℕ) (marks : List Mark) : Type
   pub within : place ≤ length octets
   pub left : AreLeft place (drop place octets) marks
 
--- a mark is that of an item of some contents, with so many octets more, that stands at a place
+-- a mark is that of an item of some contents, with more octets after it, that stands at a place
 pub record HasMark (octets : List ℕ) (place : ℕ) (mark : Mark) (inner more : List ℕ) : Type 0 where
   pub start : mark.start ≡ start_of place (length inner)
   pub count : mark.count ≡ length inner

@@ -41,7 +41,7 @@ AddsRefusal faults.Memory old new ended = ⊥
 abbrev pub Moves : Option (List ℕ) → Option (List ℕ) → List ℕ → List ℕ → Type 0
 Moves held holds old new = (front : List ℕ) × Appends held holds front × (old ≡ front ++ new)
 
--- what is left after so many items
+-- what is left after `count` items
 abbrev pub left_of : {A : Type 0} → (A → List ℕ) → List A → ℕ → List ℕ → RunEnd → RecordListing
 left_of line items count last end = record { lines = flat_map line (drop count items); last = last; end = end }
 
@@ -51,7 +51,7 @@ records_left count found = left_of (λ r. record_text r ++ line_feed) found.reco
 abbrev pub credentials_left : Option ℕ → ℕ → Items Credential → RecordListing
 credentials_left now count found = left_of (λ c. credential_line now c ++ line_feed) found.items count (ccache_last (length found.items) found.end) (end_of found.end)
 
--- A reader gave so many records of a file, and this is left of its listing.
+-- A reader gave the first `count` records of a file, and this is left of its listing.
 pub record AreRecordsLeft (held : Held) (state : RecordsState) (count : ℕ) (left : RecordListing) : Type 0 where
   pub file : List ℕ
   pub reads : ReadsRecords field_limit held state file count
