@@ -1,5 +1,5 @@
 -- A scanner's path and verdict after octets that were taken at once; and that nothing is decided sooner.
-use Rattle.std.proofs.Common.{◌≡◌, ℕ, ◌⊎◌, inl, inr, Result, OnErr, ◌+◌, ◌-◌, ◌<◌, ◌≤◌, List, ◌++◌, length, take, drop, refl, sym, ap, ◌∙◌, subst, arith}
+use Rattle.std.proofs.Common.{◌≡◌, ℕ, ◌⊎◌, inl, inr, Result, OnErr, ◌+◌, ◌-◌, ◌<◌, ◌≤◌, ◌^◌, List, ◌++◌, length, take, drop, refl, sym, ap, ◌∙◌, subst, arith}
 use Rattle.std.proofs.Common.{append_assoc, take-take}
 use Rattle.std.proofs.Math.Seq.{take-add, take-append_seam}
 use Rattle.std.proofs.lemmas.List.{length-append, length-take, length-drop, take-append-drop}
@@ -21,7 +21,7 @@ use Rattle.krb_scan.specs.Reading.{Answer, Ongoing, Refusing, Whole, Mark as Mar
 use Rattle.krb_scan.specs.State as kept
 use Rattle.krb_scan.specs.State.{AreMarks}
 use Rattle.krb_scan.specs.inner.Machine.{go_on}
-use Rattle.krb_scan.specs.inner.Paths.{StandsFor, IsWhole}
+use Rattle.krb_scan.specs.inner.Paths.{StandsFor, IsReached, IsWhole}
 use Rattle.krb_scan.specs.inner.Wholes.{IsAccepted, Decides}
 use Rattle.krb_scan.specs.At.{IsAt, Keeps, Marks, marks_from, lengths_from}
 use Rattle.krb_scan.specs.declared.at_once.Accepted.{Accepted}
@@ -160,3 +160,31 @@ then_ends result n before octets rest used count e ends =
     let next : used + (count + 1) ≡ used + count + 1 = omega arith in
     subst (λ l. OnErr result (length (Marks n l) ≡ length (Marks n (before ++ take (used + count) octets)) + 1)) (then_taken before octets rest used (count + 1) e ∙ ap (λ k. before ++ take k octets) next)
     (subst (λ l. OnErr result (length (Marks n ((before ++ take used octets) ++ take (count + 1) rest)) ≡ length (Marks n l) + 1)) (then_taken before octets rest used count e) ends)
+
+-- ---- octets that are accepted after others
+pub accepted_then : (old mid new : Path) (before octets rest : List ℕ) (first next : Accepted) → IsAccepted old mid before octets first → first.verdict ≡ verdict.Open → rest ≡ drop first.count octets → ((front : List ℕ) → StandsFor mid front → IsAccepted mid new front rest next) → IsAccepted old new before octets (record { count = first.count + next.count; verdict = next.verdict })
+accepted_then old mid new before octets rest first next a e r then = record {
+  some = omega (arith, a.some);
+  there = omega (arith, b.there, ap length r, length-drop first.count octets, a.there);
+  size = b.size ∙ a.size;
+  looked = omega (arith, b.looked, a.looked);
+  fits = b.fits;
+  decides = subst (λ taken. Decides new taken next.verdict) (then_taken before octets rest first.count next.count r) b.decides;
+}
+  where
+    b : IsAccepted mid new (before ++ take first.count octets) rest next
+    b = then (before ++ take first.count octets) (subst (Decides mid (before ++ take first.count octets)) e a.decides)
+
+pub accepted_reached : (old new : Path) (octets : List ℕ) (it : Accepted) → IsReached old → it.verdict ≡ verdict.Open → ((before : List ℕ) → StandsFor old before → IsAccepted old new before octets it) → IsReached new
+accepted_reached old new octets it r e is =
+    ∥∥₁_map r (λ (s : (before : List ℕ) × StandsFor old before). (s.0 ++ take it.count octets, subst (Decides new (s.0 ++ take it.count octets)) e (is s.0 s.1).decides))
+
+-- of octets that are accepted there is one at least, all of them are there, and the message has them
+pub accepted_there : (old new : Path) (octets : List ℕ) (it : Accepted) → IsReached old → ((before : List ℕ) → StandsFor old before → IsAccepted old new before octets it) → (0 < it.count) × (it.count ≤ length octets) × (it.count < 2 ^ 31)
+accepted_there old new octets it r is = (
+  ∥∥₁_elim r le_prop (λ (s : (before : List ℕ) × StandsFor old before). (is s.0 s.1).some),
+  ∥∥₁_elim r le_prop (λ (s : (before : List ℕ) × StandsFor old before). (is s.0 s.1).there),
+  ∥∥₁_elim r le_prop (λ (s : (before : List ℕ) × StandsFor old before).
+      let a : IsAccepted old new s.0 octets it = is s.0 s.1 in
+      omega (arith, a.looked, a.fits, a.size, s.1.short)),
+)

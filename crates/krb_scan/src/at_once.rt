@@ -236,4 +236,26 @@ impl Path {
             taken => taken,
         }
     }
+
+    /// Takes items and containers' tags and lengths from the front of octets as [`Path::take_item`]
+    /// does, until something is decided or the next is not taken at once.
+    #[inline(never)]
+    pub(crate) fn take_items(&mut self, octets: &[u8]) -> Option<Accepted>
+        requires { IsReached self.old }
+        ensures some { IfSome result (λ it. (before : List ℕ) → StandsFor self.old before → IsAccepted self.old self.new before octets.now it) }
+        ensures none { result ≡ None → self.new ≡ self.old }
+        ensures room { vec_capacity self.new.marks ≡ vec_capacity self.old.marks }
+    {
+        let mut all = self.take_item(octets)?;
+        'items: while let Verdict::Open = all.verdict {
+            let Some(next) = self.take_item(&octets[all.count as usize..]) else {
+                return Some(all);
+            };
+            all = Accepted {
+                count: all.count + next.count,
+                verdict: next.verdict,
+            };
+        }
+        Some(all)
+    }
 }

@@ -21,6 +21,7 @@ pub(crate) enum Closed {
 }
 
 /// Closes the containers that end at a place, from the inner to the outer.
+#[inline(always)]
 pub(crate) fn closing(inner: Open, outer: &[Open], place: u32) -> Closed
     requires { HasFrames inner outer.now }
     ensures { (stack : List Frame) (marks : List Marked) → AreOpen inner outer.now stack → ClosedIs outer.now marks place result (settle stack marks place) }

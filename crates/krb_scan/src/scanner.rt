@@ -109,8 +109,8 @@ impl Scanner {
         }
     }
 
-    /// Takes some octets at once, of which there is one at least: an item that is there whole, or a
-    /// container's tag and length; or what `run` takes; or else an octet.
+    /// Takes some octets at once, of which there is one at least: items that are there whole, and
+    /// containers' tags and lengths; or what `run` takes; or else an octet.
     fn take_some(&mut self, octets: &[u8]) -> Taken
         requires open { verdict_of self.old ≡ Verdict.Open }
         requires some { 0 < length octets.now }
@@ -125,10 +125,10 @@ impl Scanner {
         ensures ends { (n : ℕ) (before : List ℕ) → At self.old n before → OnErr result.verdict (length (Marks n (before ++ take (result.used + 1) octets.now)) ≡ length (Marks n (before ++ take result.used octets.now)) + 1) }
         ensures room { room_of self.old ≤ room_of self.new }
     {
-        if let Some(item) = self.take_item(octets) {
+        if let Some(items) = self.take_items(octets) {
             return Taken {
-                used: item.count as usize,
-                verdict: Ok(item.verdict),
+                used: items.count as usize,
+                verdict: Ok(items.verdict),
             };
         }
         let count = self.run(octets);
@@ -150,10 +150,10 @@ impl Scanner {
         }
     }
 
-    /// Takes the item at the front of octets, or a container's tag and length, where they are there
-    /// and nothing is odd.
+    /// Takes items and containers' tags and lengths from the front of octets, as long as they are
+    /// there whole and nothing is odd.
     #[inline(always)]
-    fn take_item(&mut self, octets: &[u8]) -> Option<Accepted>
+    fn take_items(&mut self, octets: &[u8]) -> Option<Accepted>
         requires { verdict_of self.old ≡ Verdict.Open }
         ensures at { IfSome result (λ it. (n : ℕ) (before : List ℕ) → At self.old n before → At self.new n (before ++ take it.count octets.now)) }
         ensures within { IfSome result (λ it. it.count ≤ length octets.now) }
@@ -164,10 +164,10 @@ impl Scanner {
         ensures none { result ≡ None → self.new ≡ self.old }
         ensures room { room_of self.new ≡ room_of self.old }
     {
-        let item = self.path.take_item(octets)?;
-        self.verdict = item.verdict;
-        self.ledger = self.ledger.raised(&item.count);
-        Some(item)
+        let items = self.path.take_items(octets)?;
+        self.verdict = items.verdict;
+        self.ledger = self.ledger.raised(&items.count);
+        Some(items)
     }
 
     /// The number of octets taken.
