@@ -1,7 +1,8 @@
 -- Items that are taken at once.
-use Rattle.std.proofs.Common.{◌≡◌, ℕ, zero, suc, ℤ, pos, ◌+◌, ◌-◌, ◌<◌, ◌≤◌, ◌^◌, ◌==◌, Bool, true, false, true≢false, Option, Some, None, List, [], ◌∷◌, ◌++◌, length, map, take, drop, reverse, refl, sym, ap, ◌∙◌, subst, arith, drop_at, append-nil}
+use Rattle.std.proofs.Common.{◌≡◌, ℕ, zero, suc, ℤ, pos, ◌+◌, ◌-◌, ◌<◌, ◌≤◌, ◌^◌, ◌==◌, Bool, true, false, true≢false, Option, Some, None, List, [], ◌∷◌, ◌++◌, length, map, take, drop, slice_get, reverse, refl, sym, ap, ◌∙◌, subst, arith, drop_at, append-nil}
 use Rattle.std.proofs.lemmas.List.{length-append, length-take, length-drop, take-append-drop, take_all, reverse-append}
 use Rattle.std.specs.Coded.{le_prop}
+use Rattle.std.specs.Option.{unwrap_or}
 use Rattle.std.proofs.Math.Logic.{∥∥₁_elim, ∥∥₁_map}
 use Rattle.std.specs.List.{AllByRecursion}
 use Rattle.krb_der.specs.Octets.{AreOctets, when}
@@ -21,7 +22,7 @@ use Rattle.krb_scan.specs.inner.Machine.{settle, pick}
 use Rattle.krb_scan.specs.inner.Stands.{HasFrames, StaysOpen, BeginsWith}
 use Rattle.krb_scan.specs.inner.Paths.{StandsFor, IsReached}
 use Rattle.krb_scan.specs.inner.Places.{IsPlaceOf, IsItem, IsOffer, AreContents}
-use Rattle.krb_scan.specs.inner.Wholes.{IsAccepted, Decides, ClosesTo, IsFound, AreLeaf}
+use Rattle.krb_scan.specs.inner.Wholes.{IsAccepted, Decides, ClosesTo, HeadBegins, IsFound, AreLeaf}
 use Rattle.krb_scan.specs.declared.at_once.Found.{Found}
 use Rattle.krb_scan.specs.declared.places.Place.{Place}
 use Rattle.krb_scan.specs.declared.places.Contents.TheVariants as contents
@@ -31,6 +32,7 @@ use Rattle.krb_scan.specs.declared.open.Open.{Open}
 use Rattle.krb_scan.specs.declared.path.Path.{Path}
 use Rattle.krb_scan.specs.declared.tip.Tip.TheVariants as tip
 use Rattle.krb_scan.proofs.Chunk.{reading_reached}
+use Rattle.krb_scan.proofs.Dues.{picks_here}
 use Rattle.krb_scan.proofs.Resume.{IsReached as IsReachedState, ReachedAnswer, HasRoom}
 use Rattle.krb_scan.proofs.Frames.{open_length}
 use Rattle.krb_scan.proofs.Levels.{OpenAtMost, reading_deep}
@@ -460,3 +462,26 @@ tag_accepted old new octets it only decided row only_row first contents leaf val
     (mark_added (old.marks.items ++ record { node = row.node; start = old.looked + it.header; len = it.size; value = pos 0 } ∷ []) tag_marks (record { node = only_row.node; start = old.looked + it.header + only.header; len = only.size; value = value }) (mark_of (term_at only_row.node) (old.looked + it.header + only.header) only.size value)
     (mark_added old.marks.items k.marks (record { node = row.node; start = old.looked + it.header; len = it.size; value = pos 0 }) (mark_of (term_at row.node) (old.looked + it.header) it.size (pos 0)) k.are_marks i.known refl) j.known refl))
     size (same ∙ e) looked (omega (arith, looked)) (omega (arith, f.fits, k.within))
+
+-- ---- the one item of a container
+pub front_of : (octets : List ℕ) (tag : ℕ) → slice_get octets 0 ≡ Some tag → (rest : List ℕ) × (octets ≡ tag ∷ rest)
+front_of [] tag e = absurd (cc e)
+front_of (octet ∷ rest) tag e = (rest, ap (λ first. first ∷ rest) (ap (λ it. unwrap_or it octet) e))
+
+pub only_found : (container : Open) (from : ℕ) (row : Place) (octets rest : List ℕ) (tag header size : ℕ) → IsPlace container.due → IsPlaceOf row (due_at container.due) → from ≤ container.end → octets ≡ tag ∷ rest → tag < 256 → row.tag ≡ tag → HeadBegins octets header size → header + size ≡ container.end - from →
+    IsFound container from octets (record { place = container.due; header = header; size = size })
+only_found container from row octets rest tag header size known r le parts small e begins full = record {
+  tag = tag;
+  rest = rest;
+  parts = parts;
+  picked = picks_here tag container.due row known small r e;
+  begins = begins;
+  fits = omega (arith, full, le);
+  fills = λ sole. omega (arith, full, le);
+}
+
+-- what the one item of a tag is, as its row says
+pub only_contents : (row : Place) (first : ℕ) (term : Term) → IsPlaceOf row (due_at first) → BeginsWith term (due_at first) → is_sole (due_at first) ≡ true → AreContents row.contents (item_at first)
+only_contents row first term r b sole =
+    let inner : (inner : Term) × (due_at first ≡ OneOf (inner ∷ [])) = only_due term (due_at first) b sole in
+    subst (λ it. AreContents row.contents it) (sym (ap (λ due. item_of (offered due)) inner.1)) (subst (IsOffer row) (ap offered inner.1) r.offer).contents

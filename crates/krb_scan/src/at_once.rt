@@ -1,21 +1,21 @@
 //! Items that are there whole, taken at once. Items are only accepted here: what is cut, refused or
 //! odd is left as it is, to be taken octet by octet.
 
-ghost use Rattle.std.specs.Prelude.{◌≡◌, ◌+◌, ◌<◌, ◌≤◌, ◌^◌, ◌∷◌, [], ◌++◌, List, ℕ, pos, Some, None, IfSome, take, length, vec_len, vec_capacity};
-ghost use Rattle.krb_scan.specs.Reading.{Frame, Mark as Marked};
+ghost use Rattle.std.specs.Prelude.{◌≡◌, ◌+◌, ◌<◌, ◌≤◌, ◌^◌, ◌∷◌, [], ◌++◌, List, ℕ, pos, Some, None, IfSome, true, take, length, vec_len, vec_capacity};
+ghost use Rattle.krb_scan.specs.Reading.{Frame, Mark as Marked, is_sole};
 ghost use Rattle.krb_scan.specs.Places.{IsPlace, due_at, item_at};
 ghost use Rattle.krb_scan.specs.State.{AreOpen};
 ghost use Rattle.krb_scan.specs.inner.Machine.{settle};
 ghost use Rattle.krb_scan.specs.inner.Stands.{HasFrames, BeginsWith};
 ghost use Rattle.krb_scan.specs.inner.Paths.{IsReached, StandsFor};
-ghost use Rattle.krb_scan.specs.inner.Places.{AreContents};
+ghost use Rattle.krb_scan.specs.inner.Places.{AreContents, IsPlaceOf};
 ghost use Rattle.krb_scan.specs.inner.Wholes.{IsFound, IsFoundIn, IsNarrow, ClosesTo, IsAccepted};
 
 use crate::closing::{Closed, closing};
 use crate::mark::Mark;
 use crate::open::Open;
 use crate::path::Path;
-use crate::places::{Contents, pick, place_at};
+use crate::places::{Contents, Place, pick, place_at};
 use crate::tip::Tip;
 use crate::whole::{whole_head, whole_leaf};
 use krb_der::Verdict;
@@ -45,8 +45,9 @@ fn find_item(container: Open, from: u32, octets: &[u8]) -> Option<Found>
     requires short { container.end < 2 ^ 31 }
     ensures { IsFoundIn container from octets.now result }
 {
+    let tag = *octets.first()?;
     let head = whole_head(octets)?;
-    let place = pick(*octets.first()?, container.due)?;
+    let place = pick(tag, container.due)?;
     let room = container.end - from;
     let size = head.header + head.size;
     if size > room || place_at(place).sole && size < room {
@@ -54,6 +55,29 @@ fn find_item(container: Open, from: u32, octets: &[u8]) -> Option<Found>
     }
     Some(Found {
         place,
+        header: head.header,
+        size: head.size,
+    })
+}
+
+/// The one item of a container that begins at `from` with octets, if its tag and length are there and
+/// it fills the container.
+#[inline(always)]
+fn find_only(container: Open, row: &Place, from: u32, octets: &[u8]) -> Option<Found>
+    requires known { IsPlace container.due }
+    requires row { IsPlaceOf row.now (due_at container.due) }
+    requires room { from ≤ container.end }
+    requires short { container.end < 2 ^ 31 }
+    ensures found { IsFoundIn container from octets.now result }
+    ensures due { IfSome result (λ it. it.place ≡ container.due) }
+{
+    let tag = u16::from(*octets.first()?);
+    let head = whole_head(octets)?;
+    if tag != row.tag || head.header + head.size != container.end - from {
+        return None;
+    }
+    Some(Found {
+        place: container.due,
         header: head.header,
         size: head.size,
     })
@@ -128,13 +152,18 @@ impl Path {
     fn take_head(&mut self, found: Found, first: u16, _octets: &[u8]) -> Accepted
         requires reached { IsReached self.old }
         requires between { self.old.tip ≡ Tip.Between }
-        requires room { vec_len self.old.marks + 2 ≤ vec_capacity self.old.marks }
+        requires room { vec_len self.old.marks < vec_capacity self.old.marks }
         requires found { IsFound self.old.inner self.old.looked _octets.now found }
         requires some { 0 < found.size }
         requires first { IsPlace first }
         requires begins { BeginsWith (item_at found.place) (due_at first) }
         ensures accepted { (before : List ℕ) → StandsFor self.old before → IsAccepted self.old self.new before _octets.now result }
         ensures room { vec_capacity self.new.marks ≡ vec_capacity self.old.marks }
+        ensures marks { vec_len self.new.marks ≡ vec_len self.old.marks + 1 }
+        ensures tip { self.new.tip ≡ self.old.tip }
+        ensures inner { self.new.inner ≡ record { end = self.old.looked + found.header + found.size; due = first } }
+        ensures looked { self.new.looked ≡ self.old.looked + found.header }
+        ensures count { result ≡ record { count = found.header; verdict = Verdict.Open } }
     {
         let row = place_at(found.place);
         let start = self.looked + found.header;
@@ -159,24 +188,64 @@ impl Path {
         }
     }
 
-    /// Takes a tag and its one item, which holds no items, where both are there whole at the front of
-    /// octets.
+    /// Takes the tags and lengths of a tag and of its one item, which holds items itself, where they are
+    /// there.
     #[inline(always)]
-    fn take_tag(&mut self, found: Found, first: u16, octets: &[u8]) -> Option<Accepted>
+    fn take_heads(&mut self, found: Found, first: u16, next: u16, octets: &[u8]) -> Option<Accepted>
         requires reached { IsReached self.old }
         requires between { self.old.tip ≡ Tip.Between }
         requires room { vec_len self.old.marks + 2 ≤ vec_capacity self.old.marks }
         requires found { IsFound self.old.inner self.old.looked octets.now found }
         requires first { IsPlace first }
         requires begins { BeginsWith (item_at found.place) (due_at first) }
+        requires next { IsPlace next }
+        requires goes_on { BeginsWith (item_at first) (due_at next) }
         ensures some { IfSome result (λ it. (before : List ℕ) → StandsFor self.old before → IsAccepted self.old self.new before octets.now it) }
         ensures none { result ≡ None → self.new ≡ self.old }
         ensures room { vec_capacity self.new.marks ≡ vec_capacity self.old.marks }
     {
-        let due = place_at(first);
-        if !due.sole || matches!(due.contents, Contents::Items { .. }) {
+        let start = self.looked + found.header;
+        let container = Open {
+            end: start + found.size,
+            due: first,
+        };
+        let rest = &octets[found.header as usize..];
+        let only = find_only(container, place_at(first), start, rest)?;
+        if only.size == 0 {
             return None;
         }
+        let outer = self.take_head(found, first, octets);
+        let inner = self.take_head(only, next, rest);
+        Some(Accepted {
+            count: outer.count + inner.count,
+            verdict: inner.verdict,
+        })
+    }
+
+    /// Takes a tag and its one item, which holds no items, where both are there whole at the front of
+    /// octets.
+    #[inline(always)]
+    fn take_tag(
+        &mut self,
+        found: Found,
+        first: u16,
+        contents: Contents,
+        octets: &[u8],
+    ) -> Option<Accepted>
+        requires reached { IsReached self.old }
+        requires between { self.old.tip ≡ Tip.Between }
+        requires room { vec_len self.old.marks + 2 ≤ vec_capacity self.old.marks }
+        requires found { IsFound self.old.inner self.old.looked octets.now found }
+        requires first { IsPlace first }
+        requires begins { BeginsWith (item_at found.place) (due_at first) }
+        requires sole { is_sole (due_at first) ≡ true }
+        requires narrow { IsNarrow contents }
+        requires contents { AreContents contents (item_at first) }
+        ensures some { IfSome result (λ it. (before : List ℕ) → StandsFor self.old before → IsAccepted self.old self.new before octets.now it) }
+        ensures none { result ≡ None → self.new ≡ self.old }
+        ensures room { vec_capacity self.new.marks ≡ vec_capacity self.old.marks }
+    {
+        let row = place_at(first);
         let rest = &octets[found.header as usize..];
         if rest.len() < found.size as usize {
             return None;
@@ -184,12 +253,8 @@ impl Path {
         let whole = &rest[..found.size as usize];
         let start = self.looked + found.header;
         let end = start + found.size;
-        let only = find_item(Open { end, due: first }, start, whole)?;
-        let row = place_at(only.place);
-        if !row.sole {
-            return None;
-        }
-        let value = whole_leaf(row.contents, &whole[only.header as usize..])?;
+        let only = find_only(Open { end, due: first }, row, start, whole)?;
+        let value = whole_leaf(contents, &whole[only.header as usize..])?;
         let tag = place_at(found.place);
         let verdict = self.close_at(tag.next, end)?;
         self.marks.push_reserved(Mark {
@@ -231,9 +296,17 @@ impl Path {
         let Contents::Items { first } = contents else {
             return self.take_leaf(found, contents, octets);
         };
-        match self.take_tag(found, first, octets) {
-            None if found.size > 0 => Some(self.take_head(found, first, octets)),
-            taken => taken,
+        let due = place_at(first);
+        if !due.sole {
+            return if found.size > 0 {
+                Some(self.take_head(found, first, octets))
+            } else {
+                None
+            };
+        }
+        match due.contents {
+            Contents::Items { first: next } => self.take_heads(found, first, next, octets),
+            leaf => self.take_tag(found, first, leaf, octets),
         }
     }
 

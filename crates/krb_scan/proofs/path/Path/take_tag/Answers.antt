@@ -1,8 +1,9 @@
-use Rattle.std.proofs.Common.{◌≡◌, arith, rules, to_z, of_z, w64, refl, take, drop, length, ◌∙◌, ap, ◌+◌, ◌-◌, ◌++◌, [], ◌∷◌, pos}
+use Rattle.std.proofs.Common.{◌≡◌, arith, rules, to_z, of_z, w64, refl, sym, subst, take, drop, length, ◌∙◌, ap, ◌+◌, ◌-◌, ◌++◌, [], ◌∷◌, pos}
 use Rattle.krb_der.specs.inner.Numbers.{AreOctets-slice}
-use Rattle.krb_scan.specs.Places.{item_at}
+use Rattle.krb_scan.specs.Places.{item_at, due_at}
+use Rattle.krb_scan.specs.inner.Places.{AreContents, IsPlaceOf}
 use Rattle.krb_scan.specs.declared.path.Path.{Path}
-use Rattle.krb_scan.proofs.AtOnce.{short_end, frames_next, item_row, item_contents, tag_accepted, all_after, front_long}
+use Rattle.krb_scan.proofs.AtOnce.{short_end, frames_next, item_row, tag_accepted, all_after, front_long}
 use Rattle.krb_scan.proofs.path.Path.take_tag.Goals as goal
 
 pub overflow_add-start : goal.overflow_add-start
@@ -11,8 +12,8 @@ overflow_add-start c = omega (arith, c.requires.found.fits, short_end c.args.sel
 pub overflow_add-end : goal.overflow_add-end
 overflow_add-end c = omega (arith, c.requires.found.fits, short_end c.args.self.now c.requires.reached c.requires.between)
 
-pub find_item-requires-clause-short : goal.find_item-requires-clause-short
-find_item-requires-clause-short c = omega (arith, c.requires.found.fits, short_end c.args.self.now c.requires.reached c.requires.between)
+pub find_only-requires-clause-short : goal.find_only-requires-clause-short
+find_only-requires-clause-short c = omega (arith, c.requires.found.fits, short_end c.args.self.now c.requires.reached c.requires.between)
 
 pub close_at-requires : goal.close_at-requires
 close_at-requires c =
@@ -21,7 +22,7 @@ close_at-requires c =
 
 pub overflow_add-start-2 : goal.overflow_add-start-2
 overflow_add-start-2 c =
-    let fits = c.in_ok-only.ensures.fits in
+    let fits = c.in_ok-only.ensures.found.fits in
     omega (arith, fits, c.requires.found.fits, short_end c.args.self.now c.requires.reached c.requires.between)
 
 same_number : (c : goal.After-struct_known-8-1) → to_z w64 (of_z w64 c.in_ok-value.value) ≡ c.in_ok-value.value
@@ -33,9 +34,9 @@ returns-clause-some c =
     (take c.args.found.size (take (length c.args.octets.now - c.args.found.header) (drop c.args.found.header c.args.octets.now))) (take (length (take c.args.found.size (take (length c.args.octets.now - c.args.found.header) (drop c.args.found.header c.args.octets.now))) - c.in_ok-only.only.header) (drop c.in_ok-only.only.header (take c.args.found.size (take (length c.args.octets.now - c.args.found.header) (drop c.args.found.header c.args.octets.now))))) c.in_ok-value.value
     c.requires.between c.requires.found c.place_at-tag.ensures c.requires.begins (ap (take c.args.found.size) (all_after c.args.found.header c.args.octets.now))
     (front_long c.args.found.size c.args.found.header c.args.octets.now c.if-rest-found.false)
-    c.in_ok-only.ensures c.place_at-row.ensures c.if-not-row.false
+    c.in_ok-only.ensures.found (subst (λ place. IsPlaceOf c.place_at-row.result.now (due_at place)) (sym c.in_ok-only.ensures.due) c.place_at-row.ensures) (c.place_at-row.ensures.sole ∙ c.requires.sole)
     (all_after c.in_ok-only.only.header (take c.args.found.size (take (length c.args.octets.now - c.args.found.header) (drop c.args.found.header c.args.octets.now))))
-    (c.in_ok-value.ensures (item_at c.in_ok-only.only.place) (item_contents (record { end = c.args.self.now.looked + c.args.found.header + c.args.found.size; due = c.args.first }) (c.args.self.now.looked + c.args.found.header) (take c.args.found.size (take (length c.args.octets.now - c.args.found.header) (drop c.args.found.header c.args.octets.now))) c.in_ok-only.only c.in_ok-only.ensures c.place_at-row.result.now c.place_at-row.ensures))
+    (c.in_ok-value.ensures (item_at c.in_ok-only.only.place) (subst (λ place. AreContents c.args.contents (item_at place)) (sym c.in_ok-only.ensures.due) c.requires.contents))
     (AreOctets-slice c.args.octets.now c.type_inv.octets)
     c.in_ok-verdict.ensures.closes
     (ap (λ (path : Path). path.size) c.close_at.ensures.same)
