@@ -4,6 +4,7 @@ pub mod Grammar
 pub mod Judgement
 pub mod Stream
 pub mod Views
+pub mod Realm
 pub mod Reading
 pub mod Notes
 pub mod Laws

@@ -29,3 +29,4 @@ pub mod AtOnce
 pub mod ValueMarks
 pub mod MarksLeft
 pub mod MarkedItems
+pub mod RealmMarks

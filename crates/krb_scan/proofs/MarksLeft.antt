@@ -175,13 +175,13 @@ first_parts place octets mark first tag inner more e =
     (p.0, q.0, q.1)
 
 module _ (octets : List ℕ) (place : ℕ) (tag : ℕ) (inner more : List ℕ) (within : place ≤ length octets) (here : drop place octets ≡ item tag inner ++ more) where
-  contents_at : drop (start_of place (length inner)) octets ≡ inner ++ more
+  pub contents_at : drop (start_of place (length inner)) octets ≡ inner ++ more
   contents_at =
       sym (drop-drop (1 + length (length_octets (length inner))) place octets)
       ∙ ap (drop (1 + length (length_octets (length inner)))) (here ∙ item-append tag inner more)
       ∙ rw (one-add (length (length_octets (length inner)))) (drop_at (length_octets (length inner)) (inner ++ more) (length (length_octets (length inner))) refl)
 
-  all_octets : start_of place (length inner) + length inner + length more ≡ length octets
+  pub all_octets : start_of place (length inner) + length inner + length more ≡ length octets
   all_octets = omega (arith, within, length-drop place octets, ap length (here ∙ item-append tag inner more), length-append (length_octets (length inner)) (inner ++ more), length-append inner more)
 
 pub has_mark : (octets : List ℕ) (place : ℕ) (mark : Mark) (marks : List Mark) (tag : ℕ) (inner more : List ℕ) → StandsAt octets place (mark ∷ marks) → drop place octets ≡ item tag inner ++ more → HasMark octets place mark inner more

@@ -6,3 +6,4 @@ pub mod Paths
 pub mod Wholes
 pub mod MarksLeft
 pub mod Marked
+pub mod RealmMarks

@@ -1,0 +1,65 @@
+//! The realm of a message, found by its marks.
+
+ghost use Rattle.std.specs.Prelude.{◌≡◌, ◌<◌, ◌^◌, false, length, map};
+ghost use Rattle.std.specs.List.{AllByRecursion};
+ghost use Rattle.std.specs.Option.{option_map};
+ghost use Rattle.krb_der.specs.declared.verdict.Verdict.TheVariants.{Whole};
+ghost use Rattle.krb_msg.specs.Judgement.{judgement};
+ghost use Rattle.krb_msg.specs.Nodes.{term_at};
+ghost use Rattle.krb_msg.specs.Realm.{AreOfRealm};
+ghost use Rattle.krb_msg.specs.Table.{IsNode};
+ghost use Rattle.krb_scan.specs.At.{Marks};
+ghost use Rattle.krb_scan.specs.State.{AreMarks, mark_value};
+ghost use Rattle.krb_scan.specs.inner.RealmMarks.{is_realm as is_realm_field, mark_after};
+
+use crate::mark::Mark;
+use krb_msg::grammar::Row;
+use krb_msg::{Kind, whole_kind};
+
+/// The realm of the message whose octets these are, borrowed from them, by the marks of a scanner
+/// that took them all: of an AS-REQ or a TGS-REQ the realm that its body names, of an AS-REP or a
+/// TGS-REP the client's, of an AP-REQ the ticket's, of a KRB-ERROR the server's. An AP-REP names
+/// none. It takes no memory.
+pub fn realm<'a>(marks: &[Mark], octets: &'a [u8]) -> Option<&'a [u8]>
+    requires short { length octets.now < 2 ^ 31 }
+    requires whole { judgement (length octets.now) octets.now ≡ Whole }
+    requires marks { AreMarks marks.now (Marks (length octets.now) octets.now) }
+    ensures { AreOfRealm octets.now (option_map (λ realm. realm.now) result) }
+{
+    let mark = realm_mark(whole_kind(octets), marks)?;
+    let start = mark.start as usize;
+    Some(&octets[start..start + mark.len as usize])
+}
+
+/// The mark of the string that is the realm of a message of a kind: the one after the mark of the
+/// first field that is the realm.
+fn realm_mark(kind: Kind, marks: &[Mark]) -> Option<Mark>
+    requires { AllByRecursion (λ mark. IsNode mark.node) marks.now }
+    ensures { option_map mark_value result ≡ mark_after (is_realm_field kind) false (map mark_value marks.now) }
+{
+    let mut is_next = false;
+    for mark in marks {
+        if is_next {
+            return Some(*mark);
+        }
+        is_next = is_realm(kind, mark.node);
+    }
+    None
+}
+
+/// Whether a node is the field that is the realm of a message of a kind. That of an AS-REP and that
+/// of a TGS-REP are one term, and so each may stand for the other.
+fn is_realm(kind: Kind, node: u16) -> bool
+    requires { IsNode node }
+    ensures { result ≡ is_realm_field kind (term_at node) }
+{
+    match kind {
+        Kind::AsReq | Kind::TgsReq => node == Row::KdcReqBodyRealm as u16,
+        Kind::AsRep | Kind::TgsRep => {
+            node == Row::AsRepCrealm as u16 || node == Row::TgsRepCrealm as u16
+        }
+        Kind::ApReq => node == Row::TicketRealm as u16,
+        Kind::ApRep => false,
+        Kind::KrbError => node == Row::KrbErrorRealm as u16,
+    }
+}
