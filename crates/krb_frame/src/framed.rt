@@ -2,7 +2,7 @@
 
 use krb_der::Memory;
 use krb_msg::{Kind, Message, whole_kind};
-use krb_scan::{Mark, build};
+use krb_scan::{Mark, build, realm};
 use std::alloc::Global;
 use std::marker::Model;
 
@@ -28,7 +28,9 @@ impl<'a> Model for Framed<'a> {
 }
 
 ghost use Rattle.std.specs.Prelude.{◌≡◌, IfOk, length};
+ghost use Rattle.std.specs.Option.{option_map};
 ghost use Rattle.krb_msg.specs.Grammar.{messages};
+ghost use Rattle.krb_msg.specs.Realm.{AreOfRealm};
 ghost use Rattle.krb_msg.specs.Views.{AreOfKind, message_der};
 ghost use Rattle.krb_scan.specs.At.{Marks};
 ghost use Rattle.krb_scan.specs.State.{AreMarks};
@@ -56,6 +58,15 @@ impl<'a> Framed<'a> {
         ensures { AreOfKind self.now result }
     {
         whole_kind(self.octets)
+    }
+
+    /// The realm of the message, borrowed: of an AS-REQ or a TGS-REQ the realm that its body names,
+    /// of an AS-REP or a TGS-REP the client's, of an AP-REQ the ticket's, of a KRB-ERROR the
+    /// server's. An AP-REP names none. It takes no memory.
+    pub fn realm(&self) -> Option<&[u8]>
+        ensures { AreOfRealm self.now (option_map (λ realm. realm.now) result) }
+    {
+        realm(self.marks, self.octets)
     }
 
     /// The message, by the marks of its octets, which are not judged again.
