@@ -2,7 +2,8 @@
 //! `docs/FORMATS.md`; the frames of messages were made so from RFC 4120, appendix A.
 
 use crate::examples::{
-    AP_REP, AP_REQ, AS_REP, AS_REQ, KRB_ERROR, TGS_REP, TGS_REQ, TWO_AP_REPS, octets_of,
+    AP_REP, AP_REQ, AS_REP, AS_REQ, KRB_ERROR, KRB_ERROR_OF_CLIENT, TGS_REP, TGS_REQ, TWO_AP_REPS,
+    octets_of,
 };
 use krb_der::{Refusal, Why};
 use krb_frame::{Decoder, Fed, Framed, Limit, Status, frame};
@@ -406,6 +407,37 @@ fn frames_come_again(rt: HostRuntime) -> Result<(), Fail> {
         let again = comes_again(alloc, digits, kind, count)?;
         assert!(rt; again, "{digits}");
     }
+    Ok(())
+}
+
+/// Frames, and the place of the octet that is the realm of each. The replies, the TGS-REQ and the last
+/// KRB-ERROR have a second realm, of a ticket or of a client.
+const REALMS: [(&str, usize); 7] = [
+    (AS_REQ, 32),
+    (AS_REP, 22),
+    (TGS_REQ, 35),
+    (TGS_REP, 22),
+    (AP_REQ, 42),
+    (KRB_ERROR, 51),
+    (KRB_ERROR_OF_CLIENT, 56),
+];
+
+#[test]
+fn lends_the_realm(rt: HostRuntime) -> Result<(), Fail> {
+    let alloc = rt.alloc();
+    for (digits, place) in REALMS {
+        let mut octets = octets_of(alloc, digits)?;
+        *octets.get_mut(place).ok_or("a realm")? = b'R';
+        let mut stream = decoder(alloc, USUAL)?;
+        let _ = stream.feed(octets.as_slice());
+        let framed = stream.ready().ok_or("a frame")?;
+        assert_eq!(rt; framed.realm(), Some(b"R".as_slice()), "{digits}");
+    }
+    let octets = octets_of(alloc, AP_REP)?;
+    let mut stream = decoder(alloc, USUAL)?;
+    let _ = stream.feed(octets.as_slice());
+    let framed = stream.ready().ok_or("a frame")?;
+    assert!(rt; framed.realm().is_none(), "an AP-REP has none");
     Ok(())
 }
 
