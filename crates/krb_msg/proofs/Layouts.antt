@@ -44,7 +44,7 @@ is_taken {term = term} s value told = record {
 abbrev pub field_parts : {octets : List ℕ} (index : ℕ) (term : Term) (fields : Fields) (values : Values (Required (Tagged index term) fields)) (rest : List ℕ) → octets ≡ der_of_fields (Required (Tagged index term) fields) values ++ rest → octets ≡ item (0xA0 + index) (der term values.0) ++ (der_of_fields fields values.1 ++ rest)
 field_parts index term fields values rest e = e ∙ append_assoc (item (0xA0 + index) (der term values.0)) (der_of_fields fields values.1) rest
 
-abbrev entered_parts : {octets inner : List ℕ} {behind : ℕ} (index : ℕ) (term : Term) (fields : Fields) → IsEntered octets inner behind → (values : Values (Required (Tagged index term) fields)) (rest : List ℕ) → octets ≡ der_of_fields (Required (Tagged index term) fields) values ++ rest → inner ≡ der term values.0 ++ (der_of_fields fields values.1 ++ rest)
+abbrev entered_parts : {octets inner : List ℕ} {after_field : ℕ} (index : ℕ) (term : Term) (fields : Fields) → IsEntered octets inner after_field → (values : Values (Required (Tagged index term) fields)) (rest : List ℕ) → octets ≡ der_of_fields (Required (Tagged index term) fields) values ++ rest → inner ≡ der term values.0 ++ (der_of_fields fields values.1 ++ rest)
 entered_parts index term fields s values rest e = (s.parts (0xA0 + index) (der term values.0) (der_of_fields fields values.1 ++ rest) (field_parts index term fields values rest e)).0
 
 pub required_constructed : {octets : List ℕ} {after : ℕ} (index : ℕ) (term : Term) (fields : Fields) → FieldsBegin (Required (Tagged index term) fields) octets after → HasConstructed octets
@@ -53,10 +53,10 @@ required_constructed index term fields f = record {
   constructed = omega arith;
 }
 
-pub required_begins : {octets inner : List ℕ} {after behind : ℕ} (index : ℕ) (term : Term) (fields : Fields) → FieldsBegin (Required (Tagged index term) fields) octets after → IsEntered octets inner behind → Begins term inner
+pub required_begins : {octets inner : List ℕ} {after after_field : ℕ} (index : ℕ) (term : Term) (fields : Fields) → FieldsBegin (Required (Tagged index term) fields) octets after → IsEntered octets inner after_field → Begins term inner
 required_begins index term fields f s = record { value = f.values.0; fits = f.fit.0; rest = der_of_fields fields f.values.1 ++ f.rest; parts = entered_parts index term fields s f.values f.rest f.parts }
 
-pub required_rest : {octets inner left : List ℕ} {after behind : ℕ} (index : ℕ) (term : Term) (fields : Fields) (value : Value term) → FieldsBegin (Required (Tagged index term) fields) octets after → IsEntered octets inner behind → IsTaken term inner value left → FieldsBegin fields left after
+pub required_rest : {octets inner left : List ℕ} {after after_field : ℕ} (index : ℕ) (term : Term) (fields : Fields) (value : Value term) → FieldsBegin (Required (Tagged index term) fields) octets after → IsEntered octets inner after_field → IsTaken term inner value left → FieldsBegin fields left after
 required_rest index term fields value f s t = record {
   values = f.values.1;
   fit = f.fit.1;
@@ -65,7 +65,7 @@ required_rest index term fields value f s t = record {
   left = f.left;
 }
 
-pub required_taken : {octets inner left rest : List ℕ} {after behind : ℕ} (index : ℕ) (term : Term) (fields : Fields) (value : Value term) (values : Values fields) → IsEntered octets inner behind → IsTaken term inner value left → FieldsAreTaken fields left after values rest → FieldsAreTaken (Required (Tagged index term) fields) octets after (value, values) rest
+pub required_taken : {octets inner left rest : List ℕ} {after after_field : ℕ} (index : ℕ) (term : Term) (fields : Fields) (value : Value term) (values : Values fields) → IsEntered octets inner after_field → IsTaken term inner value left → FieldsAreTaken fields left after values rest → FieldsAreTaken (Required (Tagged index term) fields) octets after (value, values) rest
 required_taken index term fields value values s t r = record {
   parts = λ those more e l.
       let p = t.parts those.0 (der_of_fields fields those.1 ++ more) (entered_parts index term fields s those more e) in
