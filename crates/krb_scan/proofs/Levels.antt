@@ -1,9 +1,9 @@
 -- How many lengths are open at once.
-use Rattle.std.proofs.Common.{◌≡◌, ℕ, zero, suc, ◌+◌, ◌-◌, ◌≤◌, ◌&&◌, ◌==◌, nat_lt, max, List, [], ◌∷◌, length, take, drop, refl, arith, le_trans}
+use Rattle.std.proofs.Common.{◌≡◌, ℕ, zero, suc, ◌+◌, ◌-◌, ◌≤◌, ◌&&◌, ◌==◌, nat_lt, List, [], ◌∷◌, length, take, drop, refl, arith, le_trans}
 use Rattle.krb_der.specs.declared.why.Why.{Why}
 use Rattle.krb_msg.specs.Term.{Term, Fields, Integer, Text, Octets, Time, Bits, Sequence, SequenceOf, Tagged, Application, End, Required, Optional, tag_of}
 use Rattle.krb_msg.specs.Grammar.{messages}
-use Rattle.krb_msg.specs.Shape.{depth, depth_of_fields}
+use Rattle.krb_msg.specs.Shape.{depth, depth_of_fields, greatest_depth}
 use Rattle.krb_msg.specs.Judgement.{Outcome, Open, Bad, Done, Head, Partial, Refused, Got, head, has_size}
 use Rattle.krb_scan.specs.Reading.{Mark, Due, Listed, Each, OneOf, Frame, Tip, InHead, State, Seen, Within, Fault, Past, then_seen, limit, sole_in, frame_of, with_mark, leaf_outcome, of_leaf, leaf_seen, of_head_seen, begun, between, required_seen, optional_seen, ended_seen, each_seen, contents_seen, fields_seen, one_of_seen, message_seen, lengths_at, Answer, Ongoing, Refusing, Whole, answer, reading}
 use Rattle.krb_scan.proofs.Basics.{when_holds}
@@ -18,11 +18,6 @@ depth_some (Sequence fields) = omega arith
 depth_some (SequenceOf empty term) = omega arith
 depth_some (Tagged index term) = omega arith
 depth_some (Application number term) = omega arith
-
--- and in a choice of terms
-abbrev greatest_depth : List Term → ℕ
-greatest_depth [] = 0
-greatest_depth (term ∷ terms) = max (depth term) (greatest_depth terms)
 
 messages_depth : greatest_depth messages ≡ 13
 messages_depth = refl

@@ -8,7 +8,7 @@ use Rattle.krb_scan.specs.inner.Machine.{step, go_on, initial}
 use Rattle.krb_scan.proofs.Resume.{run, run_reading, go_on_each, go_on_assoc}
 use Rattle.krb_scan.proofs.Faults.{Placed, reading_placed}
 
-run_append : (state : State) (octets more : List ℕ) → run state (octets ++ more) ≡ go_on (run state octets) (λ then_state. run then_state more)
+pub run_append : (state : State) (octets more : List ℕ) → run state (octets ++ more) ≡ go_on (run state octets) (λ then_state. run then_state more)
 run_append state [] more = refl
 run_append state (octet ∷ octets) more =
     go_on_each (step state octet) _ _ (λ then_state. run_append then_state octets more)

@@ -6,10 +6,11 @@ use Rattle.krb_der.specs.declared.why.Why.TheVariants as why
 use Rattle.krb_msg.specs.Term.{Term, Integer, Text, Octets, Time, Bits, Sequence, SequenceOf, Tagged, Application}
 use Rattle.krb_msg.specs.Judgement.{Done, Got, head, has_size}
 use Rattle.krb_scan.specs.Reading.{Mark, Due, OneOf, Frame, Between, State, Fault, then_seen, is_sole, frame_of, mark_of, state_of, with_mark, leaf_outcome, leaf_value, of_leaf, leaf_seen, of_head_seen, head_seen, begun, contents_seen, Answer, Ongoing, answer, reading}
-use Rattle.krb_scan.specs.inner.Machine.{pick, settle, enter, opened, step, go_on, initial}
+use Rattle.krb_scan.specs.inner.Machine.{pick, settle, enter, opened, go_on}
 use Rattle.krb_scan.specs.inner.Stands.{IsLeaf, BeginsWith}
 use Rattle.krb_scan.proofs.Basics.{then_assoc}
-use Rattle.krb_scan.proofs.Resume.{due_seen, rest_seen, pick_seen, resume, run, due_pick, settle_right, enter_right, resume_none, run_right, run_reading, go_on_same, go_on_none, go_on_each, go_on_assoc, settle_reached}
+use Rattle.krb_scan.proofs.Resume.{due_seen, rest_seen, pick_seen, resume, run, due_pick, settle_right, enter_right, resume_none, run_right, go_on_same, go_on_none, settle_reached}
+use Rattle.krb_scan.proofs.Prefix.{run_append, reading_append}
 
 -- an item that begins where something is due in a container: what is picked by its tag, and what its tag and length octets say
 pub record Begins (due : Due) (end place tag : ℕ) (octets : List ℕ) (term : Term) (left : Due) (header count : ℕ) : Type 0 where
@@ -126,21 +127,8 @@ closes due end place tag octets contents term left header count outer marks b le
     front = take_all count contents (omega (arith, all))
 
 -- ---- more octets
-run_append : (state : State) (octets more : List ℕ) → run state (octets ++ more) ≡ go_on (run state octets) (λ then_state. run then_state more)
-run_append state [] more = refl
-run_append state (octet ∷ octets) more =
-    go_on_each (step state octet) _ _ (λ then_state. run_append then_state octets more)
-    ∙ sym (go_on_assoc (step state octet) (λ then_state. run then_state octets) (λ then_state. run then_state more))
-
--- The reading of octets and more is what the machine makes of them from what the reading gave.
-pub reading_run : (terms : List Term) (n : ℕ) (octets more : List ℕ) → 0 < n → reading terms n (octets ++ more) ≡ go_on (reading terms n octets) (λ state. run state more)
-reading_run terms n octets more h =
-    run_reading terms n (octets ++ more) h
-    ∙ run_append (initial terms n) octets more
-    ∙ ap (λ given. go_on given (λ state. run state more)) (sym (run_reading terms n octets h))
-
 pub reading_from : (terms : List Term) (n : ℕ) (octets more : List ℕ) (state : State) (given : Answer) → 0 < n → reading terms n octets ≡ Ongoing state → run state more ≡ given → reading terms n (octets ++ more) ≡ given
-reading_from terms n octets more state given h e f = reading_run terms n octets more h ∙ ap (λ it. go_on it (λ then_state. run then_state more)) e ∙ f
+reading_from terms n octets more state given h e f = reading_append terms n octets more h ∙ ap (λ it. go_on it (λ then_state. run then_state more)) e ∙ f
 
 -- ---- a tag and its one item, which has no items
 full : (left : Due) (end start count place : ℕ) (outer : List Frame) (marks : List Mark) → start + count ≡ place → settle (frame_of (start + count) (OneOf []) ∷ frame_of end left ∷ outer) marks place ≡ settle (frame_of end left ∷ outer) marks place
