@@ -76,7 +76,7 @@ impl Decode for KString {
 
     fn decode<S: Source>(alloc: Global, front: S) -> Result<(KString, S), AllocError> {
         let (contents, rest) = front.split_primitive();
-        Ok((KString::new(contents.to_vec(alloc)?), rest))
+        Ok((KString::new(Vec::from_slice(alloc, contents)?), rest))
     }
 }
 
@@ -93,7 +93,7 @@ impl Decode for Octets {
 
     fn decode<S: Source>(alloc: Global, front: S) -> Result<(Octets, S), AllocError> {
         let (contents, rest) = front.split_primitive();
-        Ok((Octets::new(contents.to_vec(alloc)?), rest))
+        Ok((Octets::new(Vec::from_slice(alloc, contents)?), rest))
     }
 }
 
@@ -136,7 +136,7 @@ impl Decode for Flags {
         let Some((unused, bits)) = contents.split_first() else {
             unreachable!()
         };
-        match Flags::new(*unused, bits.to_vec(alloc)?) {
+        match Flags::new(*unused, Vec::from_slice(alloc, bits)?) {
             Some(flags) => Ok((flags, rest)),
             None => unreachable!(),
         }

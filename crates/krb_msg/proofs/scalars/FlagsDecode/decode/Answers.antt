@@ -11,12 +11,12 @@ unreachable-requires g c = omega (arith, c.in_default.ensures.cases, ap length (
 
 pub unreachable-requires-in-None : goal.unreachable-requires-in-None
 unreachable-requires-in-None g c =
-    let copied = c.in_ok-to_vec.ensures.items_if_clones_equal (λ x y e. e) in
+    let copied = c.in_ok-from_slice.ensures.items in
     let parts = c.in-Some.ensures.cases.0 ∙ ap (λ bits. c.in-Some.unused.now ∷ bits) (sym copied) in
-    false≢true (c.in-None.ensures.shape.1 (flags_shape c.requires.form c.split_primitive-rest.ensures c.in-Some.unused.now c.in_ok-to_vec.field-0.items parts))
+    false≢true (c.in-None.ensures.shape.1 (flags_shape c.requires.form c.split_primitive-rest.ensures c.in-Some.unused.now c.in_ok-from_slice.field-0.items parts))
 
 pub returns : goal.returns
 returns g c =
-    let copied = c.in_ok-to_vec.ensures.items_if_clones_equal (λ x y e. e) in
+    let copied = c.in_ok-from_slice.ensures.items in
     let parts = c.in-Some.ensures.cases.0 ∙ ap (λ bits. c.in-Some.unused.now ∷ bits) (sym copied) in
     flags_taken c.split_primitive-rest.ensures _ (parts ∙ sym (λ i. (c.in-Some-new.ensures.value i).0 ∷ (c.in-Some-new.ensures.value i).1))

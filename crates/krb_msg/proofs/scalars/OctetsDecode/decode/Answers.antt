@@ -6,4 +6,4 @@ pub split_primitive-rest-requires-clause-form : goal.split_primitive-rest-requir
 split_primitive-rest-requires-clause-form g c = first_primitive (omega arith) c.requires.form
 
 pub returns : goal.returns
-returns g c = is_taken c.split_primitive-rest.ensures _ (λ that e. c.new.ensures ∙ c.in_ok-to_vec.ensures.items_if_clones_equal (λ x y e. e) ∙ e)
+returns g c = is_taken c.split_primitive-rest.ensures _ (λ that e. c.new.ensures ∙ c.in_ok-from_slice.ensures.items ∙ e)
