@@ -4,11 +4,10 @@ ghost use Rattle.std.specs.Prelude.{◌≡◌, ◌++◌, map, IfOk, OnOk, string
 ghost use Rattle.std.specs.Option.{option_map};
 ghost use Rattle.krb_msg.specs.Views.{pa_data_value};
 ghost use Rattle.krb_judge.specs.Parses.{method_data_refusal};
-ghost use Rattle.krb_list.specs.Text.{field};
 ghost use Rattle.krb_list.specs.Messages.{code_suffix, code_text, items_unless, methods_in, methods_text, krb_error_text};
 
 use crate::field::{
-    put_client_field, put_field, put_principal_field, put_size_field, put_string_field,
+    put_client_field, put_labelled, put_principal_field, put_size_field, put_string_field,
 };
 use crate::shown::Shown;
 use krb_der::{Int32, Many, Memory};
@@ -78,28 +77,28 @@ fn methods_of(alloc: Global, error: &KrbError) -> Result<Option<Many<PaData>>, M
 
 /// Appends the field that shows the types of the METHOD-DATA, or `-`.
 #[tactic(auto, unfolding(crate::specs::Messages::methods_text))]
-fn put_methods_field(line: &mut String, name: &str, error: &KrbError) -> Result<(), Memory>
-    ensures { OnOk result (string_bytes line.new ≡ string_bytes line.old ++ field name.now (methods_text error.now.error_code error.now.e_data)) }
+fn put_methods_field(line: &mut String, label: &str, error: &KrbError) -> Result<(), Memory>
+    ensures { OnOk result (string_bytes line.new ≡ string_bytes line.old ++ label.now ++ methods_text error.now.error_code error.now.e_data) }
 {
     let methods = methods_of(*line.allocator(), error)?;
-    put_field(line, name, &methods)?;
+    put_labelled(line, label, &methods)?;
     Ok(())
 }
 
 /// Appends the fields of a KRB-ERROR.
-#[tactic(auto, unfolding(crate::specs::Messages::krb_error_text))]
+#[tactic(auto, unfolding(crate::specs::Messages::krb_error_text, crate::specs::Text::field))]
 pub(crate) fn put_krb_error(line: &mut String, error: &KrbError) -> Result<(), Memory>
     ensures { OnOk result (string_bytes line.new ≡ krb_error_text (string_bytes line.old) error.now) }
 {
-    put_field(line, "code", &Code(error.error_code))?;
-    put_client_field(line, "client", &error.cname, &error.crealm)?;
-    put_principal_field(line, "server", &error.sname, &error.realm)?;
-    put_field(line, "ctime", &error.ctime)?;
-    put_field(line, "cusec", &error.cusec)?;
-    put_field(line, "stime", &error.stime)?;
-    put_field(line, "susec", &error.susec)?;
-    put_string_field(line, "text", &error.e_text)?;
-    put_size_field(line, "data", &error.e_data)?;
-    put_methods_field(line, "methods", error)?;
+    put_labelled(line, " code=", &Code(error.error_code))?;
+    put_client_field(line, " client=", &error.cname, &error.crealm)?;
+    put_principal_field(line, " server=", &error.sname, &error.realm)?;
+    put_labelled(line, " ctime=", &error.ctime)?;
+    put_labelled(line, " cusec=", &error.cusec)?;
+    put_labelled(line, " stime=", &error.stime)?;
+    put_labelled(line, " susec=", &error.susec)?;
+    put_string_field(line, " text=", &error.e_text)?;
+    put_size_field(line, " data=", &error.e_data)?;
+    put_methods_field(line, " methods=", error)?;
     Ok(())
 }

@@ -30,6 +30,7 @@ pub fn put_field<T: Shown>(line: &mut String, name: &str, value: &T) -> Result<(
 }
 
 /// Appends a field whose blank, name and `=` are one text, its label.
+#[inline(always)]
 pub(crate) fn put_labelled<T: Shown>(
     line: &mut String,
     label: &str,
@@ -56,28 +57,30 @@ pub(crate) fn put_components_field(
 }
 
 /// Appends a field that shows a principal.
+#[inline(always)]
 pub(crate) fn put_principal_field(
     line: &mut String,
-    name: &str,
+    label: &str,
     principal: &PrincipalName,
     realm: &KString,
 ) -> Result<(), AllocError>
-    ensures { OnOk result (string_bytes line.new ≡ string_bytes line.old ++ field name.now (in_realm realm.now principal.now)) }
+    ensures { OnOk result (string_bytes line.new ≡ string_bytes line.old ++ label.now ++ in_realm realm.now principal.now) }
 {
-    put_components_field(line, name, principal.name.as_slice(), realm)
+    line.push_str(label)?;
+    put_principal(line, principal.name.as_slice(), realm)
 }
 
 /// Appends a field that shows a principal of a realm, or `-`.
-#[tactic(auto, unfolding(crate::specs::Text::field))]
+#[inline(always)]
 pub(crate) fn put_optional_principal_field(
     line: &mut String,
-    name: &str,
+    label: &str,
     principal: &Option<PrincipalName>,
     realm: &KString,
 ) -> Result<(), AllocError>
-    ensures { OnOk result (string_bytes line.new ≡ string_bytes line.old ++ field name.now (or_dash (in_realm realm.now) principal.now)) }
+    ensures { OnOk result (string_bytes line.new ≡ string_bytes line.old ++ label.now ++ or_dash (in_realm realm.now) principal.now) }
 {
-    put_name(line, name)?;
+    line.push_str(label)?;
     match principal {
         None => line.push('-'),
         Some(principal) => put_principal(line, principal.name.as_slice(), realm),
@@ -85,16 +88,16 @@ pub(crate) fn put_optional_principal_field(
 }
 
 /// Appends a field that shows a principal, or `-` unless its name and its realm are both there.
-#[tactic(auto, unfolding(crate::specs::Text::field))]
+#[inline(always)]
 pub(crate) fn put_client_field(
     line: &mut String,
-    name: &str,
+    label: &str,
     client: &Option<PrincipalName>,
     realm: &Option<KString>,
 ) -> Result<(), AllocError>
-    ensures { OnOk result (string_bytes line.new ≡ string_bytes line.old ++ field name.now (client_text client.now realm.now)) }
+    ensures { OnOk result (string_bytes line.new ≡ string_bytes line.old ++ label.now ++ client_text client.now realm.now) }
 {
-    put_name(line, name)?;
+    line.push_str(label)?;
     match (client, realm) {
         (Some(client), Some(realm)) => put_principal(line, client.name.as_slice(), realm),
         _ => line.push('-'),
@@ -102,15 +105,15 @@ pub(crate) fn put_client_field(
 }
 
 /// Appends a field that shows how many values there are, or `-`.
-#[tactic(auto, unfolding(crate::specs::Text::field))]
+#[inline(always)]
 pub(crate) fn put_count_field<T>(
     line: &mut String,
-    name: &str,
+    label: &str,
     values: &Option<Many<T>>,
 ) -> Result<(), AllocError>
-    ensures { OnOk result (string_bytes line.new ≡ string_bytes line.old ++ field name.now (or_dash count_text values.now)) }
+    ensures { OnOk result (string_bytes line.new ≡ string_bytes line.old ++ label.now ++ or_dash count_text values.now) }
 {
-    put_name(line, name)?;
+    line.push_str(label)?;
     match values {
         None => line.push('-'),
         Some(values) => put_number(line, values.as_slice().len()),
@@ -118,15 +121,15 @@ pub(crate) fn put_count_field<T>(
 }
 
 /// Appends a field that shows how many octets there are, or `-`.
-#[tactic(auto, unfolding(crate::specs::Text::field))]
+#[inline(always)]
 pub(crate) fn put_size_field(
     line: &mut String,
-    name: &str,
+    label: &str,
     octets: &Option<Octets>,
 ) -> Result<(), AllocError>
-    ensures { OnOk result (string_bytes line.new ≡ string_bytes line.old ++ field name.now (or_dash count_text octets.now)) }
+    ensures { OnOk result (string_bytes line.new ≡ string_bytes line.old ++ label.now ++ or_dash count_text octets.now) }
 {
-    put_name(line, name)?;
+    line.push_str(label)?;
     match octets {
         None => line.push('-'),
         Some(octets) => put_number(line, octets.as_slice().len()),
@@ -134,15 +137,15 @@ pub(crate) fn put_size_field(
 }
 
 /// Appends a field that shows a string, escaped and between quotes, or `-`.
-#[tactic(auto, unfolding(crate::specs::Text::field))]
+#[inline(always)]
 pub(crate) fn put_string_field(
     line: &mut String,
-    name: &str,
+    label: &str,
     string: &Option<KString>,
 ) -> Result<(), AllocError>
-    ensures { OnOk result (string_bytes line.new ≡ string_bytes line.old ++ field name.now (or_dash quoted_text string.now)) }
+    ensures { OnOk result (string_bytes line.new ≡ string_bytes line.old ++ label.now ++ or_dash quoted_text string.now) }
 {
-    put_name(line, name)?;
+    line.push_str(label)?;
     match string {
         None => line.push('-'),
         Some(string) => {

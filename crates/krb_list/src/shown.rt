@@ -218,6 +218,7 @@ impl Shown for EncryptedData {
 }
 
 /// Appends the separator and the text of a value, for each of the values.
+#[inline(always)]
 fn put_others<T: Shown>(line: &mut String, separator: &str, values: &[T]) -> Result<(), AllocError>
     ensures { OnOk result (string_bytes line.new ≡ string_bytes line.old ++ flat_map (λ value. separator.now ++ T.text value) values.now) }
 {
@@ -229,6 +230,7 @@ fn put_others<T: Shown>(line: &mut String, separator: &str, values: &[T]) -> Res
 }
 
 /// Appends the texts of the values, with the separator between two, or another text where there are none.
+#[inline(always)]
 pub fn put_joined<T: Shown>(
     line: &mut String,
     none: &str,
