@@ -1,10 +1,12 @@
 """Times bin/krbls on streams of framed messages, beside cat, in 8 MiB of address space: real messages
-of six kinds, and AP-REPs. Then what krb_roundtrip does with streams: to judge their messages, to take them by
-a scanner octet by octet and at once, to parse them, and to encode them again, beside a memcpy of the same
-octets."""
+of six kinds, and AP-REPs; and on the real messages in turns with MIT's decoder, where its library is
+installed. Then what krb_roundtrip does with streams: to judge their messages, to take them by a scanner
+octet by octet and at once, to parse them, and to encode them again, beside a memcpy of the same octets."""
 
 import ctypes
 import pathlib
+import shutil
+import subprocess
 import sys
 import tempfile
 
@@ -57,6 +59,23 @@ def time_listing(name, frames, messages, count):
     )
 
 
+def time_mit(name, frames, messages, count):
+    """Prints what it takes to list this many times some frames, and to decode them by MIT's library,
+    with the name of each message printed. The two take turns."""
+    size, messages = count * len(frames), count * messages
+    with tempfile.TemporaryDirectory() as folder, repeated(frames, count) as stream:
+        mit = f"{folder}/mit"
+        compiling = [shutil.which("cc") or "false", "-O2", "-o", mit, "bench/mit.c", "-lkrb5"]
+        if subprocess.run(compiling, stderr=subprocess.DEVNULL).returncode != 0:
+            print(f"{name} by MIT's decoder: skipped, there is no cc, or no libkrb5 to compile with")
+            return
+        listing, decoding = best_runs([KRBLS, [mit]], stream.name, runs=10)
+    print(
+        f"{messages} {name}, {size} octets: list {rate(size, listing)}; MIT's decoder, with names "
+        f"{rate(size, decoding)}: {decoding / listing:.2f} times as long"
+    )
+
+
 def time_again(name, frames, messages, count):
     """Prints what it takes to parse the messages of this many times some frames, and to encode them."""
     size, messages = count * len(frames), count * messages
@@ -92,6 +111,7 @@ def main():
     time_listing(*mixed)
     time_listing("AP-REPs", ap_rep, 1, messages)
     time_listing("AP-REPs", ap_rep, 1, 2 * messages)
+    time_mit(*mixed)
     time_judging(*mixed)
     time_again(*mixed)
     time_again("AS-REPs", as_rep, 1, max(messages // 5, 1))

@@ -27,10 +27,10 @@ def best_run(command, path):
     return best_of(5, lambda: run_on(command, path))
 
 
-def best_runs(commands, path):
+def best_runs(commands, path, runs=7):
     """The same of some commands, which take turns."""
     commands = list(commands)
-    turns = [[best_of(1, lambda: run_on(command, path)) for command in commands] for _ in range(7)]
+    turns = [[best_of(1, lambda: run_on(command, path)) for command in commands] for _ in range(runs)]
     return [min(seconds) for seconds in zip(*turns)]
 
 
