@@ -86,6 +86,30 @@ impl<R: Read + Drop> Credentials<R> {
         }
     }
 
+    /// Gives back a credential that was read, whose room the next credentials take.
+    pub fn give_back(&mut self, credential: Credential)
+        ensures same_reader { self.new.reader ≡ self.old.reader }
+        ensures same_header { self.new.header ≡ self.old.header }
+        ensures same_principal { self.new.principal ≡ self.old.principal }
+        ensures same_state { self.new.state ≡ self.old.state }
+    {
+        let Credential {
+            client,
+            server,
+            key,
+            ticket,
+            second_ticket,
+            ..
+        } = credential;
+        self.reader.give_back(client.realm.into_vec());
+        self.reader.give_back_strings(client.components);
+        self.reader.give_back(server.realm.into_vec());
+        self.reader.give_back_strings(server.components);
+        self.reader.give_back(key.into_vec());
+        self.reader.give_back(ticket.into_vec());
+        self.reader.give_back(second_ticket.into_vec());
+    }
+
     /// The next credential of a reader that met neither the end nor a fault.
     fn next_open(&mut self, alloc: Global) -> Result<Option<Credential>, FileFault>
         ensures next { (file : List ℕ) (limit : ℕ) (given : ℕ) → Reads (Some limit) self.old.reader (record { header = self.old.header; principal = self.old.principal }) self.old.state file given → GivesNext (Some limit) file given result self.new.reader (record { header = self.new.header; principal = self.new.principal }) self.new.state }

@@ -1,6 +1,7 @@
 //! Octets of a file that were taken before their fields are read.
 
 use crate::file::FileFault;
+use crate::spare::Spare;
 use crate::stream_reader::ask;
 use std::alloc::{AllocError, Global};
 use std::io::Read;
@@ -65,16 +66,21 @@ impl Ahead {
         self.passed = end;
     }
 
-    /// Reads `count` of them.
+    /// Reads `count` of them, into room that is spare.
     #[inline(always)]
-    pub(crate) fn copy(&mut self, alloc: Global, count: usize) -> Result<Vec<u8>, AllocError>
+    pub(crate) fn copy(
+        &mut self,
+        alloc: Global,
+        count: usize,
+        spare: &mut Spare,
+    ) -> Result<Vec<u8>, AllocError>
         requires { count ≤ length self.old }
         ensures given { IfOk result (λ copied. self.old ≡ copied.items ++ self.new) }
         ensures count { IfOk result (λ copied. length copied.items ≡ count) }
         ensures kept { OnErr result (self.new ≡ self.old) }
     {
         let end = self.passed + count;
-        let copied = Vec::from_slice(alloc, &self.octets[self.passed..end])?;
+        let copied = spare.copy(alloc, &self.octets[self.passed..end])?;
         self.passed = end;
         Ok(copied)
     }

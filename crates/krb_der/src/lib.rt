@@ -26,6 +26,7 @@ mod micros;
 mod number;
 mod octets;
 mod slice_reader;
+mod spare;
 mod stream_reader;
 mod verdict;
 mod why;

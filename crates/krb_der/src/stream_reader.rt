@@ -4,8 +4,11 @@ use crate::ahead::Ahead;
 use crate::field_limit::FieldLimit;
 use crate::field_reader::FieldReader;
 use crate::file::{FileFault, FileWhy};
+use crate::kstring::KString;
+use crate::many::Many;
 use crate::octets::Octets;
 use crate::slice_reader::are_zero;
+use crate::spare::Spare;
 use std::alloc::Global;
 use std::io::Read;
 use std::marker::Model;
@@ -35,6 +38,8 @@ pub struct StreamReader<R: Read> {
     /// Whether the reader told its end.
     ended: bool,
     asks: u64,
+    /// Room for fields of octets.
+    spare: Spare,
 }
 
 impl<R: Read> Model for StreamReader<R> {
@@ -94,7 +99,22 @@ impl<R: Read> StreamReader<R> {
             ahead: Ahead::new(),
             ended: false,
             asks: 0,
+            spare: Spare::new(),
         }
+    }
+
+    /// Gives back octets that were read, whose room the next fields of octets take.
+    pub fn give_back(&mut self, octets: Vec<u8>)
+        ensures { self.new ≡ self.old }
+    {
+        self.spare.keep(octets);
+    }
+
+    /// Gives back strings that were read, as [`give_back`](StreamReader::give_back) does.
+    pub fn give_back_strings(&mut self, strings: Many<KString>)
+        ensures { self.new ≡ self.old }
+    {
+        self.spare.keep_strings(strings);
     }
 
     /// Takes octets that are still to be read, unless some are ahead: as many as come at once, at most
@@ -153,7 +173,7 @@ impl<R: Read> StreamReader<R> {
         ensures count { IfOk result (λ taken. length taken.items ≡ count) }
         ensures fault { IfErr result (λ e. e ≡ FileFault.Memory) }
     {
-        let taken = self.ahead.copy(alloc, count)?;
+        let taken = self.ahead.copy(alloc, count, &mut self.spare)?;
         self.place += count as u64;
         Ok(taken)
     }
@@ -186,7 +206,7 @@ impl<R: Read> StreamReader<R> {
         ensures room { IfOk result (λ piece. length piece.items ≡ room) }
         ensures fault { IfErr result (λ e. FailsTaking e start self.old self.new room) }
     {
-        let mut piece = vec![in alloc; 0u8; room]?;
+        let mut piece = self.spare.zeros(alloc, room)?;
         self.take_all(start, piece.as_mut_slice())?;
         Ok(piece)
     }

@@ -8,7 +8,7 @@ ghost use Rattle.krb_der.specs.declared.file.FileFault.{FileFault as FaultValue}
 ghost use Rattle.krb_keytab.specs.Streaming.{Reads, GivesNext};
 
 use crate::reading::{Next, record};
-use crate::value::Stop;
+use crate::value::{Entry, Record, Stop};
 use krb_der::{FieldLimit, FieldReader, FileFault, StreamReader};
 use std::alloc::Global;
 use std::io::Read;
@@ -70,6 +70,26 @@ impl<R: Read> Records<R> {
             State::Open => self.next_open(alloc),
             State::Done(stop) => Ok(Next::Done(stop)),
             State::Failed(fault) => Err(fault),
+        }
+    }
+
+    /// Gives back a record that was read, whose room the next records take.
+    pub fn give_back(&mut self, record: Record)
+        ensures same_reader { self.new.reader ≡ self.old.reader }
+        ensures same_state { self.new.state ≡ self.old.state }
+    {
+        if let Record::Entry(entry) = record {
+            let Entry {
+                realm,
+                components,
+                key,
+                rest,
+                ..
+            } = entry;
+            self.reader.give_back(realm.into_vec());
+            self.reader.give_back_strings(components);
+            self.reader.give_back(key.into_vec());
+            self.reader.give_back(rest.into_vec());
         }
     }
 
