@@ -3,9 +3,9 @@ use Rattle.std.proofs.Common.{◌≡◌, ℕ, zero, suc, ◌+◌, ◌-◌, ◌<�
 use Rattle.std.proofs.lemmas.Bool.{cases_lt}
 use Rattle.std.proofs.lemmas.Int.{by_lt_z}
 use Rattle.std.specs.Prelude.{unsigned_abs}
-use Rattle.jiff.specs.Words.{days_in_year, days_in_month, epoch_day, IsYmd}
+use Rattle.jiff_core.specs.Date.{epoch_day}
 use Rattle.jiff_core.specs.declared.civil.date.Date.{Date}
-use Rattle.jiff_core.specs.Calendar.{days_of_months, day_count, days_from_civil, IsCivilDate, IsYear}
+use Rattle.jiff_core.specs.Calendar.{days_in_year, days_in_month, days_of_months, day_count, days_from_civil, IsCivilDate, IsYear}
 use Rattle.jiff_core.proofs.CalendarLemmas.{days_of_months-zero, days_of_months_more, days_of_months_all, days_of_months_mono, day_of_year_before, day_count-day_of_year, day_count-next_year, day_count-lt_year, day_count-year_is, days_in_year_bounds, day_count-epoch, days_from_civil-day_count}
 use Rattle.jiff_core.proofs.SignedLemmas.{signed_arith}
 use Rattle.krb_der.specs.inner.Numbers.{when-true, when-false}
@@ -92,13 +92,6 @@ pub civil_date-is : (year m d days : ℕ) → IsCivilDate (pos year) m d → day
 unfolding civil_date
 civil_date-is year m d days h e =
     from-is days 1970 days year m d (omega arith) h (omega (arith, signed_arith, days_from_civil-day_count (pos year) m d, day_count-epoch))
-
--- the first day of 1970 has number 0
-pub epoch_day-first : (d : Date) → IsYmd (pos 1970) (pos 1) (pos 1) d → epoch_day d ≡ pos 0
-epoch_day-first d h =
-    let m : d.month ≡ 1 = omega (arith, signed_arith) in
-    let n : d.day ≡ 1 = omega (arith, signed_arith) in
-    rw (h.0, m, n) (omega (arith, signed_arith, days_from_civil-day_count (pos 1970) 1 1, day_count-epoch))
 
 -- no day from then on is in an earlier year
 pub year-ge : (d : Date) (days : ℕ) → epoch_day d ≡ pos days → pos 1970 ≤ℤ d.year

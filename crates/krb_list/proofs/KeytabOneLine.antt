@@ -1,7 +1,7 @@
 -- All that times and the lines of a keytab show is printable: blanks and graphic characters of ASCII.
 use Rattle.std.proofs.Common.{ℕ, zero, suc, pos, ◌+◌, ◌-◌, ◌/◌, ◌%◌, ◌==◌, ◌^◌, ◌<◌, ◌≤◌, inl, inr, Bool, true, false, [], length, refl, sym, subst, arith, codes}
 use Rattle.std.proofs.lemmas.Bool.{cases_lt}
-use Rattle.jiff.specs.Words.{days_in_year, days_in_month}
+use Rattle.jiff_core.specs.Calendar.{days_in_year, days_in_month}
 use Rattle.jiff_core.proofs.CalendarLemmas.{days_in_year_bounds}
 use Rattle.krb_keytab.specs.declared.value.Record.{Record}
 use Rattle.krb_keytab.specs.declared.value.Record.TheVariants as records

@@ -3,12 +3,11 @@
 ghost use Rattle.std.specs.Prelude.{◌≡◌, ◌++◌, ◌<◌, IfOk, OnOk, pos, string_bytes};
 ghost use Rattle.std.specs.Str.{IsAscii};
 ghost use Rattle.krb_list.specs.Time.{civil_date, moment_text, time_text, two_digits};
-ghost use Rattle.jiff.specs.Words.{epoch_day};
+ghost use Rattle.jiff_core.specs.Date.{epoch_day};
 
 use crate::escape::put_ascii;
 use crate::shown::Shown;
-use jiff::ToSpan;
-use jiff::civil::{Date, date};
+use jiff_core::civil::Date;
 use krb_der::Memory;
 use std::alloc::{AllocError, Global};
 
@@ -24,7 +23,10 @@ fn day_after(days: u32) -> Date
     requires { days < 50_000 }
     ensures { epoch_day result ≡ pos days }
 {
-    date(1970, 1, 1) + i64::from(days).days()
+    match Date::from_unix_epoch_day(i64::from(days)) {
+        Ok(date) => date,
+        Err(_) => unreachable!(),
+    }
 }
 
 /// The date n days after 1970-01-01.
@@ -37,9 +39,9 @@ fn civil_date(days: u32) -> CivilDate
 {
     let date = day_after(days);
     CivilDate {
-        year: date.year().unsigned_abs(),
-        month: date.month().unsigned_abs(),
-        day: date.day().unsigned_abs(),
+        year: date.year.unsigned_abs(),
+        month: date.month,
+        day: date.day,
     }
 }
 
