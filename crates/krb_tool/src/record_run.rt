@@ -77,13 +77,13 @@ trait RecordLines {
 }
 
 /// Appends the line of a record.
-fn put_record(text: &mut String, record: &Record) -> Result<Option<RunEnd>, RunFault>
-    ensures line { IfOk result (Adds (record_text «record».now ++ line_feed) None (string_bytes text.old) (string_bytes text.new)) }
+fn put_record(text: &mut String, item: &Record) -> Result<(), RunFault>
+    ensures line { OnOk result (string_bytes text.new ≡ string_bytes text.old ++ (record_text item.now ++ line_feed)) }
     ensures fault { IfErr result (λ e. e ≡ RunFault.Memory) }
 {
-    record.put(text)?;
+    item.put(text)?;
     text.push('\n')?;
-    Ok(None)
+    Ok(())
 }
 
 /// Appends the line of the end of a keytab.
@@ -112,7 +112,11 @@ impl<R: Read> RecordLines for KeytabLines<R> {
         text: &mut String,
     ) -> Result<Option<RunEnd>, RunFault> {
         match self.records.next_record(alloc) {
-            Ok(Next::Item(record)) => put_record(text, &record),
+            Ok(Next::Item(record)) => {
+                put_record(text, &record)?;
+                self.records.give_back(record);
+                Ok(None)
+            }
             Ok(Next::Done(stop)) => put_stop(text, count, &stop),
             Err(fault) => put_fault(text, fault),
         }
@@ -164,17 +168,13 @@ fn put_first(text: &mut String, header: &Header, principal: &FilePrincipal) -> R
 }
 
 /// Appends the line of a credential.
-fn put_one(
-    text: &mut String,
-    credential: &Credential,
-    now: Option<u32>,
-) -> Result<Option<RunEnd>, RunFault>
-    ensures line { IfOk result (Adds (credential_line now credential.now ++ line_feed) None (string_bytes text.old) (string_bytes text.new)) }
+fn put_one(text: &mut String, credential: &Credential, now: Option<u32>) -> Result<(), RunFault>
+    ensures line { OnOk result (string_bytes text.new ≡ string_bytes text.old ++ (credential_line now credential.now ++ line_feed)) }
     ensures fault { IfErr result (λ e. e ≡ RunFault.Memory) }
 {
     put_credential(text, credential, now)?;
     text.push('\n')?;
-    Ok(None)
+    Ok(())
 }
 
 /// Appends the line of the end of a cache.
@@ -204,7 +204,11 @@ impl<R: Read + Drop> RecordLines for CredentialLines<R> {
         text: &mut String,
     ) -> Result<Option<RunEnd>, RunFault> {
         match self.credentials.next_credential(alloc) {
-            Ok(Some(credential)) => put_one(text, &credential, self.now),
+            Ok(Some(credential)) => {
+                put_one(text, &credential, self.now)?;
+                self.credentials.give_back(credential);
+                Ok(None)
+            }
             Ok(None) => put_end(text, count),
             Err(fault) => put_fault(text, fault),
         }
