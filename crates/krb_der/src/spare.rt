@@ -6,17 +6,17 @@ use crate::kstring::KString;
 use crate::many::Many;
 use std::alloc::{AllocError, Global};
 
-/// How many vectors are kept at most.
+/// The number of vectors that are kept at most.
 const MOST: usize = 8;
 
-/// How many octets a vector that is kept has room for at most.
+/// The number of octets that a vector which is kept has room for at most.
 const MOST_ROOM: usize = 4096;
 
 /// Vectors whose octets are not wanted any more. No contract sees them.
 #[derive(Drop)]
 pub(crate) struct Spare {
     vectors: [Option<Vec<u8>>; MOST],
-    /// How many there are: they stand first.
+    /// The number of vectors: they stand first.
     count: usize,
     pub ghost few: { count ≤ 8 },
 }
@@ -69,7 +69,7 @@ impl Spare {
         Ok(copied)
     }
 
-    /// So many octets of 00.
+    /// `count` octets of 00.
     pub(crate) fn zeros(&mut self, alloc: Global, count: usize) -> Result<Vec<u8>, AllocError>
         ensures { IfOk result (λ zeros. length zeros.items ≡ count) }
     {
