@@ -8,22 +8,29 @@ use krb_scan::{Scanner, Verdict};
 pub(crate) enum Judging {
     /// By `judge`.
     AtOnce,
-    /// By a scanner that takes them one after another.
+    /// By a scanner that takes them one after another, but those inside a string.
     Step,
     /// By a scanner that takes them at once.
     Take,
 }
 
-/// What octets come to that a scanner takes one after another; what it decided before where there is
-/// no memory.
+/// What octets come to that a scanner takes one after another, but those inside a string, which it
+/// passes by `run`; what it decided before where there is no memory.
 fn step_all(scanner: &mut Scanner, octets: &[u8]) -> Verdict {
-    for octet in octets {
+    let mut rest = octets;
+    // each turn takes one octet or more
+    for _ in octets {
+        let run = scanner.run(rest);
+        let Some([octet, after @ ..]) = rest.get(run..) else {
+            break;
+        };
         let Verdict::Open = scanner.verdict() else {
             break;
         };
         if scanner.step(*octet).is_err() {
             break;
         }
+        rest = after;
     }
     scanner.verdict()
 }

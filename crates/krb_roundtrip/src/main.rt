@@ -3,7 +3,8 @@
 //! written again and compared. It is a test of `krb_judge`, `krb_msg`, `krb_keytab` and `krb_ccache`
 //! on real octets, and what the benchmark measures: with the word `parse` it only parses, and with
 //! `frames` it only cuts the frames. With `judge` it judges each message, with `step` a scanner takes
-//! its octets one after another, and with `take` at once; there are only messages then.
+//! its octets one after another but those inside a string, and with `take` at once; there are only
+//! messages then.
 #![tactic(auto)]
 
 mod judging;

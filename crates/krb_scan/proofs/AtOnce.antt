@@ -1,8 +1,7 @@
 -- Items that are taken at once.
-use Rattle.std.proofs.Common.{◌≡◌, ℕ, zero, suc, ℤ, pos, ◌+◌, ◌-◌, ◌<◌, ◌≤◌, ◌^◌, ◌==◌, Bool, true, false, true≢false, Option, Some, None, List, [], ◌∷◌, ◌++◌, length, map, take, drop, slice_get, reverse, refl, sym, ap, ◌∙◌, subst, arith, drop_at, append-nil}
+use Rattle.std.proofs.Common.{◌≡◌, ℕ, zero, suc, ℤ, pos, ◌+◌, ◌-◌, ◌<◌, ◌≤◌, ◌^◌, ◌==◌, Bool, true, false, true≢false, Option, Some, None, List, [], ◌∷◌, ◌++◌, length, map, take, drop, reverse, refl, sym, ap, ◌∙◌, subst, arith, drop_at, append-nil}
 use Rattle.std.proofs.lemmas.List.{length-append, length-take, length-drop, take-append-drop, take_all, reverse-append}
 use Rattle.std.specs.Coded.{le_prop}
-use Rattle.std.specs.Option.{unwrap_or}
 use Rattle.std.proofs.Math.Logic.{∥∥₁_elim, ∥∥₁_map}
 use Rattle.std.specs.List.{AllByRecursion}
 use Rattle.krb_der.specs.Octets.{AreOctets, when}
@@ -464,10 +463,6 @@ tag_accepted old new octets it only decided row only_row first contents leaf val
     size (same ∙ e) looked (omega (arith, looked)) (omega (arith, f.fits, k.within))
 
 -- ---- the one item of a container
-pub front_of : (octets : List ℕ) (tag : ℕ) → slice_get octets 0 ≡ Some tag → (rest : List ℕ) × (octets ≡ tag ∷ rest)
-front_of [] tag e = absurd (cc e)
-front_of (octet ∷ rest) tag e = (rest, ap (λ first. first ∷ rest) (ap (λ it. unwrap_or it octet) e))
-
 pub only_found : (container : Open) (from : ℕ) (row : Place) (octets rest : List ℕ) (tag header size : ℕ) → IsPlace container.due → IsPlaceOf row (due_at container.due) → from ≤ container.end → octets ≡ tag ∷ rest → tag < 256 → row.tag ≡ tag → HeadBegins octets header size → header + size ≡ container.end - from →
     IsFound container from octets (record { place = container.due; header = header; size = size })
 only_found container from row octets rest tag header size known r le parts small e begins full = record {

@@ -1,7 +1,7 @@
 //! Items that are there whole, taken at once. Items are only accepted here: what is cut, refused or
 //! odd is left as it is, to be taken octet by octet.
 
-ghost use Rattle.std.specs.Prelude.{◌≡◌, ◌+◌, ◌<◌, ◌≤◌, ◌^◌, ◌∷◌, [], ◌++◌, List, ℕ, pos, Some, None, IfSome, true, take, length, vec_len, vec_capacity};
+ghost use Rattle.std.specs.Prelude.{◌≡◌, ◌+◌, ◌<◌, ◌≤◌, ◌^◌, List, ℕ, Some, None, IfSome, true, take, length, vec_len, vec_capacity};
 ghost use Rattle.krb_scan.specs.Reading.{Frame, Mark as Marked, is_sole};
 ghost use Rattle.krb_scan.specs.Places.{IsPlace, due_at, item_at};
 ghost use Rattle.krb_scan.specs.State.{AreOpen};
@@ -45,9 +45,8 @@ fn find_item(container: Open, from: u32, octets: &[u8]) -> Option<Found>
     requires short { container.end < 2 ^ 31 }
     ensures { IsFoundIn container from octets.now result }
 {
-    let tag = *octets.first()?;
     let head = whole_head(octets)?;
-    let place = pick(tag, container.due)?;
+    let place = pick(head.tag, container.due)?;
     let room = container.end - from;
     let size = head.header + head.size;
     if size > room || place_at(place).sole && size < room {
@@ -71,9 +70,8 @@ fn find_only(container: Open, row: &Place, from: u32, octets: &[u8]) -> Option<F
     ensures found { IsFoundIn container from octets.now result }
     ensures due { IfSome result (λ it. it.place ≡ container.due) }
 {
-    let tag = u16::from(*octets.first()?);
     let head = whole_head(octets)?;
-    if tag != row.tag || head.header + head.size != container.end - from {
+    if u16::from(head.tag) != row.tag || head.header + head.size != container.end - from {
         return None;
     }
     Some(Found {
@@ -100,7 +98,8 @@ impl Path {
         match closing(inner, self.outer.as_slice(), place) {
             Closed::Lacks => None,
             Closed::Stays { inner, outer } => {
-                self.inner = inner;
+                self.inner.end = inner.end;
+                self.inner.due = inner.due;
                 self.outer.truncate(outer);
                 Some(Verdict::Open)
             }
@@ -113,15 +112,17 @@ impl Path {
 
     /// Takes an item without items that is there whole at the front of octets.
     #[inline(always)]
-    fn take_leaf(&mut self, found: Found, contents: Contents, octets: &[u8]) -> Option<Accepted>
+    fn take_leaf(&mut self, found: Found, row: &Place, octets: &[u8]) -> Option<Accepted>
         requires reached { IsReached self.old }
         requires between { self.old.tip ≡ Tip.Between }
         requires room { vec_len self.old.marks + 2 ≤ vec_capacity self.old.marks }
         requires found { IsFound self.old.inner self.old.looked octets.now found }
-        requires narrow { IsNarrow contents }
-        requires contents { AreContents contents (item_at found.place) }
+        requires row { IsPlaceOf row.now (due_at found.place) }
+        requires narrow { IsNarrow row.now.contents }
+        requires contents { AreContents row.now.contents (item_at found.place) }
         ensures some { IfSome result (λ it. (before : List ℕ) → StandsFor self.old before → IsAccepted self.old self.new before octets.now it) }
         ensures none { result ≡ None → self.new ≡ self.old }
+        ensures tip { self.new.tip ≡ self.old.tip }
         ensures room { vec_capacity self.new.marks ≡ vec_capacity self.old.marks }
     {
         let rest = &octets[found.header as usize..];
@@ -129,8 +130,7 @@ impl Path {
             return None;
         }
         let whole = &rest[..found.size as usize];
-        let value = whole_leaf(contents, whole)?;
-        let row = place_at(found.place);
+        let value = whole_leaf(&row.contents, whole)?;
         let start = self.looked + found.header;
         let verdict = self.close_at(row.next, start + found.size)?;
         self.marks.push_reserved(Mark {
@@ -177,10 +177,8 @@ impl Path {
             end: self.inner.end,
             due: row.next,
         });
-        self.inner = Open {
-            end: start + found.size,
-            due: first,
-        };
+        self.inner.end = start + found.size;
+        self.inner.due = first;
         self.looked = start;
         Accepted {
             count: found.header,
@@ -202,6 +200,7 @@ impl Path {
         requires goes_on { BeginsWith (item_at first) (due_at next) }
         ensures some { IfSome result (λ it. (before : List ℕ) → StandsFor self.old before → IsAccepted self.old self.new before octets.now it) }
         ensures none { result ≡ None → self.new ≡ self.old }
+        ensures tip { self.new.tip ≡ self.old.tip }
         ensures room { vec_capacity self.new.marks ≡ vec_capacity self.old.marks }
     {
         let start = self.looked + found.header;
@@ -225,13 +224,7 @@ impl Path {
     /// Takes a tag and its one item, which holds no items, where both are there whole at the front of
     /// octets.
     #[inline(always)]
-    fn take_tag(
-        &mut self,
-        found: Found,
-        first: u16,
-        contents: Contents,
-        octets: &[u8],
-    ) -> Option<Accepted>
+    fn take_tag(&mut self, found: Found, first: u16, row: &Place, octets: &[u8]) -> Option<Accepted>
         requires reached { IsReached self.old }
         requires between { self.old.tip ≡ Tip.Between }
         requires room { vec_len self.old.marks + 2 ≤ vec_capacity self.old.marks }
@@ -239,13 +232,14 @@ impl Path {
         requires first { IsPlace first }
         requires begins { BeginsWith (item_at found.place) (due_at first) }
         requires sole { is_sole (due_at first) ≡ true }
-        requires narrow { IsNarrow contents }
-        requires contents { AreContents contents (item_at first) }
+        requires row { IsPlaceOf row.now (due_at first) }
+        requires narrow { IsNarrow row.now.contents }
+        requires contents { AreContents row.now.contents (item_at first) }
         ensures some { IfSome result (λ it. (before : List ℕ) → StandsFor self.old before → IsAccepted self.old self.new before octets.now it) }
         ensures none { result ≡ None → self.new ≡ self.old }
+        ensures tip { self.new.tip ≡ self.old.tip }
         ensures room { vec_capacity self.new.marks ≡ vec_capacity self.old.marks }
     {
-        let row = place_at(first);
         let rest = &octets[found.header as usize..];
         if rest.len() < found.size as usize {
             return None;
@@ -254,7 +248,7 @@ impl Path {
         let start = self.looked + found.header;
         let end = start + found.size;
         let only = find_only(Open { end, due: first }, row, start, whole)?;
-        let value = whole_leaf(contents, &whole[only.header as usize..])?;
+        let value = whole_leaf(&row.contents, &whole[only.header as usize..])?;
         let tag = place_at(found.place);
         let verdict = self.close_at(tag.next, end)?;
         self.marks.push_reserved(Mark {
@@ -279,22 +273,21 @@ impl Path {
     /// Takes the item at the front of octets, or a container's tag and length, where they are there
     /// and nothing is odd.
     #[inline(always)]
-    pub(crate) fn take_item(&mut self, octets: &[u8]) -> Option<Accepted>
-        requires { IsReached self.old }
+    fn take_item(&mut self, octets: &[u8]) -> Option<Accepted>
+        requires reached { IsReached self.old }
+        requires between { self.old.tip ≡ Tip.Between }
         ensures some { IfSome result (λ it. (before : List ℕ) → StandsFor self.old before → IsAccepted self.old self.new before octets.now it) }
         ensures none { result ≡ None → self.new ≡ self.old }
+        ensures tip { self.new.tip ≡ self.old.tip }
         ensures room { vec_capacity self.new.marks ≡ vec_capacity self.old.marks }
     {
-        let Tip::Between = self.tip else {
-            return None;
-        };
         if self.marks.capacity() - self.marks.len() < 2 {
             return None;
         }
         let found = find_item(self.inner, self.looked, octets)?;
-        let contents = place_at(found.place).contents;
-        let Contents::Items { first } = contents else {
-            return self.take_leaf(found, contents, octets);
+        let row = place_at(found.place);
+        let Contents::Items { first } = row.contents else {
+            return self.take_leaf(found, row, octets);
         };
         let due = place_at(first);
         if !due.sole {
@@ -306,7 +299,7 @@ impl Path {
         }
         match due.contents {
             Contents::Items { first: next } => self.take_heads(found, first, next, octets),
-            leaf => self.take_tag(found, first, leaf, octets),
+            _ => self.take_tag(found, first, due, octets),
         }
     }
 
@@ -319,6 +312,9 @@ impl Path {
         ensures none { result ≡ None → self.new ≡ self.old }
         ensures room { vec_capacity self.new.marks ≡ vec_capacity self.old.marks }
     {
+        let Tip::Between = self.tip else {
+            return None;
+        };
         let mut all = self.take_item(octets)?;
         'items: while let Verdict::Open = all.verdict {
             let Some(next) = self.take_item(&octets[all.count as usize..]) else {

@@ -175,6 +175,7 @@ impl Path {
     }
 
     /// An item without items, whose length ends with the next octet.
+    #[inline(always)]
     fn enter_leaf(&mut self, place: u16, len: u32) -> Result<Verdict, Memory>
         requires known { IsItemPlace place }
         requires leaf { IsLeaf (item_at place) }
@@ -203,6 +204,7 @@ impl Path {
     }
 
     /// An item with items, whose length ends with the next octet.
+    #[inline(always)]
     fn enter_items(&mut self, place: u16, len: u32, first: u16) -> Result<Verdict, Memory>
         requires known { IsItemPlace place }
         requires listed { IsPlace first }
@@ -234,6 +236,7 @@ impl Path {
     }
 
     /// An item whose length ends with the next octet.
+    #[inline(always)]
     fn enter(&mut self, place: u16, len: u32) -> Result<Verdict, Memory>
         requires known { IsItemPlace place }
         requires short { self.old.looked + 1 + len < 2 ^ 31 }
@@ -253,6 +256,7 @@ impl Path {
     }
 
     /// An item whose tag and length octets came to this.
+    #[inline(always)]
     fn headed(&mut self, head: Head, partial: Tip, place: u16) -> Result<Verdict, Memory>
         requires known { IsItemPlace place }
         requires near { self.old.looked + 1 < 2 ^ 31 }
@@ -280,6 +284,7 @@ impl Path {
     }
 
     /// The tag octet of an item.
+    #[inline(always)]
     fn begin(&mut self, octet: u8) -> Verdict
         requires short { self.old.looked + 1 < 2 ^ 31 }
         requires frames { HasFrames self.old.inner self.old.outer.items }
@@ -302,6 +307,7 @@ impl Path {
     }
 
     /// The contents of a leaf, of which the next octet came to this.
+    #[inline(always)]
     fn leafed(&mut self, next: Leaf, partial: Tip, value: i64) -> Verdict
         requires short { self.old.looked + 1 < 2 ^ 31 }
         requires frames { HasFrames self.old.inner self.old.outer.items }
@@ -333,6 +339,7 @@ impl Path {
     }
 
     /// An octet of the contents of a leaf.
+    #[inline(always)]
     fn content(
         &mut self,
         row: &Place,
@@ -400,6 +407,7 @@ impl Path {
     }
 
     /// Takes an octet. Where memory is refused, nothing changes but the room for marks.
+    #[inline(always)]
     pub(crate) fn take(&mut self, octet: u8) -> Result<Verdict, Memory>
         requires { IsReached self.old }
         ensures taken { (octets : List ℕ) → StandsFor self.old octets → IsTaken self.old self.new result (reading messages self.old.size (octets ++ octet ∷ [])) }

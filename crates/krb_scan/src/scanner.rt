@@ -59,6 +59,7 @@ impl Scanner {
     }
 
     /// Takes an octet. Where memory is refused, it stays as it was and the octet may be taken again.
+    #[inline(always)]
     pub fn step(&mut self, octet: u8) -> Result<Verdict, Memory>
         requires { verdict_of self.old ≡ Verdict.Open }
         ensures at { (n : ℕ) (octets : List ℕ) → At self.old n octets → OnOk result (At self.new n (octets ++ octet ∷ [])) }

@@ -1,7 +1,7 @@
 //! Items that are there whole: an item's tag and length octets, and the contents of an item without
 //! items, which are accepted at once or left to be judged octet by octet.
 
-ghost use Rattle.std.specs.Prelude.{◌≡◌, ◌≤◌, ◌<◌, ◌^◌, length, true};
+ghost use Rattle.std.specs.Prelude.{◌≡◌, ◌≤◌, ◌<◌, ◌∷◌, List, ℕ, IfSome, length, true};
 ghost use Rattle.krb_der.specs.declared.why.Why.TheVariants as why;
 ghost use Rattle.krb_msg.specs.Term.{Term};
 ghost use Rattle.krb_msg.specs.Judgement.{Done, time_octet, each_contents, bits_contents};
@@ -12,9 +12,10 @@ use crate::places::Contents;
 use krb_der::{integer_value, last_or_zero};
 use krb_msg::{is_padded, is_time_octet};
 
-/// How many octets an item's tag and length take, and how many its contents.
+/// An item's tag octet, how many octets its tag and length take, and how many its contents.
 #[derive(Clone, Copy)]
 pub(crate) struct WholeHead {
+    pub(crate) tag: u8,
     pub(crate) header: u32,
     pub(crate) size: u32,
 }
@@ -23,18 +24,22 @@ pub(crate) struct WholeHead {
 /// the length has its shortest form.
 #[inline(always)]
 pub(crate) fn whole_head(octets: &[u8]) -> Option<WholeHead>
-    ensures { IsHead octets.now result }
+    ensures head { IsHead octets.now result }
+    ensures tag { IfSome result (λ it. (rest : List ℕ) × (octets.now ≡ it.tag ∷ rest)) }
 {
     match octets {
-        [_, size, ..] if *size < 0x80 => Some(WholeHead {
+        [tag, size, ..] if *size < 0x80 => Some(WholeHead {
+            tag: *tag,
             header: 2,
             size: u32::from(*size),
         }),
-        [_, 0x81, size, ..] if *size >= 0x80 => Some(WholeHead {
+        [tag, 0x81, size, ..] if *size >= 0x80 => Some(WholeHead {
+            tag: *tag,
             header: 3,
             size: u32::from(*size),
         }),
-        [_, 0x82, high, low, ..] if *high > 0 => Some(WholeHead {
+        [tag, 0x82, high, low, ..] if *high > 0 => Some(WholeHead {
+            tag: *tag,
             header: 4,
             size: u32::from(*high) * 256 + u32::from(*low),
         }),
@@ -45,12 +50,12 @@ pub(crate) fn whole_head(octets: &[u8]) -> Option<WholeHead>
 /// The number of the contents of an item without items, 0 where it is no INTEGER, if all of them
 /// are there and right.
 #[inline(always)]
-pub(crate) fn whole_leaf(contents: Contents, octets: &[u8]) -> Option<i64>
-    requires { IsNarrow contents }
-    ensures { (term : Term) → AreContents contents term → IsLeafOf term octets.now result }
+pub(crate) fn whole_leaf(contents: &Contents, octets: &[u8]) -> Option<i64>
+    requires { IsNarrow contents.now }
+    ensures { (term : Term) → AreContents contents.now term → IsLeafOf term octets.now result }
 {
     match contents {
-        Contents::Integer { low, high, widest } => integer(low, high, widest, octets),
+        Contents::Integer { low, high, widest } => integer(*low, *high, *widest, octets),
         Contents::Text | Contents::Octets => Some(0),
         Contents::Time if is_time(octets) => Some(0),
         Contents::Bits if are_bits(octets) => Some(0),
@@ -67,7 +72,10 @@ fn integer(low: i64, high: i64, widest: u32, octets: &[u8]) -> Option<i64>
     if octets.is_empty() || octets.len() > widest as usize || is_padded(octets) {
         return None;
     }
-    let value = integer_value(octets);
+    let value = match octets {
+        [octet] => integer_value(&[*octet]),
+        _ => integer_value(octets),
+    };
     if low <= value && value <= high {
         Some(value)
     } else {

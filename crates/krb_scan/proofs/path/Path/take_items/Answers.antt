@@ -1,6 +1,5 @@
-use Rattle.std.proofs.Common.{arith, length, refl, sym, ap, subst}
+use Rattle.std.proofs.Common.{arith, length, refl, sym, ap, subst, ◌∙◌}
 use Rattle.std.proofs.lemmas.List.{take_rest, length-drop}
-use Rattle.krb_scan.specs.inner.Paths.{StandsFor}
 use Rattle.krb_scan.specs.inner.Wholes.{IsAccepted}
 use Rattle.krb_scan.proofs.Accepting.{accepted_then, accepted_reached, accepted_there}
 use Rattle.krb_scan.proofs.path.Path.take_items.Goals as goal
@@ -11,8 +10,8 @@ slice_bounds-take_item-count c = (accepted_there c.args.self.now c.items.self c.
 pub slice_bounds-take_item-start : goal.slice_bounds-take_item-start
 slice_bounds-take_item-start c = omega (arith, (accepted_there c.args.self.now c.items.self c.args.octets.now c.items.all c.requires c.items.invariant.0).1)
 
-pub take_item-requires-in-Open : goal.take_item-requires-in-Open
-take_item-requires-in-Open c = accepted_reached c.args.self.now c.items.self c.args.octets.now c.items.all c.requires c.in-Open.is c.items.invariant.0
+pub take_item-requires-in-Open-clause-reached : goal.take_item-requires-in-Open-clause-reached
+take_item-requires-in-Open-clause-reached c = accepted_reached c.args.self.now c.items.self c.args.octets.now c.items.all c.requires c.in-Open.is c.items.invariant.0
 
 pub returns-in_default-take_item-clause-some : goal.returns-in_default-take_item-clause-some
 returns-in_default-take_item-clause-some c = λ before s.
@@ -37,4 +36,5 @@ pub items-preserved : goal.items-preserved
 items-preserved c = (
   λ before s. accepted_then c.args.self.now c.items.self c.take_item-in-Open.new.self before c.args.octets.now _ c.items.all c.in-Some.next (c.items.invariant.0 before s) c.in-Open.is (take_rest c.args.octets.now c.items.all.count) c.in-Some.ensures.some,
   omega (arith, c.in-Some.ensures.room, c.items.invariant.1),
+  c.in-Some.ensures.tip ∙ c.items.invariant.2,
 )
