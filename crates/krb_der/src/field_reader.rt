@@ -71,6 +71,7 @@ pub trait FieldReader {
         ensures { Follows (λ zeros. zeros) result (skipped_at size) MayFail (held self.old) (held self.new) };
 
     /// A number of 8 bits.
+    #[inline(always)]
     final fn number8(&mut self) -> Result<u8, FileFault>
         ensures { Follows (λ number. number) result (number_at w8) MayFail (held self.old) (held self.new) }
     {
@@ -80,6 +81,7 @@ pub trait FieldReader {
     }
 
     /// A number of 16 bits.
+    #[inline(always)]
     final fn number16(&mut self) -> Result<u16, FileFault>
         ensures { Follows (λ number. number) result (number_at w16) MayFail (held self.old) (held self.new) }
     {
@@ -89,6 +91,7 @@ pub trait FieldReader {
     }
 
     /// A number of 32 bits.
+    #[inline(always)]
     final fn number32(&mut self) -> Result<u32, FileFault>
         ensures { Follows (λ number. number) result (number_at w32) MayFail (held self.old) (held self.new) }
     {
@@ -98,6 +101,7 @@ pub trait FieldReader {
     }
 
     /// A number of 32 bits with a sign, in two's complement.
+    #[inline(always)]
     final fn signed32(&mut self) -> Result<i32, FileFault>
         ensures { Follows (λ number. number) result (signed_at w32) MayFail (held self.old) (held self.new) }
     {

@@ -180,6 +180,7 @@ impl<R: Read> StreamReader<R> {
 
     /// Takes octets till there is no more room. Where there are too few left, the field that begins
     /// at `start` is Truncated.
+    #[inline(never)]
     fn take_all(&mut self, start: u64, octets: &mut [u8]) -> Result<(), FileFault>
         requires { length octets.old ≤ 2 ^ 22 }
         ensures taken { OnOk result (Takes self.old self.new octets.new) }
