@@ -55,9 +55,22 @@ def frame(message):
     return len(message).to_bytes(4, "big") + message
 
 
+def sealed(cipher):
+    return item(0x30, field(0, number(18)) + field(2, item(0x04, cipher)))
+
+
 def ap_rep(cipher):
-    sealed = item(0x30, field(0, number(18)) + field(2, item(0x04, cipher)))
-    return item(0x6F, item(0x30, field(0, number(5)) + field(1, number(15)) + field(2, sealed)))
+    return item(0x6F, item(0x30, field(0, number(5)) + field(1, number(15)) + field(2, sealed(cipher))))
+
+
+def as_rep(count):
+    """A reply with this many empty PA-DATA."""
+    padata = item(0x30, field(1, number(0)) + field(2, item(0x04, b"")))
+    ticket = field(0, number(5)) + field(1, text(b"R")) + field(2, name(b"s")) + field(3, sealed(b""))
+    fields = field(0, number(5)) + field(1, number(11)) + field(2, item(0x30, count * padata))
+    fields += field(3, text(b"R")) + field(4, name(b"c"))
+    fields += field(5, item(0x61, item(0x30, ticket))) + field(6, sealed(b""))
+    return item(0x6B, item(0x30, fields))
 
 
 def krb_error(realm, component, said):
@@ -87,4 +100,5 @@ def main(folder):
     (folder / "lines").write_text(f"{lines}end messages={len(NAMES)}\nstatus 0\n")
 
 
-main(pathlib.Path(sys.argv[1]))
+if __name__ == "__main__":
+    main(pathlib.Path(sys.argv[1]))
