@@ -101,13 +101,13 @@ impl<R: Read + Drop> Credentials<R> {
             second_ticket,
             ..
         } = credential;
-        self.reader.give_back(client.realm.into_vec());
-        self.reader.give_back_strings(client.components);
-        self.reader.give_back(server.realm.into_vec());
-        self.reader.give_back_strings(server.components);
-        self.reader.give_back(key.into_vec());
-        self.reader.give_back(ticket.into_vec());
-        self.reader.give_back(second_ticket.into_vec());
+        self.reader.give_back(client.realm);
+        self.reader.give_back(client.components);
+        self.reader.give_back(server.realm);
+        self.reader.give_back(server.components);
+        self.reader.give_back(key);
+        self.reader.give_back(ticket);
+        self.reader.give_back(second_ticket);
     }
 
     /// The next credential of a reader that met neither the end nor a fault.

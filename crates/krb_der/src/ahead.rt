@@ -1,7 +1,7 @@
 //! Octets of a file that were taken before their fields are read.
 
 use crate::file::FileFault;
-use crate::spare::Spare;
+use crate::room::Room;
 use crate::stream_reader::ask;
 use std::alloc::{AllocError, Global};
 use std::io::Read;
@@ -66,13 +66,13 @@ impl Ahead {
         self.passed = end;
     }
 
-    /// Reads `count` of them, into room that is spare.
+    /// Reads `count` of them, into room that others left where there is some.
     #[inline(always)]
     pub(crate) fn copy(
         &mut self,
         alloc: Global,
         count: usize,
-        spare: &mut Spare,
+        room: &mut Room,
     ) -> Result<Vec<u8>, AllocError>
         requires { count ≤ length self.old }
         ensures given { IfOk result (λ copied. self.old ≡ copied.items ++ self.new) }
@@ -80,7 +80,7 @@ impl Ahead {
         ensures kept { OnErr result (self.new ≡ self.old) }
     {
         let end = self.passed + count;
-        let copied = spare.copy(alloc, &self.octets[self.passed..end])?;
+        let copied = room.copy(alloc, &self.octets[self.passed..end])?;
         self.passed = end;
         Ok(copied)
     }

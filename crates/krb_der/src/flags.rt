@@ -65,6 +65,14 @@ impl Flags {
         self.octets.as_slice()
     }
 
+    /// The octets, given back in their vector.
+    pub(crate) fn into_octets(self) -> Vec<u8>
+        ensures { result.items ≡ self.1 }
+    {
+        let Flags { octets, .. } = self;
+        octets
+    }
+
     /// The number of bits that are there: 8 for each octet, less the unused. No memory holds so
     /// many octets that it passes `u64::MAX`, where it would stay.
     pub fn bits(&self) -> u64

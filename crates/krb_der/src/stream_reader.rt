@@ -4,11 +4,9 @@ use crate::ahead::Ahead;
 use crate::field_limit::FieldLimit;
 use crate::field_reader::FieldReader;
 use crate::file::{FileFault, FileWhy};
-use crate::kstring::KString;
-use crate::many::Many;
 use crate::octets::Octets;
+use crate::room::{GiveBack, Room};
 use crate::slice_reader::are_zero;
-use crate::spare::Spare;
 use std::alloc::Global;
 use std::io::Read;
 use std::marker::Model;
@@ -39,7 +37,7 @@ pub struct StreamReader<R: Read> {
     ended: bool,
     asks: u64,
     /// Room for fields of octets.
-    spare: Spare,
+    spare: Room,
 }
 
 impl<R: Read> Model for StreamReader<R> {
@@ -99,22 +97,15 @@ impl<R: Read> StreamReader<R> {
             ahead: Ahead::new(),
             ended: false,
             asks: 0,
-            spare: Spare::new(),
+            spare: Room::new(),
         }
     }
 
-    /// Gives back octets that were read, whose room the next fields of octets take.
-    pub fn give_back(&mut self, octets: Vec<u8>)
+    /// Gives back a value that was read, whose room the next fields of octets take.
+    pub fn give_back<T: GiveBack>(&mut self, value: T)
         ensures { self.new ≡ self.old }
     {
-        self.spare.keep(octets);
-    }
-
-    /// Gives back strings that were read, as [`give_back`](StreamReader::give_back) does.
-    pub fn give_back_strings(&mut self, strings: Many<KString>)
-        ensures { self.new ≡ self.old }
-    {
-        self.spare.keep_strings(strings);
+        value.give_back(&mut self.spare);
     }
 
     /// Takes octets that are still to be read, unless some are ahead: as many as come at once, at most

@@ -86,10 +86,10 @@ impl<R: Read> Records<R> {
                 rest,
                 ..
             } = entry;
-            self.reader.give_back(realm.into_vec());
-            self.reader.give_back_strings(components);
-            self.reader.give_back(key.into_vec());
-            self.reader.give_back(rest.into_vec());
+            self.reader.give_back(realm);
+            self.reader.give_back(components);
+            self.reader.give_back(key);
+            self.reader.give_back(rest);
         }
     }
 

@@ -1,47 +1,52 @@
-//! Room that values of octets left, to be used again.
+//! Room that values of octets leave, to be used again.
 
 ghost use Rattle.std.specs.Prelude.{◌≡◌, ◌≤◌, [], length, IfOk};
 
+use crate::flags::Flags;
 use crate::kstring::KString;
 use crate::many::Many;
+use crate::octets::Octets;
 use std::alloc::{AllocError, Global};
 
 /// The number of vectors that are kept at most.
-const MOST: usize = 8;
+const MOST: usize = 16;
 
 /// The number of octets that a vector which is kept has room for at most.
 const MOST_ROOM: usize = 4096;
 
-/// Vectors whose octets are not wanted any more. No contract sees them.
+/// Room of values that are not wanted any more: at most 16 vectors, each with room for at most 4096
+/// octets. Values that are read take it before they ask for memory. No contract sees it.
 #[derive(Drop)]
-pub(crate) struct Spare {
+pub struct Room {
     vectors: [Option<Vec<u8>>; MOST],
     /// The number of vectors: they stand first.
     count: usize,
-    pub ghost few: { count ≤ 8 },
+    pub ghost few: { count ≤ 16 },
 }
 
-impl Spare {
-    /// None.
-    pub(crate) fn new() -> Spare {
-        Spare {
-            vectors: [None, None, None, None, None, None, None, None],
+/// Values whose room can be used again.
+pub trait GiveBack: Drop {
+    /// Leaves the room of the value's octets to those that are read after it.
+    fn give_back(self, room: &mut Room);
+}
+
+impl Room {
+    /// No room.
+    pub fn new() -> Room {
+        Room {
+            vectors: [
+                None, None, None, None, None, None, None, None, None, None, None, None, None, None,
+                None, None,
+            ],
             count: 0,
         }
     }
 
     /// Keeps a vector, unless there are many or it is large.
-    pub(crate) fn keep(&mut self, vector: Vec<u8>) {
+    fn keep(&mut self, vector: Vec<u8>) {
         if self.count < MOST && vector.capacity() <= MOST_ROOM {
             self.vectors[self.count] = Some(vector);
             self.count += 1;
-        }
-    }
-
-    /// Keeps the vectors of strings.
-    pub(crate) fn keep_strings(&mut self, strings: Many<KString>) {
-        for string in strings.into_vec() {
-            self.keep(string.into_vec());
         }
     }
 
@@ -60,7 +65,7 @@ impl Spare {
     }
 
     /// A copy of octets, with room for all of them where it is new.
-    pub(crate) fn copy(&mut self, alloc: Global, octets: &[u8]) -> Result<Vec<u8>, AllocError>
+    pub fn copy(&mut self, alloc: Global, octets: &[u8]) -> Result<Vec<u8>, AllocError>
         ensures { IfOk result (λ copied. copied.items ≡ octets.now) }
     {
         let mut copied = self.take(alloc);
@@ -77,5 +82,39 @@ impl Spare {
         zeros.reserve_exact(count)?;
         zeros.resize(count, 0)?;
         Ok(zeros)
+    }
+}
+
+impl GiveBack for KString {
+    fn give_back(self, room: &mut Room) {
+        room.keep(self.into_vec());
+    }
+}
+
+impl GiveBack for Octets {
+    fn give_back(self, room: &mut Room) {
+        room.keep(self.into_vec());
+    }
+}
+
+impl GiveBack for Flags {
+    fn give_back(self, room: &mut Room) {
+        room.keep(self.into_octets());
+    }
+}
+
+impl<T: GiveBack> GiveBack for Option<T> {
+    fn give_back(self, room: &mut Room) {
+        if let Some(value) = self {
+            value.give_back(room);
+        }
+    }
+}
+
+impl<T: GiveBack> GiveBack for Many<T> {
+    fn give_back(self, room: &mut Room) {
+        for value in self.into_vec() {
+            value.give_back(room);
+        }
     }
 }
