@@ -1,8 +1,8 @@
 //! A frame that is ready, borrowed from its decoder.
 
-use krb_der::Memory;
+use krb_der::{Memory, Room};
 use krb_msg::{Kind, Message, whole_kind};
-use krb_scan::{Mark, build, realm};
+use krb_scan::{Mark, build, build_in, realm};
 use std::alloc::Global;
 use std::marker::Model;
 
@@ -74,5 +74,13 @@ impl<'a> Framed<'a> {
         ensures { IfOk result (λ m. message_der m ≡ self.now) }
     {
         build(alloc, self.marks, self.octets)
+    }
+
+    /// The message that [`message`](Framed::message) gives. Its strings of octets take room that
+    /// others left where there is some.
+    pub fn message_in(&self, alloc: Global, room: &mut Room) -> Result<Message, Memory>
+        ensures { IfOk result (λ m. message_der m ≡ self.now) }
+    {
+        build_in(alloc, room, self.marks, self.octets)
     }
 }

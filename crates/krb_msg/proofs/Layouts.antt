@@ -1,16 +1,16 @@
 -- Fields, items and values as they are decoded.
-use Rattle.std.proofs.Common.{◌≡◌, ℕ, ◌+◌, ◌<◌, ◌≤◌, pos, true, not, Option, Some, None, List, [], ◌∷◌, ◌++◌, length, get_or, refl, sym, ap, ◌∙◌, subst, arith, append-nil, append_assoc, length-append}
+use Rattle.std.proofs.Common.{◌≡◌, ℕ, ◌+◌, ◌<◌, ◌≤◌, pos, true, not, Option, Some, None, List, [], ◌∷◌, ◌++◌, length, get_or, slice_index_or, refl, sym, ap, ◌∙◌, subst, arith, append-nil, append_assoc, length-append}
 use Rattle.std.proofs.lemmas.Bool.{not-true, true≢false}
-use Rattle.std.specs.List.{flat_map, AllByRecursion}
+use Rattle.std.specs.List.{flat_map, remove, AllByRecursion}
 use Rattle.std.proofs.lemmas.Int.{ints}
-use Rattle.krb_der.specs.Octets.{item, AreBits}
+use Rattle.krb_der.specs.Octets.{item, integer_octets, AreBits}
 use Rattle.krb_der.specs.inner.Items.{same_from_cons}
 use Rattle.krb_der.specs.inner.PrefixFree.{same_integer}
 use Rattle.krb_msg.specs.Term.{Term, Fields, Sequence, SequenceOf, Tagged, Application, Required, Optional, tag_of, Value, Values, Fits, IfPresent, der, der_of_fields}
 use Rattle.krb_msg.specs.Grammar.{exactly, kerberos_flags}
 use Rattle.krb_msg.specs.Shape.{may_begin}
 use Rattle.krb_msg.specs.inner.Values.{contents, der_is, der_begins, may_begin_from_der}
-use Rattle.krb_msg.specs.Reads.{Begins, IsTaken, FieldsBegin, FieldsAreTaken, ItemsBegin, ItemsAreTaken, HasTag, HasItem, HasConstructed, HasPrimitive, IsEntered, IsSplit}
+use Rattle.krb_msg.specs.Reads.{Begins, IsTaken, FieldsBegin, FieldsAreTaken, ItemsBegin, ItemsAreTaken, HasTag, HasItem, HasConstructed, HasPrimitive, IsEntered, IsInside, IsPassed, IsSplit}
 
 same_pair : {A B : Type 0} (v w : A × B) → v.0 ≡ w.0 → v.1 ≡ w.1 → v ≡ w
 same_pair v w p q = λ i. (p i, q i)
@@ -28,8 +28,24 @@ first_constructed above f = record { first = first_item f; constructed = above }
 pub first_primitive : {term : Term} {octets : List ℕ} → tag_of term < 0x20 → Begins term octets → HasPrimitive octets
 first_primitive below f = record { first = first_item f; primitive = below }
 
+pub contents_inside : {term : Term} {octets inner : List ℕ} (f : Begins term octets) → IsInside octets inner → inner ≡ contents term f.value
+contents_inside {term = term} f i = i.parts (tag_of term) (contents term f.value) f.rest (first_parts f)
+
+pub split_at : {octets inner rest : List ℕ} → IsInside octets inner → IsPassed octets rest → IsSplit octets inner rest
+split_at i p = record {
+  parts = λ tag inner more e. (i.parts tag inner more e, p.parts tag inner more e);
+  contents_within = i.contents_within;
+  rest_within = p.rest_within;
+}
+
+pub inside : {octets inner rest : List ℕ} → IsSplit octets inner rest → IsInside octets inner
+inside s = record { parts = λ tag inner more e. (s.parts tag inner more e).0; contents_within = s.contents_within }
+
+pub passed : {octets inner rest : List ℕ} → IsSplit octets inner rest → IsPassed octets rest
+passed s = record { parts = λ tag inner more e. (s.parts tag inner more e).1; rest_within = s.rest_within }
+
 pub contents_are : {term : Term} {octets inner rest : List ℕ} (f : Begins term octets) → IsSplit octets inner rest → inner ≡ contents term f.value
-contents_are {term = term} f s = (s.parts (tag_of term) (contents term f.value) f.rest (first_parts f)).0
+contents_are f s = contents_inside f (inside s)
 
 -- a value is taken whose contents tell it
 pub is_taken : {term : Term} {octets inner rest : List ℕ} → IsSplit octets inner rest → (value : Value term) → ((that : Value term) → inner ≡ contents term that → value ≡ that) → IsTaken term octets value rest
@@ -75,11 +91,14 @@ required_taken index term fields value values s t r = record {
 }
 
 -- ---- a number that is fixed
-pub fixed_taken : {octets inner rest : List ℕ} (number : ℕ) → Begins (exactly number) octets → IsSplit octets inner rest → IsTaken (exactly number) octets (pos number) rest
-fixed_taken number f s = is_taken s (pos number) (λ that e.
-    let same : f.value ≡ that = (same_integer f.value that [] [] (ap (λ l. item 0x02 l ++ []) (sym (contents_are f s) ∙ e))).0 in
-    let fixed : pos number ≡ f.value = omega (arith, ints, f.fits.0, f.fits.1) in
-    fixed ∙ same)
+pub fixed_taken : {octets rest : List ℕ} (number : ℕ) → Begins (exactly number) octets → IsPassed octets rest → IsTaken (exactly number) octets (pos number) rest
+fixed_taken number f p = record {
+  parts = λ that more e.
+      let same : f.value ≡ that = (same_integer f.value that f.rest more (sym f.parts ∙ e)).0 in
+      let fixed : pos number ≡ f.value = omega (arith, ints, f.fits.0, f.fits.1) in
+      (fixed ∙ same, p.parts 0x02 (integer_octets that) more e);
+  rest_within = p.rest_within;
+}
 
 -- ---- a field that may be left out
 -- what stands first, where more octets are there than those that follow
@@ -229,6 +248,10 @@ many_taken term values s r = record {
 }
 
 -- ---- the scalars
+pub first_and_others : (octets : List ℕ) (other : ℕ) → 0 < length octets → octets ≡ slice_index_or octets 0 other ∷ remove octets 0
+first_and_others [] other some = absurd (omega (arith, some))
+first_and_others (octet ∷ octets) other some = refl
+
 pub flags_shape : {octets inner rest : List ℕ} (f : Begins kerberos_flags octets) → IsSplit octets inner rest → (unused : ℕ) (bits : List ℕ) → inner ≡ unused ∷ bits → AreBits unused bits
 flags_shape f s unused bits e =
     let p : (unused ≡ f.value.0) × (bits ≡ f.value.1) = same_from_cons _ _ _ _ (sym e ∙ contents_are f s) in

@@ -63,6 +63,16 @@ pub record IsSplit (octets contents rest : List ℕ) : Type 0 where
   pub contents_within : length contents ≤ length octets
   pub rest_within : length rest ≤ length octets
 
+-- the contents of the item that stands first
+pub record IsInside (octets contents : List ℕ) : Type 0 where
+  pub parts : (tag : ℕ) (inner more : List ℕ) → octets ≡ item tag inner ++ more → contents ≡ inner
+  pub contents_within : length contents ≤ length octets
+
+-- what follows the item that stands first
+pub record IsPassed (octets rest : List ℕ) : Type 0 where
+  pub parts : (tag : ℕ) (inner more : List ℕ) → octets ≡ item tag inner ++ more → rest ≡ more
+  pub rest_within : length rest ≤ length octets
+
 -- one that has items in it stands first, as its tag says (X.690, 8.1.2.5)
 pub record HasConstructed (octets : List ℕ) : Type 0 where
   pub first : HasItem octets

@@ -16,6 +16,7 @@ mod decoding;
 mod encoding;
 mod encrypted_data;
 mod fields;
+mod give_back;
 pub mod grammar;
 mod host_address;
 mod item;

@@ -75,8 +75,8 @@ impl Decode for KString {
     ghost value = { λ octets. octets };
 
     fn decode<S: Source>(alloc: Global, front: S) -> Result<(KString, S), AllocError> {
-        let (contents, rest) = front.split_primitive();
-        Ok((KString::new(Vec::from_slice(alloc, contents)?), rest))
+        let (contents, rest) = front.split_copied(alloc)?;
+        Ok((KString::new(contents), rest))
     }
 }
 
@@ -92,8 +92,8 @@ impl Decode for Octets {
     ghost value = { λ octets. octets };
 
     fn decode<S: Source>(alloc: Global, front: S) -> Result<(Octets, S), AllocError> {
-        let (contents, rest) = front.split_primitive();
-        Ok((Octets::new(Vec::from_slice(alloc, contents)?), rest))
+        let (contents, rest) = front.split_copied(alloc)?;
+        Ok((Octets::new(contents), rest))
     }
 }
 
@@ -109,12 +109,11 @@ impl Decode for KerberosTime {
     ghost value = { λ octets. octets };
 
     fn decode<S: Source>(_alloc: Global, front: S) -> Result<(KerberosTime, S), AllocError> {
-        let (contents, rest) = front.split_primitive();
-        let Some((octets, _)) = contents.split_first_chunk::<15>() else {
+        let Some((octets, _)) = front.contents().split_first_chunk::<15>() else {
             unreachable!()
         };
         match KerberosTime::new(*octets) {
-            Some(time) => Ok((time, rest)),
+            Some(time) => Ok((time, front.pass())),
             None => unreachable!(),
         }
     }
@@ -132,11 +131,9 @@ impl Decode for Flags {
     ghost value = { λ bits. bits };
 
     fn decode<S: Source>(alloc: Global, front: S) -> Result<(Flags, S), AllocError> {
-        let (contents, rest) = front.split_primitive();
-        let Some((unused, bits)) = contents.split_first() else {
-            unreachable!()
-        };
-        match Flags::new(*unused, Vec::from_slice(alloc, bits)?) {
+        let (mut bits, rest) = front.split_copied(alloc)?;
+        let unused = bits.remove(0);
+        match Flags::new(unused, bits) {
             Some(flags) => Ok((flags, rest)),
             None => unreachable!(),
         }

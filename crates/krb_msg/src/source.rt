@@ -1,7 +1,9 @@
 //! What items are found in.
 
-ghost use Rattle.std.specs.Prelude.{◌≡◌, ◌^◌, ◌<◌, ℕ, List, length, get_or};
-ghost use Rattle.krb_msg.specs.Reads.{HasConstructed, HasPrimitive, HasNumber, IsEntered, IsSplit, IsNumber};
+ghost use Rattle.std.specs.Prelude.{◌≡◌, ◌^◌, ◌<◌, ℕ, List, IfOk, length, get_or};
+ghost use Rattle.krb_msg.specs.Reads.{HasConstructed, HasPrimitive, HasNumber, IsEntered, IsInside, IsPassed, IsSplit, IsNumber};
+
+use std::alloc::{AllocError, Global};
 
 /// Octets in which items are found, from one item on. What follows an item with items in it is found
 /// by passing these.
@@ -25,11 +27,23 @@ pub trait Source: Drop {
         requires form { HasConstructed (octets self) }
         ensures { IsEntered (octets self) (octets result.0) result.1 };
 
-    /// The contents of the first item, which has no items in it, borrowed, and what follows it.
-    fn split_primitive(&self) -> (&[u8], Self)
+    /// The contents of the first item, which has no items in it (X.690, 8.1).
+    fn contents(&self) -> &[u8]
         requires short { length (octets self.now) < 2 ^ 31 }
         requires form { HasPrimitive (octets self.now) }
-        ensures { IsSplit (octets self.now) result.0.now (octets result.1) };
+        ensures { IsInside (octets self.now) result.now };
+
+    /// What follows the first item, which has no items in it.
+    fn pass(self) -> Self
+        requires short { length (octets self) < 2 ^ 31 }
+        requires form { HasPrimitive (octets self) }
+        ensures { IsPassed (octets self) (octets result) };
+
+    /// A copy of the contents of the first item, which has no items in it, and what follows it.
+    fn split_copied(self, alloc: Global) -> Result<(Vec<u8>, Self), AllocError>
+        requires short { length (octets self) < 2 ^ 31 }
+        requires form { HasPrimitive (octets self) }
+        ensures { IfOk result (λ r. IsSplit (octets self) r.0.items (octets r.1)) };
 
     /// The number of the INTEGER that stands first, and what follows it (X.690, 8.3).
     fn split_integer(self) -> (i64, Self)

@@ -9,7 +9,7 @@ ghost use Rattle.krb_scan.specs.State.{AreMarks};
 
 use crate::mark::Mark;
 use crate::marked::Marked;
-use krb_der::Memory;
+use krb_der::{Memory, Room};
 use krb_msg::{Message, decode, whole_kind};
 use std::alloc::Global;
 
@@ -21,6 +21,22 @@ pub fn build(alloc: Global, marks: &[Mark], octets: &[u8]) -> Result<Message, Me
     requires marks { AreMarks marks.now (Marks (length octets.now) octets.now) }
     ensures { IfOk result (λ m. message_der m ≡ octets.now) }
 {
+    build_in(alloc, &mut Room::new(), marks, octets)
+}
+
+/// The message that [`build`] gives. Its strings of octets take room that others left where there is
+/// some.
+pub fn build_in(
+    alloc: Global,
+    room: &mut Room,
+    marks: &[Mark],
+    octets: &[u8],
+) -> Result<Message, Memory>
+    requires short { length octets.now < 2 ^ 31 }
+    requires whole { judgement (length octets.now) octets.now ≡ Whole }
+    requires marks { AreMarks marks.now (Marks (length octets.now) octets.now) }
+    ensures { IfOk result (λ m. message_der m ≡ octets.now) }
+{
     let kind = whole_kind(octets);
-    Ok(decode(alloc, kind, Marked::new(marks, octets))?)
+    Ok(decode(alloc, kind, Marked::new(marks, octets, room))?)
 }

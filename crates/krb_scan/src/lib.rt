@@ -27,7 +27,7 @@ mod taken;
 mod tip;
 mod whole;
 
-pub use building::build;
+pub use building::{build, build_in};
 pub use krb_der::{Memory, Refusal, Verdict, Why};
 pub use mark::Mark;
 pub use realms::realm;

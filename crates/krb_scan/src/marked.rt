@@ -1,19 +1,22 @@
 //! Marks in which items are found.
 
 use crate::mark::Mark;
+use krb_der::Room;
 use krb_msg::Source;
+use std::alloc::{AllocError, Global};
 use std::marker::Model;
 
-/// The octets of a message from an item on, and the marks that are left, of the items that these
-/// begin. Contracts see these octets.
+/// The octets of a message from an item on, the marks that are left, of the items that these begin,
+/// and room for copies. Contracts see these octets.
 #[derive(Drop)]
-pub(crate) struct Marked<'a> {
+pub(crate) struct Marked<'a, 'b> {
     marks: &'a [Mark],
     octets: &'a [u8],
     place: usize,
+    room: &'b mut Room,
 }
 
-impl<'a> Model for Marked<'a> {
+impl<'a, 'b> Model for Marked<'a, 'b> {
     ghost use Rattle.std.specs.Prelude.{ℕ, List, drop};
     ghost use Rattle.krb_scan.specs.inner.Marked.{IsMarked};
 
@@ -27,9 +30,9 @@ impl<'a> Model for Marked<'a> {
 ghost use Rattle.std.specs.Prelude.{◌≡◌, ◌<◌, ◌∷◌, length};
 ghost use Rattle.krb_scan.specs.inner.Marked.{IsMarked};
 
-impl<'a> Marked<'a> {
+impl<'a, 'b> Marked<'a, 'b> {
     /// All the octets of a message, with its marks.
-    pub(crate) fn new(marks: &'a [Mark], octets: &'a [u8]) -> Marked<'a>
+    pub(crate) fn new(marks: &'a [Mark], octets: &'a [u8], room: &'b mut Room) -> Marked<'a, 'b>
         requires { IsMarked octets.now 0 marks.now }
         ensures { result ≡ octets.now }
     {
@@ -37,11 +40,12 @@ impl<'a> Marked<'a> {
             marks,
             octets,
             place: 0,
+            room,
         }
     }
 }
 
-impl<'a> Source for Marked<'a> {
+impl<'a, 'b> Source for Marked<'a, 'b> {
     ghost octets = { λ reader. reader };
 
     fn remaining(&self) -> usize {
@@ -52,35 +56,61 @@ impl<'a> Source for Marked<'a> {
         self.octets[self.place]
     }
 
-    fn enter(self) -> (Marked<'a>, usize) {
+    fn enter(self) -> (Marked<'a, 'b>, usize) {
         let (mark, marks) = next(self.marks);
         let start = mark.start as usize;
         let contents = Marked {
             marks,
             octets: self.octets,
             place: start,
+            room: self.room,
         };
         (contents, self.octets.len() - start - mark.len as usize)
     }
 
-    fn split_primitive(&self) -> (&[u8], Marked<'a>) {
-        let (mark, marks) = next(self.marks);
+    fn contents(&self) -> &[u8] {
+        let (mark, _) = next(self.marks);
         let start = mark.start as usize;
-        let end = start + mark.len as usize;
-        let rest = Marked {
-            marks,
-            octets: self.octets,
-            place: end,
-        };
-        (&self.octets[start..end], rest)
+        &self.octets[start..start + mark.len as usize]
     }
 
-    fn split_integer(self) -> (i64, Marked<'a>) {
+    fn pass(self) -> Marked<'a, 'b> {
+        let (mark, marks) = next(self.marks);
+        Marked {
+            marks,
+            octets: self.octets,
+            place: mark.start as usize + mark.len as usize,
+            room: self.room,
+        }
+    }
+
+    fn split_copied(self, alloc: Global) -> Result<(Vec<u8>, Marked<'a, 'b>), AllocError> {
+        let Marked {
+            marks,
+            octets,
+            room,
+            ..
+        } = self;
+        let (mark, marks) = next(marks);
+        let start = mark.start as usize;
+        let place = start + mark.len as usize;
+        let copied = room.copy(alloc, &octets[start..place])?;
+        let rest = Marked {
+            marks,
+            octets,
+            place,
+            room,
+        };
+        Ok((copied, rest))
+    }
+
+    fn split_integer(self) -> (i64, Marked<'a, 'b>) {
         let (mark, marks) = next(self.marks);
         let rest = Marked {
             marks,
             octets: self.octets,
             place: mark.start as usize + mark.len as usize,
+            room: self.room,
         };
         (mark.value, rest)
     }

@@ -5,7 +5,7 @@ use crate::examples::{
     AP_REP, AP_REQ, AS_REP, AS_REQ, KRB_ERROR, KRB_ERROR_OF_CLIENT, TGS_REP, TGS_REQ, TWO_AP_REPS,
     octets_of,
 };
-use krb_der::{Refusal, Why};
+use krb_der::{GiveBack, Refusal, Room, Why};
 use krb_frame::{Decoder, Fed, Framed, Limit, Status, frame};
 use krb_msg::{EncodeFault, Kind, Message, encode, size};
 use std::alloc::Global;
@@ -367,16 +367,28 @@ fn is_framed(alloc: Global, message: &Message, octets: &[u8], count: u32) -> Res
     )
 }
 
-/// Whether the message of a frame has the octets of the frame again.
+/// Whether a message, which leaves its room, has the octets of a frame.
+fn leaves_same(
+    alloc: Global,
+    message: Message,
+    room: &mut Room,
+    octets: &[u8],
+    count: u32,
+) -> Result<bool, Fail> {
+    let same = is_framed(alloc, &message, octets, count);
+    message.give_back(room);
+    same
+}
+
+/// Whether the message of a frame has the octets of the frame again, also where it takes the room that
+/// it left before.
 fn is_same(alloc: Global, framed: &Framed<'_>, octets: &[u8], count: u32) -> Result<bool, Fail> {
-    match framed.message(alloc) {
-        Ok(message) => {
-            let same = is_framed(alloc, &message, octets, count);
-            drop(message);
-            same
-        }
-        Err(_) => Err(Fail::from("memory")),
-    }
+    let mut room = Room::new();
+    let message = framed.message(alloc).ok().ok_or("memory")?;
+    let same = leaves_same(alloc, message, &mut room, octets, count)?;
+    let message = framed.message_in(alloc, &mut room).ok().ok_or("memory")?;
+    let again = leaves_same(alloc, message, &mut room, octets, count)?;
+    Ok(same && again)
 }
 
 /// Whether a decoder gives a frame in hexadecimal with this kind, and its message comes again.

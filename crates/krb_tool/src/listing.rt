@@ -7,18 +7,20 @@ ghost use Rattle.krb_frame.specs.declared.decoder.Status.TheVariants as status;
 ghost use Rattle.krb_tool.specs.inner.Listers.{IsNewLister, ListsReady, Feeds, IsWrittenOut, Finishes};
 
 use crate::run::{RunEnd, RunFault};
+use krb_der::{GiveBack, Room};
 use krb_frame::{Decoder, Limit, Status};
 use krb_list::{put_message, put_stream_end, put_stream_refusal};
 use std::alloc::{AllocError, Global};
 
-/// Lists a stream that comes in pieces: its decoder, the lines that are not written yet, and the
-/// number of messages so far.
+/// Lists a stream that comes in pieces: its decoder, the lines that are not written yet, the number
+/// of messages so far, and the room that these left.
 #[derive(Drop)]
 pub(crate) struct Lister {
     alloc: Global,
     decoder: Decoder,
     text: String,
     messages: u64,
+    room: Room,
 }
 
 impl Lister {
@@ -31,6 +33,7 @@ impl Lister {
             decoder: Decoder::new(alloc, limit),
             text: String::new(alloc),
             messages: 0,
+            room: Room::new(),
         }
     }
 
@@ -63,8 +66,9 @@ impl Lister {
         let Some(framed) = self.decoder.ready() else {
             return Ok(());
         };
-        let message = framed.message(self.alloc)?;
+        let message = framed.message_in(self.alloc, &mut self.room)?;
         put_message(&mut self.text, &message)?;
+        message.give_back(&mut self.room);
         self.messages += 1;
         self.decoder.next();
         Ok(())

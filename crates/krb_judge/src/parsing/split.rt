@@ -7,6 +7,7 @@ use crate::judging::head::{Head, read_head};
 use crate::opening::open;
 use krb_der::integer_value;
 use krb_msg::Source;
+use std::alloc::{AllocError, Global};
 
 /// A slice of octets.
 #[derive(Clone, Copy)]
@@ -30,9 +31,19 @@ impl<'a> Source for Slice<'a> {
         (Slice { octets: contents }, after)
     }
 
-    fn split_primitive(&self) -> (&[u8], Slice<'a>) {
+    fn contents(&self) -> &[u8] {
+        let (contents, _) = split_item(self.octets);
+        contents
+    }
+
+    fn pass(self) -> Slice<'a> {
+        let (_, rest) = split_item(self.octets);
+        Slice { octets: rest }
+    }
+
+    fn split_copied(self, alloc: Global) -> Result<(Vec<u8>, Slice<'a>), AllocError> {
         let (contents, rest) = split_item(self.octets);
-        (contents, Slice { octets: rest })
+        Ok((Vec::from_slice(alloc, contents)?, Slice { octets: rest }))
     }
 
     fn split_integer(self) -> (i64, Slice<'a>) {

@@ -96,8 +96,7 @@ impl<const INDEX: u8, const NUMBER: u8, F: DecodeFields> DecodeFields for Fixed<
         after: usize,
     ) -> Result<(Fixed<INDEX, NUMBER, F>, S), AllocError> {
         let (inner, _) = front.enter();
-        let (_, rest) = inner.split_primitive();
-        let (fields, rest) = F::read(alloc, rest, after)?;
+        let (fields, rest) = F::read(alloc, inner.pass(), after)?;
         Ok((Fixed(fields), rest))
     }
 }

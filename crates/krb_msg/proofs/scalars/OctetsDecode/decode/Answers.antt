@@ -2,8 +2,8 @@ use Rattle.std.proofs.Common.{◌∙◌, arith}
 use Rattle.krb_msg.proofs.Layouts.{first_primitive, is_taken}
 use Rattle.krb_msg.proofs.scalars.OctetsDecode.decode.Goals as goal
 
-pub split_primitive-rest-requires-clause-form : goal.split_primitive-rest-requires-clause-form
-split_primitive-rest-requires-clause-form g c = first_primitive (omega arith) c.requires.form
+pub split_copied-requires-clause-form : goal.split_copied-requires-clause-form
+split_copied-requires-clause-form g c = first_primitive (omega arith) c.requires.form
 
 pub returns : goal.returns
-returns g c = is_taken c.split_primitive-rest.ensures _ (λ that e. c.new.ensures ∙ c.in_ok-from_slice.ensures.items ∙ e)
+returns g c = is_taken c.in_ok-contents.ensures _ (λ that e. c.new.ensures ∙ e)

@@ -3,7 +3,7 @@ use Rattle.krb_der.specs.inner.Numbers.{AreOctets-slice}
 use Rattle.krb_msg.proofs.Judged.{der_of_kind}
 use Rattle.krb_scan.specs.inner.MarksLeft.{StandsAt}
 use Rattle.krb_scan.proofs.MarksLeft.{stands_at_message}
-use Rattle.krb_scan.proofs.building.build.Goals as goal
+use Rattle.krb_scan.proofs.building.build_in.Goals as goal
 
 pub decode-requires-clause-form : goal.decode-requires-clause-form
 decode-requires-clause-form c = rw c.new.ensures (der_of_kind c.whole_kind-kind.ensures)
