@@ -15,7 +15,7 @@ use crate::closing::{Closed, closing};
 use crate::mark::Mark;
 use crate::open::Open;
 use crate::path::Path;
-use crate::places::{Contents, Place, pick, place_at};
+use crate::places::{Contents, Place, pick_row, place_at};
 use crate::tip::Tip;
 use crate::whole::{whole_head, whole_leaf};
 use krb_der::Verdict;
@@ -37,26 +37,28 @@ pub(crate) struct Accepted {
 }
 
 /// The item at the front of octets that come in a container at `from`, if its tag and length are
-/// there and it may stand there.
+/// there and it may stand there, and the row of its place.
 #[inline(always)]
-fn find_item(container: Open, from: u32, octets: &[u8]) -> Option<Found>
+fn find_item(container: Open, from: u32, octets: &[u8]) -> Option<(Found, &'static Place)>
     requires known { IsPlace container.due }
     requires room { from ≤ container.end }
     requires short { container.end < 2 ^ 31 }
-    ensures { IsFoundIn container from octets.now result }
+    ensures found { IfSome result (λ it. IsFound container from octets.now it.0) }
+    ensures row { IfSome result (λ it. IsPlaceOf it.1.now (due_at it.0.place)) }
 {
     let head = whole_head(octets)?;
-    let place = pick(head.tag, container.due)?;
+    let (place, row) = pick_row(head.tag, container.due)?;
     let room = container.end - from;
     let size = head.header + head.size;
-    if size > room || place_at(place).sole && size < room {
+    if size > room || row.sole && size < room {
         return None;
     }
-    Some(Found {
+    let found = Found {
         place,
         header: head.header,
         size: head.size,
-    })
+    };
+    Some((found, row))
 }
 
 /// The one item of a container that begins at `from` with octets, if its tag and length are there and
@@ -149,11 +151,12 @@ impl Path {
     /// Takes the tag and length of a container that has contents, the first of which are due at a
     /// place.
     #[inline(always)]
-    fn take_head(&mut self, found: Found, first: u16, _octets: &[u8]) -> Accepted
+    fn take_head(&mut self, found: Found, row: &Place, first: u16, _octets: &[u8]) -> Accepted
         requires reached { IsReached self.old }
         requires between { self.old.tip ≡ Tip.Between }
         requires room { vec_len self.old.marks < vec_capacity self.old.marks }
         requires found { IsFound self.old.inner self.old.looked _octets.now found }
+        requires row { IsPlaceOf row.now (due_at found.place) }
         requires some { 0 < found.size }
         requires first { IsPlace first }
         requires begins { BeginsWith (item_at found.place) (due_at first) }
@@ -165,7 +168,6 @@ impl Path {
         ensures looked { self.new.looked ≡ self.old.looked + found.header }
         ensures count { result ≡ record { count = found.header; verdict = Verdict.Open } }
     {
-        let row = place_at(found.place);
         let start = self.looked + found.header;
         self.marks.push_reserved(Mark {
             node: row.node,
@@ -189,12 +191,22 @@ impl Path {
     /// Takes the tags and lengths of a tag and of its one item, which holds items itself, where they are
     /// there.
     #[inline(always)]
-    fn take_heads(&mut self, found: Found, first: u16, next: u16, octets: &[u8]) -> Option<Accepted>
+    fn take_heads(
+        &mut self,
+        found: Found,
+        tag: &Place,
+        first: u16,
+        row: &Place,
+        next: u16,
+        octets: &[u8],
+    ) -> Option<Accepted>
         requires reached { IsReached self.old }
         requires between { self.old.tip ≡ Tip.Between }
         requires room { vec_len self.old.marks + 2 ≤ vec_capacity self.old.marks }
         requires found { IsFound self.old.inner self.old.looked octets.now found }
+        requires tag { IsPlaceOf tag.now (due_at found.place) }
         requires first { IsPlace first }
+        requires row { IsPlaceOf row.now (due_at first) }
         requires begins { BeginsWith (item_at found.place) (due_at first) }
         requires next { IsPlace next }
         requires goes_on { BeginsWith (item_at first) (due_at next) }
@@ -209,12 +221,12 @@ impl Path {
             due: first,
         };
         let rest = &octets[found.header as usize..];
-        let only = find_only(container, place_at(first), start, rest)?;
+        let only = find_only(container, row, start, rest)?;
         if only.size == 0 {
             return None;
         }
-        let outer = self.take_head(found, first, octets);
-        let inner = self.take_head(only, next, rest);
+        let outer = self.take_head(found, tag, first, octets);
+        let inner = self.take_head(only, row, next, rest);
         Some(Accepted {
             count: outer.count + inner.count,
             verdict: inner.verdict,
@@ -224,11 +236,19 @@ impl Path {
     /// Takes a tag and its one item, which holds no items, where both are there whole at the front of
     /// octets.
     #[inline(always)]
-    fn take_tag(&mut self, found: Found, first: u16, row: &Place, octets: &[u8]) -> Option<Accepted>
+    fn take_tag(
+        &mut self,
+        found: Found,
+        tag: &Place,
+        first: u16,
+        row: &Place,
+        octets: &[u8],
+    ) -> Option<Accepted>
         requires reached { IsReached self.old }
         requires between { self.old.tip ≡ Tip.Between }
         requires room { vec_len self.old.marks + 2 ≤ vec_capacity self.old.marks }
         requires found { IsFound self.old.inner self.old.looked octets.now found }
+        requires tag { IsPlaceOf tag.now (due_at found.place) }
         requires first { IsPlace first }
         requires begins { BeginsWith (item_at found.place) (due_at first) }
         requires sole { is_sole (due_at first) ≡ true }
@@ -249,7 +269,6 @@ impl Path {
         let end = start + found.size;
         let only = find_only(Open { end, due: first }, row, start, whole)?;
         let value = whole_leaf(&row.contents, &whole[only.header as usize..])?;
-        let tag = place_at(found.place);
         let verdict = self.close_at(tag.next, end)?;
         self.marks.push_reserved(Mark {
             node: tag.node,
@@ -284,22 +303,23 @@ impl Path {
         if self.marks.capacity() - self.marks.len() < 2 {
             return None;
         }
-        let found = find_item(self.inner, self.looked, octets)?;
-        let row = place_at(found.place);
+        let (found, row) = find_item(self.inner, self.looked, octets)?;
         let Contents::Items { first } = row.contents else {
             return self.take_leaf(found, row, octets);
         };
         let due = place_at(first);
         if !due.sole {
             return if found.size > 0 {
-                Some(self.take_head(found, first, octets))
+                Some(self.take_head(found, row, first, octets))
             } else {
                 None
             };
         }
         match due.contents {
-            Contents::Items { first: next } => self.take_heads(found, first, next, octets),
-            _ => self.take_tag(found, first, due, octets),
+            Contents::Items { first: next } => {
+                self.take_heads(found, row, first, due, next, octets)
+            }
+            _ => self.take_tag(found, row, first, due, octets),
         }
     }
 

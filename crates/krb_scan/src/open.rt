@@ -1,5 +1,7 @@
 //! The containers that are open.
 
+use crate::places::MESSAGE;
+
 /// A container whose contents are not complete, or the message.
 #[derive(Clone, Copy)]
 pub(crate) struct Open {
@@ -9,8 +11,12 @@ pub(crate) struct Open {
     pub(crate) due: u16,
 }
 
+/// One in which a message is due.
 impl Default for Open {
     fn default() -> Open {
-        Open { end: 0, due: 0 }
+        Open {
+            end: 0,
+            due: MESSAGE,
+        }
     }
 }

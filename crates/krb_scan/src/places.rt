@@ -5,7 +5,9 @@
 //! them. Its row says all that is asked of an item that begins there, so that judging an item
 //! looks at one row. `specs/inner/Places` says what is due at each place by the grammar.
 
-ghost use Rattle.krb_scan.specs.inner.Places.{IsPlace, IsPlaceOf, ArePlaces, IsChoice, dues, due_at};
+ghost use Rattle.std.specs.Prelude.{◌≡◌, None, IfSome, IfNone};
+ghost use Rattle.krb_scan.specs.inner.Machine.{pick};
+ghost use Rattle.krb_scan.specs.inner.Places.{IsPlace, IsPlaceOf, IsPicked, ArePlaces, IsChoice, dues, due_at};
 
 use krb_msg::grammar::Row;
 
@@ -472,21 +474,33 @@ pub(crate) fn place_at(place: u16) -> &'static Place
     place_in(&TABLE, place)
 }
 
-/// The place of the item that a tag octet begins, where something is due at a place.
+/// The place of the item that a tag octet begins, where something is due at a place, and its row.
 #[inline(always)]
-pub(crate) fn pick(octet: u8, due: u16) -> Option<u16>
+pub(crate) fn pick_row(octet: u8, due: u16) -> Option<(u16, &'static Place)>
     requires { IsPlace due }
-    ensures { IsChoice octet (due_at due) result }
+    ensures some { IfSome result (λ it. IsPicked octet (due_at due) it.0) }
+    ensures row { IfSome result (λ it. IsPlaceOf it.1.now (due_at it.0)) }
+    ensures none { IfNone result (pick octet (due_at due) ≡ None) }
 {
     let mut place = due;
     'places: loop {
         let row = place_at(place);
         if row.tag == u16::from(octet) {
-            return Some(place);
+            return Some((place, row));
         }
         if !row.optional {
             return None;
         }
         place = row.otherwise;
     }
+}
+
+/// The place of the item that a tag octet begins, where something is due at a place.
+#[inline(always)]
+pub(crate) fn pick(octet: u8, due: u16) -> Option<u16>
+    requires { IsPlace due }
+    ensures { IsChoice octet (due_at due) result }
+{
+    let (place, _) = pick_row(octet, due)?;
+    Some(place)
 }

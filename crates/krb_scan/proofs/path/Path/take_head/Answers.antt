@@ -9,10 +9,10 @@ overflow_add-start c = omega (arith, c.requires.found.fits, short_end c.args.sel
 pub push-requires : goal.push-requires
 push-requires c = (
   omega arith,
-  room_outside c.args.self.now c.args._octets.now c.args.found c.place_at-row.result.now c.args.first c.requires.reached c.requires.between c.requires.found c.place_at-row.ensures c.requires.begins c.requires.some,
+  room_outside c.args.self.now c.args._octets.now c.args.found c.args.row.now c.args.first c.requires.reached c.requires.between c.requires.found c.requires.row c.requires.begins c.requires.some,
 )
 
 pub returns-clause-accepted : goal.returns-clause-accepted
 returns-clause-accepted c =
-    head_accepted c.args.self.now _ c.args._octets.now c.args.found c.place_at-row.result.now c.args.first c.requires.between c.requires.found c.place_at-row.ensures c.requires.first c.requires.begins c.requires.some
+    head_accepted c.args.self.now _ c.args._octets.now c.args.found c.args.row.now c.args.first c.requires.between c.requires.found c.requires.row c.requires.first c.requires.begins c.requires.some
     (AreOctets-slice c.args._octets.now c.type_inv._octets) refl refl refl refl c.push.ensures.items c.push_reserved.ensures.items

@@ -17,8 +17,8 @@ find_only-requires-clause-short c = omega (arith, c.requires.found.fits, short_e
 
 pub close_at-requires : goal.close_at-requires
 close_at-requires c =
-    frames_next c.args.self.now c.requires.reached c.requires.between c.place_at-tag.result.now.next
-    (item_row c.args.self.now.inner c.args.self.now.looked c.args.octets.now c.args.found c.requires.found c.place_at-tag.result.now c.place_at-tag.ensures).leads
+    frames_next c.args.self.now c.requires.reached c.requires.between c.args.tag.now.next
+    (item_row c.args.self.now.inner c.args.self.now.looked c.args.octets.now c.args.found c.requires.found c.args.tag.now c.requires.tag).leads
 
 pub overflow_add-start-2 : goal.overflow_add-start-2
 overflow_add-start-2 c =
@@ -30,9 +30,9 @@ same_number c = search rules
 
 pub returns-clause-some : goal.returns-clause-some
 returns-clause-some c =
-    tag_accepted c.args.self.now _ c.args.octets.now c.args.found c.in_ok-only.only c.in_ok-verdict.verdict c.place_at-tag.result.now c.args.row.now c.args.first
+    tag_accepted c.args.self.now _ c.args.octets.now c.args.found c.in_ok-only.only c.in_ok-verdict.verdict c.args.tag.now c.args.row.now c.args.first
     (take c.args.found.size (take (length c.args.octets.now - c.args.found.header) (drop c.args.found.header c.args.octets.now))) (take (length (take c.args.found.size (take (length c.args.octets.now - c.args.found.header) (drop c.args.found.header c.args.octets.now))) - c.in_ok-only.only.header) (drop c.in_ok-only.only.header (take c.args.found.size (take (length c.args.octets.now - c.args.found.header) (drop c.args.found.header c.args.octets.now))))) c.in_ok-value.value
-    c.requires.between c.requires.found c.place_at-tag.ensures c.requires.begins (ap (take c.args.found.size) (all_after c.args.found.header c.args.octets.now))
+    c.requires.between c.requires.found c.requires.tag c.requires.begins (ap (take c.args.found.size) (all_after c.args.found.header c.args.octets.now))
     (front_long c.args.found.size c.args.found.header c.args.octets.now c.if-rest-found.false)
     c.in_ok-only.ensures.found (subst (λ place. IsPlaceOf c.args.row.now (due_at place)) (sym c.in_ok-only.ensures.due) c.requires.row) (c.requires.row.sole ∙ c.requires.sole)
     (all_after c.in_ok-only.only.header (take c.args.found.size (take (length c.args.octets.now - c.args.found.header) (drop c.args.found.header c.args.octets.now))))
@@ -44,5 +44,5 @@ returns-clause-some c =
     refl
     (c.push_reserved-2.ensures.items
     ∙ ap (λ items. items ++ record { node = c.args.row.now.node; start = c.args.self.now.looked + c.args.found.header + c.in_ok-only.only.header; len = c.in_ok-only.only.size; value = to_z w64 (of_z w64 c.in_ok-value.value) } ∷ []) c.push_reserved.ensures.items
-    ∙ ap (λ number. (c.close_at.new.self.marks.items ++ record { node = c.place_at-tag.result.now.node; start = c.args.self.now.looked + c.args.found.header; len = c.args.found.size; value = pos 0 } ∷ []) ++ record { node = c.args.row.now.node; start = c.args.self.now.looked + c.args.found.header + c.in_ok-only.only.header; len = c.in_ok-only.only.size; value = number } ∷ []) (same_number c)
-    ∙ ap (λ (path : Path). (path.marks.items ++ record { node = c.place_at-tag.result.now.node; start = c.args.self.now.looked + c.args.found.header; len = c.args.found.size; value = pos 0 } ∷ []) ++ record { node = c.args.row.now.node; start = c.args.self.now.looked + c.args.found.header + c.in_ok-only.only.header; len = c.in_ok-only.only.size; value = c.in_ok-value.value } ∷ []) c.close_at.ensures.same)
+    ∙ ap (λ number. (c.close_at.new.self.marks.items ++ record { node = c.args.tag.now.node; start = c.args.self.now.looked + c.args.found.header; len = c.args.found.size; value = pos 0 } ∷ []) ++ record { node = c.args.row.now.node; start = c.args.self.now.looked + c.args.found.header + c.in_ok-only.only.header; len = c.in_ok-only.only.size; value = number } ∷ []) (same_number c)
+    ∙ ap (λ (path : Path). (path.marks.items ++ record { node = c.args.tag.now.node; start = c.args.self.now.looked + c.args.found.header; len = c.args.found.size; value = pos 0 } ∷ []) ++ record { node = c.args.row.now.node; start = c.args.self.now.looked + c.args.found.header + c.in_ok-only.only.header; len = c.in_ok-only.only.size; value = c.in_ok-value.value } ∷ []) c.close_at.ensures.same)

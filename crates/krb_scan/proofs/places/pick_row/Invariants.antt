@@ -3,7 +3,7 @@ use Rattle.krb_scan.specs.Reading.{is_sole}
 use Rattle.krb_scan.specs.inner.Machine.{pick}
 use Rattle.krb_scan.specs.inner.Places.{IsPlace, due_at}
 use Rattle.krb_scan.proofs.Dues.{others}
-use Rattle.krb_scan.proofs.places.pick.Given as goal
+use Rattle.krb_scan.proofs.places.pick_row.Given as goal
 
 -- what is due at the place goes on with what the octet begins
 abbrev pub invariant-places : goal.invariant-places
