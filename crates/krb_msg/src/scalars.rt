@@ -146,7 +146,8 @@ impl Item for Flags {
     ghost fits = { flags_fit };
 }
 
-/// A SEQUENCE OF (X.690, 8.10). The list grows as its items are read.
+/// A SEQUENCE OF (X.690, 8.10). The list has room for as many items as the source can tell, and
+/// grows where there are more.
 impl<T: Item> Decode for Many<T> {
     ghost term = { sequence_of T.term };
 
@@ -176,7 +177,7 @@ fn items<T: Item, S: Source>(
     requires form { ItemsBegin T.term (S.octets front) after }
     ensures { IfOk result (λ r. ItemsAreTaken T.term (S.octets front) after (map T.value r.0) (S.octets r.1)) }
 {
-    let mut values = Vec::new(alloc);
+    let mut values = Vec::with_capacity(alloc, front.count(after))?;
     let mut rest = front;
     'items: while after < rest.remaining() {
         let (value, left) = T::decode(alloc, rest)?;

@@ -20,6 +20,10 @@ pub trait Source: Drop {
         requires { 0 < length (octets self.now) }
         ensures { result ≡ get_or (octets self.now) 0 0 };
 
+    /// How many items stand before the last `after` octets, where that can be told without looking
+    /// at them, else 0. Their list takes room for so many.
+    fn count(&self, after: usize) -> usize;
+
     /// The octets from the contents of the first item on, which has items in it, and how many of
     /// them follow these contents (X.690, 8.1).
     fn enter(self) -> (Self, usize)

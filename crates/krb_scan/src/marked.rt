@@ -56,6 +56,14 @@ impl<'a, 'b> Source for Marked<'a, 'b> {
         self.octets[self.place]
     }
 
+    fn count(&self, after: usize) -> usize {
+        count_items(
+            self.marks,
+            self.place,
+            self.octets.len().saturating_sub(after),
+        )
+    }
+
     fn enter(self) -> (Marked<'a, 'b>, usize) {
         let (mark, marks) = next(self.marks);
         let start = mark.start as usize;
@@ -122,4 +130,21 @@ fn next(marks: &[Mark]) -> (Mark, &[Mark])
     ensures { marks.now ≡ result.0 ∷ result.1.now }
 {
     (marks[0], &marks[1..])
+}
+
+/// How many of the items whose marks these are stand one after another between two places.
+fn count_items(marks: &[Mark], from: usize, to: usize) -> usize {
+    let mut count: usize = 0;
+    let mut end = from;
+    for mark in marks {
+        if end >= to {
+            break;
+        }
+        let start = mark.start as usize;
+        if start > end {
+            count = count.saturating_add(1);
+            end = start + mark.len as usize;
+        }
+    }
+    count
 }

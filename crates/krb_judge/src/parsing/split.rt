@@ -26,6 +26,10 @@ impl<'a> Source for Slice<'a> {
         self.octets[0]
     }
 
+    fn count(&self, _after: usize) -> usize {
+        0
+    }
+
     fn enter(self) -> (Slice<'a>, usize) {
         let (contents, after) = enter(self.octets);
         (Slice { octets: contents }, after)

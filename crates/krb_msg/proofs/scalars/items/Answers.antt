@@ -5,7 +5,7 @@ use Rattle.krb_msg.proofs.Layouts.{reads_none, reads_more, reads_all, first_begi
 use Rattle.krb_msg.proofs.scalars.items.Goals as goal
 
 pub items-init : goal.items-init
-items-init g c = reads_none g.T.Decode.term c.requires.form _ (ap (map g.T.Decode.value) c.new-values.ensures.items)
+items-init g c = reads_none g.T.Decode.term c.requires.form _ (ap (map g.T.Decode.value) c.in_ok-values.ensures.items)
 
 pub decode-requires-clause-form : goal.decode-requires-clause-form
 decode-requires-clause-form g c =
