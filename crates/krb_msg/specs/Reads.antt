@@ -1,5 +1,5 @@
 -- Octets that are known to begin with the DER of a value, and what is read of them.
-use Rattle.std.specs.Prelude.{ℕ, ℤ, pos, negsuc, ◌≡◌, ◌<◌, ◌≤◌, ◌≤ℤ◌, List, ◌++◌, length, get_or}
+use Rattle.std.specs.Prelude.{ℕ, ℤ, pos, negsuc, ◌-◌, ◌≡◌, ◌<◌, ◌≤◌, ◌≤ℤ◌, List, ◌++◌, length, get_or}
 use Rattle.std.specs.List.{flat_map, AllByRecursion}
 use Rattle.krb_der.specs.Octets.{item, integer_octets}
 use Rattle.krb_msg.specs.Term.{Term, Fields, Value, Values, Fits, AllFit, der, der_of_fields}
@@ -48,6 +48,10 @@ pub record ItemsBegin (term : Term) (octets : List ℕ) (after : ℕ) : Type 0 w
 pub record ItemsAreTaken (term : Term) (octets : List ℕ) (after : ℕ) (values : List (Value term)) (rest : List ℕ) : Type 0 where
   pub parts : (those : List (Value term)) (more : List ℕ) → octets ≡ flat_map (der term) those ++ more → length more ≡ after → (values ≡ those) × (rest ≡ more)
   pub rest_within : length rest ≤ length octets
+
+-- how many values have their DER before the last `after` octets
+pub record IsCount (octets : List ℕ) (after count : ℕ) : Type 0 where
+  pub within : count ≤ length octets - after
 
 -- ---- items
 -- an item stands first

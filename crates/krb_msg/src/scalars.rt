@@ -177,7 +177,7 @@ fn items<T: Item, S: Source>(
     requires form { ItemsBegin T.term (S.octets front) after }
     ensures { IfOk result (λ r. ItemsAreTaken T.term (S.octets front) after (map T.value r.0) (S.octets r.1)) }
 {
-    let mut values = Vec::with_capacity(alloc, front.count(after))?;
+    let mut values = Vec::with_capacity(alloc, front.count(after).unwrap_or(0))?;
     let mut rest = front;
     'items: while after < rest.remaining() {
         let (value, left) = T::decode(alloc, rest)?;

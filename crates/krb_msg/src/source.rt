@@ -1,7 +1,7 @@
 //! What items are found in.
 
-ghost use Rattle.std.specs.Prelude.{◌≡◌, ◌^◌, ◌<◌, ℕ, List, IfOk, length, get_or};
-ghost use Rattle.krb_msg.specs.Reads.{HasConstructed, HasPrimitive, HasNumber, IsEntered, IsInside, IsPassed, IsSplit, IsNumber};
+ghost use Rattle.std.specs.Prelude.{◌≡◌, ◌^◌, ◌<◌, ℕ, List, IfOk, length, get_or, IfSome};
+ghost use Rattle.krb_msg.specs.Reads.{HasConstructed, HasPrimitive, HasNumber, IsCount, IsEntered, IsInside, IsPassed, IsSplit, IsNumber};
 
 use std::alloc::{AllocError, Global};
 
@@ -20,9 +20,11 @@ pub trait Source: Drop {
         requires { 0 < length (octets self.now) }
         ensures { result ≡ get_or (octets self.now) 0 0 };
 
-    /// How many items stand before the last `after` octets, where that can be told without looking
-    /// at them, else 0. Their list takes room for so many.
-    fn count(&self, after: usize) -> usize;
+    /// How many items stand one after another before the last `after` octets, or `None` where only
+    /// reading them would tell. A list takes room for that number of values before it is read, and
+    /// grows where there is none.
+    fn count(&self, after: usize) -> Option<usize>
+        ensures { IfSome result (IsCount (octets self.now) after) };
 
     /// The octets from the contents of the first item on, which has items in it, and how many of
     /// them follow these contents (X.690, 8.1).

@@ -27,7 +27,7 @@ impl<'a, 'b> Model for Marked<'a, 'b> {
     ghost invariant = { λ reader. IsMarked reader.octets.now reader.place reader.marks.now };
 }
 
-ghost use Rattle.std.specs.Prelude.{◌≡◌, ◌<◌, ◌∷◌, length};
+ghost use Rattle.std.specs.Prelude.{◌≡◌, ◌<◌, ◌≤◌, ◌-◌, ◌∷◌, length};
 ghost use Rattle.krb_scan.specs.inner.Marked.{IsMarked};
 
 impl<'a, 'b> Marked<'a, 'b> {
@@ -56,12 +56,9 @@ impl<'a, 'b> Source for Marked<'a, 'b> {
         self.octets[self.place]
     }
 
-    fn count(&self, after: usize) -> usize {
-        count_items(
-            self.marks,
-            self.place,
-            self.octets.len().saturating_sub(after),
-        )
+    fn count(&self, after: usize) -> Option<usize> {
+        let to = self.octets.len().saturating_sub(after);
+        Some(count_items(self.marks, self.place, to))
     }
 
     fn enter(self) -> (Marked<'a, 'b>, usize) {
@@ -133,7 +130,9 @@ fn next(marks: &[Mark]) -> (Mark, &[Mark])
 }
 
 /// How many of the items whose marks these are stand one after another between two places.
-fn count_items(marks: &[Mark], from: usize, to: usize) -> usize {
+fn count_items(marks: &[Mark], from: usize, to: usize) -> usize
+    ensures { result ≤ to - from }
+{
     let mut count: usize = 0;
     let mut end = from;
     for mark in marks {

@@ -26,8 +26,8 @@ impl<'a> Source for Slice<'a> {
         self.octets[0]
     }
 
-    fn count(&self, _after: usize) -> usize {
-        0
+    fn count(&self, _after: usize) -> Option<usize> {
+        None
     }
 
     fn enter(self) -> (Slice<'a>, usize) {
