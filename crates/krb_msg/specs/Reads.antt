@@ -49,8 +49,9 @@ pub record ItemsAreTaken (term : Term) (octets : List ℕ) (after : ℕ) (values
   pub parts : (those : List (Value term)) (more : List ℕ) → octets ≡ flat_map (der term) those ++ more → length more ≡ after → (values ≡ those) × (rest ≡ more)
   pub rest_within : length rest ≤ length octets
 
--- how many values have their DER before the last `after` octets
+-- how many values have their DER before the last `after` octets; of any octets, no more than stand there
 pub record IsCount (octets : List ℕ) (after count : ℕ) : Type 0 where
+  pub values : (term : Term) (those : List (Value term)) (more : List ℕ) → octets ≡ flat_map (der term) those ++ more → length more ≡ after → count ≡ length those
   pub within : count ≤ length octets - after
 
 -- ---- items

@@ -21,8 +21,8 @@ pub trait Source: Drop {
         ensures { result ≡ get_or (octets self.now) 0 0 };
 
     /// How many items stand one after another before the last `after` octets, or `None` where only
-    /// reading them would tell. A list takes room for that number of values before it is read, and
-    /// grows where there is none.
+    /// reading them tells. Their list takes room for that number before they are read, and with
+    /// `None` it grows as they are.
     fn count(&self, after: usize) -> Option<usize>
         ensures { IfSome result (IsCount (octets self.now) after) };
 

@@ -29,4 +29,5 @@ pub mod AtOnce
 pub mod ValueMarks
 pub mod MarksLeft
 pub mod MarkedItems
+pub mod MarksCounted
 pub mod RealmMarks

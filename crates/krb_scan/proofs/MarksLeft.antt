@@ -17,10 +17,10 @@ use Rattle.krb_msg.proofs.Judged.{whole_is_message}
 use Rattle.krb_scan.specs.At.{Marks}
 use Rattle.krb_scan.proofs.ValueMarks.{whole_has_marks_of_message}
 
-passed-all : (tag count : ℕ) → tag < 0x20 → passed tag count ≡ count
+pub passed-all : (tag count : ℕ) → tag < 0x20 → passed tag count ≡ count
 passed-all tag count h = rw (lt-ltb tag 0x20 h)
 
-passed-none : (tag count : ℕ) → 0x20 ≤ tag → passed tag count ≡ 0
+pub passed-none : (tag count : ℕ) → 0x20 ≤ tag → passed tag count ≡ 0
 passed-none tag count h = rw (le-ltb tag 0x20 h)
 
 -- ---- the marks of a value stand before those of what follows it
@@ -76,7 +76,7 @@ container_left tag place inner rest mark marks h s c left = (first, subst (λ th
     there = omega (arith, s, none)
 
 -- ---- values one after another, and fields
-moved : (here there : ℕ) (octets : List ℕ) (marks : List Mark) → here ≡ there → AreLeft here octets marks → AreLeft there octets marks
+pub moved : (here there : ℕ) (octets : List ℕ) (marks : List Mark) → here ≡ there → AreLeft here octets marks → AreLeft there octets marks
 moved here there octets marks e left = subst (λ place. AreLeft place octets marks) e left
 
 -- a value, and what follows it
@@ -168,7 +168,7 @@ stands_at_message n octets small a l e = by (whole_is_message n octets small a l
         subst (λ given. StandsAt octets 0 given) (sym marks) (subst (λ given. StandsAt given 0 (value_marks (kind_term (kind_of w.message)) 0 (message_value w.message))) w.form (stands_at_value (kind_term (kind_of w.message)) (message_value w.message)))
 
 -- the next mark is that of the item that stands there
-first_parts : (place : ℕ) (octets : List ℕ) (mark : Mark) (first : IsFirst place octets mark) (tag : ℕ) (inner more : List ℕ) → octets ≡ item tag inner ++ more → (first.tag ≡ tag) × (mark.count ≡ length inner) × (first.rest ≡ inner ++ more)
+pub first_parts : (place : ℕ) (octets : List ℕ) (mark : Mark) (first : IsFirst place octets mark) (tag : ℕ) (inner more : List ℕ) → octets ≡ item tag inner ++ more → (first.tag ≡ tag) × (mark.count ≡ length inner) × (first.rest ≡ inner ++ more)
 first_parts place octets mark first tag inner more e =
     let p : (first.tag ≡ tag) × (length_octets mark.count ++ first.rest ≡ length_octets (length inner) ++ (inner ++ more)) = same_from_cons _ _ _ _ (sym first.parts ∙ e ∙ item-append tag inner more) in
     let q : (mark.count ≡ length inner) × (first.rest ≡ inner ++ more) = same_from_length_octets mark.count (length inner) first.rest (inner ++ more) p.1 in

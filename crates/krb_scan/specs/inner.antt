@@ -5,5 +5,6 @@ pub mod Stands
 pub mod Paths
 pub mod Wholes
 pub mod MarksLeft
+pub mod MarksCounted
 pub mod Marked
 pub mod RealmMarks

@@ -27,8 +27,10 @@ impl<'a, 'b> Model for Marked<'a, 'b> {
     ghost invariant = { λ reader. IsMarked reader.octets.now reader.place reader.marks.now };
 }
 
-ghost use Rattle.std.specs.Prelude.{◌≡◌, ◌<◌, ◌≤◌, ◌-◌, ◌∷◌, length};
+ghost use Rattle.std.specs.Prelude.{◌≡◌, ◌<◌, ◌≤◌, ◌-◌, ◌∷◌, length, map};
+ghost use Rattle.krb_scan.specs.State.{mark_value};
 ghost use Rattle.krb_scan.specs.inner.Marked.{IsMarked};
+ghost use Rattle.krb_scan.specs.inner.MarksCounted.{counted};
 
 impl<'a, 'b> Marked<'a, 'b> {
     /// All the octets of a message, with its marks.
@@ -131,7 +133,8 @@ fn next(marks: &[Mark]) -> (Mark, &[Mark])
 
 /// How many of the items whose marks these are stand one after another between two places.
 fn count_items(marks: &[Mark], from: usize, to: usize) -> usize
-    ensures { result ≤ to - from }
+    ensures exact { result ≡ counted from to (map mark_value marks.now) }
+    ensures within { result ≤ to - from }
 {
     let mut count: usize = 0;
     let mut end = from;
