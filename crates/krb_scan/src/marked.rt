@@ -27,7 +27,8 @@ impl<'a, 'b> Model for Marked<'a, 'b> {
     ghost invariant = { λ reader. IsMarked reader.octets.now reader.place reader.marks.now };
 }
 
-ghost use Rattle.std.specs.Prelude.{◌≡◌, ◌<◌, ◌≤◌, ◌-◌, ◌∷◌, length, map};
+ghost use Rattle.std.specs.Prelude.{◌≡◌, ◌<◌, ◌≤◌, ◌-◌, ◌∷◌, length, map, IsSome, IfSome};
+ghost use Rattle.krb_msg.specs.Reads.{IsCount};
 ghost use Rattle.krb_scan.specs.State.{mark_value};
 ghost use Rattle.krb_scan.specs.inner.Marked.{IsMarked};
 ghost use Rattle.krb_scan.specs.inner.MarksCounted.{counted};
@@ -58,7 +59,10 @@ impl<'a, 'b> Source for Marked<'a, 'b> {
         self.octets[self.place]
     }
 
-    fn count(&self, after: usize) -> Option<usize> {
+    fn count(&self, after: usize) -> Option<usize>
+        ensures told { IsSome result }
+        ensures exact { IfSome result (IsCount self.now after) }
+    {
         let to = self.octets.len().saturating_sub(after);
         Some(count_items(self.marks, self.place, to))
     }
