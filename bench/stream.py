@@ -15,6 +15,7 @@ from timing import best_of, best_run, best_runs, rate
 KRBLS = ["bash", "-c", "ulimit -v 8192; exec bin/krbls stream"]
 AGAIN = "crates/krb_roundtrip/out/krb_roundtrip"
 MIXED_OCTETS = 64 << 20
+CACHED_OCTETS = 1 << 20
 LARGE_OCTETS = 8192
 
 
@@ -90,11 +91,15 @@ def time_again(name, frames, messages, count):
 
 
 def time_judging(name, frames, messages, count):
-    """Prints what it takes to judge the messages of this many times some frames, and to scan them."""
-    size, messages = count * len(frames), count * messages
+    """Prints what it takes to judge the messages of this many times some frames, and to scan them. A stream
+    short enough to stay in the processor's cache is read once and gone through again and again: the octets
+    that a decoder is fed were just read, so they are there, too."""
+    pieces = max(1, CACHED_OCTETS // len(frames))
+    times = max(1, count // pieces)
+    size, messages = times * pieces * len(frames), times * pieces * messages
     words = ["frames", "judge", "step", "take"]
-    with repeated(frames, count) as stream:
-        cutting, *ways = best_runs(([AGAIN, word] for word in words), stream.name)
+    with repeated(frames, pieces) as stream:
+        cutting, *ways = best_runs(([AGAIN, word, str(times - 1)] for word in words), stream.name, runs=10)
     parts = (
         f"{word} {rate(size, seconds - cutting)}, {(seconds - cutting) / messages * 1e9:.0f} ns a message"
         for word, seconds in zip(words[1:], ways)

@@ -4,7 +4,8 @@
 //! on real octets, and what the benchmark measures: with the word `parse` it only parses, and with
 //! `frames` it only cuts the frames. With `judge` it judges each message, with `step` a scanner takes
 //! its octets one after another but those inside a string, and with `take` at once; there are only
-//! messages then.
+//! messages then. A number after the word is how many times more it does all this with the same
+//! octets, which then are in the processor's cache, as those of a pipe are.
 #![tactic(auto)]
 
 mod judging;
@@ -100,19 +101,23 @@ impl Counts {
     }
 }
 
-/// Parses octets, and compares them with those of what they are.
+/// Does the work with the contents of a frame.
 fn again(alloc: Global, scanner: &mut Scanner, octets: &[u8], work: Work) -> Found {
     match work {
-        Work::Frames => return Found::Same,
-        Work::Judge(judging) => {
-            return if is_whole(scanner, octets, judging) {
-                Found::Same
-            } else {
-                Found::Nothing
-            };
-        }
-        Work::Parse | Work::Encode => {}
+        Work::Frames => Found::Same,
+        Work::Judge(judging) => if is_whole(scanner, octets, judging) {
+            Found::Same
+        } else {
+            Found::Nothing
+        },
+        Work::Parse | Work::Encode => parsed(alloc, octets, work),
     }
+}
+
+/// Parses octets, and compares them with those of what they are. It stands apart so that none of its
+/// values take room where octets are judged.
+#[inline(never)]
+fn parsed(alloc: Global, octets: &[u8], work: Work) -> Found {
     match Kind::of(octets) {
         Kind::Message => match parse(alloc, octets) {
             Ok(message) => encoded(alloc, &message, octets, work),
@@ -181,14 +186,22 @@ fn first_frame(octets: &[u8]) -> Option<(&[u8], &[u8])> {
     Some(rest.split_at(size))
 }
 
-/// Does the work with each frame of a stream, up to the first that does not come again.
-fn work_on<R: Print + AllocGlobal>(
-    rt: &R,
+/// What a stream came to.
+#[derive(Clone, Copy)]
+struct Outcome {
+    counts: Counts,
+    /// How many octets follow the last whole frame.
+    left: usize,
+}
+
+/// Does the work with each frame of a stream; the number of the first that does not come again, where
+/// there is one.
+fn work_on(
+    alloc: Global,
     scanner: &mut Scanner,
     stream: &[u8],
     work: Work,
-) -> io::Result<ExitCode> {
-    let alloc = rt.alloc();
+) -> Result<Outcome, u64> {
     let mut rest = stream;
     let mut counts = Counts {
         messages: 0,
@@ -201,23 +214,52 @@ fn work_on<R: Print + AllocGlobal>(
             break;
         };
         if again(alloc, scanner, contents, work) != Found::Same {
-            println!(rt; "frame {frames} does not come again")?;
-            return Ok(ExitCode::FAILURE);
+            return Err(frames);
         }
         counts.count(Kind::of(contents));
         frames = frames.saturating_add(1);
         rest = others;
     }
-    let Counts {
-        messages,
-        keytabs,
-        caches,
-    } = counts;
-    let left = rest.len();
-    println!(rt;
-        "{messages} messages, {keytabs} keytabs and {caches} caches came again, {left} octets are left"
-    )?;
-    Ok(ExitCode::SUCCESS)
+    Ok(Outcome {
+        counts,
+        left: rest.len(),
+    })
+}
+
+/// Does the work with a stream this many times and once more, or up to the first frame that does not
+/// come again.
+fn work_times(
+    alloc: Global,
+    scanner: &mut Scanner,
+    stream: &[u8],
+    work: Work,
+    times: u32,
+) -> Result<Outcome, u64> {
+    for _ in 0..times {
+        work_on(alloc, scanner, stream, work)?;
+    }
+    work_on(alloc, scanner, stream, work)
+}
+
+/// Prints what a stream came to.
+fn report<R: Print>(rt: &R, outcome: Result<Outcome, u64>) -> io::Result<ExitCode> {
+    match outcome {
+        Ok(Outcome { counts, left }) => {
+            let Counts {
+                messages,
+                keytabs,
+                caches,
+            } = counts;
+            println!(rt;
+                "{messages} messages, {keytabs} keytabs and {caches} caches came again, {left} octets are left"
+            )?;
+            Ok(ExitCode::SUCCESS)
+        }
+        Err(frame) => {
+            println!(rt; "frame {frame} does not come again")?;
+            Ok(ExitCode::FAILURE)
+        }
+    }
 }
 
 fn main(rt: HostRuntime) -> io::Result<ExitCode> {
@@ -226,8 +268,13 @@ fn main(rt: HostRuntime) -> io::Result<ExitCode> {
     let _program = words.next();
     let word = words.next();
     let work = Work::of(word.as_deref());
+    let times = match words.next() {
+        Some(number) => number.parse::<u32>().unwrap_or(0),
+        None => 0,
+    };
     let mut stream = Vec::new(alloc);
     rt.stdin().read_to_end(&mut stream)?;
     let mut scanner = Scanner::new(alloc, 1);
-    work_on(&rt, &mut scanner, stream.as_slice(), work)
+    let outcome = work_times(alloc, &mut scanner, stream.as_slice(), work, times);
+    report(&rt, outcome)
 }
