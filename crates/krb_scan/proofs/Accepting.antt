@@ -188,3 +188,48 @@ accepted_there old new octets it r is = (
       let a : IsAccepted old new s.0 octets it = is s.0 s.1 in
       omega (arith, a.looked, a.fits, a.size, s.1.short)),
 )
+
+-- ---- octets that are taken one item after another
+-- none are taken yet, or those taken are accepted
+abbrev pub IsSoFar : Path → Path → List ℕ → Accepted → Type 0
+IsSoFar old now octets it = ((now ≡ old) × (it ≡ record { count = 0; verdict = verdict.Open })) ⊎ ((before : List ℕ) → StandsFor old before → IsAccepted old now before octets it)
+
+pub so_far_there : (old now : Path) (octets : List ℕ) (it : Accepted) → IsReached old → IsSoFar old now octets it → (it.count ≤ length octets) × (it.count < 2 ^ 31)
+so_far_there old now octets it r (inl none) =
+    let e : it.count ≡ 0 = ap (λ (all : Accepted). all.count) none.1 in
+    (omega (arith, e), omega (arith, e))
+so_far_there old now octets it r (inr is) =
+    let there = accepted_there old now octets it r is in
+    (there.1, there.2)
+
+pub so_far_reached : (old now : Path) (octets : List ℕ) (it : Accepted) → IsReached old → it.verdict ≡ verdict.Open → IsSoFar old now octets it → IsReached now
+so_far_reached old now octets it r e (inl none) = subst IsReached (sym none.0) r
+so_far_reached old now octets it r e (inr is) = accepted_reached old now octets it r e is
+
+pub so_far_then : (old mid new : Path) (octets rest : List ℕ) (first next : Accepted) → IsSoFar old mid octets first → first.verdict ≡ verdict.Open → rest ≡ drop first.count octets → ((front : List ℕ) → StandsFor mid front → IsAccepted mid new front rest next) → IsSoFar old new octets (record { count = first.count + next.count; verdict = next.verdict })
+so_far_then old mid new octets rest first next (inl none) e r then =
+    let zero_count : first.count ≡ 0 = ap (λ (all : Accepted). all.count) none.1 in
+    let more : next.count ≡ first.count + next.count = omega (arith, zero_count) in
+    let same : next ≡ record { count = first.count + next.count; verdict = next.verdict } = ap (λ n. record { count = n; verdict = next.verdict }) more in
+    let whole : rest ≡ octets = r ∙ ap (λ n. drop n octets) zero_count in
+    inr (λ before s.
+    subst (IsAccepted old new before octets) same
+    (subst (λ all. IsAccepted old new before all next) whole
+    (subst (λ path. IsAccepted path new before rest next) none.0 (then before (subst (λ path. StandsFor path before) (sym none.0) s)))))
+so_far_then old mid new octets rest first next (inr is) e r then = inr (λ before s. accepted_then old mid new before octets rest first next (is before s) e r then)
+
+-- those that are taken are accepted
+pub so_far_some : (old now : Path) (octets : List ℕ) (it : Accepted) → 0 < it.count → IsSoFar old now octets it → (before : List ℕ) → StandsFor old before → IsAccepted old now before octets it
+so_far_some old now octets it some (inl none) =
+    let e : it.count ≡ 0 = ap (λ (all : Accepted). all.count) none.1 in
+    absurd (omega (arith, some, e))
+so_far_some old now octets it some (inr is) = is
+
+pub so_far_decided : (old now : Path) (octets : List ℕ) (it : Accepted) → (it.verdict ≡ verdict.Open → ⊥) → IsSoFar old now octets it → (before : List ℕ) → StandsFor old before → IsAccepted old now before octets it
+so_far_decided old now octets it closed (inl none) = absurd (closed (ap (λ (all : Accepted). all.verdict) none.1))
+so_far_decided old now octets it closed (inr is) = is
+
+-- where none are taken nothing has changed
+pub so_far_none : (old now : Path) (octets : List ℕ) (it : Accepted) → IsReached old → it.count ≤ 0 → IsSoFar old now octets it → now ≡ old
+so_far_none old now octets it r few (inl none) = none.0
+so_far_none old now octets it r few (inr is) = absurd (omega (arith, few, (accepted_there old now octets it r is).0))

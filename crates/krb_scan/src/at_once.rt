@@ -17,7 +17,7 @@ use crate::open::Open;
 use crate::path::Path;
 use crate::places::{Contents, Place, pick_row, place_at};
 use crate::tip::Tip;
-use crate::whole::{whole_head, whole_leaf};
+use crate::whole::{filling_head, whole_head, whole_leaf};
 use krb_der::Verdict;
 
 /// An item at the front of octets: its place, and how many octets its tag and length take, and its
@@ -72,10 +72,7 @@ fn find_only(container: Open, row: &Place, from: u32, octets: &[u8]) -> Option<F
     ensures found { IsFoundIn container from octets.now result }
     ensures due { IfSome result (λ it. it.place ≡ container.due) }
 {
-    let head = whole_head(octets)?;
-    if u16::from(head.tag) != row.tag || head.header + head.size != container.end - from {
-        return None;
-    }
+    let head = filling_head(row.tag, container.end - from, octets)?;
     Some(Found {
         place: container.due,
         header: head.header,
@@ -335,10 +332,13 @@ impl Path {
         let Tip::Between = self.tip else {
             return None;
         };
-        let mut all = self.take_item(octets)?;
+        let mut all = Accepted {
+            count: 0,
+            verdict: Verdict::Open,
+        };
         'items: while let Verdict::Open = all.verdict {
             let Some(next) = self.take_item(&octets[all.count as usize..]) else {
-                return Some(all);
+                return if all.count > 0 { Some(all) } else { None };
             };
             all = Accepted {
                 count: all.count + next.count,

@@ -1,7 +1,7 @@
 //! Items that are there whole: an item's tag and length octets, and the contents of an item without
 //! items, which are accepted at once or left to be judged octet by octet.
 
-ghost use Rattle.std.specs.Prelude.{◌≡◌, ◌≤◌, ◌<◌, ◌∷◌, List, ℕ, IfSome, length, true};
+ghost use Rattle.std.specs.Prelude.{◌≡◌, ◌≤◌, ◌<◌, ◌+◌, ◌∷◌, List, ℕ, IfSome, length, true};
 ghost use Rattle.krb_der.specs.declared.why.Why.TheVariants as why;
 ghost use Rattle.krb_msg.specs.Term.{Term};
 ghost use Rattle.krb_msg.specs.Judgement.{Done, time_octet, each_contents, bits_contents};
@@ -47,6 +47,35 @@ pub(crate) fn whole_head(octets: &[u8]) -> Option<WholeHead>
     }
 }
 
+/// The tag and length octets of an item that has this tag octet and takes `room` octets in all, where
+/// they are as [`whole_head`] says.
+#[inline(always)]
+pub(crate) fn filling_head(tag: u16, room: u32, octets: &[u8]) -> Option<WholeHead>
+    ensures head { IsHead octets.now result }
+    ensures tag { IfSome result (λ it. (rest : List ℕ) × (octets.now ≡ it.tag ∷ rest)) }
+    ensures same { IfSome result (λ it. tag ≡ it.tag) }
+    ensures fills { IfSome result (λ it. it.header + it.size ≡ room) }
+{
+    // So small an item has one length octet, and which it is follows from `room`.
+    if room < 0x82 {
+        return match octets {
+            [first, size, ..] if u16::from(*first) == tag && 2 + u32::from(*size) == room => {
+                Some(WholeHead {
+                    tag: *first,
+                    header: 2,
+                    size: room - 2,
+                })
+            }
+            _ => None,
+        };
+    }
+    let head = whole_head(octets)?;
+    if u16::from(head.tag) != tag || head.header + head.size != room {
+        return None;
+    }
+    Some(head)
+}
+
 /// The number of the contents of an item without items, 0 where it is no INTEGER, if all of them
 /// are there and right.
 #[inline(always)]
@@ -66,16 +95,22 @@ pub(crate) fn whole_leaf(contents: &Contents, octets: &[u8]) -> Option<i64>
 /// The number of an INTEGER's contents, in its range (X.690, 8.3).
 #[inline(always)]
 fn integer(low: i64, high: i64, widest: u32, octets: &[u8]) -> Option<i64>
-    requires { widest ≤ 5 }
+    requires some { 0 < widest }
+    requires few { widest ≤ 5 }
     ensures { IsIntegerIn low high widest octets.now result }
 {
+    if let [octet] = octets {
+        let value = integer_value(&[*octet]);
+        return if low <= value && value <= high {
+            Some(value)
+        } else {
+            None
+        };
+    }
     if octets.is_empty() || octets.len() > widest as usize || is_padded(octets) {
         return None;
     }
-    let value = match octets {
-        [octet] => integer_value(&[*octet]),
-        _ => integer_value(octets),
-    };
+    let value = integer_value(octets);
     if low <= value && value <= high {
         Some(value)
     } else {

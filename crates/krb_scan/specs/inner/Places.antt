@@ -1,5 +1,5 @@
 -- The table of places: what is due at each by the grammar, and what its row says.
-use Rattle.std.specs.Prelude.{ℕ, ◌≡◌, ◌≤◌, true, false, max, List, [], ◌∷◌, length, Option, Some, None}
+use Rattle.std.specs.Prelude.{ℕ, ◌≡◌, ◌<◌, ◌≤◌, true, false, max, List, [], ◌∷◌, length, Option, Some, None}
 use Rattle.krb_der.specs.Octets.{integer_octets}
 use Rattle.krb_msg.specs.Term.{Term, Integer, Text, Octets, Time, Bits, Sequence, SequenceOf, Tagged, Application, Optional, tag_of}
 use Rattle.krb_msg.specs.Nodes.{term_at}
@@ -21,7 +21,7 @@ instead due = None
 
 -- what the contents of a term are; of a container, at which place they begin
 abbrev pub AreContents : Contents → Term → Type 0
-AreContents (contents.Integer low high widest) (Integer from to) = (low ≡ from) × (high ≡ to) × (widest ≡ max (length (integer_octets from)) (length (integer_octets to))) × (widest ≤ 5)
+AreContents (contents.Integer low high widest) (Integer from to) = (low ≡ from) × (high ≡ to) × (widest ≡ max (length (integer_octets from)) (length (integer_octets to))) × (widest ≤ 5) × (0 < widest)
 AreContents contents.Text (Text greatest) = greatest ≡ 255
 AreContents contents.Octets Octets = Unit {0}
 AreContents contents.Time Time = Unit {0}

@@ -44,9 +44,9 @@ abbrev pub IsLeafOf : Term → List ℕ → Option ℤ → Type 0
 IsLeafOf term octets None = Unit {0}
 IsLeafOf term octets (Some value) = AreLeaf term octets value
 
--- an INTEGER has few octets
+-- an INTEGER has some octets, and few
 abbrev pub IsNarrow : Contents → Type 0
-IsNarrow (contents.Integer low high widest) = widest ≤ 5
+IsNarrow (contents.Integer low high widest) = (0 < widest) × (widest ≤ 5)
 IsNarrow other = Unit {0}
 
 -- the contents of an INTEGER in its range
