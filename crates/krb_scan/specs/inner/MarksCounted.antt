@@ -2,7 +2,7 @@
 use Rattle.std.specs.Prelude.{ℕ, suc, ◌+◌, nat_lt, if◌then◌else◌, List, [], ◌∷◌}
 use Rattle.krb_scan.specs.Reading.{Mark}
 
--- Those between two places, by the marks of the items that the octets from the first place on begin. An item is not counted where its contents begin before an earlier one has ended, since it stands in that one.
+-- Those between two places, by the marks of the items that the octets from the first place on begin. An item whose contents begin no later than an earlier one ends is not counted, since it stands in that one.
 abbrev pub counted : ℕ → ℕ → List Mark → ℕ
 counted from to [] = 0
 counted from to (mark ∷ marks) =
