@@ -1,7 +1,7 @@
 //! Fields of lines: a blank, the name of the field, `=`, and what it shows.
 
 ghost use Rattle.std.specs.Prelude.{◌≡◌, ◌++◌, OnOk, string_bytes, codes};
-ghost use Rattle.krb_list.specs.Text.{field, or_dash, principal_text};
+ghost use Rattle.krb_list.specs.Text.{field, or_dash};
 ghost use Rattle.krb_list.specs.Messages.{in_realm, client_text, count_text, quoted_text};
 
 use crate::escape::put_escaped;
@@ -40,20 +40,6 @@ pub(crate) fn put_labelled<T: Shown>(
 {
     line.push_str(label)?;
     value.put(line)
-}
-
-/// Appends a field that shows the principal of these components and this realm.
-#[tactic(auto, unfolding(crate::specs::Text::field))]
-pub(crate) fn put_components_field(
-    line: &mut String,
-    name: &str,
-    components: &[KString],
-    realm: &KString,
-) -> Result<(), AllocError>
-    ensures { OnOk result (string_bytes line.new ≡ string_bytes line.old ++ field name.now (principal_text components.now realm.now)) }
-{
-    put_name(line, name)?;
-    put_principal(line, components, realm)
 }
 
 /// Appends a field that shows a principal.

@@ -1,52 +1,74 @@
 //! Lines of keytabs.
 
-ghost use Rattle.std.specs.Prelude.{◌≡◌, ◌++◌, IfOk, OnOk, string_bytes};
+ghost use Rattle.std.specs.Prelude.{◌≡◌, ◌+◌, ◌++◌, ◌≤◌, IfOk, OnOk, codes, length, string_bytes};
+ghost use Rattle.std.specs.Fmt.{signed_decimal};
 ghost use Rattle.std.specs.List.{flat_map};
-ghost use Rattle.krb_list.specs.Text.{line_feed};
-ghost use Rattle.krb_list.specs.Keytabs.{name_text, version_text, sizes_text, entry_text, hole_text, record_text, stop_text, keytab_end_text, keytab_lines};
+ghost use Rattle.krb_list.specs.Text.{field, line_feed, principal_text};
+ghost use Rattle.krb_list.specs.Keytabs.{version_text, sizes_text, entry_text, hole_text, record_text, stop_text, keytab_end_text, keytab_lines};
 
-use crate::field::{put_components_field, put_field, put_labelled};
+use crate::ending::Ending;
+use crate::escape::put_ascii;
+use crate::field::put_field;
+use crate::principal::put_principal;
 use crate::shown::Shown;
-use crate::time::Time;
 use krb_der::Memory;
 use krb_keytab::{Entry, Hole, Keytab, Record, Stop};
 use std::alloc::{AllocError, Global};
 
-#[tactic(auto, unfolding(crate::specs::Keytabs::name_text))]
-fn put_name(line: &mut String, entry: &Entry) -> Result<(), AllocError>
-    ensures { OnOk result (string_bytes line.new ≡ string_bytes line.old ++ name_text entry.now) }
+/// Appends a field that shows the principal of an entry.
+#[inline(always)]
+fn put_principal_of(line: &mut String, label: &str, entry: &Entry) -> Result<(), AllocError>
+    ensures { OnOk result (string_bytes line.new ≡ string_bytes line.old ++ label.now ++ principal_text entry.now.components entry.now.realm) }
 {
-    put_components_field(line, "principal", entry.components.as_slice(), &entry.realm)?;
-    put_field(line, "type", &entry.name_type)
+    line.push_str(label)?;
+    put_principal(line, entry.components.as_slice(), &entry.realm)
 }
 
+/// Puts the version of the key before what stands after it.
+#[inline(always)]
 #[tactic(auto, unfolding(crate::specs::Keytabs::version_text, crate::specs::Text::field))]
-fn put_version(line: &mut String, entry: &Entry) -> Result<(), AllocError>
-    ensures { OnOk result (string_bytes line.new ≡ string_bytes line.old ++ version_text entry.now) }
+fn version(entry: &Entry, ending: &mut Ending)
+    requires { length ending.old ≤ 100 }
+    ensures text { ending.new ≡ version_text entry.now ++ ending.old }
+    ensures room { length ending.new ≤ 81 + length ending.old }
 {
-    put_labelled(line, " time=", &Time(entry.time))?;
-    put_labelled(line, " kvno=", &entry.kvno())?;
-    put_labelled(line, " enctype=", &entry.enctype)
+    ending.number_field(" enctype=", u64::from(entry.enctype));
+    ending.number_field(" kvno=", u64::from(entry.kvno()));
+    ending.time_field(" time=", entry.time);
 }
 
+/// Puts the sizes of the key and of what stands after it before what stands after these.
+#[inline(always)]
 #[tactic(auto, unfolding(crate::specs::Keytabs::sizes_text, crate::specs::Text::field))]
-fn put_sizes(line: &mut String, entry: &Entry) -> Result<(), AllocError>
-    ensures { OnOk result (string_bytes line.new ≡ string_bytes line.old ++ sizes_text entry.now) }
+fn sizes(entry: &Entry, ending: &mut Ending)
+    requires { length ending.old ≤ 100 }
+    ensures text { ending.new ≡ sizes_text entry.now ++ ending.old }
+    ensures room { length ending.new ≤ 51 + length ending.old }
 {
-    put_labelled(line, " key=", &entry.key.as_slice().len())?;
-    put_labelled(line, " rest=", &entry.rest.as_slice().len())
+    ending.number_field(" rest=", entry.rest.as_slice().len() as u64);
+    ending.number_field(" key=", entry.key.as_slice().len() as u64);
+}
+
+/// Appends what stands after the principal.
+#[tactic(auto, unfolding(crate::specs::Text::field))]
+fn put_after_principal(line: &mut String, entry: &Entry) -> Result<(), AllocError>
+    ensures { OnOk result (string_bytes line.new ≡ string_bytes line.old ++ (field (codes "type") (signed_decimal entry.now.name_type) ++ version_text entry.now ++ sizes_text entry.now)) }
+{
+    let mut ending = Ending::new();
+    sizes(entry, &mut ending);
+    version(entry, &mut ending);
+    ending.signed_field(" type=", i64::from(entry.name_type));
+    put_ascii(line, ending.octets())
 }
 
 /// The principal and the version of a key. Of the key itself, the number of its octets.
 impl Shown for Entry {
     ghost text = { entry_text };
 
-    #[tactic(auto, unfolding(crate::specs::Keytabs::entry_text))]
+    #[tactic(auto, unfolding(crate::specs::Keytabs::entry_text, crate::specs::Keytabs::name_text, crate::specs::Text::field))]
     fn put(&self, line: &mut String) -> Result<(), AllocError> {
-        line.push_str("entry")?;
-        put_name(line, self)?;
-        put_version(line, self)?;
-        put_sizes(line, self)
+        put_principal_of(line, "entry principal=", self)?;
+        put_after_principal(line, self)
     }
 }
 

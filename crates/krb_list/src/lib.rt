@@ -4,6 +4,7 @@
 
 mod ccache;
 mod credential;
+mod ending;
 mod error;
 mod escape;
 mod field;

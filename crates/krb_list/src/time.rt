@@ -57,7 +57,7 @@ fn two_digits(number: u32) -> [u8; 2]
 
 /// The twenty characters of the moment n seconds after the beginning of 1970.
 #[tactic(auto, unfolding(crate::specs::Time::two_digits, crate::specs::Time::date_text, crate::specs::Time::clock_text))]
-fn moment(seconds: u32) -> [u8; 20]
+pub(crate) fn moment(seconds: u32) -> [u8; 20]
     ensures text { result ≡ moment_text seconds }
     ensures ascii { IsAscii result }
 {
