@@ -1,17 +1,17 @@
 //! Lines of credentials.
 
-ghost use Rattle.std.specs.Prelude.{◌≡◌, ◌++◌, IfOk, OnOk, string_bytes};
+ghost use Rattle.std.specs.Prelude.{◌≡◌, ◌+◌, ◌++◌, ◌≤◌, IfOk, OnOk, codes, decimal, length, string_bytes};
 ghost use Rattle.krb_judge.specs.Viewed.{sealed_viewed, ticket_viewed};
 ghost use Rattle.krb_ccache.specs.Tickets.{state_viewed};
 ghost use Rattle.krb_list.specs.Text.{sealed_text};
 ghost use Rattle.krb_list.specs.Ccaches.{who_text, key_text, times_text, state_text, flags_text, counts_text, tickets_text, credential_front, credential_text, config_text, refused_ticket_text, ticket_server_text, state_line, credential_line};
 
-use crate::escape::put_escaped;
+use crate::ending::Ending;
+use crate::escape::{put_ascii, put_escaped};
 use crate::field::put_labelled;
 use crate::principal::put_components;
 use crate::shown::{Name, Shown, put_number};
 use crate::ticket_flags::TicketFlags;
-use crate::time::Time;
 use krb_ccache::{Credential, TicketStateView, ticket_view_of};
 use krb_der::{Memory, Refusal, why_number};
 use krb_judge::{SealedView, TicketView};
@@ -25,22 +25,41 @@ fn put_who(line: &mut String, credential: &Credential) -> Result<(), AllocError>
     put_labelled(line, " server=", &credential.server)
 }
 
+/// Puts the type and the size of the key before what stands after it.
+#[inline(always)]
 #[tactic(auto, unfolding(crate::specs::Ccaches::key_text, crate::specs::Text::field))]
-fn put_key(line: &mut String, credential: &Credential) -> Result<(), AllocError>
-    ensures { OnOk result (string_bytes line.new ≡ string_bytes line.old ++ key_text credential.now) }
+fn key(credential: &Credential, ending: &mut Ending)
+    requires { length ending.old ≤ 200 }
+    ensures { ending.new ≡ key_text credential.now ++ ending.old }
 {
-    put_labelled(line, " enctype=", &credential.enctype)?;
-    put_labelled(line, " key=", &credential.key.as_slice().len())
+    ending.number_field(" key=", credential.key.as_slice().len() as u64);
+    ending.number_field(" enctype=", u64::from(credential.enctype));
 }
 
+/// Puts the times before what stands after them.
+#[inline(always)]
 #[tactic(auto, unfolding(crate::specs::Ccaches::times_text, crate::specs::Text::field))]
-fn put_times(line: &mut String, credential: &Credential) -> Result<(), AllocError>
-    ensures { OnOk result (string_bytes line.new ≡ string_bytes line.old ++ times_text credential.now) }
+fn times(credential: &Credential, ending: &mut Ending)
+    requires { length ending.old ≤ 100 }
+    ensures text { ending.new ≡ times_text credential.now ++ ending.old }
+    ensures room { length ending.new ≤ 105 + length ending.old }
 {
-    put_labelled(line, " auth=", &Time(credential.authtime))?;
-    put_labelled(line, " start=", &Time(credential.starttime))?;
-    put_labelled(line, " end=", &Time(credential.endtime))?;
-    put_labelled(line, " renew=", &Time(credential.renew_till))
+    ending.time_field(" renew=", credential.renew_till);
+    ending.time_field(" end=", credential.endtime);
+    ending.time_field(" start=", credential.starttime);
+    ending.time_field(" auth=", credential.authtime);
+}
+
+/// Appends what stands between the principals and the flags.
+fn put_before_flags(line: &mut String, credential: &Credential) -> Result<(), AllocError>
+    ensures { OnOk result (string_bytes line.new ≡ string_bytes line.old ++ (key_text credential.now ++ times_text credential.now ++ codes " skey=" ++ decimal credential.now.is_skey ++ codes " flags=")) }
+{
+    let mut ending = Ending::new();
+    ending.label(" flags=");
+    ending.number_field(" skey=", u64::from(credential.is_skey));
+    times(credential, &mut ending);
+    key(credential, &mut ending);
+    put_ascii(line, ending.octets())
 }
 
 /// Whether a credential that ends then has ended now, where a now is given.
@@ -54,12 +73,13 @@ fn state_name(now: Option<u32>, endtime: u32) -> Name
     }
 }
 
+/// Appends what stands between the principals and the numbers of addresses and of authorization data.
 #[tactic(auto, unfolding(crate::specs::Ccaches::flags_text, crate::specs::Text::field))]
 fn put_flags(line: &mut String, now: Option<u32>, credential: &Credential) -> Result<(), AllocError>
-    ensures { OnOk result (string_bytes line.new ≡ string_bytes line.old ++ flags_text now credential.now) }
+    ensures { OnOk result (string_bytes line.new ≡ string_bytes line.old ++ (key_text credential.now ++ times_text credential.now ++ flags_text now credential.now)) }
 {
-    put_labelled(line, " skey=", &credential.is_skey)?;
-    put_labelled(line, " flags=", &TicketFlags(credential.flags))?;
+    put_before_flags(line, credential)?;
+    TicketFlags(credential.flags).put(line)?;
     put_labelled(line, " state=", &state_name(now, credential.endtime))
 }
 
@@ -91,8 +111,6 @@ fn put_front(line: &mut String, now: Option<u32>, credential: &Credential) -> Re
 {
     line.push_str("cred")?;
     put_who(line, credential)?;
-    put_key(line, credential)?;
-    put_times(line, credential)?;
     put_flags(line, now, credential)
 }
 

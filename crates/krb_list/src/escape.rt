@@ -45,6 +45,7 @@ fn is_plain(octet: u8) -> bool
 
 /// Whether all octets stand for themselves. Each is looked at, which takes less than to stop at the
 /// first that does not: nearly all do.
+#[inline(always)]
 fn are_plain(octets: &[u8]) -> bool
     ensures { result ≡ list_all is_plain octets.now }
 {
@@ -105,18 +106,28 @@ fn put_octet(line: &mut String, octet: u8) -> Result<(), AllocError>
     }
 }
 
+/// Appends octets, each escaped where it does not stand for itself.
+#[inline(never)]
+fn put_each(line: &mut String, octets: &[u8]) -> Result<(), AllocError>
+    ensures { OnOk result (string_bytes line.new ≡ string_bytes line.old ++ escape octets.now) }
+{
+    for octet in octets {
+        put_octet(line, *octet)?;
+    }
+    Ok(())
+}
+
 /// Appends octets: 21 to 7E but `/`, `@` and `\` as they are, each other as `\x` and two hexadecimal
 /// digits in lower case. Different octets have different texts.
+#[inline(always)]
 #[tactic(auto, using(crate::proofs::Escapes::escape_plain, crate::proofs::Escapes::ascii_plain))]
 pub fn put_escaped(line: &mut String, octets: &[u8]) -> Result<(), AllocError>
     ensures { OnOk result (string_bytes line.new ≡ string_bytes line.old ++ escape octets.now) }
 {
     // Nearly all names are plain, and one copy is faster than octet by octet.
     if are_plain(octets) {
-        return put_ascii(line, octets);
+        put_ascii(line, octets)
+    } else {
+        put_each(line, octets)
     }
-    for octet in octets {
-        put_octet(line, *octet)?;
-    }
-    Ok(())
 }

@@ -1,7 +1,7 @@
 use Rattle.std.proofs.Common.{◌≡◌, ◌++◌, string_bytes, take}
 use Rattle.std.specs.List.{flat_map}
 use Rattle.krb_list.specs.Text.{escape_octet}
-use Rattle.krb_list.proofs.escape.put_escaped.Given as goal
+use Rattle.krb_list.proofs.escape.put_each.Given as goal
 
 -- the octets so far
 abbrev pub invariant-loop-octet : goal.invariant-loop-octet
