@@ -6,7 +6,6 @@ ghost use Rattle.krb_list.specs.Time.{civil_date, moment_text, time_text, two_di
 ghost use Rattle.jiff_core.specs.Date.{epoch_day};
 
 use crate::escape::put_ascii;
-use crate::shown::Shown;
 use jiff_core::civil::Date;
 use krb_der::Memory;
 use std::alloc::{AllocError, Global};
@@ -83,18 +82,6 @@ pub fn put_time(line: &mut String, seconds: u32) -> Result<(), AllocError>
         line.push('-')
     } else {
         put_ascii(line, &moment(seconds))
-    }
-}
-
-/// A time of a file, in seconds since 1970-01-01T00:00:00Z.
-#[derive(Drop)]
-pub(crate) struct Time(pub(crate) u32);
-
-impl Shown for Time {
-    ghost text = { λ time. time_text time.0 };
-
-    fn put(&self, line: &mut String) -> Result<(), AllocError> {
-        put_time(line, self.0)
     }
 }
 

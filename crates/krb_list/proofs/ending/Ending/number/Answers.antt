@@ -1,4 +1,4 @@
-use Rattle.std.proofs.Common.{rules, ◌≡◌, ◌++◌, ◌≤◌, length, drop, decimal, ap, arith, ℕ, List, length-drop, length-append}
+use Rattle.std.proofs.Common.{rules, ◌≡◌, length, drop, decimal, ap, arith, ℕ, List, length-drop, length-append}
 use Rattle.std.specs.Str.{IsAscii}
 use Rattle.std.proofs.lemmas.Fmt.{length-decimal-le, IsAscii-decimal}
 use Rattle.std.proofs.lemmas.Str.{IsAscii-append}

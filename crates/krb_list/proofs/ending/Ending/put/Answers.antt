@@ -1,4 +1,4 @@
-use Rattle.std.proofs.Common.{◌≡◌, ◌++◌, drop, arith, ℕ, List}
+use Rattle.std.proofs.Common.{◌≡◌, drop, arith, ℕ, List}
 use Rattle.std.specs.Str.{IsAscii}
 use Rattle.std.proofs.lemmas.Str.{IsAscii-append}
 use Rattle.std.proofs.lemmas.Grind.{common_steps}
