@@ -2,10 +2,11 @@
 //! octets. A frame may also hold a keytab or a credential cache, which begin with 05: it is read,
 //! written again and compared. It is a test of `krb_judge`, `krb_msg`, `krb_keytab` and `krb_ccache`
 //! on real octets, and what the benchmark measures: with the word `parse` it only parses, and with
-//! `frames` it only cuts the frames. With `judge` it judges each message, with `step` a scanner takes
-//! its octets one after another but those inside a string, and with `take` at once; there are only
-//! messages then. A number after the word is how many times more it does all this with the same
-//! octets, which then are in the processor's cache, as those of a pipe are.
+//! `frames` it only cuts the frames; `encode` is what it does without a word. With `judge` it judges
+//! each message, with `step` a scanner takes its octets one after another but those inside a string,
+//! and with `take` at once; there are only messages then. A number after the word is how many times
+//! more it does all this with the same octets, which then are in the processor's cache, as those of a
+//! pipe are. Other words are refused.
 #![tactic(auto)]
 
 mod judging;
@@ -35,15 +36,16 @@ enum Work {
 }
 
 impl Work {
-    /// What the first word of the command line asks for, if there is one.
-    fn of(word: Option<&str>) -> Work {
+    /// What the first word of the command line asks for, if there is one; `None` for a wrong word.
+    fn of(word: Option<&str>) -> Option<Work> {
         match word {
-            Some("frames") => Work::Frames,
-            Some("judge") => Work::Judge(Judging::AtOnce),
-            Some("step") => Work::Judge(Judging::Step),
-            Some("take") => Work::Judge(Judging::Take),
-            Some("parse") => Work::Parse,
-            _ => Work::Encode,
+            Some("frames") => Some(Work::Frames),
+            Some("judge") => Some(Work::Judge(Judging::AtOnce)),
+            Some("step") => Some(Work::Judge(Judging::Step)),
+            Some("take") => Some(Work::Judge(Judging::Take)),
+            Some("parse") => Some(Work::Parse),
+            Some("encode") | None => Some(Work::Encode),
+            Some(_) => None,
         }
     }
 }
@@ -262,15 +264,24 @@ fn report<R: Print>(rt: &R, outcome: Result<Outcome, u64>) -> io::Result<ExitCod
     }
 }
 
+/// The number that the second word of the command line is, and 0 where there is none; `None` for a
+/// word that is no number.
+fn times_of(word: Option<&str>) -> Option<u32> {
+    match word {
+        Some(number) => number.parse::<u32>().ok(),
+        None => Some(0),
+    }
+}
+
 fn main(rt: HostRuntime) -> io::Result<ExitCode> {
     let alloc = rt.alloc();
     let mut words = env::args(&rt)?;
     let _program = words.next();
     let word = words.next();
-    let work = Work::of(word.as_deref());
-    let times = match words.next() {
-        Some(number) => number.parse::<u32>().unwrap_or(0),
-        None => 0,
+    let number = words.next();
+    let (Some(work), Some(times)) = (Work::of(word.as_deref()), times_of(number.as_deref())) else {
+        println!(rt; "krb_roundtrip [frames|judge|step|take|parse|encode [TIMES]]")?;
+        return Ok(ExitCode::FAILURE);
     };
     let mut stream = Vec::new(alloc);
     rt.stdin().read_to_end(&mut stream)?;
