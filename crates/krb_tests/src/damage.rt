@@ -51,7 +51,7 @@ impl Format for Keytabs {
         let mut records = Records::new(reader, limit);
         for count in 0..MANY {
             match records.next_record(alloc) {
-                Ok(Next::Item(_)) => {}
+                Ok(Next::Item(item)) => records.give_back(item),
                 Ok(Next::Done(_)) => return End::After(count),
                 Err(fault) => return end_of(fault),
             }
@@ -77,7 +77,7 @@ impl Format for Ccaches {
         };
         for count in 0..MANY {
             match credentials.next_credential(alloc) {
-                Ok(Some(_)) => {}
+                Ok(Some(credential)) => credentials.give_back(credential),
                 Ok(None) => return End::After(count),
                 Err(fault) => return end_of(fault),
             }
@@ -129,7 +129,7 @@ fn flip(octets: &mut [u8], place: usize, bits: u8) {
     }
 }
 
-/// The place of the first octet that makes a difference where it is changed to other values, and
+/// The place of the first octet that makes a difference where it is changed to another value, and
 /// which.
 fn differ_when_changed<F: Format>(
     alloc: Global,
@@ -138,7 +138,7 @@ fn differ_when_changed<F: Format>(
     let limit = FieldLimit::new(2147483647).ok_or("a limit")?;
     let mut octets = octets_of(alloc, digits)?;
     for place in 0..octets.len() {
-        for change in [0, 1, 2, 4, 8, 16, 32, 64, 128, 255] {
+        for change in 0..=u8::MAX {
             flip(octets.as_mut_slice(), place, change);
             if let Some((end, wanted)) = differ::<F>(alloc, octets.as_slice(), place, limit) {
                 return Ok(Some((place, end, wanted)));
