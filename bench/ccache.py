@@ -7,7 +7,7 @@ import struct
 import sys
 import tempfile
 
-from timing import best_runs, peak_octets, rate
+from timing import print_costs
 
 KRBLS = ["bin/krbls", "ccache"]
 CIPHER_OCTETS = 200
@@ -84,10 +84,7 @@ def main():
             if shutil.which("klist"):
                 commands["MIT's klist -c"] = ["klist", "-c", f"FILE:{file.name}"]
             print(f"cache of {credentials} credentials, {size} octets:")
-            seconds = best_runs(commands.values(), file.name)
-            for (name, command), least in zip(commands.items(), seconds):
-                peak = peak_octets(command, file.name) / 1e6
-                print(f"    {name} {rate(size, least)}, {peak:.1f} MB of memory")
+            print_costs(commands, file.name, size)
 
 
 main()

@@ -1,13 +1,13 @@
-"""Times bin/krbls on keytabs of entries that are made here, beside cat and, where it is installed,
-beside MIT's klist -k; and says how much memory each took. Then on keytabs of a tenth and of all of
-the entries, so that the growth is seen."""
+"""Times bin/krbls on keytabs of entries that are made here, beside cat and, where it is installed, beside
+MIT's klist -k; and says how much memory each took. The runs of one take turns with those of the others.
+First a keytab of a tenth of the entries, so that the growth is seen."""
 
 import shutil
 import struct
 import sys
 import tempfile
 
-from timing import best_run, peak_octets, rate
+from timing import print_costs
 
 KRBLS = ["bin/krbls", "keytab"]
 
@@ -41,21 +41,16 @@ def keytab(entries):
     return file, len(octets)
 
 
-def cost(command, path, size):
-    peak = peak_octets(command, path) / 1e6
-    return f"{rate(size, best_run(command, path))}, {peak:.1f} MB of memory"
-
-
 def main():
     most = int(sys.argv[1])
     for entries in (most // 10, most):
         file, size = keytab(entries)
         with file:
-            print(f"keytab of {entries} entries, {size} octets: list {cost(KRBLS, file.name, size)}")
-            print(f"    cat {cost(['cat'], file.name, size)}")
+            commands = {"list": KRBLS, "cat": ["cat"]}
             if shutil.which("klist"):
-                klist = ["klist", "-k", f"FILE:{file.name}"]
-                print(f"    MIT's klist -k {cost(klist, file.name, size)}")
+                commands["MIT's klist -k"] = ["klist", "-k", f"FILE:{file.name}"]
+            print(f"keytab of {entries} entries, {size} octets:")
+            print_costs(commands, file.name, size)
 
 
 main()

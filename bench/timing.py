@@ -51,3 +51,10 @@ def peak_octets(command, path):
 
 def rate(size, seconds):
     return f"{seconds:.3f} s, {size / seconds / 1e6:.1f} MB/s"
+
+
+def print_costs(commands, path, size):
+    """Prints what commands with a name each cost on a file, whose runs take turns."""
+    seconds = best_runs(commands.values(), path)
+    for (name, command), least in zip(commands.items(), seconds):
+        print(f"    {name} {rate(size, least)}, {peak_octets(command, path) / 1e6:.1f} MB of memory")
