@@ -7,11 +7,10 @@ ghost use Rattle.std.specs.Int.RustNames.{FitsSigned};
 ghost use Rattle.std.specs.List.{flat_map, list_any, AllByRecursion};
 ghost use Rattle.std.specs.Vec.{vec_len, vec_capacity};
 ghost use Rattle.krb_der.specs.Puts.{Puts};
-ghost use Rattle.krb_der.specs.Octets.{AreOctets};
 ghost use Rattle.krb_der.specs.Fields.{signed, counted, IsCounted};
 ghost use Rattle.krb_ccache.specs.Writing.{is_long16, is_long32, held};
 
-use krb_der::{KString, Octets, put_octets};
+use krb_der::{KString, Octets, put_octets, size_of};
 
 /// The greatest number of octets of a file, 2^40.
 pub(crate) const GREATEST: u64 = 1 << 40;
@@ -46,14 +45,6 @@ fn add_sizes(size: u64, more: u64) -> u64
     ensures { result ≡ held (size + more) }
 {
     size.saturating_add(more).min(GREATEST + 1)
-}
-
-/// The number of octets.
-fn size_of(octets: &[u8]) -> u64
-    ensures value { result ≡ length octets.now }
-    ensures octets { AreOctets octets.now }
-{
-    octets.len() as u64
 }
 
 /// A number of 8 bits.

@@ -8,7 +8,7 @@ ghost use Rattle.krb_ccache.specs.Spelling.{CcacheSpells};
 ghost use Rattle.krb_ccache.specs.Reading.{principal_at, typed_at, typed_list_at, credential_from, credential_at, header_field_at, header_fields_at, header_at, start_at, next_at, credentials_after, read};
 
 use crate::value::{Ccache, Credential, FilePrincipal, Header, HeaderField, Typed};
-use krb_der::{Field, FieldReader, FileFault, Many, Names, SliceReader, read_many};
+use krb_der::{Field, FieldReader, FileFault, KString, Many, Octets, SliceReader, read_many};
 use std::alloc::Global;
 
 /// A principal.
@@ -16,11 +16,13 @@ fn principal<F: FieldReader>(alloc: Global, reader: &mut F) -> Result<FilePrinci
     ensures { Follows (λ principal. principal) result principal_at F.MayFail (F.held reader.old) (F.held reader.new) }
 {
     let name_type = reader.signed32()?;
-    let Names { realm, components } = reader.names32(alloc)?;
+    let mut realm = reader.room(alloc);
+    let mut components = reader.list(alloc);
+    reader.names32(alloc, &mut realm, &mut components)?;
     Ok(FilePrincipal {
         name_type,
-        realm,
-        components,
+        realm: KString::new(realm),
+        components: Many::new(components),
     })
 }
 
@@ -34,8 +36,12 @@ impl Field for OctetsOfKind {
 
     fn read<F: FieldReader>(alloc: Global, reader: &mut F) -> Result<Typed, FileFault> {
         let kind = reader.number16()?;
-        let octets = reader.counted32(alloc)?;
-        Ok(Typed { kind, octets })
+        let mut octets = reader.room(alloc);
+        reader.counted32(alloc, &mut octets)?;
+        Ok(Typed {
+            kind,
+            octets: Octets::new(octets),
+        })
     }
 }
 
@@ -44,7 +50,9 @@ fn typed_list<F: FieldReader>(alloc: Global, reader: &mut F) -> Result<Many<Type
     ensures { Follows (λ list. list) result typed_list_at F.MayFail (F.held reader.old) (F.held reader.new) }
 {
     let count = reader.number32()?;
-    read_many::<OctetsOfKind, F>(alloc, count, reader)
+    let mut list = Vec::new(alloc);
+    read_many::<OctetsOfKind, F>(alloc, count, reader, &mut list)?;
+    Ok(Many::new(list))
 }
 
 /// How many octets stand at least in a credential after its key.
@@ -60,7 +68,8 @@ fn credential_from<F: FieldReader>(
 ) -> Result<Credential, FileFault>
     ensures { Follows (λ credential. credential) result (credential_from client server enctype) F.MayFail (F.held reader.old) (F.held reader.new) }
 {
-    let key = reader.counted32(alloc)?;
+    let mut key = reader.room(alloc);
+    reader.counted32(alloc, &mut key)?;
     reader.look_ahead(LEAST_AFTER_KEY)?;
     let authtime = reader.number32()?;
     let starttime = reader.number32()?;
@@ -70,13 +79,15 @@ fn credential_from<F: FieldReader>(
     let flags = reader.number32()?;
     let addresses = typed_list(alloc, reader)?;
     let authdata = typed_list(alloc, reader)?;
-    let ticket = reader.counted32(alloc)?;
-    let second_ticket = reader.counted32(alloc)?;
+    let mut ticket = reader.room(alloc);
+    reader.counted32(alloc, &mut ticket)?;
+    let mut second_ticket = reader.room(alloc);
+    reader.counted32(alloc, &mut second_ticket)?;
     Ok(Credential {
         client,
         server,
         enctype,
-        key,
+        key: Octets::new(key),
         authtime,
         starttime,
         endtime,
@@ -85,12 +96,13 @@ fn credential_from<F: FieldReader>(
         flags,
         addresses,
         authdata,
-        ticket,
-        second_ticket,
+        ticket: Octets::new(ticket),
+        second_ticket: Octets::new(second_ticket),
     })
 }
 
 /// A credential.
+#[inline(never)]
 fn credential<F: FieldReader>(alloc: Global, reader: &mut F) -> Result<Credential, FileFault>
     ensures { Follows (λ credential. credential) result credential_at F.MayFail (F.held reader.old) (F.held reader.new) }
 {
@@ -123,8 +135,12 @@ fn header_field<F: FieldReader>(alloc: Global, reader: &mut F) -> Result<HeaderF
     ensures { Follows (λ field. field) result header_field_at F.MayFail (F.held reader.old) (F.held reader.new) }
 {
     let tag = reader.number16()?;
-    let value = reader.counted16(alloc)?;
-    Ok(HeaderField { tag, value })
+    let mut value = reader.room(alloc);
+    reader.counted16(alloc, &mut value)?;
+    Ok(HeaderField {
+        tag,
+        value: Octets::new(value),
+    })
 }
 
 /// The fields of a header of `size` octets.

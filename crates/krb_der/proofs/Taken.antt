@@ -8,7 +8,7 @@ use borrow.Rule.Slice.PartMut.{put_mid}
 use Rattle.std.specs.Io.KnownBytes.{Consumes, IsAtEnd}
 use Rattle.krb_der.specs.Fields.{Source, Fault, Bounds, passes, onward, gives, is_empty, next_octets_at, octets_at, are_zero}
 use Rattle.krb_der.specs.FieldReaders.{Held, GoesOn, MayHave, HasRead, HasMet, FailsBy, ended_at, skipped_at}
-use Rattle.krb_der.specs.inner.Takes.{Takes, left_of, FallsShort, FailsTaking}
+use Rattle.krb_der.specs.inner.Takes.{Takes, left_of, FallsShort, FailsTaking, AreNear}
 use Rattle.krb_der.specs.declared.file.FileFault.{FileFault}
 use Rattle.krb_der.specs.declared.file.FileFault.TheVariants as faults
 use Rattle.krb_der.specs.declared.file.FileWhy.{FileWhy}
@@ -227,3 +227,22 @@ skip-refused (faults.Refused place reason) size old f = skip-met size (record { 
 
 pub skip-fails : (e : FileFault) (size start k rest : ℕ) (zeros : Bool) (old now left : Held) → start ≡ old.place → passes (old.place + size) old.bounds.end ≡ false → Passes old now zeros rest size → k ≤ rest → FailsTaking e start now left k → FailsBy e (skipped_at size) (Unit {0}) old
 skip-fails e size start k rest zeros old now left begins inside p few fails = skip-refused e size old (taking-fails e None size start k p.taken old now left begins inside refl p.took (omega (arith, p.counted, few)) fails)
+
+-- ---- fields that are ahead, inside the end and under the limit
+pub near-left : (near count ahead rest place : ℕ) (end : Option ℕ) (most : ℕ) → AreNear near ahead place end most → count < near → ahead ≡ count + rest → AreNear (near - count) rest (place + count) end most
+near-left near count ahead rest place end most are few is = λ size fewer.
+    let at = are (count + size) (omega (arith, few, fewer)) in
+    let after : place + (count + size) ≡ place + count + size = omega arith in
+    (omega (arith, at.0, is), subst (λ (k : ℕ). passes k end ≡ false) after at.1, omega (arith, at.2))
+
+pub near-read : (limit : Option ℕ) (near size count : ℕ) (had ahead octets : List ℕ) (left : Option (List ℕ)) (place : ℕ) (end : Option ℕ) (most : ℕ) → AreNear near (length had) place end most → size < near → passes size limit ≡ false → had ≡ octets ++ ahead → length octets ≡ size → length octets ≡ count
+    → HasRead (next_octets_at limit size) octets (record { ahead = had; left = left; place = place; bounds = record { end = end; limit = Some most } }) (record { ahead = ahead; left = left; place = place + count; bounds = record { end = end; limit = Some most } })
+near-read limit near size count had ahead octets left place end most are few under is long counted =
+    let bounds : Bounds = record { end = end; limit = Some most } in
+    piece-read limit size octets (record { ahead = had; left = left; place = place; bounds = bounds }) (record { ahead = ahead; left = left; place = place + count; bounds = bounds }) (are size few).1 under (Takes-ahead had ahead octets left place count bounds is counted) long
+
+pub near-octets : (near size : ℕ) (had ahead octets : List ℕ) (left : Option (List ℕ)) (place : ℕ) (end : Option ℕ) (most : ℕ) → AreNear near (length had) place end most → size < near → had ≡ octets ++ ahead → length octets ≡ size
+    → HasRead (octets_at size) octets (record { ahead = had; left = left; place = place; bounds = record { end = end; limit = Some most } }) (record { ahead = ahead; left = left; place = place + size; bounds = record { end = end; limit = Some most } })
+near-octets near size had ahead octets left place end most are few is long =
+    let p = near-read (Some most) near size size had ahead octets left place end most are few (le-ltb _ _ (are size few).2) is long long in
+    record { same_bounds = p.same_bounds; from = λ rest there. p.from rest there }

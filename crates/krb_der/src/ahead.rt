@@ -1,9 +1,8 @@
 //! Octets of a file that were taken before their fields are read.
 
 use crate::file::FileFault;
-use crate::room::Room;
 use crate::stream_reader::ask;
-use std::alloc::{AllocError, Global};
+use std::alloc::AllocError;
 use std::io::Read;
 use std::marker::Model;
 
@@ -66,23 +65,20 @@ impl Ahead {
         self.passed = end;
     }
 
-    /// Reads `count` of them, into room that others left where there is some.
+    /// Reads `count` of them, which take the place of those in `copied` and the room of these.
     #[inline(always)]
-    pub(crate) fn copy(
-        &mut self,
-        alloc: Global,
-        count: usize,
-        room: &mut Room,
-    ) -> Result<Vec<u8>, AllocError>
+    pub(crate) fn copy(&mut self, count: usize, copied: &mut Vec<u8>) -> Result<(), AllocError>
         requires { count ≤ length self.old }
-        ensures given { IfOk result (λ copied. self.old ≡ copied.items ++ self.new) }
-        ensures count { IfOk result (λ copied. length copied.items ≡ count) }
+        ensures given { OnOk result (self.old ≡ copied.new.items ++ self.new) }
+        ensures count { OnOk result (length copied.new.items ≡ count) }
         ensures kept { OnErr result (self.new ≡ self.old) }
     {
         let end = self.passed + count;
-        let copied = room.copy(alloc, &self.octets[self.passed..end])?;
+        copied.clear();
+        copied.reserve_exact(count)?;
+        copied.extend_from_slice(&self.octets[self.passed..end])?;
         self.passed = end;
-        Ok(copied)
+        Ok(())
     }
 
     /// Takes octets of a reader where none is left: as many as come at once, at most `most`. There

@@ -1,24 +1,13 @@
 //! Readers of the fields of files.
 
-ghost use Rattle.std.specs.Prelude.{◌≡◌, ◌+◌, ◌^◌, ◌<◌, ◌≤◌, length, None, Some};
+ghost use Rattle.std.specs.Prelude.{◌≡◌, ◌+◌, ◌^◌, ◌<◌, ◌≤◌, [], length, None, Some};
 ghost use Rattle.std.specs.Int.{w8, w16, w32};
 ghost use Rattle.krb_der.specs.Fields.{gives, next_octets_at, octets_at, number_at, signed_at, counted_at, names_at, rest_at, times, is_one_of, expect, version_at, Reader};
 ghost use Rattle.krb_der.specs.FieldReaders.{Held, Follows, ended_at, skipped_at, bounded};
 
 use crate::file::{FileFault, FileWhy};
 use crate::kstring::KString;
-use crate::many::Many;
-use crate::octets::Octets;
 use std::alloc::Global;
-
-/// The names of a principal.
-#[derive(Drop)]
-pub struct Names {
-    /// The realm.
-    pub realm: KString,
-    /// The components, in order.
-    pub components: Many<KString>,
-}
 
 /// A reader of the fields of a file. It knows the place of the next octet, the end of the entry or
 /// of the header that the next field stands in, if it stands in one, and how many octets a field of
@@ -61,9 +50,19 @@ pub trait FieldReader {
         requires { length octets.old ≤ 2 ^ 16 }
         ensures { Follows (λ _. octets.new) result (next_octets_at None (length octets.old)) MayFail (held self.old) (held self.new) };
 
-    /// A field of octets.
-    fn octets(&mut self, alloc: Global, size: u64) -> Result<Octets, FileFault>
-        ensures { Follows (λ octets. octets) result (octets_at size) MayFail (held self.old) (held self.new) };
+    /// An empty vector, with the room of octets that were given back where there is some.
+    fn room(&mut self, alloc: Global) -> Vec<u8>
+        ensures empty { result.items ≡ [] }
+        ensures same { held self.new ≡ held self.old };
+
+    /// An empty list, with the room of one that was given back where there is some.
+    fn list(&mut self, alloc: Global) -> Vec<KString>
+        ensures empty { result.items ≡ [] }
+        ensures same { held self.new ≡ held self.old };
+
+    /// Reads a field of octets, which take the place of those in `octets` and the room of these.
+    fn octets(&mut self, alloc: Global, size: u64, octets: &mut Vec<u8>) -> Result<(), FileFault>
+        ensures { Follows (λ _. octets.new.items) result (octets_at size) MayFail (held self.old) (held self.new) };
 
     /// Passes octets that are not kept, to which no limit applies, and tells whether all of them are
     /// 00.
@@ -110,53 +109,63 @@ pub trait FieldReader {
         Ok(i32::from_be_bytes(octets))
     }
 
-    /// Octets after their number of 16 bits.
-    final fn counted16(&mut self, alloc: Global) -> Result<Octets, FileFault>
-        ensures { Follows (λ octets. octets) result (counted_at w16) MayFail (held self.old) (held self.new) }
+    /// Reads octets after their number of 16 bits, as [`octets`](FieldReader::octets) does.
+    final fn counted16(&mut self, alloc: Global, octets: &mut Vec<u8>) -> Result<(), FileFault>
+        ensures { Follows (λ _. octets.new.items) result (counted_at w16) MayFail (held self.old) (held self.new) }
     {
         let size = self.number16()?;
-        self.octets(alloc, u64::from(size))
+        self.octets(alloc, u64::from(size), octets)
     }
 
-    /// Octets after their number of 32 bits.
-    final fn counted32(&mut self, alloc: Global) -> Result<Octets, FileFault>
-        ensures { Follows (λ octets. octets) result (counted_at w32) MayFail (held self.old) (held self.new) }
+    /// Reads octets after their number of 32 bits, as [`octets`](FieldReader::octets) does.
+    final fn counted32(&mut self, alloc: Global, octets: &mut Vec<u8>) -> Result<(), FileFault>
+        ensures { Follows (λ _. octets.new.items) result (counted_at w32) MayFail (held self.old) (held self.new) }
     {
         let size = self.number32()?;
-        self.octets(alloc, u64::from(size))
+        self.octets(alloc, u64::from(size), octets)
     }
 
-    /// What is left up to the end of the entry.
-    final fn rest(&mut self, alloc: Global) -> Result<Octets, FileFault>
-        ensures { Follows (λ octets. octets) result rest_at MayFail (held self.old) (held self.new) }
+    /// Reads what is left up to the end of the entry, as [`octets`](FieldReader::octets) does.
+    final fn rest(&mut self, alloc: Global, octets: &mut Vec<u8>) -> Result<(), FileFault>
+        ensures { Follows (λ _. octets.new.items) result rest_at MayFail (held self.old) (held self.new) }
     {
         let size = match self.end() {
             Some(end) => end.saturating_sub(self.place()),
             None => 0,
         };
-        self.octets(alloc, size)
+        self.octets(alloc, size, octets)
     }
 
-    /// The realm and the components of a principal, after the number of the components: each number
-    /// of 16 bits.
-    final fn names16(&mut self, alloc: Global) -> Result<Names, FileFault>
-        ensures { Follows (λ names. record { realm = names.realm; components = names.components }) result (names_at w16) MayFail (held self.old) (held self.new) }
+    /// Reads the realm and the components of a principal, after the number of the components: each
+    /// number of 16 bits.
+    final fn names16(
+        &mut self,
+        alloc: Global,
+        realm: &mut Vec<u8>,
+        components: &mut Vec<KString>,
+    ) -> Result<(), FileFault>
+        requires { components.old.items ≡ [] }
+        ensures { Follows (λ _. record { realm = realm.new.items; components = components.new.items }) result (names_at w16) MayFail (held self.old) (held self.new) }
     {
         let count = self.number16()?;
-        let realm = String16::read(alloc, self)?;
-        let components = read_many::<String16, Self>(alloc, u32::from(count), self)?;
-        Ok(Names { realm, components })
+        self.counted16(alloc, realm)?;
+        read_many::<String16, Self>(alloc, u32::from(count), self, components)
     }
 
-    /// The realm and the components of a principal, after the number of the components: each number
-    /// of 32 bits.
-    final fn names32(&mut self, alloc: Global) -> Result<Names, FileFault>
-        ensures { Follows (λ names. record { realm = names.realm; components = names.components }) result (names_at w32) MayFail (held self.old) (held self.new) }
+    /// Reads the realm and the components of a principal, after the number of the components: each
+    /// number of 32 bits.
+    final fn names32(
+        &mut self,
+        alloc: Global,
+        realm: &mut Vec<u8>,
+        components: &mut Vec<KString>,
+    ) -> Result<(), FileFault>
+        requires { components.old.items ≡ [] }
+        ensures { Follows (λ _. record { realm = realm.new.items; components = components.new.items }) result (names_at w32) MayFail (held self.old) (held self.new) }
     {
         let count = self.number32()?;
-        let realm = String32::read(alloc, self)?;
-        let components = read_many::<String32, Self>(alloc, count, self)?;
-        Ok(Names { realm, components })
+        self.counted32(alloc, realm)?;
+        read_many::<String32, Self>(alloc, count, self, components)
     }
 
     /// An octet, if it is one of those that are wanted, and else a refusal at its place.
@@ -210,8 +219,9 @@ impl Field for String16 {
     ghost reads = { counted_at w16 };
 
     fn read<F: FieldReader>(alloc: Global, reader: &mut F) -> Result<KString, FileFault> {
-        let octets = reader.counted16(alloc)?;
-        Ok(KString::new(octets.into_vec()))
+        let mut octets = reader.room(alloc);
+        reader.counted16(alloc, &mut octets)?;
+        Ok(KString::new(octets))
     }
 }
 
@@ -224,22 +234,25 @@ impl Field for String32 {
     ghost reads = { counted_at w32 };
 
     fn read<F: FieldReader>(alloc: Global, reader: &mut F) -> Result<KString, FileFault> {
-        let octets = reader.counted32(alloc)?;
-        Ok(KString::new(octets.into_vec()))
+        let mut octets = reader.room(alloc);
+        reader.counted32(alloc, &mut octets)?;
+        Ok(KString::new(octets))
     }
 }
 
-/// Items of a kind one after another. Memory follows the octets that are there, and not the number.
+/// Reads items of a kind one after another. Memory follows the octets that are there, and not the
+/// number.
 pub fn read_many<K: Field, F: FieldReader>(
     alloc: Global,
     count: u32,
     reader: &mut F,
-) -> Result<Many<K::Value>, FileFault>
-    ensures { Follows (λ values. values) result (times count K.reads) F.MayFail (F.held reader.old) (F.held reader.new) }
+    values: &mut Vec<K::Value>,
+) -> Result<(), FileFault>
+    requires { values.old.items ≡ [] }
+    ensures { Follows (λ _. values.new.items) result (times count K.reads) F.MayFail (F.held reader.old) (F.held reader.new) }
 {
-    let mut values = Vec::new(alloc);
     for _ in 0..count {
         values.push(K::read(alloc, reader)?)?;
     }
-    Ok(Many::new(values))
+    Ok(())
 }

@@ -25,8 +25,8 @@ pub fn item_size(contents: u64) -> u64
     }
 }
 
-/// How many octets these are.
-pub(crate) fn size_of(octets: &[u8]) -> u64
+/// The number of octets.
+pub fn size_of(octets: &[u8]) -> u64
     ensures value { result ≡ length octets.now }
     ensures octets { AreOctets octets.now }
 {

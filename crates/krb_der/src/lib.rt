@@ -34,11 +34,11 @@ mod wide32;
 
 pub use der::Der;
 pub use field_limit::FieldLimit;
-pub use field_reader::{Field, FieldReader, Names, String16, String32, read_many};
+pub use field_reader::{Field, FieldReader, String16, String32, read_many};
 pub use file::{FileFault, FileWhy, file_why_number, file_why_text};
 pub use flags::{Flags, last_or_zero};
 pub use int32::Int32;
-pub use item::{TOO_LONG, add_sizes, item_size, put_header, put_item, put_octets};
+pub use item::{TOO_LONG, add_sizes, item_size, put_header, put_item, put_octets, size_of};
 pub use kerberos_time::KerberosTime;
 pub use kstring::KString;
 pub use many::Many;

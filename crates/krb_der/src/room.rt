@@ -11,23 +11,37 @@ use std::alloc::{AllocError, Global};
 /// The number of vectors that are kept at most.
 const MOST: usize = 16;
 
+/// The number of lists that are kept at most.
+const MOST_LISTS: usize = 4;
+
+/// The number of strings that a list which is kept has room for at most.
+const MOST_STRINGS: usize = 64;
+
 /// The number of octets that a vector which is kept has room for at most.
 const MOST_ROOM: usize = 4096;
 
 /// Room of values that are not wanted any more: at most 16 vectors, each with room for at most 4096
-/// octets. Values that are read take it before they ask for memory. No contract sees it.
+/// octets, and 4 lists, each with room for at most 64 strings. Values that are read take it before
+/// they ask for memory. No contract sees it.
 #[derive(Drop)]
 pub struct Room {
     vectors: [Option<Vec<u8>>; MOST],
     /// The number of vectors: they stand first.
     count: usize,
     pub ghost few: { count ≤ 16 },
+    lists: [Option<Vec<KString>>; MOST_LISTS],
+    /// The number of lists: they stand first.
+    list_count: usize,
+    pub ghost few_lists: { list_count ≤ 4 },
 }
 
 /// Values whose room can be used again.
 pub trait GiveBack: Drop {
     /// Leaves the room of the value's octets to those that are read after it.
     fn give_back(self, room: &mut Room);
+
+    /// Leaves the room of a list of such values, of which none is left.
+    fn give_back_list(_list: Vec<Self>, _room: &mut Room) {}
 }
 
 impl Room {
@@ -39,6 +53,8 @@ impl Room {
                 None, None,
             ],
             count: 0,
+            lists: [None, None, None, None],
+            list_count: 0,
         }
     }
 
@@ -51,7 +67,8 @@ impl Room {
     }
 
     /// A vector without octets: one of those that are kept, where there is one.
-    fn take(&mut self, alloc: Global) -> Vec<u8>
+    #[inline(always)]
+    pub(crate) fn take(&mut self, alloc: Global) -> Vec<u8>
         ensures { result.items ≡ [] }
     {
         if self.count > 0 {
@@ -59,6 +76,28 @@ impl Room {
             if let Some(mut vector) = self.vectors[self.count].take() {
                 vector.clear();
                 return vector;
+            }
+        }
+        Vec::new(alloc)
+    }
+
+    /// Keeps a list, unless there are many or it is large.
+    fn keep_list(&mut self, list: Vec<KString>) {
+        if self.list_count < MOST_LISTS && list.capacity() <= MOST_STRINGS {
+            self.lists[self.list_count] = Some(list);
+            self.list_count += 1;
+        }
+    }
+
+    /// A list without strings: one of those that are kept, where there is one.
+    pub(crate) fn take_list(&mut self, alloc: Global) -> Vec<KString>
+        ensures { result.items ≡ [] }
+    {
+        if self.list_count > 0 {
+            self.list_count -= 1;
+            if let Some(mut list) = self.lists[self.list_count].take() {
+                list.clear();
+                return list;
             }
         }
         Vec::new(alloc)
@@ -73,21 +112,15 @@ impl Room {
         copied.extend_from_slice(octets)?;
         Ok(copied)
     }
-
-    /// `count` octets of 00.
-    pub(crate) fn zeros(&mut self, alloc: Global, count: usize) -> Result<Vec<u8>, AllocError>
-        ensures { IfOk result (λ zeros. length zeros.items ≡ count) }
-    {
-        let mut zeros = self.take(alloc);
-        zeros.reserve_exact(count)?;
-        zeros.resize(count, 0)?;
-        Ok(zeros)
-    }
 }
 
 impl GiveBack for KString {
     fn give_back(self, room: &mut Room) {
         room.keep(self.into_vec());
+    }
+
+    fn give_back_list(list: Vec<KString>, room: &mut Room) {
+        room.keep_list(list);
     }
 }
 
@@ -113,8 +146,12 @@ impl<T: GiveBack> GiveBack for Option<T> {
 
 impl<T: GiveBack> GiveBack for Many<T> {
     fn give_back(self, room: &mut Room) {
-        for value in self.into_vec() {
-            value.give_back(room);
+        let mut values = self.into_vec();
+        for _ in 0..values.len() {
+            if let Some(value) = values.pop() {
+                value.give_back(room);
+            }
         }
+        T::give_back_list(values, room);
     }
 }

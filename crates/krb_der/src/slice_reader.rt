@@ -2,7 +2,7 @@
 
 use crate::field_reader::FieldReader;
 use crate::file::{FileFault, FileWhy};
-use crate::octets::Octets;
+use crate::kstring::KString;
 use std::alloc::Global;
 use std::marker::Model;
 
@@ -101,9 +101,20 @@ impl<'a> FieldReader for SliceReader<'a> {
         Ok(())
     }
 
-    fn octets(&mut self, alloc: Global, size: u64) -> Result<Octets, FileFault> {
+    fn room(&mut self, alloc: Global) -> Vec<u8> {
+        Vec::new(alloc)
+    }
+
+    fn list(&mut self, alloc: Global) -> Vec<KString> {
+        Vec::new(alloc)
+    }
+
+    fn octets(&mut self, _alloc: Global, size: u64, octets: &mut Vec<u8>) -> Result<(), FileFault> {
         let taken = self.take(size)?;
-        Ok(Octets::new(Vec::from_slice(alloc, taken)?))
+        octets.clear();
+        octets.reserve_exact(taken.len())?;
+        octets.extend_from_slice(taken)?;
+        Ok(())
     }
 
     fn skip(&mut self, size: u64) -> Result<bool, FileFault> {

@@ -4,7 +4,7 @@ use crate::ahead::Ahead;
 use crate::field_limit::FieldLimit;
 use crate::field_reader::FieldReader;
 use crate::file::{FileFault, FileWhy};
-use crate::octets::Octets;
+use crate::kstring::KString;
 use crate::room::{GiveBack, Room};
 use crate::slice_reader::are_zero;
 use std::alloc::Global;
@@ -33,6 +33,8 @@ pub struct StreamReader<R: Read> {
     end: Option<u64>,
     /// Octets that were taken and are still to be read.
     ahead: Ahead,
+    /// A field of fewer octets than this is ahead, inside the end and under the limit.
+    near: usize,
     /// Whether the reader told its end.
     ended: bool,
     asks: u64,
@@ -43,20 +45,20 @@ pub struct StreamReader<R: Read> {
 impl<R: Read> Model for StreamReader<R> {
     ghost use Rattle.std.specs.Prelude.{◌+◌, ◌*◌, ◌^◌, ◌≤◌, Some, length};
     ghost use Rattle.krb_der.specs.FieldReaders.{Held};
-    ghost use Rattle.krb_der.specs.inner.Takes.{left_of};
+    ghost use Rattle.krb_der.specs.inner.Takes.{left_of, AreNear};
 
     ghost Value = { Held };
 
     ghost view = { λ s. record { ahead = s.ahead; left = left_of s.ended (R.remaining s.reader); place = s.place; bounds = record { end = s.end; limit = Some s.limit } } };
 
-    ghost invariant = { λ s. (s.place + length s.ahead ≤ s.asks * 2 ^ 22) × (s.asks ≤ 2 ^ 40) };
+    ghost invariant = { λ s. (s.place + length s.ahead ≤ s.asks * 2 ^ 22) × (s.asks ≤ 2 ^ 40) × AreNear s.near (length s.ahead) s.place s.end s.limit };
 }
 
 ghost use Rattle.std.specs.Prelude.{◌≡◌, ◌+◌, ◌^◌, ◌<◌, ◌≤◌, false, [], length, take, None, Some, IfOk, IfErr, OnOk};
 ghost use Rattle.std.specs.Io.KnownBytes.{Consumes, IsAtEnd};
 ghost use Rattle.krb_der.specs.Fields.{passes, next_octets_at, octets_at};
 ghost use Rattle.krb_der.specs.FieldReaders.{MayHave, FailsBy, Follows};
-ghost use Rattle.krb_der.specs.inner.Takes.{Takes, FailsTaking};
+ghost use Rattle.krb_der.specs.inner.Takes.{Takes, FailsTaking, AreNear};
 
 /// Asks a reader for octets, and answers how many came: 0 at its end.
 pub(crate) fn ask<R: Read>(
@@ -95,6 +97,7 @@ impl<R: Read> StreamReader<R> {
             place: 0,
             end: None,
             ahead: Ahead::new(),
+            near: 0,
             ended: false,
             asks: 0,
             spare: Room::new(),
@@ -117,8 +120,11 @@ impl<R: Read> StreamReader<R> {
         ensures fault { IfErr result (λ e. e ≡ FileFault.Read) }
     {
         if self.ahead.count() == 0 && !self.ended {
+            self.near = 0;
             self.ahead.refill(&mut self.reader, &mut self.asks, most)?;
-            self.ended = self.ahead.count() == 0;
+            let count = self.ahead.count();
+            self.ended = count == 0;
+            self.near = near(count, self.place, self.end, self.limit);
         }
         Ok(())
     }
@@ -140,33 +146,21 @@ impl<R: Read> StreamReader<R> {
         if self.ended {
             return Ok(0);
         }
+        self.near = 0;
         let count = ask(&mut self.reader, &mut self.asks, octets)?;
         self.place += count as u64;
         self.ended = count == 0;
         Ok(count)
     }
 
-    /// Takes octets that are ahead till there is no more room.
-    #[inline(always)]
+    /// Takes octets that are ahead till there is no more room. What is near is forgotten.
     fn fill_ahead(&mut self, octets: &mut [u8])
         requires { length octets.old ≤ length self.old.ahead }
         ensures { Takes self.old self.new octets.new }
     {
+        self.near = 0;
         self.ahead.fill(octets);
         self.place += octets.len() as u64;
-    }
-
-    /// Takes `count` of the octets that are ahead.
-    #[inline(always)]
-    fn take_ahead(&mut self, alloc: Global, count: usize) -> Result<Vec<u8>, FileFault>
-        requires { count ≤ length self.old.ahead }
-        ensures taken { IfOk result (λ taken. Takes self.old self.new taken.items) }
-        ensures count { IfOk result (λ taken. length taken.items ≡ count) }
-        ensures fault { IfErr result (λ e. e ≡ FileFault.Memory) }
-    {
-        let taken = self.ahead.copy(alloc, count, &mut self.spare)?;
-        self.place += count as u64;
-        Ok(taken)
     }
 
     /// Takes octets till there is no more room. Where there are too few left, the field that begins
@@ -191,38 +185,44 @@ impl<R: Read> StreamReader<R> {
         Ok(())
     }
 
-    /// Takes `room` octets, as [`take_all`](StreamReader::take_all) does.
-    fn take_piece(&mut self, alloc: Global, start: u64, room: usize) -> Result<Vec<u8>, FileFault>
+    /// Takes `room` octets, as [`take_all`](StreamReader::take_all) does, which take the place of those
+    /// in `piece`.
+    fn take_piece(&mut self, start: u64, room: usize, piece: &mut Vec<u8>) -> Result<(), FileFault>
         requires { room ≤ 2 ^ 22 }
-        ensures taken { IfOk result (λ piece. Takes self.old self.new piece.items) }
-        ensures room { IfOk result (λ piece. length piece.items ≡ room) }
+        ensures taken { OnOk result (Takes self.old self.new piece.new.items) }
+        ensures room { OnOk result (length piece.new.items ≡ room) }
         ensures fault { IfErr result (λ e. FailsTaking e start self.old self.new room) }
     {
-        let mut piece = self.spare.zeros(alloc, room)?;
-        self.take_all(start, piece.as_mut_slice())?;
-        Ok(piece)
+        piece.clear();
+        piece.reserve_exact(room)?;
+        piece.resize(room, 0)?;
+        self.take_all(start, piece.as_mut_slice())
     }
 
     /// Takes a field of octets, which come in pieces.
-    #[inline(never)]
-    fn take_octets(&mut self, alloc: Global, size: u64) -> Result<Octets, FileFault>
+    fn take_octets(
+        &mut self,
+        alloc: Global,
+        size: u64,
+        octets: &mut Vec<u8>,
+    ) -> Result<(), FileFault>
         requires inside { passes (self.old.place + size) self.old.bounds.end ≡ false }
         requires under { passes size self.old.bounds.limit ≡ false }
-        ensures { Follows (λ octets. octets) result (octets_at size) (Unit {0}) self.old self.new }
+        ensures { Follows (λ _. octets.new.items) result (octets_at size) (Unit {0}) self.old self.new }
     {
         let place = self.place;
-        let mut octets = self.take_piece(alloc, place, size.min(LEAST_PIECE) as usize)?;
+        self.take_piece(place, size.min(LEAST_PIECE) as usize, octets)?;
+        let mut piece = Vec::new(alloc);
         'pieces: while (octets.len() as u64) < size {
             let came = octets.len() as u64;
             let room = (size - came).min(came).min(GREATEST_PIECE);
-            let piece = self.take_piece(alloc, place, room as usize)?;
+            self.take_piece(place, room as usize, &mut piece)?;
             octets.extend_from_slice(piece.as_slice())?;
         }
-        Ok(Octets::new(octets))
+        Ok(())
     }
 
     /// The place of the next octet.
-    #[inline(always)]
     fn at(&self) -> u64
         ensures { result ≡ self.now.place }
     {
@@ -230,7 +230,6 @@ impl<R: Read> StreamReader<R> {
     }
 
     /// Whether `size` octets pass the end of the entry or of the header that they stand in.
-    #[inline(always)]
     fn passes_end(&self, size: u64) -> bool
         ensures { result ≡ passes (self.now.place + size) self.now.bounds.end }
     {
@@ -241,7 +240,6 @@ impl<R: Read> StreamReader<R> {
     }
 
     /// Refuses a field that passes the end of what it stands in, or is longer than it may be.
-    #[inline(always)]
     fn check(&self, size: u64, most: Option<u64>) -> Result<(), FileFault>
         ensures inside { OnOk result (passes (self.now.place + size) self.now.bounds.end ≡ false) }
         ensures under { OnOk result (passes size most ≡ false) }
@@ -264,7 +262,6 @@ impl<R: Read> StreamReader<R> {
     }
 
     /// Refuses a field of octets that passes the end of what it stands in, or is too long.
-    #[inline(always)]
     fn check_octets(&self, size: u64) -> Result<(), FileFault>
         ensures inside { OnOk result (passes (self.now.place + size) self.now.bounds.end ≡ false) }
         ensures under { OnOk result (passes size self.now.bounds.limit ≡ false) }
@@ -272,6 +269,31 @@ impl<R: Read> StreamReader<R> {
     {
         let most = self.limit.get() as u64;
         self.check(size, Some(most))
+    }
+
+    /// The next octets of a field that is no field of octets, whatever is ahead.
+    #[inline(never)]
+    fn fill_slowly(&mut self, octets: &mut [u8]) -> Result<(), FileFault>
+        requires { length octets.old ≤ 2 ^ 16 }
+        ensures { Follows (λ _. octets.new) result (next_octets_at None (length octets.old)) (Unit {0}) self.old self.new }
+    {
+        let place = self.place;
+        self.check(octets.len() as u64, None)?;
+        self.take_all(place, octets)
+    }
+
+    /// Reads a field of octets, whatever is ahead.
+    #[inline(never)]
+    fn octets_slowly(
+        &mut self,
+        alloc: Global,
+        size: u64,
+        octets: &mut Vec<u8>,
+    ) -> Result<(), FileFault>
+        ensures { Follows (λ _. octets.new.items) result (octets_at size) (Unit {0}) self.old self.new }
+    {
+        self.check_octets(size)?;
+        self.take_octets(alloc, size, octets)
     }
 }
 
@@ -290,6 +312,7 @@ impl<R: Read> FieldReader for StreamReader<R> {
 
     fn set_end(&mut self, end: Option<u64>) {
         self.end = end;
+        self.near = near(self.ahead.count(), self.place, end, self.limit);
     }
 
     fn is_empty(&mut self) -> Result<bool, FileFault> {
@@ -306,23 +329,33 @@ impl<R: Read> FieldReader for StreamReader<R> {
 
     #[inline(always)]
     fn fill(&mut self, octets: &mut [u8]) -> Result<(), FileFault> {
-        let place = self.place;
-        self.check(octets.len() as u64, None)?;
-        if octets.len() <= self.ahead.count() {
-            self.fill_ahead(octets);
-            return Ok(());
+        if octets.len() >= self.near {
+            return self.fill_slowly(octets);
         }
-        self.take_all(place, octets)
+        self.near -= octets.len();
+        self.ahead.fill(octets);
+        self.place += octets.len() as u64;
+        Ok(())
     }
 
     #[inline(always)]
-    fn octets(&mut self, alloc: Global, size: u64) -> Result<Octets, FileFault> {
-        self.check_octets(size)?;
-        if size <= self.ahead.count() as u64 {
-            let octets = self.take_ahead(alloc, size as usize)?;
-            return Ok(Octets::new(octets));
+    fn room(&mut self, alloc: Global) -> Vec<u8> {
+        self.spare.take(alloc)
+    }
+
+    fn list(&mut self, alloc: Global) -> Vec<KString> {
+        self.spare.take_list(alloc)
+    }
+
+    #[inline(always)]
+    fn octets(&mut self, alloc: Global, size: u64, octets: &mut Vec<u8>) -> Result<(), FileFault> {
+        if size >= self.near as u64 {
+            return self.octets_slowly(alloc, size, octets);
         }
-        self.take_octets(alloc, size)
+        self.ahead.copy(size as usize, octets)?;
+        self.near -= size as usize;
+        self.place += size;
+        Ok(())
     }
 
     fn skip(&mut self, size: u64) -> Result<bool, FileFault> {
@@ -341,6 +374,21 @@ impl<R: Read> FieldReader for StreamReader<R> {
         }
         Ok(zeros)
     }
+}
+
+/// The least number of octets of a field, at a place, that is not ahead, or passes an end or a limit,
+/// where `ahead` octets are ahead.
+fn near(ahead: usize, place: u64, end: Option<u64>, limit: FieldLimit) -> usize
+    requires { ahead ≤ 512 }
+    ensures { AreNear result ahead place end limit }
+{
+    let most = (ahead as u64).min(limit.get() as u64);
+    let room = match end {
+        Some(end) if end < place => return 0,
+        Some(end) => most.min(end - place),
+        None => most,
+    };
+    room as usize + 1
 }
 
 /// Whether a number of octets is above the greatest that there may be, where there is one.

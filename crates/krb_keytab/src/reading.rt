@@ -9,7 +9,7 @@ ghost use Rattle.krb_keytab.specs.declared.value.Keytab.{Keytab as KeytabValue};
 ghost use Rattle.krb_keytab.specs.Reading.{entry_at, record_of, record_at, items_after, keytab_of_items, read};
 
 use crate::value::{Entry, Hole, Keytab, Record, Stop};
-use krb_der::{FieldReader, FileFault, Many, Names, SliceReader};
+use krb_der::{FieldReader, FileFault, KString, Many, Octets, SliceReader};
 use std::alloc::Global;
 
 /// What stands where a record is due.
@@ -22,19 +22,30 @@ pub enum Next {
 }
 
 /// The entry whose content is what is left up to the end that the reader knows.
+#[inline(never)]
 fn entry<F: FieldReader>(alloc: Global, reader: &mut F) -> Result<Entry, FileFault>
     ensures { Follows (λ entry. entry) result entry_at F.MayFail (F.held reader.old) (F.held reader.new) }
 {
-    let Names { realm, components } = reader.names16(alloc)?;
+    let mut realm = reader.room(alloc);
+    let mut components = reader.list(alloc);
+    reader.names16(alloc, &mut realm, &mut components)?;
+    let name_type = reader.signed32()?;
+    let time = reader.number32()?;
+    let vno8 = reader.number8()?;
+    let enctype = reader.number16()?;
+    let mut key = reader.room(alloc);
+    reader.counted16(alloc, &mut key)?;
+    let mut rest = reader.room(alloc);
+    reader.rest(alloc, &mut rest)?;
     Ok(Entry {
-        realm,
-        components,
-        name_type: reader.signed32()?,
-        time: reader.number32()?,
-        vno8: reader.number8()?,
-        enctype: reader.number16()?,
-        key: reader.counted16(alloc)?,
-        rest: reader.rest(alloc)?,
+        realm: KString::new(realm),
+        components: Many::new(components),
+        name_type,
+        time,
+        vno8,
+        enctype,
+        key: Octets::new(key),
+        rest: Octets::new(rest),
     })
 }
 

@@ -1,5 +1,6 @@
 -- What a reader of fields takes from where its octets come from.
-use Rattle.std.specs.Prelude.{ℕ, ◌+◌, ◌<◌, ◌≡◌, Bool, true, false, List, [], ◌++◌, length, Option, Some}
+use Rattle.std.specs.Prelude.{ℕ, ◌+◌, ◌<◌, ◌≤◌, ◌≡◌, Bool, true, false, List, [], ◌++◌, length, Option, Some}
+use Rattle.krb_der.specs.Fields.{passes}
 use Rattle.krb_der.specs.FieldReaders.{Held, MayHave}
 use Rattle.krb_der.specs.declared.file.FileFault.{FileFault}
 use Rattle.krb_der.specs.declared.file.FileFault.TheVariants as faults
@@ -28,3 +29,7 @@ abbrev pub FailsTaking : FileFault → ℕ → Held → Held → ℕ → Type 0
 FailsTaking (faults.Refused place reason) start had left size = (place ≡ start) × (reason ≡ why.Truncated) × FallsShort had left size
 FailsTaking faults.Read start had left size = Unit {0}
 FailsTaking faults.Memory start had left size = Unit {0}
+
+-- a field of fewer octets than these is ahead, inside the end and under the limit
+abbrev pub AreNear : ℕ → ℕ → ℕ → Option ℕ → ℕ → Type 0
+AreNear near ahead place end limit = (size : ℕ) → size < near → (size ≤ ahead) × (passes (place + size) end ≡ false) × (size ≤ limit)

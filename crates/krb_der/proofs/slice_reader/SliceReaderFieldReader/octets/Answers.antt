@@ -2,5 +2,5 @@ use Rattle.krb_der.proofs.slice_reader.SliceReaderFieldReader.octets.Goals as go
 
 pub returns : goal.returns
 returns c =
-    rw (c.new.ensures, c.in_ok-from_slice.ensures.items)
+    rw (c.in_ok-extend_from_slice.ensures.items, c.reserve_exact.ensures.items, c.clear.ensures.items)
     (record { same_bounds = c.in_ok-taken.ensures.read.same_bounds; from = λ rest there. c.in_ok-taken.ensures.read.from rest there })
