@@ -1,15 +1,17 @@
 //! Reads framed messages from the standard input, parses each, encodes it again, and compares the
 //! octets. A frame may also hold a keytab or a credential cache, which begin with 05: it is read,
-//! written again and compared. It is a test of `krb_judge`, `krb_msg`, `krb_keytab` and `krb_ccache`
-//! on real octets, and what the benchmark measures: with the word `parse` it only parses, and with
-//! `frames` it only cuts the frames; `encode` is what it does without a word. With `judge` it judges
-//! each message, with `step` a scanner takes its octets one after another but those inside a string,
-//! and with `take` at once; there are only messages then. A number after the word is how many times
-//! more it does all this with the same octets, which then are in the processor's cache, as those of a
-//! pipe are. Other words are refused.
+//! written again and compared, also where it is read one record at a time from readers that give it
+//! octet by octet, or cut in two at each place. It is a test of `krb_judge`, `krb_msg`, `krb_keytab`
+//! and `krb_ccache` on real octets, and what the benchmark measures: with the word `parse` it only
+//! parses, and with `frames` it only cuts the frames; `encode` is what it does without a word. With
+//! `judge` it judges each message, with `step` a scanner takes its octets one after another but those
+//! inside a string, and with `take` at once; there are only messages then. A number after the word is
+//! how many times more it does all this with the same octets, which then are in the processor's cache,
+//! as those of a pipe are. Other words are refused.
 #![tactic(auto)]
 
 mod judging;
+mod streamed;
 
 use judging::{Judging, is_whole};
 use krb_ccache::Ccache;
@@ -21,6 +23,7 @@ use std::alloc::Global;
 use std::io::Read;
 use std::process::ExitCode;
 use std::{env, io};
+use streamed::{Ccaches, Format, Keytabs, comes_again};
 
 /// How much is done with each frame.
 #[derive(Clone, Copy, PartialEq, Eq)]
@@ -153,7 +156,7 @@ fn written_keytab(alloc: Global, keytab: &Keytab, octets: &[u8], work: Work) -> 
         return Found::Same;
     }
     match krb_keytab::write(alloc, keytab) {
-        Ok(same) => compared(&same, octets),
+        Ok(same) => found_streamed::<Keytabs>(alloc, compared(&same, octets), octets),
         Err(_) => Found::Nothing,
     }
 }
@@ -164,9 +167,17 @@ fn written_ccache(alloc: Global, cache: &Ccache, octets: &[u8], work: Work) -> F
         return Found::Same;
     }
     match krb_ccache::write(alloc, cache) {
-        Ok(same) => compared(&same, octets),
+        Ok(same) => found_streamed::<Ccaches>(alloc, compared(&same, octets), octets),
         Err(_) => Found::Nothing,
     }
+}
+
+/// What was found on a file that is read one record at a time, too, where it came again before.
+fn found_streamed<F: Format>(alloc: Global, found: Found, octets: &[u8]) -> Found {
+    if found == Found::Same && !comes_again::<F>(alloc, octets) {
+        return Found::Other;
+    }
+    found
 }
 
 /// Whether octets came again.
