@@ -1,6 +1,7 @@
 -- What keeps a cache from being written.
-use Rattle.std.specs.Prelude.{ℕ, ◌+◌, ◌^◌, Bool, ◌||◌, nat_lt, min, List, length}
+use Rattle.std.specs.Prelude.{Bool, ◌||◌, nat_lt, List, length}
 use Rattle.std.specs.List.{list_any}
+use Rattle.krb_der.specs.Parts.{is_long16, is_long32, greatest}
 use Rattle.krb_ccache.specs.declared.value.Ccache.{Ccache}
 use Rattle.krb_ccache.specs.declared.value.Credential.{Credential}
 use Rattle.krb_ccache.specs.declared.value.FilePrincipal.{FilePrincipal}
@@ -8,14 +9,6 @@ use Rattle.krb_ccache.specs.declared.value.Header.{Header}
 use Rattle.krb_ccache.specs.declared.value.HeaderField.{HeaderField}
 use Rattle.krb_ccache.specs.declared.value.Typed.{Typed}
 use Rattle.krb_ccache.specs.Spelling.{header_fields, ccache}
-
--- more than a number of 16 bits says
-abbrev pub is_long16 : {A : Type 0} → List A → Bool
-is_long16 xs = nat_lt 65535 (length xs)
-
--- more than a number of 32 bits says
-abbrev pub is_long32 : {A : Type 0} → List A → Bool
-is_long32 xs = nat_lt 4294967295 (length xs)
 
 -- ---- the parts of a cache of which a number cannot say how long they are
 
@@ -48,14 +41,6 @@ abbrev pub is_long_ccache : Ccache → Bool
 is_long_ccache v = is_long_header v.header || is_long_principal v.principal || list_any is_long_credential v.credentials
 
 -- ---- the file
-
--- the greatest number of octets of a file
-abbrev pub greatest : ℕ
-greatest = 2 ^ 40
-
--- a number of octets, held at one more than that where there are more
-abbrev pub held : ℕ → ℕ
-held size = min size (greatest + 1)
 
 -- What keeps a cache from being written: a part that is too long, or more octets than a file may have.
 abbrev pub is_too_long : Ccache → Bool

@@ -8,7 +8,6 @@
 
 mod credentials;
 pub mod law;
-mod part;
 mod reading;
 mod ticket;
 mod value;

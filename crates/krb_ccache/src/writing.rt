@@ -6,9 +6,10 @@ ghost use Rattle.krb_ccache.specs.Spelling.{principal, PrincipalFits, typed, Typ
 ghost use Rattle.krb_ccache.specs.Reading.{read};
 ghost use Rattle.krb_ccache.specs.Writing.{is_long_principal, is_long_typed, is_long_credential, is_long_field, is_long_header, is_long_ccache, is_too_long};
 
-use crate::part::{Count, Each, GREATEST, Listed, Measured, Part, Short, Then};
 use crate::value::{Ccache, Credential, FilePrincipal, Header, HeaderField, Typed};
-use krb_der::{KString, Octets};
+use krb_der::{
+    Count32, Counted16, Each, GREATEST_FILE, KString, Listed, Measured, Octets, Part, Then,
+};
 use std::alloc::{AllocError, Global};
 use thiserror::Error;
 
@@ -34,7 +35,7 @@ impl From<AllocError> for CcacheFault {
 
 type PrincipalLayout<'a> = Then<
     i32,
-    Then<Count<'a, KString>, Then<&'a KString, Each<'a, KString>>>,
+    Then<Count32<'a, KString>, Then<&'a KString, Each<'a, KString>>>,
 >;
 
 impl FilePrincipal {
@@ -46,7 +47,7 @@ impl FilePrincipal {
     {
         let components = self.components.as_slice();
         let names = Then(&self.realm, Each(components));
-        Then(self.name_type, Then(Count(components), names))
+        Then(self.name_type, Then(Count32(components), names))
     }
 }
 
@@ -160,7 +161,7 @@ impl Part for Credential {
     }
 }
 
-type HeaderFieldLayout<'a> = Then<u16, Short<'a>>;
+type HeaderFieldLayout<'a> = Then<u16, Counted16<'a>>;
 
 impl HeaderField {
     /// What its octets are made of.
@@ -169,7 +170,7 @@ impl HeaderField {
         ensures is_long { ⟦<HeaderFieldLayout<'static> as Part>⟧.is_long result ≡ is_long_field self.now }
         ensures fits { ⟦<HeaderFieldLayout<'static> as Part>⟧.Fits result → HeaderFieldFits self.now }
     {
-        Then(self.tag, Short(self.value.as_slice()))
+        Then(self.tag, Counted16(self.value.as_slice()))
     }
 }
 
@@ -247,7 +248,7 @@ fn file_size(ccache: &Ccache) -> Option<u64>
     ensures short { IfSome result (λ _. is_long_ccache ccache.now ≡ false) }
     ensures fits { IfSome result (λ _. CcacheFits ccache.now) }
 {
-    ccache.size().filter(|size| *size <= GREATEST)
+    ccache.size().filter(|size| *size <= GREATEST_FILE)
 }
 
 /// The octets of a cache. TooLong is decided first: for a header or a value in it of more than 65535

@@ -7,4 +7,5 @@ pub mod Fields
 pub mod FieldReaders
 pub mod Hex
 pub mod Puts
+pub mod Parts
 pub mod inner

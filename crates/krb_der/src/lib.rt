@@ -5,7 +5,8 @@
 //! `Numbers`, `Items` and `PrefixFree` of `specs/inner` define nothing: they prove the laws of [`Der`].
 //!
 //! Beside these stands what keytabs and credential caches share: why a file is refused
-//! ([`FileFault`]), and, in `specs/Fields`, how the fields of files are spelled and read.
+//! ([`FileFault`]), how the fields of files are spelled and read (`specs/Fields`), and how files are
+//! made of parts ([`Part`]).
 //!
 //! Nothing here knows a Kerberos message; `krb_msg` does.
 #![tactic(auto)]
@@ -25,6 +26,7 @@ mod memory;
 mod micros;
 mod number;
 mod octets;
+mod part;
 mod room;
 mod slice_reader;
 mod stream_reader;
@@ -46,6 +48,10 @@ pub use memory::Memory;
 pub use micros::Micros;
 pub use number::{integer_size, integer_value, number_of, put_integer};
 pub use octets::Octets;
+pub use part::{
+    Count16, Count32, Counted16, Counted32, Each, GREATEST_FILE, Listed, Measured, Part, Plain,
+    Strings16, Then,
+};
 pub use room::{GiveBack, Room};
 pub use slice_reader::SliceReader;
 pub use stream_reader::StreamReader;

@@ -6,6 +6,7 @@ pub mod Stepwise
 pub mod Loops
 pub mod Written
 pub mod Sizes
+pub mod Layouts
 pub mod Answered
 pub mod HoleRead
 pub mod Streams

@@ -1,28 +1,24 @@
--- How many octets a keytab has.
-use Rattle.std.proofs.Common.{◌≡◌, ℕ, zero, suc, ◌+◌, ◌≤◌, ◌<◌, Bool, true, false, ◌||◌, Option, Some, None, List, [], ◌∷◌, ◌++◌, length, get_or, take, drop, refl, sym, ap, ◌∙◌, append_assoc, arith, length-append, lt-ltb}
+-- How many octets a keytab has, and what its entries are made of.
+use Rattle.std.proofs.Common.{◌≡◌, ℕ, zero, suc, ◌+◌, ◌≤◌, ◌<◌, Bool, true, false, ◌||◌, Option, Some, None, List, [], ◌∷◌, ◌++◌, length, get_or, take, drop, refl, sym, ap, ◌∙◌, arith, length-append, lt-ltb}
 use native.Mathlib.Numerals.{unary_clauses}
 use Rattle.std.proofs.lemmas.List.{take_more}
 use Rattle.std.proofs.lemmas.List.Concat.{flat_map-append, flat_map-cons}
 use Rattle.std.specs.List.{flat_map}
-use Rattle.std.specs.Int.{w16}
-use Rattle.krb_der.specs.Fields.{counted, zeros}
+use Rattle.krb_der.specs.Fields.{zeros}
 use Rattle.krb_keytab.specs.Holes.{HoleModel}
 use Rattle.krb_keytab.specs.declared.value.Entry.{Entry}
 use Rattle.krb_keytab.specs.declared.value.Record.{Record}
 use Rattle.krb_keytab.specs.declared.value.Record.TheVariants as records
 use Rattle.krb_keytab.specs.declared.writing.KeytabFault.{KeytabFault}
 use Rattle.krb_keytab.specs.Spelling.{entry}
-use Rattle.krb_keytab.specs.Writing.{is_long, any_long, is_long_entry, or_else, record_fault, records_fault, written_record}
-
-pub length-entry : (e : Entry) → length (entry e) ≡ 17 + length e.realm + length (flat_map (counted w16) e.components) + length e.key + length e.rest
-length-entry e = simp length-append (omega arith)
+use Rattle.krb_keytab.specs.Writing.{has_long_part, is_long_entry, or_else, record_fault, records_fault, written_record}
 
 or_true : (b : Bool) → (b || true) ≡ true
 or_true true = refl
 or_true false = refl
 
 pub long_content : (e : Entry) → 2147483648 ≤ length (entry e) → is_long_entry e ≡ true
-long_content e h = ap (λ (b : Bool). (is_long e.components || is_long e.realm || is_long e.key || any_long e.components) || b) (lt-ltb _ _ (omega arith)) ∙ or_true (is_long e.components || is_long e.realm || is_long e.key || any_long e.components)
+long_content e h = ap (λ (b : Bool). has_long_part e || b) (lt-ltb _ _ (omega arith)) ∙ or_true (has_long_part e)
 
 -- ---- a record
 pub length-zeros : (n : ℕ) → length (zeros n) ≡ n
@@ -78,7 +74,3 @@ size-more rs i r lt is =
     ∙ ap (λ (r : Record). length (flat_map written_record (take i rs)) + length (flat_map written_record (r ∷ []))) (sym is)
     ∙ ap (λ (l : List ℕ). length (flat_map written_record (take i rs)) + length l) (flat_map-cons written_record r [])
     ∙ omega (arith, length-append (written_record r) [])
-
--- ---- parts appended one by one
-pub appended : (o a b c d e f g h i o1 o2 o3 o4 o5 o6 o7 o8 o9 : List ℕ) → o1 ≡ o ++ a → o2 ≡ o1 ++ b → o3 ≡ o2 ++ c → o4 ≡ o3 ++ d → o5 ≡ o4 ++ e → o6 ≡ o5 ++ f → o7 ≡ o6 ++ g → o8 ≡ o7 ++ h → o9 ≡ o8 ++ i → o9 ≡ o ++ (a ++ b ++ c ++ d ++ e ++ f ++ g ++ h ++ i)
-appended o a b c d e f g h i o1 o2 o3 o4 o5 o6 o7 o8 o9 e1 e2 e3 e4 e5 e6 e7 e8 e9 = rw (e9, e8, e7, e6, e5, e4, e3, e2, e1) (simp append_assoc)

@@ -1,9 +1,10 @@
 -- What is written of a keytab, and what keeps one from being written.
-use Rattle.std.specs.Prelude.{ℕ, pos, ◌^◌, ◌≡◌, Bool, true, ◌||◌, nat_lt, Option, Some, None, List, [], ◌∷◌, ◌++◌, length}
+use Rattle.std.specs.Prelude.{ℕ, pos, ◌≡◌, Bool, true, ◌||◌, nat_lt, Option, Some, None, List, [], ◌∷◌, ◌++◌, length}
 use Rattle.std.specs.List.{flat_map, list_any}
 use Rattle.std.specs.Int.{w32}
 use Rattle.krb_der.specs.Octets.{when}
 use Rattle.krb_der.specs.Fields.{signed, zeros}
+use Rattle.krb_der.specs.Parts.{is_long16, greatest}
 use Rattle.krb_keytab.specs.Holes.{IsHoleSize}
 use Rattle.krb_keytab.specs.declared.value.Keytab.{Keytab}
 use Rattle.krb_keytab.specs.declared.value.Record.{Record}
@@ -29,16 +30,13 @@ CanWrite (records.Hole hole) = IsHoleSize hole.size × (hole.clean ≡ true)
 
 -- ---- the faults
 
--- more than a number of 16 bits says
-abbrev pub is_long : {A : Type 0} → List A → Bool
-is_long xs = nat_lt 65535 (length xs)
+-- too many components, or a field of octets that is too long
+abbrev pub has_long_part : Entry → Bool
+has_long_part e = is_long16 e.components || is_long16 e.realm || list_any is_long16 e.components || is_long16 e.key
 
-abbrev pub any_long : List (List ℕ) → Bool
-any_long fields = list_any is_long fields
-
--- too many components, a field of octets that is too long, or a content that is
+-- a part that is too long, or a content that is
 abbrev pub is_long_entry : Entry → Bool
-is_long_entry e = is_long e.components || is_long e.realm || is_long e.key || any_long e.components || nat_lt 2147483647 (length (entry e))
+is_long_entry e = has_long_part e || nat_lt 2147483647 (length (entry e))
 
 abbrev pub record_fault : Record → Option KeytabFault
 record_fault (records.Entry e) = when (is_long_entry e) (λ _. Some faults.TooLong) (λ _. None)
@@ -52,10 +50,6 @@ or_else None other = other tt
 abbrev pub records_fault : List Record → Option KeytabFault
 records_fault [] = None
 records_fault (first ∷ others) = or_else (record_fault first) (λ _. records_fault others)
-
--- the greatest number of octets of a file
-abbrev pub greatest : ℕ
-greatest = 2 ^ 40
 
 -- What keeps a keytab from being written: a fault of a record, and then more octets than a file may have.
 abbrev pub write_fault : Keytab → Option KeytabFault

@@ -1,20 +1,21 @@
 //! Keytabs, written as octets.
 
 ghost use Rattle.std.specs.Prelude.{◌≡◌, ◌+◌, ◌*◌, ◌<◌, ◌≤◌, ◌^◌, ◌++◌, ◌↔◌, length, min, pos, true, false, None, Some, IsNone, IfSome, Ok, IfOk, IsErrOf, MatchResult};
-ghost use Rattle.std.specs.Int.{w16, w32};
-ghost use Rattle.std.specs.Int.RustNames.{FitsSigned};
+ghost use Rattle.std.specs.Int.{w32};
 ghost use Rattle.std.specs.List.{flat_map, AllByRecursion};
 ghost use Rattle.std.specs.Vec.{vec_len, vec_capacity};
 ghost use Rattle.krb_der.specs.Puts.{Puts};
-ghost use Rattle.krb_der.specs.Octets.{AreOctets};
-ghost use Rattle.krb_der.specs.Fields.{counted, signed, zeros, IsCounted};
+ghost use Rattle.krb_der.specs.Fields.{signed, zeros};
+ghost use Rattle.krb_der.specs.Parts.{greatest};
 ghost use Rattle.krb_keytab.specs.declared.writing.KeytabFault.TheVariants.{Dirty, TooLong, Memory};
 ghost use Rattle.krb_keytab.specs.Spelling.{entry as content_of, EntryFits, negated, stop_octets, KeytabSpells};
 ghost use Rattle.krb_keytab.specs.Reading.{read};
-ghost use Rattle.krb_keytab.specs.Writing.{is_long, any_long, is_long_entry, record_fault, records_fault, write_fault, greatest, written_record, written, CanWrite};
+ghost use Rattle.krb_keytab.specs.Writing.{has_long_part, is_long_entry, record_fault, records_fault, write_fault, written_record, written, CanWrite};
 
 use crate::value::{Entry, Hole, Keytab, Record, Stop};
-use krb_der::{KString, put_octets};
+use krb_der::{
+    Count16, Counted16, GREATEST_FILE, KString, Part, Plain, Strings16, Then, put_octets,
+};
 use std::alloc::{AllocError, Global};
 use thiserror::Error;
 
@@ -41,47 +42,28 @@ impl From<AllocError> for KeytabFault {
     }
 }
 
-/// The number of octets.
-fn size(octets: &[u8]) -> u64
-    ensures value { result ≡ length octets.now }
-    ensures octets { AreOctets octets.now }
-{
-    octets.len() as u64
-}
+type NamesLayout<'a> = Then<Count16<'a, KString>, Then<Counted16<'a>, Strings16<'a>>>;
 
-/// The number of octets, where a number of 16 bits says it.
-fn short_size(octets: &[u8]) -> Option<u64>
-    ensures none { IsNone result ↔ (is_long octets.now ≡ true) }
-    ensures some { IfSome result (λ size. size ≡ length octets.now) }
-    ensures counted { IfSome result (λ _. IsCounted w16 octets.now) }
-{
-    let size = size(octets);
-    if size <= 65535 { Some(size) } else { None }
-}
+type EntryLayout<'a> = Then<
+    NamesLayout<'a>,
+    Then<i32, Then<u32, Then<u8, Then<u16, Then<Counted16<'a>, Plain<'a>>>>>>,
+>;
 
-/// The number of octets of components, each after its number; `None` where one of them is too
-/// long.
-fn components_size(components: &[KString]) -> Option<u64>
-    requires { length components.now ≤ 65535 }
-    ensures none { IsNone result ↔ (any_long components.now ≡ true) }
-    ensures some { IfSome result (λ size. size ≡ length (flat_map (counted w16) components.now)) }
-    ensures small { IfSome result (λ size. size ≤ 65537 * length components.now) }
-    ensures counted { IfSome result (λ _. AllByRecursion (IsCounted w16) components.now) }
-{
-    let mut size = 0;
-    for component in components {
-        size += 2 + short_size(component.octets())?;
+impl Entry {
+    /// What the octets of its content are made of.
+    fn layout(&self) -> EntryLayout<'_>
+        ensures octets { ⟦<EntryLayout<'static> as Part>⟧.octets result ≡ content_of self.now }
+        ensures is_long { ⟦<EntryLayout<'static> as Part>⟧.is_long result ≡ has_long_part self.now }
+        ensures fits { ⟦<EntryLayout<'static> as Part>⟧.Fits result → length (content_of self.now) < 2 ^ 31 → EntryFits self.now }
+    {
+        let components = self.components.as_slice();
+        let realm = Counted16(self.realm.octets());
+        let names = Then(Count16(components), Then(realm, Strings16(components)));
+        let key = Then(Counted16(self.key.as_slice()), Plain(self.rest.as_slice()));
+        let numbers = Then(self.time, Then(self.vno8, Then(self.enctype, key)));
+        Then(names, Then(self.name_type, numbers))
     }
-    Some(size)
 }
-
-/// The numbers of an entry are in their ranges. This does nothing.
-fn numbers_fit(name_type: i32, time: u32, vno8: u8, enctype: u16)
-    ensures name_type { FitsSigned w32 name_type }
-    ensures time { time < 2 ^ 32 }
-    ensures vno8 { vno8 < 2 ^ 8 }
-    ensures enctype { enctype < 2 ^ 16 }
-{}
 
 /// The number of octets of an entry's content; `None` where it is too long, or a part of it is.
 fn content_size(entry: &Entry) -> Option<u32>
@@ -89,16 +71,7 @@ fn content_size(entry: &Entry) -> Option<u32>
     ensures some { IfSome result (λ size. size ≡ length (content_of entry.now)) }
     ensures fits { IfSome result (λ _. EntryFits entry.now) }
 {
-    let components = entry.components.as_slice();
-    if components.len() > 65535 {
-        return None;
-    }
-    let realm = short_size(entry.realm.octets())?;
-    let key = short_size(entry.key.as_slice())?;
-    let names = components_size(components)?;
-    let rest = size(entry.rest.as_slice());
-    numbers_fit(entry.name_type, entry.time, entry.vno8, entry.enctype);
-    let size = 17 + realm + names + key + rest;
+    let size = entry.layout().size()?;
     if size < 1 << 31 {
         Some(size as u32)
     } else {
@@ -121,10 +94,7 @@ fn record_size(record: &Record) -> Result<u64, KeytabFault>
     Ok(4 + u64::from(size))
 }
 
-/// The greatest number of octets of a file, 2^40.
-const GREATEST: u64 = 1 << 40;
-
-/// The number of octets of records, or one more than `GREATEST` where there are more than that; the
+/// The number of octets of records, or one more than `GREATEST_FILE` where there are more than that; the
 /// fault of the first record that has one.
 fn records_size(records: &[Record]) -> Result<u64, KeytabFault>
     ensures fault { MatchResult result (λ _. records_fault records.now ≡ None) (λ fault. records_fault records.now ≡ Some fault) }
@@ -133,7 +103,7 @@ fn records_size(records: &[Record]) -> Result<u64, KeytabFault>
 {
     let mut size = 0;
     for record in records {
-        size = (size + record_size(record)?).min(GREATEST + 1);
+        size = (size + record_size(record)?).min(GREATEST_FILE + 1);
     }
     Ok(size)
 }
@@ -158,31 +128,10 @@ fn file_size(keytab: &Keytab) -> Result<u64, KeytabFault>
 {
     let records = records_size(keytab.records.as_slice())?;
     let size = 2 + records + stop_octets(keytab.stop).len() as u64;
-    if size <= GREATEST {
+    if size <= GREATEST_FILE {
         Ok(size)
     } else {
         Err(KeytabFault::TooLong)
-    }
-}
-
-/// Appends octets after their number of 16 bits, into room that is there.
-fn put_counted(out: &mut Vec<u8>, octets: &[u8])
-    requires short { length octets.now < 2 ^ 16 }
-    requires room { vec_len out.old + length (counted w16 octets.now) ≤ vec_capacity out.old }
-    ensures { Puts (counted w16 octets.now) out.old out.new }
-{
-    put_octets(out, &(octets.len() as u16).to_be_bytes());
-    put_octets(out, octets);
-}
-
-/// Appends components, each after its number of octets, into room that is there.
-fn put_components(out: &mut Vec<u8>, components: &[KString])
-    requires short { any_long components.now ≡ false }
-    requires room { vec_len out.old + length (flat_map (counted w16) components.now) ≤ vec_capacity out.old }
-    ensures { Puts (flat_map (counted w16) components.now) out.old out.new }
-{
-    for component in components {
-        put_counted(out, component.octets());
     }
 }
 
@@ -194,24 +143,6 @@ fn put_zeros(out: &mut Vec<u8>, count: u32)
     for _ in 0..count {
         out.push_reserved(0);
     }
-}
-
-/// Appends an entry's content, into room that is there.
-fn put_content(out: &mut Vec<u8>, entry: &Entry)
-    requires short { is_long_entry entry.now ≡ false }
-    requires room { vec_len out.old + length (content_of entry.now) ≤ vec_capacity out.old }
-    ensures { Puts (content_of entry.now) out.old out.new }
-{
-    let components = entry.components.as_slice();
-    put_octets(out, &(components.len() as u16).to_be_bytes());
-    put_counted(out, entry.realm.octets());
-    put_components(out, components);
-    put_octets(out, &entry.name_type.to_be_bytes());
-    put_octets(out, &entry.time.to_be_bytes());
-    put_octets(out, &entry.vno8.to_be_bytes());
-    put_octets(out, &entry.enctype.to_be_bytes());
-    put_counted(out, entry.key.as_slice());
-    put_octets(out, entry.rest.as_slice());
 }
 
 /// Appends a record that has no fault, into room that is there.
@@ -237,7 +168,7 @@ fn put_entry(out: &mut Vec<u8>, entry: &Entry)
         return;
     };
     put_octets(out, &size.to_be_bytes());
-    put_content(out, entry);
+    entry.layout().put(out);
 }
 
 /// Appends a clean hole: its octets, all 00, after their negated number.
