@@ -3,8 +3,8 @@ use Rattle.std.proofs.Common.{ℕ, List, Result, Ok, Err, subst}
 use Rattle.std.specs.Prelude.{IfOk, IfErr}
 use Rattle.krb_der.specs.Octets.{AreOctets}
 use Rattle.krb_der.specs.Fields.{Gives, IsFaultIn}
-use Rattle.krb_der.specs.declared.file.FileFault.{FileFault}
-use Rattle.krb_der.specs.declared.file.FileFault.TheVariants as faults
+use Rattle.krb_der.specs.declared.files.fault.FileFault.{FileFault}
+use Rattle.krb_der.specs.declared.files.fault.FileFault.TheVariants as faults
 use Rattle.krb_ccache.specs.declared.value.Ccache.{Ccache}
 use Rattle.krb_ccache.specs.Spelling.{CcacheSpells}
 use Rattle.krb_ccache.specs.Reading.{read}

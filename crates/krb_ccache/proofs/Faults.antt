@@ -3,7 +3,7 @@ use Rattle.std.proofs.Common.{◌≡◌, ℕ, zero, suc, ◌≤◌, inl, inr, Bo
 use Rattle.std.specs.Int.{w8, w16, w32}
 use Rattle.krb_der.specs.Octets.{when}
 use Rattle.krb_der.specs.Fields.{Source, source_of, Fault, Bounds, limited, Reader, onward, gives, number_at, signed_at, counted_at, names_at, within, is_at_end, version_at}
-use Rattle.krb_der.specs.declared.file.FileWhy.TheVariants as why
+use Rattle.krb_der.specs.declared.files.fault.FileWhy.TheVariants as why
 use Rattle.krb_der.proofs.Fields.{done, failed, onward-err}
 use Rattle.krb_der.proofs.Steps.{IsFault, IsFault-then, Moved, Steps, Steps-then, Steps-gives, Steps-number, Steps-signed, Steps-counted, Steps-times, Steps-names, Steps-within, Steps-version}
 use Rattle.krb_ccache.specs.declared.value.Ccache.{Ccache}

@@ -3,8 +3,8 @@ use Rattle.std.proofs.Common.{◌≡◌, ℕ, ◌+◌, ◌-◌, ◌<◌, ◌≤�
 use Rattle.krb_der.specs.Octets.{when}
 use Rattle.krb_der.specs.Fields.{Source, Fault, Bounds, Reader, onward, ◌>>=◌, gives, is_empty, within, Fails}
 use Rattle.krb_der.specs.FieldReaders.{Held, MayHave, source_at, HasRead, FailsBy, bounded}
-use Rattle.krb_der.specs.declared.file.FileFault.{FileFault}
-use Rattle.krb_der.specs.declared.file.FileFault.TheVariants as faults
+use Rattle.krb_der.specs.declared.files.fault.FileFault.{FileFault}
+use Rattle.krb_der.specs.declared.files.fault.FileFault.TheVariants as faults
 use Rattle.krb_der.proofs.Fields.{done, ok_is, onward-ok, onward-err}
 use Rattle.krb_der.proofs.FieldReaders.{SomeRest, some_rest}
 use Rattle.krb_der.proofs.Loops.{with_front}

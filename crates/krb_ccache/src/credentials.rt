@@ -2,7 +2,7 @@
 
 ghost use Rattle.std.specs.Prelude.{◌≡◌, ℕ, List, None, Some, Ok, Err, IfOk, IfErr};
 ghost use Rattle.krb_ccache.specs.declared.credentials.State.TheVariants as states;
-ghost use Rattle.krb_der.specs.declared.file.FileFault.{FileFault as FaultValue};
+ghost use Rattle.krb_der.specs.declared.files.fault.FileFault.{FileFault as FaultValue};
 ghost use Rattle.krb_ccache.specs.Reading.{Start};
 ghost use Rattle.krb_ccache.specs.Streaming.{Reads, FailsStart, GivesNext};
 

@@ -2,8 +2,8 @@
 use Rattle.std.proofs.Common.{◌≡◌, ℕ, zero, suc, ◌+◌, ◌<◌, Bool, Option, Some, None, Result, Ok, Err, List, [], ◌∷◌, ◌++◌, refl, sym, ◌∙◌, ap, subst, arith}
 use Rattle.krb_der.specs.Fields.{Source, Fault, Bounds, ended, Fails, Reader, onward, ◌>>=◌, gives, next_octets_at, are_zero, times}
 use Rattle.krb_der.specs.FieldReaders.{Held, GoesOn, MayHave, source_at, HasRead, FailsBy, skipped_at, Slice, of_slice}
-use Rattle.krb_der.specs.declared.file.FileFault.{FileFault}
-use Rattle.krb_der.specs.declared.file.FileFault.TheVariants as faults
+use Rattle.krb_der.specs.declared.files.fault.FileFault.{FileFault}
+use Rattle.krb_der.specs.declared.files.fault.FileFault.TheVariants as faults
 use Rattle.krb_der.proofs.Fields.{done, ok_is, onward-ok}
 
 -- something may always be left

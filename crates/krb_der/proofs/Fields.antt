@@ -12,8 +12,8 @@ use Rattle.std.specs.Int.{Width, w8, w16, w32, byte_len, from_be_bytes, to_be_by
 use Rattle.std.specs.Int.RustNames.{FitsSigned}
 use Rattle.krb_der.specs.Octets.{when, AreOctets}
 use Rattle.krb_der.specs.Fields.{signed, counted, Names, names, bound_of, IsCounted, AreNames, Source, Fault, Bounds, Reader, onward, ◌>>=◌, gives, refused, passes, next_octets_at, octets_at, number_at, signed_at, counted_at, times, names_at, is_one_of, expect, version_at}
-use Rattle.krb_der.specs.declared.file.FileWhy.{FileWhy}
-use Rattle.krb_der.specs.declared.file.FileWhy.TheVariants as why
+use Rattle.krb_der.specs.declared.files.fault.FileWhy.{FileWhy}
+use Rattle.krb_der.specs.declared.files.fault.FileWhy.TheVariants as why
 use Rattle.krb_der.specs.inner.Numbers.{AreOctets-take, AreOctets-drop}
 
 abbrev pub at : ℕ → List ℕ → Source

@@ -9,10 +9,10 @@ use Rattle.std.specs.Io.KnownBytes.{Consumes, IsAtEnd}
 use Rattle.krb_der.specs.Fields.{Source, Fault, Bounds, passes, onward, gives, is_empty, next_octets_at, octets_at, are_zero}
 use Rattle.krb_der.specs.FieldReaders.{Held, GoesOn, MayHave, HasRead, HasMet, FailsBy, ended_at, skipped_at}
 use Rattle.krb_der.specs.inner.Takes.{Takes, left_of, FallsShort, FailsTaking, AreNear}
-use Rattle.krb_der.specs.declared.file.FileFault.{FileFault}
-use Rattle.krb_der.specs.declared.file.FileFault.TheVariants as faults
-use Rattle.krb_der.specs.declared.file.FileWhy.{FileWhy}
-use Rattle.krb_der.specs.declared.file.FileWhy.TheVariants as why
+use Rattle.krb_der.specs.declared.files.fault.FileFault.{FileFault}
+use Rattle.krb_der.specs.declared.files.fault.FileFault.TheVariants as faults
+use Rattle.krb_der.specs.declared.files.fault.FileWhy.{FileWhy}
+use Rattle.krb_der.specs.declared.files.fault.FileWhy.TheVariants as why
 use Rattle.krb_der.proofs.FieldReaders.{some_rest, skipped}
 
 pub Takes-none : (held : Held) → Takes held held []

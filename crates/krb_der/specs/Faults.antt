@@ -1,10 +1,10 @@
 -- The numbers and the names of the reasons why a file is refused, and what a fault of a file prints.
 use Rattle.std.specs.Prelude.{ℕ, List, ◌++◌, codes}
 use Rattle.std.specs.Fmt.{decimal}
-use Rattle.krb_der.specs.declared.file.FileFault.{FileFault}
-use Rattle.krb_der.specs.declared.file.FileFault.TheVariants.{Refused, Read, Memory}
-use Rattle.krb_der.specs.declared.file.FileWhy.{FileWhy}
-use Rattle.krb_der.specs.declared.file.FileWhy.TheVariants.{Magic, Version, Truncated, Overrun, TooLong}
+use Rattle.krb_der.specs.declared.files.fault.FileFault.{FileFault}
+use Rattle.krb_der.specs.declared.files.fault.FileFault.TheVariants.{Refused, Read, Memory}
+use Rattle.krb_der.specs.declared.files.fault.FileWhy.{FileWhy}
+use Rattle.krb_der.specs.declared.files.fault.FileWhy.TheVariants.{Magic, Version, Truncated, Overrun, TooLong}
 
 abbrev pub file_reason_number : FileWhy → ℕ
 file_reason_number Magic = 1

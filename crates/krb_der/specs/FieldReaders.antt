@@ -1,8 +1,8 @@
 -- Readers of fields: what one still has, and what its calls give, whatever the octets come from.
 use Rattle.std.specs.Prelude.{ℕ, ◌≡◌, Bool, List, [], ◌++◌, Option, Some, None, Result, Ok, Err}
 use Rattle.krb_der.specs.Fields.{Source, Fault, Bounds, ended, Reader, ◌>>=◌, gives, next_octets_at, is_empty, are_zero}
-use Rattle.krb_der.specs.declared.file.FileFault.{FileFault}
-use Rattle.krb_der.specs.declared.file.FileFault.TheVariants as faults
+use Rattle.krb_der.specs.declared.files.fault.FileFault.{FileFault}
+use Rattle.krb_der.specs.declared.files.fault.FileFault.TheVariants as faults
 
 -- Octets that were taken to see whether one is left, and are not read yet; the octets after these, where they are known; the place of the next octet; and what bounds the next field.
 pub record Held : Type 0 where

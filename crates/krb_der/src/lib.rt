@@ -11,11 +11,8 @@
 //! Nothing here knows a Kerberos message; `krb_msg` does.
 #![tactic(auto)]
 
-mod ahead;
 mod der;
-mod field_limit;
-mod field_reader;
-mod file;
+mod files;
 mod flags;
 mod int32;
 mod item;
@@ -26,18 +23,17 @@ mod memory;
 mod micros;
 mod number;
 mod octets;
-mod part;
 mod room;
-mod slice_reader;
-mod stream_reader;
 mod verdict;
 mod why;
 mod wide32;
 
 pub use der::Der;
-pub use field_limit::FieldLimit;
-pub use field_reader::{Field, FieldReader, String16, String32, read_many};
-pub use file::{FileFault, FileWhy, file_why_number, file_why_text};
+pub use files::{
+    Count16, Count32, Counted16, Counted32, Each, Field, FieldLimit, FieldReader, FileFault,
+    FileWhy, GREATEST_FILE, Listed, Measured, Part, Plain, SliceReader, StreamReader, String16,
+    String32, Strings16, Then, file_why_number, file_why_text, read_many,
+};
 pub use flags::{Flags, last_or_zero};
 pub use int32::Int32;
 pub use item::{TOO_LONG, add_sizes, item_size, put_header, put_item, put_octets, size_of};
@@ -48,13 +44,7 @@ pub use memory::Memory;
 pub use micros::Micros;
 pub use number::{integer_size, integer_value, number_of, put_integer};
 pub use octets::Octets;
-pub use part::{
-    Count16, Count32, Counted16, Counted32, Each, GREATEST_FILE, Listed, Measured, Part, Plain,
-    Strings16, Then,
-};
 pub use room::{GiveBack, Room};
-pub use slice_reader::SliceReader;
-pub use stream_reader::StreamReader;
 pub use verdict::{Refusal, Verdict};
 pub use why::{Why, why_number, why_text};
 pub use wide32::Wide32;

@@ -2,8 +2,8 @@
 use Rattle.std.proofs.Common.{◌≡◌, ℕ, suc, Option, Some, Result, Ok, Err, List, [], ◌∷◌, ◌++◌, length, refl, sym, ◌∙◌, ap, subst, arith, append_assoc, append-nil, length-append}
 use Rattle.krb_der.specs.Fields.{Source, Fault, Bounds, limited, version_at}
 use Rattle.krb_der.specs.FieldReaders.{Held, source_at, HasRead, FailsBy}
-use Rattle.krb_der.specs.declared.file.FileFault.{FileFault}
-use Rattle.krb_der.specs.declared.file.FileFault.TheVariants as faults
+use Rattle.krb_der.specs.declared.files.fault.FileFault.{FileFault}
+use Rattle.krb_der.specs.declared.files.fault.FileFault.TheVariants as faults
 use Rattle.krb_der.proofs.FieldReaders.{some_rest}
 use Rattle.krb_keytab.specs.declared.value.Record.{Record}
 use Rattle.krb_keytab.specs.declared.value.Stop.{Stop}

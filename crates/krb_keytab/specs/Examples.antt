@@ -3,7 +3,7 @@ use Rattle.std.specs.Prelude.{ℕ, zero, suc, pos, ◌≡◌, Bool, true, false,
 use Rattle.krb_der.specs.Octets.{when}
 use Rattle.krb_der.specs.Hex.{hex}
 use Rattle.krb_der.specs.Fields.{Fault}
-use Rattle.krb_der.specs.declared.file.FileWhy.TheVariants as why
+use Rattle.krb_der.specs.declared.files.fault.FileWhy.TheVariants as why
 use Rattle.krb_keytab.specs.declared.value.Keytab.{Keytab}
 use Rattle.krb_keytab.specs.declared.value.Entry.{Entry}
 use Rattle.krb_keytab.specs.declared.value.Record.TheVariants as records

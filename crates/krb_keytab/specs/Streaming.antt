@@ -2,8 +2,8 @@
 use Rattle.std.specs.Prelude.{ℕ, suc, ◌≡◌, List, ◌∷◌, ◌++◌, [], length, Option, Result, Ok, Err}
 use Rattle.krb_der.specs.Fields.{Source, Fault, limited, version_at}
 use Rattle.krb_der.specs.FieldReaders.{Held, MayHave, source_at}
-use Rattle.krb_der.specs.declared.file.FileFault.{FileFault}
-use Rattle.krb_der.specs.declared.file.FileFault.TheVariants as faults
+use Rattle.krb_der.specs.declared.files.fault.FileFault.{FileFault}
+use Rattle.krb_der.specs.declared.files.fault.FileFault.TheVariants as faults
 use Rattle.krb_keytab.specs.declared.value.Record.{Record}
 use Rattle.krb_keytab.specs.declared.value.Stop.{Stop}
 use Rattle.krb_keytab.specs.declared.reading.Next.{Next}

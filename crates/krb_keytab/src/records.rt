@@ -4,7 +4,7 @@ ghost use Rattle.std.specs.Prelude.{◌≡◌, ℕ, List, Some, Ok, Err, IfErr};
 ghost use Rattle.krb_keytab.specs.declared.value.Stop.{Stop as StopValue};
 ghost use Rattle.krb_keytab.specs.declared.reading.Next.TheVariants as nexts;
 ghost use Rattle.krb_keytab.specs.declared.records.State.TheVariants as states;
-ghost use Rattle.krb_der.specs.declared.file.FileFault.{FileFault as FaultValue};
+ghost use Rattle.krb_der.specs.declared.files.fault.FileFault.{FileFault as FaultValue};
 ghost use Rattle.krb_keytab.specs.Streaming.{Reads, GivesNext};
 
 use crate::reading::{Next, record};

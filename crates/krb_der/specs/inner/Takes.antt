@@ -2,9 +2,9 @@
 use Rattle.std.specs.Prelude.{ℕ, ◌+◌, ◌<◌, ◌≤◌, ◌≡◌, Bool, true, false, List, [], ◌++◌, length, Option, Some}
 use Rattle.krb_der.specs.Fields.{passes}
 use Rattle.krb_der.specs.FieldReaders.{Held, MayHave}
-use Rattle.krb_der.specs.declared.file.FileFault.{FileFault}
-use Rattle.krb_der.specs.declared.file.FileFault.TheVariants as faults
-use Rattle.krb_der.specs.declared.file.FileWhy.TheVariants as why
+use Rattle.krb_der.specs.declared.files.fault.FileFault.{FileFault}
+use Rattle.krb_der.specs.declared.files.fault.FileFault.TheVariants as faults
+use Rattle.krb_der.specs.declared.files.fault.FileWhy.TheVariants as why
 
 -- octets were taken: what may be left, after them, is what there may have been
 pub record Takes (had left : Held) (taken : List ℕ) : Type 0 where
