@@ -94,8 +94,8 @@ fn record_size(record: &Record) -> Result<u64, KeytabFault>
     Ok(4 + u64::from(size))
 }
 
-/// The number of octets of records, or one more than `GREATEST_FILE` where there are more than that; the
-/// fault of the first record that has one.
+/// The number of octets of records, or 2^40 + 1 where there are more than 2^40; the fault of the first
+/// record that has one.
 fn records_size(records: &[Record]) -> Result<u64, KeytabFault>
     ensures fault { MatchResult result (λ _. records_fault records.now ≡ None) (λ fault. records_fault records.now ≡ Some fault) }
     ensures size { IfOk result (λ size. size ≡ min (length (flat_map written_record records.now)) (greatest + 1)) }

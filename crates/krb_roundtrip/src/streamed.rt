@@ -110,7 +110,9 @@ impl Format for Ccaches {
     fn again<R: Read + Drop>(alloc: Global, octets: &[u8], reader: R) -> Option<Vec<u8>> {
         let whole = krb_ccache::read(alloc, octets).ok()?;
         let Ccache {
-            header, principal, ..
+            header,
+            principal,
+            ..
         } = whole;
         let mut reader = Credentials::start(alloc, reader, limit()?).ok()?;
         if !is_same_header(reader.header(), &header)

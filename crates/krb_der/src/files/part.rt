@@ -31,8 +31,8 @@ pub trait Part {
     /// Its numbers and lengths are in their ranges.
     ghost Fits: { Self → Type 0 };
 
-    /// The number of octets, or `GREATEST_FILE + 1` where there are more than `GREATEST_FILE`; `None` where a
-    /// number cannot say how long a part is.
+    /// The number of octets, or 2^40 + 1 where there are more than 2^40; `None` where a number cannot
+    /// say how long a part is.
     fn size(&self) -> Option<u64>
         ensures none { IsNone result ↔ (is_long self.now ≡ true) }
         ensures some { IfSome result (λ size. size ≡ held (length (octets self.now))) }
@@ -45,7 +45,7 @@ pub trait Part {
         ensures { Puts (octets self.now) out.old out.new };
 }
 
-/// Two numbers of octets together, held at `GREATEST_FILE + 1`.
+/// Two numbers of octets together, held at 2^40 + 1.
 fn add_held(size: u64, more: u64) -> u64
     ensures { result ≡ held (size + more) }
 {
@@ -150,6 +150,7 @@ impl<'a> Part for Counted32<'a> {
     }
 }
 
+/// Octets after their number of 32 bits.
 impl Part for Octets {
     ghost octets = { counted w32 };
 
@@ -166,6 +167,7 @@ impl Part for Octets {
     }
 }
 
+/// A string after the number, of 32 bits, of its octets.
 impl Part for KString {
     ghost octets = { counted w32 };
 
@@ -459,7 +461,7 @@ impl<P: Part> Part for Measured<P> {
     }
 }
 
-/// The number of octets of items, held at `GREATEST_FILE + 1`.
+/// The number of octets of items, held at 2^40 + 1; `None` where a number cannot say how long one is.
 fn size_of_each<K: Spelled>(items: &[K::Value]) -> Option<u64>
     ensures none { IsNone result ↔ (list_any K.is_long items.now ≡ true) }
     ensures some { IfSome result (λ size. size ≡ held (length (flat_map K.octets items.now))) }
