@@ -1,77 +1,91 @@
 -- What readers of fields read of a cache, one item after another.
 use Rattle.std.proofs.Common.{◌≡◌, ℕ, ◌+◌, ◌-◌, ◌<◌, ◌≤◌, ◌⊎◌, inl, inr, Bool, true, false, Option, Some, None, Result, Ok, Err, List, [], ◌∷◌, ◌++◌, length, refl, sym, ◌∙◌, ap, subst, arith}
 use Rattle.krb_der.specs.Octets.{when}
-use Rattle.krb_der.specs.Fields.{Source, Fault, Bounds, Reader, onward, ◌>>=◌, gives, is_empty, within, Fails}
-use Rattle.krb_der.specs.FieldReaders.{Held, MayHave, source_at, HasRead, FailsBy, bounded}
-use Rattle.krb_der.specs.declared.files.fault.FileFault.{FileFault}
-use Rattle.krb_der.specs.declared.files.fault.FileFault.TheVariants as faults
-use Rattle.krb_der.proofs.Fields.{done, ok_is, onward-ok, onward-err}
-use Rattle.krb_der.proofs.FieldReaders.{SomeRest, some_rest}
-use Rattle.krb_der.proofs.Loops.{with_front}
+use Rattle.krb_file.specs.Fields.{Source, Fault, Bounds, Reader, onward, ◌>>=◌, gives, is_empty, within, Fails}
+use Rattle.krb_file.specs.FieldReaders.{Held, MayHave, source_at, HasRead, FailsBy, bounded}
+use Rattle.krb_file.specs.declared.fault.FileFault.{FileFault}
+use Rattle.krb_file.specs.declared.fault.FileFault.TheVariants as faults
+use Rattle.krb_file.proofs.Fields.{done, ok_is, onward-ok, onward-err}
+use Rattle.krb_file.proofs.FieldReaders.{SomeRest, some_rest}
+use Rattle.krb_file.proofs.Loops.{with_front}
 use Rattle.krb_ccache.proofs.Loops.{field-goes_on, field-few, field-less, field-fails, fields-done}
-use Rattle.krb_ccache.specs.Reading.{credential_at, header_field_at, header_fields_at, next_at, Start, started, credentials_after, read}
+use Rattle.krb_ccache.specs.declared.reading.Start.{Start}
+use Rattle.krb_ccache.specs.Reading.{credential_at, header_field_at, header_fields_at, next_at, started, credentials_after, read_in}
 use Rattle.krb_ccache.specs.declared.value.HeaderField.{HeaderField}
-use Rattle.krb_ccache.specs.declared.value.Ccache.{Ccache}
 use Rattle.krb_ccache.specs.declared.value.Credential.{Credential}
 
 -- ---- the next credential
-abbrev more : Reader (Option Credential)
-more = credential_at >>= λ credential. gives (Some credential)
+module _ {A : Type 0} (kept : Credential → ℕ → A) (version : ℕ) where
+  abbrev one : Reader A
+  one = credential_at kept version
 
-abbrev choice : Bounds → Source → Bool → Result (Option Credential × Source) Fault
-choice b s none = when none (λ _. Ok (None, s)) (λ _. more b s)
+  abbrev more : Reader (Option A)
+  more = one >>= λ item. gives (Some item)
 
-abbrev found : Option Credential → Source → Option Credential × Source
-found credential s = (credential, s)
+  abbrev choice : Bounds → Source → Bool → Result (Option A × Source) Fault
+  choice b s none = when none (λ _. Ok (None, s)) (λ _. more b s)
 
-differ : (x : Credential) (s t : Source) → found (Some x) s ≡ found None t → ⊥
-differ x s t e =
-    let first : Some x ≡ None = ap (λ (p : Option Credential × Source). p.0) e in
-    cc
+  abbrev found : Option A → Source → Option A × Source
+  found item s = (item, s)
 
-not_err : (read : Option Credential × Source) (f : Fault) → done read ≡ Err f → ⊥
-not_err read f e = cc
+  differ : (x : A) (s t : Source) → found (Some x) s ≡ found None t → ⊥
+  differ x s t e =
+      let first : Some x ≡ None = ap (λ (p : Option A × Source). p.0) e in
+      cc
 
--- ---- what the next credential of known octets was
-pub record IsNext (b : Bounds) (s t : Source) (c : Credential) : Type 0 where
-  pub some : is_empty s.octets ≡ false
-  pub read : credential_at b s ≡ Ok (c, t)
+  not_err : (read : Option A × Source) (f : Fault) → done read ≡ Err f → ⊥
+  not_err read f e = cc
 
-pub is_next : (b : Bounds) (s t : Source) (c : Credential) → next_at b s ≡ Ok (Some c, t) → IsNext b s t c
-is_next b s t c = go (is_empty s.octets) refl
-  where
-    only : (x : Credential) (u : Source) → found (Some x) u ≡ found (Some c) t → credential_at b s ≡ Ok (x, u) → credential_at b s ≡ Ok (c, t)
-    only x u same e =
-        let first : Some x ≡ Some c = ap (λ (p : Option Credential × Source). p.0) same in
-        let rest : u ≡ t = ap (λ (p : Option Credential × Source). p.1) same in
-        let whose : x ≡ c = cc in
-        rw (← whose, ← rest) e
+  -- ---- what the next credential of known octets was
+  pub record IsNext (b : Bounds) (s t : Source) (c : A) : Type 0 where
+    pub some : is_empty s.octets ≡ false
+    pub read : one b s ≡ Ok (c, t)
 
-    go : (none : Bool) → is_empty s.octets ≡ none → choice b s none ≡ Ok (Some c, t) → IsNext b s t c
-    go true test e = absurd (differ c t s (sym (ok_is (found None s) (found (Some c) t) e)))
-    go false test e =
-        let a = onward-ok (credential_at b s) (λ p. Ok (Some p.0, p.1)) (Some c, t) e in
-        record { some = test; read = only a.0.0 a.0.1 (ok_is (found (Some a.0.0) a.0.1) (found (Some c) t) a.2) a.1 }
+  pub is_next : (b : Bounds) (s t : Source) (c : A) → next_at kept version b s ≡ Ok (Some c, t) → IsNext b s t c
+  is_next b s t c = go (is_empty s.octets) refl
+    where
+      only : (x : A) (u : Source) → found (Some x) u ≡ found (Some c) t → one b s ≡ Ok (x, u) → one b s ≡ Ok (c, t)
+      only x u same e =
+          let first : Some x ≡ Some c = ap (λ (p : Option A × Source). p.0) same in
+          let rest : u ≡ t = ap (λ (p : Option A × Source). p.1) same in
+          let whose : x ≡ c = cc in
+          rw (← whose, ← rest) e
 
-pub is_end : (b : Bounds) (s t : Source) → next_at b s ≡ Ok (None, t) → is_empty s.octets ≡ true
-is_end b s t = go (is_empty s.octets) refl
-  where
-    go : (none : Bool) → is_empty s.octets ≡ none → choice b s none ≡ Ok (None, t) → is_empty s.octets ≡ true
-    go true test e = test
-    go false test e =
-        let a = onward-ok (credential_at b s) (λ p. Ok (Some p.0, p.1)) (None, t) e in
-        absurd (differ a.0.0 a.0.1 t (ok_is (found (Some a.0.0) a.0.1) (found None t) a.2))
+      go : (none : Bool) → is_empty s.octets ≡ none → choice b s none ≡ Ok (Some c, t) → IsNext b s t c
+      go true test e = absurd (differ c t s (sym (ok_is (found None s) (found (Some c) t) e)))
+      go false test e =
+          let a = onward-ok (one b s) (λ p. Ok (Some p.0, p.1)) (Some c, t) e in
+          record { some = test; read = only a.0.0 a.0.1 (ok_is (found (Some a.0.0) a.0.1) (found (Some c) t) a.2) a.1 }
 
-pub is_fault : (b : Bounds) (s : Source) (f : Fault) → next_at b s ≡ Err f → (is_empty s.octets ≡ false) × (credential_at b s ≡ Err f)
-is_fault b s f = go (is_empty s.octets) refl
-  where
-    refused : (credential_at b s ≡ Err f) ⊎ ((read : Credential × Source) × (credential_at b s ≡ Ok read) × (Ok (found (Some read.0) read.1) ≡ Err f)) → credential_at b s ≡ Err f
-    refused (inl e) = e
-    refused (inr e) = absurd (not_err (found (Some e.0.0) e.0.1) f e.2)
+  pub is_end : (b : Bounds) (s t : Source) → next_at kept version b s ≡ Ok (None, t) → is_empty s.octets ≡ true
+  is_end b s t = go (is_empty s.octets) refl
+    where
+      go : (none : Bool) → is_empty s.octets ≡ none → choice b s none ≡ Ok (None, t) → is_empty s.octets ≡ true
+      go true test e = test
+      go false test e =
+          let a = onward-ok (one b s) (λ p. Ok (Some p.0, p.1)) (None, t) e in
+          absurd (differ a.0.0 a.0.1 t (ok_is (found (Some a.0.0) a.0.1) (found None t) a.2))
 
-    go : (none : Bool) → is_empty s.octets ≡ none → choice b s none ≡ Err f → (is_empty s.octets ≡ false) × (credential_at b s ≡ Err f)
-    go true test e = absurd (not_err (found None s) f e)
-    go false test e = (test, refused (onward-err (credential_at b s) (λ p. Ok (Some p.0, p.1)) f e))
+  -- nothing is read at the end
+  pub end_stays : (b : Bounds) (s t : Source) → next_at kept version b s ≡ Ok (None, t) → s ≡ t
+  end_stays b s t = go (is_empty s.octets)
+    where
+      go : (none : Bool) → choice b s none ≡ Ok (None, t) → s ≡ t
+      go true e = ap (λ (p : Option A × Source). p.1) (ok_is (found None s) (found None t) e)
+      go false e =
+          let a = onward-ok (one b s) (λ p. Ok (Some p.0, p.1)) (None, t) e in
+          absurd (differ a.0.0 a.0.1 t (ok_is (found (Some a.0.0) a.0.1) (found None t) a.2))
+
+  pub is_fault : (b : Bounds) (s : Source) (f : Fault) → next_at kept version b s ≡ Err f → (is_empty s.octets ≡ false) × (one b s ≡ Err f)
+  is_fault b s f = go (is_empty s.octets) refl
+    where
+      refused : (one b s ≡ Err f) ⊎ ((read : A × Source) × (one b s ≡ Ok read) × (Ok (found (Some read.0) read.1) ≡ Err f)) → one b s ≡ Err f
+      refused (inl e) = e
+      refused (inr e) = absurd (not_err (found (Some e.0.0) e.0.1) f e.2)
+
+      go : (none : Bool) → is_empty s.octets ≡ none → choice b s none ≡ Err f → (is_empty s.octets ≡ false) × (one b s ≡ Err f)
+      go true test e = absurd (not_err (found None s) f e)
+      go false test e = (test, refused (onward-err (one b s) (λ p. Ok (Some p.0, p.1)) f e))
 
 -- ---- the fields of a header, as a loop reads them
 -- Those in front were read; the rest of what may be left tells the others.
@@ -148,18 +162,19 @@ module _ (size : ℕ) (h : Held) where
   }
 
 -- ---- a whole file
-abbrev made : Start → List Credential → Ccache
-made start credentials = record { header = start.header; principal = start.principal; credentials = credentials }
+module _ {A : Type 0} (kept : Credential → ℕ → A) (version : ℕ) where
+  abbrev pair : Start → List A → Start × List A
+  pair start credentials = (start, credentials)
 
-abbrev credentials_of : Result (Start × Source) Fault → Result Ccache Fault
-credentials_of start = onward start (λ found. onward (credentials_after found.1) (λ credentials. Ok (made found.0 credentials)))
+  abbrev credentials_of : Result (Start × Source) Fault → Result (Start × List A) Fault
+  credentials_of start = onward start (λ found. onward (credentials_after kept version found.1) (λ credentials. Ok (pair found.0 credentials)))
 
-pub whole-is : (file : List ℕ) (start : Start) (s : Source) (credentials : List Credential) → started file ≡ Ok (start, s) → credentials_after s ≡ Ok credentials → read file ≡ Ok (made start credentials)
-whole-is file start s credentials begins then =
-    ap credentials_of begins ∙ ap (λ (r : Result (List Credential) Fault). onward r (λ found. Ok (made start found))) then
+  pub whole-is : (file : List ℕ) (start : Start) (s : Source) (credentials : List A) → started version file ≡ Ok (start, s) → credentials_after kept version s ≡ Ok credentials → read_in kept version file ≡ Ok (start, credentials)
+  whole-is file start s credentials begins then =
+      ap credentials_of begins ∙ ap (λ (r : Result (List A) Fault). onward r (λ found. Ok (pair start found))) then
 
-pub whole-fails : (e : FileFault) (file : List ℕ) (start : Start) (s : Source) → started file ≡ Ok (start, s) → Fails e (credentials_after s) → Fails e (read file)
-whole-fails faults.Memory file start s begins fails = tt
-whole-fails faults.Read file start s begins fails = absurd fails
-whole-fails (faults.Refused place why) file start s begins fails =
-    ap credentials_of begins ∙ ap (λ (r : Result (List Credential) Fault). onward r (λ found. Ok (made start found))) fails
+  pub whole-fails : (e : FileFault) (file : List ℕ) (start : Start) (s : Source) → started version file ≡ Ok (start, s) → Fails e (credentials_after kept version s) → Fails e (read_in kept version file)
+  whole-fails faults.Memory file start s begins fails = tt
+  whole-fails faults.Read file start s begins fails = absurd fails
+  whole-fails (faults.Refused place why) file start s begins fails =
+      ap credentials_of begins ∙ ap (λ (r : Result (List A) Fault). onward r (λ found. Ok (pair start found))) fails

@@ -4,11 +4,12 @@ use Rattle.std.proofs.lemmas.List.{nil_from_length}
 use Rattle.std.proofs.lemmas.List.Concat.{flat_map-cons}
 use Rattle.std.specs.List.{flat_map, AllByRecursion}
 use Rattle.krb_der.specs.Octets.{when, AreOctets}
-use Rattle.krb_der.specs.Fields.{Source, Fault, limited, Reader, is_empty}
-use Rattle.krb_der.proofs.Fields.{at, done, ok_is, err_is, onward-ok, Took, Reads}
-use Rattle.krb_der.proofs.Steps.{IsFault, IsFault-then, Moved, Steps}
+use Rattle.krb_file.specs.Fields.{Source, Fault, limited, Reader, is_empty}
+use Rattle.krb_file.proofs.Fields.{at, done, ok_is, err_is, onward-ok, Took, Reads}
+use Rattle.krb_file.proofs.Steps.{IsFault, IsFault-then, Moved, Steps}
 use Rattle.krb_ccache.specs.Reading.{Items, no_items, item_and, items_within, items_after, all_items}
 use Rattle.krb_ccache.proofs.Headers.{inside_file}
+use Rattle.krb_ccache.proofs.Local.{IsReadAgain}
 
 module _ {A : Type 0} (item_at : Reader A) where
   items-fault-step : (others : Source → Items A) (limit : Option ℕ) (s : Source) (f : Fault) → ((t : Source) → (others t).end ≡ Err f → IsFault (limited limit) t f)
@@ -25,6 +26,37 @@ module _ {A : Type 0} (item_at : Reader A) where
 
   pub items_after-fault : Steps item_at → (limit : Option ℕ) (s : Source) (f : Fault) → (items_after item_at limit s).end ≡ Err f → IsFault (limited limit) s f
   items_after-fault steps limit s f e = items-fault steps (length s.octets) limit s.place s.octets f e
+
+-- ---- items that are read again of their spellings, under a limit
+module _ {A : Type 0} (item_at : Reader A) (spell : A → List ℕ) (some : (v : A) → 0 < length (spell v)) (limit : Option ℕ) where
+  abbrev pub ended : List A → ℕ → Items A
+  ended found k = record { items = found; end = Ok k }
+
+  not_empty : (v : A) (rest : List ℕ) → is_empty (spell v ++ rest) ≡ false
+  not_empty v rest = go (spell v) (some v)
+    where
+      go : (octets : List ℕ) → 0 < length octets → is_empty (octets ++ rest) ≡ false
+      go [] h = absurd (omega arith)
+      go (octet ∷ octets) h = refl
+
+  items-again : (vs : List A) (bound place : ℕ) → AllByRecursion (IsReadAgain item_at spell limit) vs → length (flat_map spell vs) ≤ bound → items_within bound item_at limit (at place (flat_map spell vs)) ≡ ended vs (place + length (flat_map spell vs))
+  items-again [] zero place again len = ap (ended []) (omega arith)
+  items-again [] (suc bound) place again len = ap (ended []) (omega arith)
+  items-again (v ∷ vs) zero place again len = absurd (omega (arith, ap length (flat_map-cons spell v vs), length-append (spell v) (flat_map spell vs), some v))
+  items-again (v ∷ vs) (suc bound) place again len =
+      let back = flat_map spell vs in
+      let size : length (flat_map spell (v ∷ vs)) ≡ length (spell v) + length back = ap length (flat_map-cons spell v vs) ∙ length-append (spell v) back in
+      let first = again.0 place back in
+      let others = items-again vs bound (place + length (spell v)) again.1 (omega (arith, size, some v)) in
+      let next = items_within bound item_at limit in
+      ap (λ (x : List ℕ). items_within (suc bound) item_at limit (at place x)) (flat_map-cons spell v vs)
+      ∙ ap (λ (b : Bool). when b (λ _. no_items (Ok place)) (λ _. item_and (item_at (limited limit) (at place (spell v ++ back))) next)) (not_empty v back)
+      ∙ ap (λ (r : Result (A × Source) Fault). item_and r next) first
+      ∙ ap (λ (i : Items A). let it : Items A = record { items = v ∷ i.items; end = i.end } in it) others
+      ∙ ap (ended (v ∷ vs)) (omega (arith, size))
+
+  pub items_after-again : (vs : List A) (place : ℕ) → AllByRecursion (IsReadAgain item_at spell limit) vs → items_after item_at limit (at place (flat_map spell vs)) ≡ ended vs (place + length (flat_map spell vs))
+  items_after-again vs place again = items-again vs (length (flat_map spell vs)) place again (omega arith)
 
 module _ {A : Type 0} (item_at : Reader A) (spell : A → List ℕ) (Fits : A → Type 0) (laws : Reads item_at spell Fits) (some : (v : A) → 0 < length (spell v)) where
   pub record Found (s : Source) (found : List A) (k : ℕ) : Type 0 where
@@ -57,32 +89,6 @@ module _ {A : Type 0} (item_at : Reader A) (spell : A → List ℕ) (Fits : A �
       let s = at place (octet ∷ octets) in
       items-step (items_within bound item_at limit) limit s bound k (λ t. items-sound bound limit t.place t.octets k) (item_at (limited limit) s) (λ x t h. laws.sound (limited limit) s t x fits (inside_file limit place) h) len e
 
-  abbrev ended : List A → ℕ → Items A
-  ended found k = record { items = found; end = Ok k }
-
-  not_empty : (v : A) (rest : List ℕ) → is_empty (spell v ++ rest) ≡ false
-  not_empty v rest = go (spell v) (some v)
-    where
-      go : (octets : List ℕ) → 0 < length octets → is_empty (octets ++ rest) ≡ false
-      go [] h = absurd (omega arith)
-      go (octet ∷ octets) h = refl
-
-  items-again : (vs : List A) (bound place : ℕ) → AllByRecursion Fits vs → length (flat_map spell vs) ≤ bound → items_within bound item_at None (at place (flat_map spell vs)) ≡ ended vs (place + length (flat_map spell vs))
-  items-again [] zero place fits len = ap (ended []) (omega arith)
-  items-again [] (suc bound) place fits len = ap (ended []) (omega arith)
-  items-again (v ∷ vs) zero place fits len = absurd (omega (arith, ap length (flat_map-cons spell v vs), length-append (spell v) (flat_map spell vs), some v))
-  items-again (v ∷ vs) (suc bound) place fits len =
-      let back = flat_map spell vs in
-      let size : length (flat_map spell (v ∷ vs)) ≡ length (spell v) + length back = ap length (flat_map-cons spell v vs) ∙ length-append (spell v) back in
-      let first = laws.again (limited None) place back v fits.0 refl (inside_file None (place + length (spell v))) in
-      let others = items-again vs bound (place + length (spell v)) fits.1 (omega (arith, size, some v)) in
-      let next = items_within bound item_at None in
-      ap (λ (x : List ℕ). items_within (suc bound) item_at None (at place x)) (flat_map-cons spell v vs)
-      ∙ ap (λ (b : Bool). when b (λ _. no_items (Ok place)) (λ _. item_and (item_at (limited None) (at place (spell v ++ back))) next)) (not_empty v back)
-      ∙ ap (λ (r : Result (A × Source) Fault). item_and r next) first
-      ∙ ap (λ (i : Items A). let it : Items A = record { items = v ∷ i.items; end = i.end } in it) others
-      ∙ ap (ended (v ∷ vs)) (omega (arith, size))
-
   all_items-ok : (found : Items A) (vs : List A) → all_items found ≡ Ok vs → (k : ℕ) × (found.end ≡ Ok k) × (found.items ≡ vs)
   all_items-ok found vs e =
       let a = onward-ok found.end (λ k. done found.items) vs e in
@@ -95,5 +101,9 @@ module _ {A : Type 0} (item_at : Reader A) (spell : A → List ℕ) (Fits : A �
       let f = items-sound (length s.octets) limit s.place s.octets a.0 fits (omega arith) a.1 in
       subst (λ (x : List A). (s.octets ≡ flat_map spell x) × AllByRecursion Fits x) a.2 (f.parts, f.fits)
 
+  each-again : (vs : List A) → AllByRecursion Fits vs → AllByRecursion (IsReadAgain item_at spell None) vs
+  each-again [] fits = tt
+  each-again (v ∷ vs) fits = (λ place rest. laws.again (limited None) place rest v fits.0 refl (inside_file None (place + length (spell v))), each-again vs fits.1)
+
   pub all-again : (vs : List A) (place : ℕ) → AllByRecursion Fits vs → all_items (items_after item_at None (at place (flat_map spell vs))) ≡ Ok vs
-  all-again vs place fits = ap all_items (items-again vs (length (flat_map spell vs)) place fits (omega arith))
+  all-again vs place fits = ap all_items (items_after-again item_at spell some None vs place (each-again vs fits))

@@ -1,5 +1,6 @@
 pub mod Parts
 pub mod Headers
+pub mod Local
 pub mod Items
 pub mod Faults
 pub mod Stepwise
@@ -11,3 +12,6 @@ pub mod Offsets
 pub mod Layouts
 pub mod Tickets
 pub mod Streams
+pub mod Mapped
+pub mod Upgrades
+pub mod Reaching

@@ -2,11 +2,11 @@
 use Rattle.std.proofs.Common.{◌≡◌, ℕ, ◌<◌, ◌≤◌, ◌-◌, ◌+◌, zero, suc, Bool, true, false, leb, le-leb, Option, Some, None, Result, Ok, Err, List, [], ◌∷◌, ◌++◌, length, sym, ◌∙◌, ap, append_assoc, length-append, arith}
 use Rattle.std.proofs.lemmas.Bool.{lt-leb}
 use Rattle.std.proofs.lemmas.List.{append-nil}
-use Rattle.krb_der.specs.Fields.{Source, Reader, Bounds, Fault, limited, onward, ◌>>=◌, gives, Fails, is_empty}
+use Rattle.krb_file.specs.Fields.{Source, Reader, Bounds, Fault, limited, onward, ◌>>=◌, gives, Fails, is_empty}
 use Rattle.krb_der.specs.Octets.{when}
-use Rattle.krb_der.proofs.Loops.{with_front, regroup as fields-regroup}
-use Rattle.krb_der.specs.declared.files.fault.FileFault.{FileFault}
-use Rattle.krb_der.specs.declared.files.fault.FileFault.TheVariants as faults
+use Rattle.krb_file.proofs.Loops.{with_front, regroup as fields-regroup}
+use Rattle.krb_file.specs.declared.fault.FileFault.{FileFault}
+use Rattle.krb_file.specs.declared.fault.FileFault.TheVariants as faults
 use Rattle.krb_ccache.specs.Reading.{Items, with_first, items_after, all_items, header_field_at, header_fields_at}
 use Rattle.krb_ccache.specs.Streaming.{before}
 use Rattle.krb_ccache.specs.declared.value.HeaderField.{HeaderField}

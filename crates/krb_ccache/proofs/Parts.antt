@@ -1,16 +1,17 @@
 -- The parts of a cache: what is read is spelled so, and what is spelled is read again.
-use Rattle.std.proofs.Common.{◌≡◌, ℕ, ◌<◌, ℤ, List, [], ◌++◌, refl, sym, ap, append_assoc}
+use Rattle.std.proofs.Common.{◌≡◌, ℕ, ◌<◌, ◌+◌, ℤ, Result, List, [], ◌++◌, length, refl, sym, ◌∙◌, ap, subst, append_assoc}
 use Rattle.std.proofs.lemmas.List.{append-nil}
 use Rattle.std.specs.Int.{w8, w16, w32, to_be_bytes}
 use Rattle.std.specs.Int.RustNames.{FitsSigned}
-use Rattle.krb_der.specs.Fields.{signed, counted, Names, names, bound_of, IsCounted, AreNames, Reader, number_at, signed_at, counted_at, names_at}
-use Rattle.krb_der.proofs.Fields.{Reads, Reads-as, wide8, wide16, wide32, Reads-number, Reads-signed, Reads-counted, Reads-names, Reads-list, Reads-then, Reads-fields, Reads-given, Fields, End, Field, Values, spell_fields, AllFit}
+use Rattle.krb_file.specs.Fields.{signed, counted, Names, names, bound_of, IsCounted, AreNames, Source, Fault, Reader, onward, ◌>>=◌, gives, number_at, signed_at, counted_at, names_at}
+use Rattle.krb_file.proofs.Fields.{at, done, ok_is, onward-ok, Took, Reads, Reads-as, wide8, wide16, wide32, Reads-number, Reads-signed, Reads-counted, Reads-names, Reads-list, Reads-then, Reads-fields, Reads-given, Fields, End, Field, Values, spell_fields, AllFit}
 use Rattle.krb_ccache.specs.declared.value.Credential.{Credential}
+use Rattle.krb_ccache.specs.declared.value.Credential3.{Credential3}
 use Rattle.krb_ccache.specs.declared.value.FilePrincipal.{FilePrincipal}
 use Rattle.krb_ccache.specs.declared.value.HeaderField.{HeaderField}
 use Rattle.krb_ccache.specs.declared.value.Typed.{Typed}
-use Rattle.krb_ccache.specs.Spelling.{names_of, principal, PrincipalFits, typed, TypedFits, typed_list, TypedListFits, credential_front, credential_back, credential, CredentialFits, header_field, HeaderFieldFits}
-use Rattle.krb_ccache.specs.Reading.{principal_at, typed_at, typed_list_at, credential_from, credential_at, header_field_at}
+use Rattle.krb_ccache.specs.Spelling.{names_of, principal, PrincipalFits, typed, TypedFits, typed_list, TypedListFits, credential_front, credential_back, credential, CredentialFits, credential3, Credential3Fits, header_field, HeaderFieldFits}
+use Rattle.krb_ccache.specs.Reading.{principal_at, typed_at, typed_list_at, credential_from, credential_at, once, twice, header_field_at}
 
 -- ---- fields that occur
 abbrev a_number32 : Fields → Fields
@@ -89,7 +90,7 @@ principal_field fields = Field FilePrincipal principal_at principal PrincipalFit
 abbrev back_fields : Fields
 back_fields = data_field (a_number32 (a_number32 (a_number32 (a_number32 (a_number8 (a_number32 (list_field (list_field (data_field (data_field End))))))))))
 
-abbrev front_fields : Fields
+abbrev pub front_fields : Fields
 front_fields = principal_field (principal_field (a_number16 End))
 
 abbrev credential_of : Values front_fields → Values back_fields → Credential
@@ -110,16 +111,16 @@ credential_of f v = record {
   second_ticket = v.1.1.1.1.1.1.1.1.1.1.0;
 }
 
-abbrev front_parts : Credential → Values front_fields
+abbrev pub front_parts : Credential → Values front_fields
 front_parts c = (c.client, (c.server, (c.enctype, tt)))
 
 abbrev back_parts : Credential → Values back_fields
 back_parts c = (c.key, (c.authtime, (c.starttime, (c.endtime, (c.renew_till, (c.is_skey, (c.flags, (c.addresses, (c.authdata, (c.ticket, (c.second_ticket, tt)))))))))))
 
-abbrev BackFits : Credential → Type 0
+abbrev pub BackFits : Credential → Type 0
 BackFits c = AllFit back_fields (back_parts c)
 
-abbrev from_key : Values front_fields → Reader Credential
+abbrev pub from_key : Values front_fields → Reader Credential
 from_key f = credential_from f.0 f.1.0 f.1.1.0
 
 regroup : (a b c d e f g h i j k : List ℕ) → a ++ (b ++ (c ++ (d ++ (e ++ (f ++ (g ++ (h ++ (i ++ (j ++ (k ++ [])))))))))) ≡ a ++ b ++ c ++ d ++ e ++ f ++ g ++ h ++ i ++ j ++ k
@@ -164,11 +165,77 @@ front_fits c f = (f.client, (f.server, (f.enctype, tt)))
 back_fits : (c : Credential) → CredentialFits c → BackFits c
 back_fits c f = (f.key, (f.authtime, (f.starttime, (f.endtime, (f.renew_till, (f.is_skey, (f.flags, (f.addresses, (f.authdata, (f.ticket, (f.second_ticket, tt)))))))))))
 
--- ---- a credential
-pub Reads-credential : Reads credential_at credential CredentialFits
+-- ---- a value that is made of what is read, of which it is a part
+module _ {A B : Type 0} (reader : Reader A) (spell : A → List ℕ) (Fits : A → Type 0) (laws : Reads reader spell Fits) (make : A → B) (part : B → A) (part_make : (v : A) → part (make v) ≡ v) where
+  Reads-made : Reads (reader >>= λ v. gives (make v)) (λ x. spell (part x)) (λ x. Fits (part x) × (make (part x) ≡ x))
+  Reads-made = record {
+    sound = λ bounds s t x fits inside e.
+        let a = onward-ok (reader bounds s) (λ p. done (make p.0, p.1)) (x, t) e in
+        let first = laws.sound bounds s a.0.1 a.0.0 fits inside a.1 in
+        let whole : Took bounds (spell (part (make a.0.0))) s a.0.1 × (Fits (part (make a.0.0)) × (make (part (make a.0.0)) ≡ make a.0.0)) =
+        (subst (λ (v : A). Took bounds (spell v) s a.0.1) (sym (part_make a.0.0)) first.0, (subst Fits (sym (part_make a.0.0)) first.1, ap make (part_make a.0.0))) in
+        subst (λ (p : B × Source). Took bounds (spell (part p.0)) s p.1 × (Fits (part p.0) × (make (part p.0) ≡ p.0))) (ok_is (make a.0.0, a.0.1) (x, t) a.2) whole;
+    again = λ bounds place rest x fits free inside.
+        ap (λ (r : Result (A × Source) Fault). onward r (λ p. done (make p.0, p.1))) (laws.again bounds place rest (part x) fits.0 free inside)
+        ∙ ap (λ (y : B). done (y, at (place + length (spell (part x))) rest)) fits.1;
+  }
+
+-- ---- a credential of version 4
+abbrev once_from_key : Values front_fields → Reader Credential
+once_from_key f = from_key f >>= λ credential. gives credential
+
+Reads-once : (f : Values front_fields) → Reads (once_from_key f) credential_back (λ c. BackFits c × (front_parts c ≡ f))
+Reads-once f =
+    Reads-as (once_from_key f) _ credential_back _ _
+    (Reads-made (from_key f) credential_back _ (Reads-from_key f) (λ c. c) (λ c. c) (λ c. refl))
+    (λ c. refl) (λ c p. p.0) (λ c p. (p, refl))
+
+pub Reads-credential : Reads (credential_at once 4) credential CredentialFits
 Reads-credential =
-    Reads-as credential_at _ credential _ CredentialFits
-    (Reads-then front_fields Credential from_key front_parts credential_back BackFits Reads-from_key)
+    Reads-as (credential_at once 4) _ credential _ CredentialFits
+    (Reads-then front_fields Credential once_from_key front_parts credential_back BackFits Reads-once)
     (λ c. ap (λ (x : List ℕ). x ++ credential_back c) (front-parts c))
     (λ c p. fits_of c p.0 p.1)
     (λ c p. (front_fits c p, back_fits c p))
+
+-- ---- a credential of version 3
+abbrev front3_fields : Fields
+front3_fields = principal_field (principal_field (a_number16 (a_number16 End)))
+
+abbrev front3_parts : Credential3 → Values front3_fields
+front3_parts c = (c.credential.client, (c.credential.server, (c.credential.enctype, (c.again, tt))))
+
+-- without the encryption type as it stands again
+abbrev front_of_3 : Values front3_fields → Values front_fields
+front_of_3 f = (f.0, (f.1.0, (f.1.1.0, tt)))
+
+abbrev twice_from_key : Values front3_fields → Reader Credential3
+twice_from_key f = from_key (front_of_3 f) >>= λ credential. gives (twice credential f.1.1.1.0)
+
+abbrev front3_of : Values front_fields → ℕ → Values front3_fields
+front3_of f again = (f.0, (f.1.0, (f.1.1.0, (again, tt))))
+
+parts3 : (c : Credential3) (f : Values front3_fields) → front_parts c.credential ≡ front_of_3 f → twice c.credential f.1.1.1.0 ≡ c → front3_parts c ≡ f
+parts3 c f e m = ap (λ (x : Credential3). front3_of (front_parts c.credential) x.again) (sym m) ∙ ap (λ (g : Values front_fields). front3_of g f.1.1.1.0) e
+
+Reads-twice : (f : Values front3_fields) → Reads (twice_from_key f) (λ c. credential_back c.credential) (λ c. BackFits c.credential × (front3_parts c ≡ f))
+Reads-twice f =
+    Reads-as (twice_from_key f) _ _ _ _
+    (Reads-made (from_key (front_of_3 f)) credential_back _ (Reads-from_key (front_of_3 f)) (λ c. twice c f.1.1.1.0) (λ c. c.credential) (λ c. refl))
+    (λ c. refl)
+    (λ c p. (p.0.0, parts3 c f p.0.1 p.1))
+    (λ c p. ((p.0, ap front_of_3 p.1), ap (λ (g : Values front3_fields). twice c.credential g.1.1.1.0) (sym p.1)))
+
+regroup_front3 : (a b c d e : List ℕ) → (a ++ (b ++ (c ++ (d ++ [])))) ++ e ≡ (a ++ b ++ c) ++ d ++ e
+regroup_front3 a b c d e = simp (append_assoc, append-nil {A = ℕ})
+
+front3-parts : (c : Credential3) → spell_fields front3_fields (front3_parts c) ++ credential_back c.credential ≡ credential3 c
+front3-parts c = regroup_front3 (principal c.credential.client) (principal c.credential.server) (to_be_bytes w16 c.credential.enctype) (to_be_bytes w16 c.again) (credential_back c.credential)
+
+pub Reads-credential3 : Reads (credential_at twice 3) credential3 Credential3Fits
+Reads-credential3 =
+    Reads-as (credential_at twice 3) _ credential3 _ Credential3Fits
+    (Reads-then front3_fields Credential3 twice_from_key front3_parts (λ c. credential_back c.credential) (λ c. BackFits c.credential) Reads-twice)
+    front3-parts
+    (λ c p. record { credential = fits_of c.credential (p.0.0, (p.0.1.0, (p.0.1.1.0, tt))) p.1; again = p.0.1.1.1.0 })
+    (λ c p. ((p.credential.client, (p.credential.server, (p.credential.enctype, (p.again, tt)))), back_fits c.credential p.credential))

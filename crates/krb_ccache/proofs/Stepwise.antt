@@ -1,11 +1,12 @@
 -- The credentials of a file, one at a time: what a reader has left decides the rest.
 use Rattle.std.proofs.Common.{◌≡◌, ℕ, zero, suc, ◌<◌, ◌≤◌, true, false, Option, None, Result, Ok, Err, List, [], ◌∷◌, length, refl, sym, ◌∙◌, ap, subst, arith, length-drop}
 use Rattle.std.specs.Int.{Width, w16, w32, byte_len, from_be_bytes}
-use Rattle.krb_der.specs.Fields.{Source, Fault, Bounds, limited, Reader, ◌>>=◌, is_empty, signed_at, names_at, number_at, counted_at, next_octets_at}
-use Rattle.krb_der.proofs.Fields.{at, ok_is, onward-ok, piece-ok}
-use Rattle.krb_der.proofs.Steps.{Steps, Steps-then, Steps-gives, Steps-names, Steps-number, Steps-counted, Moved-shorter, signed-shorter}
+use Rattle.krb_file.specs.Fields.{Source, Fault, Bounds, limited, Reader, ◌>>=◌, is_empty, signed_at, names_at, number_at, counted_at, next_octets_at}
+use Rattle.krb_file.proofs.Fields.{at, ok_is, onward-ok, piece-ok}
+use Rattle.krb_file.proofs.Steps.{Steps, Steps-then, Steps-gives, Steps-names, Steps-counted, Moved-shorter, signed-shorter}
+use Rattle.krb_ccache.specs.declared.value.Credential.{Credential}
 use Rattle.krb_ccache.specs.Reading.{principal_at, credential_at, header_field_at, Items, no_items, with_first, item_and, items_within, items_after}
-use Rattle.krb_ccache.proofs.Faults.{Steps-principal, Steps-from_key}
+use Rattle.krb_ccache.proofs.Faults.{Steps-from_server}
 
 -- a reader that takes at least one octet
 pub record Shortens {A : Type 0} (reader : Reader A) : Type 0 where
@@ -35,8 +36,8 @@ Shortens-header_field = Shortens-then (number_at w16) _ (Shortens-number w16 (om
 Shortens-principal : Shortens principal_at
 Shortens-principal = Shortens-then (signed_at w32) _ (record { shorter = signed-shorter }) (λ name_type. Steps-then (names_at w32) _ (Steps-names w32) (λ names. Steps-gives (record { name_type = name_type; realm = names.realm; components = names.components })))
 
-pub Shortens-credential : Shortens credential_at
-Shortens-credential = Shortens-then principal_at _ Shortens-principal (λ client. Steps-then principal_at _ Steps-principal (λ server. Steps-then (number_at w16) _ (Steps-number w16) (λ enctype. Steps-from_key client server enctype)))
+pub Shortens-credential : {A : Type 0} (kept : Credential → ℕ → A) (version : ℕ) → Shortens (credential_at kept version)
+Shortens-credential kept version = Shortens-then principal_at _ Shortens-principal (Steps-from_server kept version)
 
 module _ {A : Type 0} (item_at : Reader A) (shortens : Shortens item_at) where
   item_and-same : (r : Result (A × Source) Fault) (f g : Source → Items A) → ((x : A) (t : Source) → r ≡ Ok (x, t) → f t ≡ g t) → item_and r f ≡ item_and r g

@@ -1,6 +1,7 @@
 -- What parsing a ticket field tells of the credential.
 use Rattle.std.proofs.Common.{◌≡◌, ◌≢◌, ◌↔◌, ℕ, ◌^◌, ◌<◌, false, Option, Some, None, Result, Err, List, [], ◌∷◌, length, refl, sym, ◌∙◌, ap, subst, arith}
 use Rattle.std.specs.Prelude.{IsErrOf}
+use Rattle.krb_der.specs.declared.profile.Profile.TheVariants as profiles
 use Rattle.krb_der.specs.Octets.{when}
 use Rattle.krb_der.specs.declared.verdict.Refusal.{Refusal}
 use Rattle.krb_msg.specs.Grammar.{ticket}
@@ -19,15 +20,15 @@ use Rattle.krb_ccache.specs.Tickets.{ticket_read, judged_state, field_state, sta
 
 -- the clause `refused` of `parse_ticket`
 abbrev Refuses : List ℕ → Result Ticket ParseFault → Type 0
-Refuses octets parsed = (r : Refusal) → IsErrOf parsed (faults.Refused r) ↔ (ticket_refusal octets ≡ Some r)
+Refuses octets parsed = (r : Refusal) → IsErrOf parsed (faults.Refused r) ↔ (ticket_refusal profiles.Lenient octets ≡ Some r)
 
-pub refused-by : (octets : List ℕ) (r : Refusal) → Refuses octets (Err (faults.Refused r)) → ticket_refusal octets ≡ Some r
+pub refused-by : (octets : List ℕ) (r : Refusal) → Refuses octets (Err (faults.Refused r)) → ticket_refusal profiles.Lenient octets ≡ Some r
 refused-by octets r refuses = (refuses r).0 refl
 
-pub whole-by : (octets : List ℕ) → Refuses octets (Err faults.Memory) → ticket_refusal octets ≡ None
-whole-by octets refuses = go (ticket_refusal octets) refl
+pub whole-by : (octets : List ℕ) → Refuses octets (Err faults.Memory) → ticket_refusal profiles.Lenient octets ≡ None
+whole-by octets refuses = go (ticket_refusal profiles.Lenient octets) refl
   where
-    go : (found : Option Refusal) → ticket_refusal octets ≡ found → ticket_refusal octets ≡ None
+    go : (found : Option Refusal) → ticket_refusal profiles.Lenient octets ≡ found → ticket_refusal profiles.Lenient octets ≡ None
     go None e = e
     go (Some r) e = let no : ◌≡◌ {A = Result Ticket ParseFault} (Err faults.Memory) (Err (faults.Refused r)) = (refuses r).1 e in absurd cc
 
@@ -35,27 +36,27 @@ whole-by octets refuses = go (ticket_refusal octets) refl
 small : (octets form : List ℕ) → form ≡ octets → length octets < 2 ^ 31 → length form < 2 ^ 32
 small octets form e short = omega (arith, ap length e)
 
-ticket_is_read : (octets : List ℕ) (t : Ticket) → AreOfTicket octets t → ticket_read octets ≡ t
+ticket_is_read : (octets : List ℕ) (t : Ticket) → AreOfTicket profiles.Lenient octets t → ticket_read octets ≡ t
 ticket_is_read octets t are = ap (λ (o : List ℕ). ticket_of (value_read ticket o)) (sym are.form) ∙ ap ticket_of (value_is_read ticket (ticket_value t) refl (small octets _ are.form are.short))
 
 -- ---- the state, where there is no configuration entry and the field is not empty
-judged-some : (octets : List ℕ) → octets ≢ [] → field_state octets ≡ judged_state (ticket_refusal octets) octets
+judged-some : (octets : List ℕ) → octets ≢ [] → field_state octets ≡ judged_state (ticket_refusal profiles.Lenient octets) octets
 judged-some [] some = absurd (some refl)
 judged-some (octet ∷ octets) some = refl
 
-pub state-judged : (c : Credential) (found : Option Refusal) → is_config c ≡ false → c.ticket ≢ [] → ticket_refusal c.ticket ≡ found → state_of c ≡ judged_state found c.ticket
+pub state-judged : (c : Credential) (found : Option Refusal) → is_config c ≡ false → c.ticket ≢ [] → ticket_refusal profiles.Lenient c.ticket ≡ found → state_of c ≡ judged_state found c.ticket
 unfolding state_of
 state-judged c found no_config some e =
     ap (λ is. when is (λ _. states.Config) (λ _. field_state c.ticket)) no_config
     ∙ judged-some c.ticket some
     ∙ ap (λ f. judged_state f c.ticket) e
 
-pub state-ticket : (c : Credential) (t : Ticket) → is_config c ≡ false → c.ticket ≢ [] → AreOfTicket c.ticket t → states.Ticket t ≡ state_of c
+pub state-ticket : (c : Credential) (t : Ticket) → is_config c ≡ false → c.ticket ≢ [] → AreOfTicket profiles.Lenient c.ticket t → states.Ticket t ≡ state_of c
 state-ticket c t no_config some are =
-    sym (state-judged c None no_config some (ticket_not_refused t are) ∙ ap (λ u. states.Ticket u) (ticket_is_read c.ticket t are))
+    sym (state-judged c None no_config some (ticket_not_refused profiles.Lenient t are) ∙ ap (λ u. states.Ticket u) (ticket_is_read c.ticket t are))
 
-pub state-refused : (c : Credential) (r : Refusal) → is_config c ≡ false → c.ticket ≢ [] → ticket_refusal c.ticket ≡ Some r → states.Refused r ≡ state_of c
+pub state-refused : (c : Credential) (r : Refusal) → is_config c ≡ false → c.ticket ≢ [] → ticket_refusal profiles.Lenient c.ticket ≡ Some r → states.Refused r ≡ state_of c
 state-refused c r no_config some e = sym (state-judged c (Some r) no_config some e)
 
-pub state-whole : (c : Credential) → is_config c ≡ false → c.ticket ≢ [] → ticket_refusal c.ticket ≡ None → IsTicket (state_of c)
+pub state-whole : (c : Credential) → is_config c ≡ false → c.ticket ≢ [] → ticket_refusal profiles.Lenient c.ticket ≡ None → IsTicket (state_of c)
 state-whole c no_config some e = subst IsTicket (sym (state-judged c None no_config some e)) tt

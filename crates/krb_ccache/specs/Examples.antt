@@ -2,15 +2,17 @@
 use Rattle.std.specs.Prelude.{ℕ, zero, suc, pos, negsuc, ◌≡◌, Bool, true, false, Some, None, Result, Ok, Err, List, [], ◌∷◌, ◌++◌, codes, take, map, refl}
 use Rattle.krb_der.specs.Octets.{when}
 use Rattle.krb_der.specs.Hex.{hex}
-use Rattle.krb_der.specs.Fields.{Fault, limited, source_of}
-use Rattle.krb_der.specs.declared.files.fault.FileWhy.TheVariants as why
+use Rattle.krb_file.specs.Fields.{Fault}
+use Rattle.krb_file.specs.declared.fault.FileWhy.TheVariants as why
+use Rattle.krb_ccache.specs.declared.value.Cache3.{Cache3}
 use Rattle.krb_ccache.specs.declared.value.Ccache.{Ccache}
 use Rattle.krb_ccache.specs.declared.value.Credential.{Credential}
 use Rattle.krb_ccache.specs.declared.value.FilePrincipal.{FilePrincipal}
 use Rattle.krb_ccache.specs.declared.value.Header.{Header}
 use Rattle.krb_ccache.specs.declared.value.HeaderField.{HeaderField}
-use Rattle.krb_ccache.specs.Spelling.{ccache, offset, is_config, masked}
-use Rattle.krb_ccache.specs.Reading.{start_at, read}
+use Rattle.krb_ccache.specs.Spelling.{ccache, cache3, upgraded, offset, is_config, masked}
+use Rattle.krb_ccache.specs.Reading.{read, read3}
+use Rattle.krb_ccache.specs.Streaming.{begun}
 use Rattle.krb_ccache.specs.Writing.{is_too_long}
 
 -- ---- a cache of u@A: an offset of 0, a configuration entry and a credential for h@A
@@ -26,11 +28,16 @@ config_octets =
     ++ hex (codes "00000000 00000002 0000000C 582D4341434845434F4E463A 00000015 6B7262355F6363616368655F636F6E665F64617461 00000007 70615F74797065")
     ++ hex (codes "0000 00000000 00000000 00000000 00000000 00000000 00 00000000 00000000 00000000 00000001 32 00000000")
 
-abbrev credential_octets : List ℕ
-credential_octets =
+-- with these octets for the encryption type
+abbrev credential_with : List ℕ → List ℕ
+credential_with enctype =
     user_octets
     ++ hex (codes "00000002 00000001 00000001 41 00000001 68")
-    ++ hex (codes "0012 00000002 ABCD 386D4380 386D4380 386D5190 00000000 00 40E10000 00000000 00000000 00000002 6180 00000000")
+    ++ enctype
+    ++ hex (codes "00000002 ABCD 386D4380 386D4380 386D5190 00000000 00 40E10000 00000000 00000000 00000002 6180 00000000")
+
+abbrev credential_octets : List ℕ
+credential_octets = credential_with (hex (codes "0012"))
 
 abbrev cache_octets : List ℕ
 cache_octets = front_octets ++ config_octets ++ credential_octets
@@ -118,11 +125,11 @@ is_read (Ok value) = true
 is_read (Err fault) = false
 
 -- the numbers of octets, from 0 to k, whose front of a file is read
-abbrev lengths_read : List ℕ → ℕ → List ℕ
-lengths_read file zero = when (is_read (read [])) (λ _. 0 ∷ []) (λ _. [])
-lengths_read file (suc k) = lengths_read file k ++ when (is_read (read (take (suc k) file))) (λ _. suc k ∷ []) (λ _. [])
+abbrev lengths_read : {A : Type 0} → (List ℕ → Result A Fault) → List ℕ → ℕ → List ℕ
+lengths_read reads file zero = when (is_read (reads [])) (λ _. 0 ∷ []) (λ _. [])
+lengths_read reads file (suc k) = lengths_read reads file k ++ when (is_read (reads (take (suc k) file))) (λ _. suc k ∷ []) (λ _. [])
 
-cache_lengths : lengths_read cache_octets 239 ≡ 34 ∷ 156 ∷ 239 ∷ []
+cache_lengths : lengths_read read cache_octets 239 ≡ 34 ∷ 156 ∷ 239 ∷ []
 cache_lengths = refl
 
 -- ---- faults
@@ -152,5 +159,44 @@ addresses_announced : read (take 221 cache_octets ++ hex (codes "FFFFFFFF")) ≡
 addresses_announced = refl
 
 -- ---- a limit on fields of octets
-header_too_long : start_at (limited (Some 1)) (source_of cache_octets) ≡ Err (record { place = 8; why = why.TooLong })
+header_too_long : begun (Some 1) cache_octets ≡ Err (record { place = 8; why = why.TooLong })
 header_too_long = refl
+
+-- ---- a cache of version 3 of u@A: the credential for h@A
+abbrev cache3_octets : List ℕ
+cache3_octets = hex (codes "0503") ++ user_octets ++ credential_with (hex (codes "0012 0012"))
+
+abbrev cache_of_3 : ℕ → Cache3
+cache_of_3 again = record { principal = user; credentials = record { credential = credential; again = again } ∷ [] }
+
+cache3_read : read3 cache3_octets ≡ Ok (cache_of_3 18)
+cache3_read = refl
+
+cache3_written : cache3 (cache_of_3 18) ≡ cache3_octets
+cache3_written = refl
+
+-- the encryption type as it is written again may differ
+again_differs : read3 (hex (codes "0503") ++ user_octets ++ credential_with (hex (codes "0012 0011"))) ≡ Ok (cache_of_3 17)
+again_differs = refl
+
+cache3_upgraded : ccache (upgraded (cache_of_3 17)) ≡ hex (codes "0504 0000") ++ user_octets ++ credential_octets
+cache3_upgraded = refl
+
+cache3_lengths : lengths_read read3 cache3_octets 105 ≡ 20 ∷ 105 ∷ []
+cache3_lengths = refl
+
+-- the encryption type is there, and is not written again
+again_cut : read3 (take 58 cache3_octets) ≡ Err (record { place = 58; why = why.Truncated })
+again_cut = refl
+
+nothing_after_3 : read3 (hex (codes "0503")) ≡ Err (record { place = 2; why = why.Truncated })
+nothing_after_3 = refl
+
+start_cut : begun None (hex (codes "0503")) ≡ Err (record { place = 2; why = why.Truncated })
+start_cut = refl
+
+not_three : read3 (hex (codes "0504")) ≡ Err (record { place = 1; why = why.Version })
+not_three = refl
+
+not_three_or_four : begun None (hex (codes "0502")) ≡ Err (record { place = 1; why = why.Version })
+not_three_or_four = refl

@@ -2,6 +2,6 @@ pub mod Spelling
 pub mod Reading
 pub mod Writing
 pub mod Tickets
+pub mod Streaming
 pub mod Laws
 pub mod Examples
-pub mod Streaming

@@ -1,14 +1,18 @@
 -- Reading a cache from left to right, up to the first fault.
-use Rattle.std.specs.Prelude.{ℕ, zero, suc, List, [], ◌∷◌, length, Option, None, Some, Result, Ok, Err}
+use Rattle.std.specs.Prelude.{ℕ, zero, suc, ◌==◌, List, [], ◌∷◌, length, Option, None, Some, Result, Ok, Err}
 use Rattle.std.specs.Int.{w8, w16, w32}
 use Rattle.krb_der.specs.Octets.{when}
-use Rattle.krb_der.specs.Fields.{Source, source_of, Fault, limited, Reader, onward, ◌>>=◌, gives, is_empty, number_at, signed_at, counted_at, times, names_at, within, is_at_end, version_at}
+use Rattle.krb_file.specs.Fields.{Source, source_of, Fault, limited, Reader, onward, ◌>>=◌, gives, is_empty, number_at, signed_at, counted_at, times, names_at, within, is_at_end, version_at}
+use Rattle.krb_ccache.specs.declared.value.Cache3.{Cache3}
 use Rattle.krb_ccache.specs.declared.value.Ccache.{Ccache}
 use Rattle.krb_ccache.specs.declared.value.Credential.{Credential}
+use Rattle.krb_ccache.specs.declared.value.Credential3.{Credential3}
 use Rattle.krb_ccache.specs.declared.value.FilePrincipal.{FilePrincipal}
 use Rattle.krb_ccache.specs.declared.value.Header.{Header}
 use Rattle.krb_ccache.specs.declared.value.HeaderField.{HeaderField}
 use Rattle.krb_ccache.specs.declared.value.Typed.{Typed}
+use Rattle.krb_ccache.specs.declared.reading.Start.{Start}
+use Rattle.krb_ccache.specs.Spelling.{no_header}
 
 -- ---- a principal
 
@@ -49,16 +53,30 @@ credential_from client server enctype = do
   second_ticket ← counted_at w32
   gives (record { client = client; server = server; enctype = enctype; key = key; authtime = authtime; starttime = starttime; endtime = endtime; renew_till = renew_till; is_skey = is_skey; flags = flags; addresses = addresses; authdata = authdata; ticket = ticket; second_ticket = second_ticket })
 
-abbrev pub credential_at : Reader Credential
-credential_at = do
+-- the encryption type again, which version 4 does not write
+abbrev pub again_at : ℕ → ℕ → Reader ℕ
+again_at version enctype = when (version == 3) (λ _. number_at w16) (λ _. gives enctype)
+
+-- a credential in a version, of which this is kept and of its encryption type as it is written again
+abbrev pub credential_at : {A : Type 0} → (Credential → ℕ → A) → ℕ → Reader A
+credential_at kept version = do
   client ← principal_at
   server ← principal_at
   enctype ← number_at w16
-  credential_from client server enctype
+  again ← again_at version enctype
+  credential ← credential_from client server enctype
+  gives (kept credential again)
+
+-- the credential alone, and both
+abbrev pub once : Credential → ℕ → Credential
+once credential again = credential
+
+abbrev pub twice : Credential → ℕ → Credential3
+twice credential again = record { credential = credential; again = again }
 
 -- the next credential, and none where the file ends
-abbrev pub next_at : Reader (Option Credential)
-next_at = λ bounds source. when (is_empty source.octets) (λ _. Ok (None, source)) (λ _. (credential_at >>= λ credential. gives (Some credential)) bounds source)
+abbrev pub next_at : {A : Type 0} → (Credential → ℕ → A) → ℕ → Reader (Option A)
+next_at kept version = λ bounds source. when (is_empty source.octets) (λ _. Ok (None, source)) (λ _. (credential_at kept version >>= λ item. gives (Some item)) bounds source)
 
 -- ---- the header
 
@@ -85,16 +103,17 @@ header_at = do
 
 -- ---- what stands before the credentials
 
-pub record Start : Type 0 where
-  pub header : Header
-  pub principal : FilePrincipal
+-- the header, which version 3 does not write
+abbrev pub header_in : ℕ → Reader Header
+header_in version = when (version == 3) (λ _. gives no_header) (λ _. header_at)
 
-abbrev pub start_at : Reader Start
-start_at = do
-  version ← version_at (4 ∷ [])
-  header ← header_at
+-- in one of these versions
+abbrev pub start_at : List ℕ → Reader Start
+start_at versions = do
+  version ← version_at versions
+  header ← header_in version
   principal ← principal_at
-  gives (record { header = header; principal = principal })
+  gives (record { version = version; header = header; principal = principal })
 
 -- ---- items up to the end of the file
 
@@ -127,18 +146,24 @@ items_after item_at limit source = items_within (length source.octets) item_at l
 abbrev pub all_items : {A : Type 0} → Items A → Result (List A) Fault
 all_items found = onward found.end (λ size. Ok found.items)
 
--- ---- a file
+-- ---- a file of a version
 
 -- the credentials after the start
-abbrev pub credentials_after : Source → Result (List Credential) Fault
-credentials_after source = all_items (items_after credential_at None source)
+abbrev pub credentials_after : {A : Type 0} → (Credential → ℕ → A) → ℕ → Source → Result (List A) Fault
+credentials_after kept version source = all_items (items_after (credential_at kept version) None source)
 
-abbrev pub started : List ℕ → Result (Start × Source) Fault
-started file = start_at (limited None) (source_of file)
+abbrev pub started : ℕ → List ℕ → Result (Start × Source) Fault
+started version file = start_at (version ∷ []) (limited None) (source_of file)
 
--- the cache that a file holds, or the first fault
+-- what a file holds, or the first fault
+abbrev pub read_in : {A : Type 0} → (Credential → ℕ → A) → ℕ → List ℕ → Result (Start × List A) Fault
+read_in kept version file =
+    onward (started version file) (λ start.
+    onward (credentials_after kept version start.1) (λ credentials.
+    Ok (start.0, credentials)))
+
 abbrev pub read : List ℕ → Result Ccache Fault
-read file =
-    onward (started file) (λ start.
-    onward (credentials_after start.1) (λ credentials.
-    Ok (record { header = start.0.header; principal = start.0.principal; credentials = credentials })))
+read file = onward (read_in once 4 file) (λ found. Ok (record { header = found.0.header; principal = found.0.principal; credentials = found.1 }))
+
+abbrev pub read3 : List ℕ → Result Cache3 Fault
+read3 file = onward (read_in twice 3 file) (λ found. Ok (record { principal = found.0.principal; credentials = found.1 }))

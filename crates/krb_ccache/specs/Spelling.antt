@@ -1,13 +1,15 @@
--- Credential cache files of version 4 (MIT krb5): the one spelling of each cache.
+-- Credential cache files (MIT krb5), versions 4 and 3: the one spelling of each cache.
 use Rattle.std.specs.Prelude.{ℕ, ℤ, ◌^◌, ◌<◌, ◌≡◌, Bool, false, ◌&&◌, ◌==◌, codes, List, [], ◌∷◌, ◌++◌, length, map, take, drop, Option, Some, None}
 use Rattle.std.specs.List.{flat_map, AllByRecursion}
 use Rattle.std.specs.Int.{w8, w16, w32, to_be_bytes, from_be_bytes, cast_signed}
 use Rattle.std.specs.Int.RustNames.{FitsSigned}
 use Rattle.std.specs.Str.{bytes_eq}
 use Rattle.krb_der.specs.Octets.{when}
-use Rattle.krb_der.specs.Fields.{signed, counted, Names, names, IsCounted, AreNames, zeros}
+use Rattle.krb_file.specs.Fields.{signed, counted, Names, names, IsCounted, AreNames, zeros}
+use Rattle.krb_ccache.specs.declared.value.Cache3.{Cache3}
 use Rattle.krb_ccache.specs.declared.value.Ccache.{Ccache}
 use Rattle.krb_ccache.specs.declared.value.Credential.{Credential}
+use Rattle.krb_ccache.specs.declared.value.Credential3.{Credential3}
 use Rattle.krb_ccache.specs.declared.value.FilePrincipal.{FilePrincipal}
 use Rattle.krb_ccache.specs.declared.value.Header.{Header}
 use Rattle.krb_ccache.specs.declared.value.HeaderField.{HeaderField}
@@ -102,7 +104,7 @@ pub record HeaderFits (h : Header) : Type 0 where
   pub each : AllByRecursion HeaderFieldFits h.fields
   pub short : length (header_fields h.fields) < 2 ^ 16
 
--- ---- a cache
+-- ---- a cache of version 4
 
 -- the version, the header, the default principal, and the credentials up to the end
 abbrev pub ccache : Ccache → List ℕ
@@ -117,6 +119,33 @@ pub record CcacheFits (v : Ccache) : Type 0 where
 pub record CcacheSpells (v : Ccache) (b : List ℕ) : Type 0 where
   pub fits : CcacheFits v
   pub octets : b ≡ ccache v
+
+-- ---- a cache of version 3: no header, and the encryption type of each credential again before its key
+
+abbrev pub credential3 : Credential3 → List ℕ
+credential3 c = credential_front c.credential ++ to_be_bytes w16 c.again ++ credential_back c.credential
+
+abbrev pub cache3 : Cache3 → List ℕ
+cache3 v = 5 ∷ 3 ∷ principal v.principal ++ flat_map credential3 v.credentials
+
+pub record Credential3Fits (c : Credential3) : Type 0 where
+  pub credential : CredentialFits c.credential
+  pub again : c.again < 2 ^ 16
+
+pub record Cache3Fits (v : Cache3) : Type 0 where
+  pub principal : PrincipalFits v.principal
+  pub credentials : AllByRecursion Credential3Fits v.credentials
+
+pub record Spells3 (v : Cache3) (b : List ℕ) : Type 0 where
+  pub fits : Cache3Fits v
+  pub octets : b ≡ cache3 v
+
+abbrev pub no_header : Header
+no_header = record { fields = [] }
+
+-- the same principal and credentials, in the same order, in version 4
+abbrev pub upgraded : Cache3 → Ccache
+upgraded v = record { header = no_header; principal = v.principal; credentials = map (λ c. c.credential) v.credentials }
 
 -- ---- what is read out of a cache
 
@@ -147,3 +176,9 @@ masked_credential c = record c { key = zeros (length c.key) }
 -- every octet of each key 00
 abbrev pub masked : Ccache → Ccache
 masked v = record v { credentials = map masked_credential v.credentials }
+
+abbrev pub masked_credential3 : Credential3 → Credential3
+masked_credential3 c = record c { credential = masked_credential c.credential }
+
+abbrev pub masked3 : Cache3 → Cache3
+masked3 v = record v { credentials = map masked_credential3 v.credentials }

@@ -1,5 +1,6 @@
 -- What stands in the ticket field of a credential.
 use Rattle.std.specs.Prelude.{ℕ, List, [], ◌∷◌, Option, Some, None}
+use Rattle.krb_der.specs.declared.profile.Profile.TheVariants as profiles
 use Rattle.krb_der.specs.Octets.{when}
 use Rattle.krb_der.specs.declared.verdict.Refusal.{Refusal}
 use Rattle.krb_msg.specs.Grammar.{ticket}
@@ -26,7 +27,7 @@ judged_state (Some refusal) octets = states.Refused refusal
 
 abbrev pub field_state : List ℕ → TicketState
 field_state [] = states.Absent
-field_state (octet ∷ octets) = judged_state (ticket_refusal (octet ∷ octets)) (octet ∷ octets)
+field_state (octet ∷ octets) = judged_state (ticket_refusal profiles.Lenient (octet ∷ octets)) (octet ∷ octets)
 
 -- A configuration entry is told first, then an empty field, and then whether the octets are a Ticket.
 unfoldable pub state_of : Credential → TicketState
@@ -43,7 +44,7 @@ state_viewed (views.Refused refusal) = states.Refused refusal
 abbrev pub IsOfDer : List ℕ → TicketState → Type 0
 IsOfDer octets states.Absent = Unit {0}
 IsOfDer octets states.Config = Unit {0}
-IsOfDer octets (states.Ticket t) = AreOfTicket octets t
+IsOfDer octets (states.Ticket t) = AreOfTicket profiles.Lenient octets t
 IsOfDer octets (states.Refused refusal) = Unit {0}
 
 -- memory is taken for a Ticket alone

@@ -1,7 +1,7 @@
 -- What keeps a cache from being written.
 use Rattle.std.specs.Prelude.{Bool, ◌||◌, nat_lt, List, length}
 use Rattle.std.specs.List.{list_any}
-use Rattle.krb_der.specs.Parts.{is_long16, is_long32, greatest}
+use Rattle.krb_file.specs.Parts.{is_long16, is_long32, greatest}
 use Rattle.krb_ccache.specs.declared.value.Ccache.{Ccache}
 use Rattle.krb_ccache.specs.declared.value.Credential.{Credential}
 use Rattle.krb_ccache.specs.declared.value.FilePrincipal.{FilePrincipal}

@@ -1,14 +1,15 @@
 //! Caches, read one credential at a time.
 
-ghost use Rattle.std.specs.Prelude.{◌≡◌, ℕ, List, None, Some, Ok, Err, IfOk, IfErr};
+ghost use Rattle.std.specs.Prelude.{◌≡◌, ℕ, List, [], None, Some, Ok, Err, IfOk, IfErr, OnOk};
 ghost use Rattle.krb_ccache.specs.declared.credentials.State.TheVariants as states;
-ghost use Rattle.krb_der.specs.declared.files.fault.FileFault.{FileFault as FaultValue};
-ghost use Rattle.krb_ccache.specs.Reading.{Start};
+ghost use Rattle.krb_file.specs.declared.fault.FileFault.{FileFault as FaultValue};
+ghost use Rattle.krb_file.specs.Fields.{StandsIn};
+ghost use Rattle.krb_file.specs.FieldReaders.{Stays};
 ghost use Rattle.krb_ccache.specs.Streaming.{Reads, FailsStart, GivesNext};
 
-use crate::reading::{Front, beginning, next};
+use crate::reading::{Start, beginning, next};
 use crate::value::{Credential, FilePrincipal, Header};
-use krb_der::{FieldLimit, FileFault, StreamReader};
+use krb_file::{FieldLimit, FileFault, StreamReader};
 use std::alloc::Global;
 use std::io::Read;
 
@@ -29,54 +30,67 @@ pub enum State {
 #[derive(Drop)]
 pub struct Credentials<R: Read> {
     reader: StreamReader<R>,
-    header: Header,
-    principal: FilePrincipal,
+    start: Start,
     state: State,
 }
 
 impl<R: Read + Drop> Credentials<R> {
     /// The credentials of what a reader gives, where no field of octets may be longer than a limit.
-    /// What stands before them is read: the header and the default principal.
+    /// What stands before them is read: the version, 3 or 4, the header and the default principal.
     pub fn start(alloc: Global, reader: R, limit: FieldLimit) -> Result<Credentials<R>, FileFault>
-        ensures begins { IfOk result (λ made. (file : List ℕ) → R.remaining reader ≡ Some file → Reads (Some limit) made.reader (record { header = made.header; principal = made.principal }) made.state file 0) }
+        ensures begins { IfOk result (λ made. (file : List ℕ) → R.remaining reader ≡ Some file → Reads (Some limit) made.reader made.start made.state file 0) }
+        // No octet after the default principal was taken.
+        ensures reach { IfOk result (λ made. made.reader.ahead ≡ []) }
         ensures fault { IfErr result (λ fault. (file : List ℕ) → R.remaining reader ≡ Some file → FailsStart (Some limit) file fault) }
+        // A refusal stands in the file or at its end.
+        ensures refused { IfErr result (λ fault. (file : List ℕ) → R.remaining reader ≡ Some file → StandsIn file fault) }
     {
         let mut reader = StreamReader::new(reader, limit);
-        let Front { header, principal } = beginning(alloc, &mut reader)?;
+        let start = beginning(alloc, &[3, 4], &mut reader)?;
         Ok(Credentials {
             reader,
-            header,
-            principal,
+            start,
             state: State::Open,
         })
     }
 
-    /// The header of the cache.
-    pub fn header(&self) -> &Header
-        ensures { result.now ≡ self.now.header }
+    /// The version of the cache, 3 or 4.
+    pub fn version(&self) -> u8
+        ensures { result ≡ self.now.start.version }
     {
-        &self.header
+        self.start.version
+    }
+
+    /// The header of the cache, which has no fields in version 3.
+    pub fn header(&self) -> &Header
+        ensures { result.now ≡ self.now.start.header }
+    {
+        &self.start.header
     }
 
     /// The default principal of the cache.
     pub fn principal(&self) -> &FilePrincipal
-        ensures { result.now ≡ self.now.principal }
+        ensures { result.now ≡ self.now.start.principal }
     {
-        &self.principal
+        &self.start.principal
     }
 
     /// The next credential, and none where the file ends. A cache is refused as
-    /// [`read`](crate::read) refuses it, but that a field of octets is TooLong where it is longer than
+    /// [`read`](crate::read) or [`read3`](crate::read3) refuses it, but that a field of octets is TooLong where it is longer than
     /// the limit: after Overrun, and before Truncated. After a fault of any kind each call answers this
-    /// fault, and after the end each call answers that none is left.
+    /// fault, and after the end each call answers that none is left; neither reads any more.
     pub fn next_credential(&mut self, alloc: Global) -> Result<Option<Credential>, FileFault>
         // The credentials of a file that its reader tells, one after another, and then the end or the fault.
-        ensures next { (file : List ℕ) (limit : ℕ) (given : ℕ) → Reads (Some limit) self.old.reader (record { header = self.old.header; principal = self.old.principal }) self.old.state file given → GivesNext (Some limit) file given result self.new.reader (record { header = self.new.header; principal = self.new.principal }) self.new.state }
-        ensures same_header { self.new.header ≡ self.old.header }
-        ensures same_principal { self.new.principal ≡ self.old.principal }
+        ensures next { (file : List ℕ) (limit : ℕ) (given : ℕ) → Reads (Some limit) self.old.reader self.old.start self.old.state file given → GivesNext (Some limit) file given result self.new.reader self.new.start self.new.state }
+        // A refusal stands in the file or at its end.
+        ensures refused { (file : List ℕ) (limit : ℕ) (given : ℕ) → Reads (Some limit) self.old.reader self.old.start self.old.state file given → IfErr result (StandsIn file) }
+        // No octet after what is answered was taken, if none was ahead before.
+        ensures reach { OnOk result (self.old.reader.ahead ≡ [] → self.new.reader.ahead ≡ []) }
+        ensures same_start { self.new.start ≡ self.old.start }
         ensures ends { result ≡ Ok None → self.new.state ≡ states.Done }
-        ensures ended { self.old.state ≡ states.Done → (result ≡ Ok None) × (self.new.state ≡ states.Done) }
-        ensures failed { (fault : FaultValue) → self.old.state ≡ states.Failed fault → (result ≡ Err fault) × (self.new.state ≡ states.Failed fault) }
+        // After the end or a fault nothing more is read.
+        ensures ended { self.old.state ≡ states.Done → (result ≡ Ok None) × (self.new.state ≡ states.Done) × (self.new.reader ≡ self.old.reader) }
+        ensures failed { (fault : FaultValue) → self.old.state ≡ states.Failed fault → (result ≡ Err fault) × (self.new.state ≡ states.Failed fault) × (self.new.reader ≡ self.old.reader) }
         ensures fails { IfErr result (λ fault. self.new.state ≡ states.Failed fault) }
     {
         match self.state {
@@ -89,8 +103,7 @@ impl<R: Read + Drop> Credentials<R> {
     /// Gives back a credential that was read, whose room the next credentials take.
     pub fn give_back(&mut self, credential: Credential)
         ensures same_reader { self.new.reader ≡ self.old.reader }
-        ensures same_header { self.new.header ≡ self.old.header }
-        ensures same_principal { self.new.principal ≡ self.old.principal }
+        ensures same_start { self.new.start ≡ self.old.start }
         ensures same_state { self.new.state ≡ self.old.state }
     {
         let Credential {
@@ -112,13 +125,14 @@ impl<R: Read + Drop> Credentials<R> {
 
     /// The next credential of a reader that met neither the end nor a fault.
     fn next_open(&mut self, alloc: Global) -> Result<Option<Credential>, FileFault>
-        ensures next { (file : List ℕ) (limit : ℕ) (given : ℕ) → Reads (Some limit) self.old.reader (record { header = self.old.header; principal = self.old.principal }) self.old.state file given → GivesNext (Some limit) file given result self.new.reader (record { header = self.new.header; principal = self.new.principal }) self.new.state }
-        ensures same_header { self.new.header ≡ self.old.header }
-        ensures same_principal { self.new.principal ≡ self.old.principal }
+        ensures next { (file : List ℕ) (limit : ℕ) (given : ℕ) → Reads (Some limit) self.old.reader self.old.start self.old.state file given → GivesNext (Some limit) file given result self.new.reader self.new.start self.new.state }
+        ensures refused { (file : List ℕ) (limit : ℕ) (given : ℕ) → Reads (Some limit) self.old.reader self.old.start self.old.state file given → IfErr result (StandsIn file) }
+        ensures stays { OnOk result (Stays self.old.reader self.new.reader) }
+        ensures same_start { self.new.start ≡ self.old.start }
         ensures ends { result ≡ Ok None → self.new.state ≡ states.Done }
         ensures fails { IfErr result (λ fault. self.new.state ≡ states.Failed fault) }
     {
-        match next(alloc, &mut self.reader) {
+        match next(alloc, self.start.version, &mut self.reader) {
             Ok(Some(credential)) => Ok(Some(credential)),
             Ok(None) => {
                 self.state = State::Done;

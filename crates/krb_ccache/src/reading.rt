@@ -1,19 +1,25 @@
 //! Caches, read from octets.
 
-ghost use Rattle.std.specs.Prelude.{◌≡◌, None, Ok, IfOk, IfErr};
-ghost use Rattle.krb_der.specs.Fields.{Gives, IsFaultIn, Reader, within, times};
-ghost use Rattle.krb_der.specs.FieldReaders.{Follows, Slice, source_at};
+ghost use Rattle.std.specs.Prelude.{◌≡◌, ℕ, None, Ok, IfOk, IfErr, OnOk};
+ghost use Rattle.krb_file.specs.Fields.{Gives, IsFaultIn, Reader, within, times};
+ghost use Rattle.krb_file.specs.FieldReaders.{Follows, Stays, Slice, source_at};
+ghost use Rattle.krb_ccache.specs.declared.value.Cache3.{Cache3 as Cache3Value};
 ghost use Rattle.krb_ccache.specs.declared.value.Ccache.{Ccache as CcacheValue};
-ghost use Rattle.krb_ccache.specs.Spelling.{CcacheSpells};
-ghost use Rattle.krb_ccache.specs.Reading.{principal_at, typed_at, typed_list_at, credential_from, credential_at, header_field_at, header_fields_at, header_at, start_at, next_at, credentials_after, read};
+ghost use Rattle.krb_ccache.specs.declared.value.Credential.{Credential as CredentialValue};
+ghost use Rattle.krb_ccache.specs.Spelling.{CcacheSpells, Spells3};
+ghost use Rattle.krb_ccache.specs.Reading.{principal_at, typed_at, typed_list_at, credential_from, again_at, credential_at, once, twice, header_field_at, header_fields_at, header_at, header_in, start_at, next_at, credentials_after, read_in, read, read3};
 
-use crate::value::{Ccache, Credential, FilePrincipal, Header, HeaderField, Typed};
-use krb_der::{Field, FieldReader, FileFault, KString, Many, Octets, SliceReader, read_many};
+use crate::value::{
+    Cache3, Ccache, Credential, Credential3, FilePrincipal, Header, HeaderField, Typed,
+};
+use krb_der::{KString, Many, Octets};
+use krb_file::{Field, FieldReader, FileFault, SliceReader, read_many};
 use std::alloc::Global;
 
 /// A principal.
 fn principal<F: FieldReader>(alloc: Global, reader: &mut F) -> Result<FilePrincipal, FileFault>
-    ensures { Follows (λ principal. principal) result principal_at F.MayFail (F.held reader.old) (F.held reader.new) }
+    ensures read { Follows (λ principal. principal) result principal_at F.MayFail (F.held reader.old) (F.held reader.new) }
+    ensures stays { OnOk result (Stays (F.held reader.old) (F.held reader.new)) }
 {
     let name_type = reader.signed32()?;
     let mut realm = reader.room(alloc);
@@ -47,7 +53,8 @@ impl Field for OctetsOfKind {
 
 /// Addresses, or authorization data, after their number.
 fn typed_list<F: FieldReader>(alloc: Global, reader: &mut F) -> Result<Many<Typed>, FileFault>
-    ensures { Follows (λ list. list) result typed_list_at F.MayFail (F.held reader.old) (F.held reader.new) }
+    ensures read { Follows (λ list. list) result typed_list_at F.MayFail (F.held reader.old) (F.held reader.new) }
+    ensures stays { OnOk result (Stays (F.held reader.old) (F.held reader.new)) }
 {
     let count = reader.number32()?;
     let mut list = Vec::new(alloc);
@@ -66,7 +73,8 @@ fn credential_from<F: FieldReader>(
     enctype: u16,
     reader: &mut F,
 ) -> Result<Credential, FileFault>
-    ensures { Follows (λ credential. credential) result (credential_from client server enctype) F.MayFail (F.held reader.old) (F.held reader.new) }
+    ensures read { Follows (λ credential. credential) result (credential_from client server enctype) F.MayFail (F.held reader.old) (F.held reader.new) }
+    ensures stays { OnOk result (Stays (F.held reader.old) (F.held reader.new)) }
 {
     let mut key = reader.room(alloc);
     reader.counted32(alloc, &mut key)?;
@@ -101,38 +109,85 @@ fn credential_from<F: FieldReader>(
     })
 }
 
-/// A credential.
+/// What is kept of a credential that is read.
+pub(crate) trait Kept: Drop {
+    /// What it is, of a credential whose encryption type is written again so.
+    ghost kept: { CredentialValue → ℕ → Self };
+
+    /// Keeps it.
+    fn keep(credential: Credential, again: u16) -> Self
+        ensures { result ≡ kept credential again };
+}
+
+impl Kept for Credential {
+    ghost kept = { once };
+
+    fn keep(credential: Credential, _again: u16) -> Credential {
+        credential
+    }
+}
+
+impl Kept for Credential3 {
+    ghost kept = { twice };
+
+    fn keep(credential: Credential, again: u16) -> Credential3 {
+        Credential3 { credential, again }
+    }
+}
+
+/// The encryption type again, which version 4 does not write.
+fn again<F: FieldReader>(version: u8, enctype: u16, reader: &mut F) -> Result<u16, FileFault>
+    ensures read { Follows (λ again. again) result (again_at version enctype) F.MayFail (F.held reader.old) (F.held reader.new) }
+    ensures stays { OnOk result (Stays (F.held reader.old) (F.held reader.new)) }
+{
+    if version == 3 {
+        return reader.number16();
+    }
+    Ok(enctype)
+}
+
+/// A credential in a version.
 #[inline(never)]
-fn credential<F: FieldReader>(alloc: Global, reader: &mut F) -> Result<Credential, FileFault>
-    ensures { Follows (λ credential. credential) result credential_at F.MayFail (F.held reader.old) (F.held reader.new) }
+fn credential<K: Kept, F: FieldReader>(
+    alloc: Global,
+    version: u8,
+    reader: &mut F,
+) -> Result<K, FileFault>
+    ensures read { Follows (λ item. item) result (credential_at K.kept version) F.MayFail (F.held reader.old) (F.held reader.new) }
+    ensures stays { OnOk result (Stays (F.held reader.old) (F.held reader.new)) }
 {
     let client = principal(alloc, reader)?;
     let server = principal(alloc, reader)?;
     let enctype = reader.number16()?;
-    credential_from(alloc, client, server, enctype, reader)
+    let again = again(version, enctype, reader)?;
+    let credential = credential_from(alloc, client, server, enctype, reader)?;
+    Ok(K::keep(credential, again))
 }
 
-/// How many octets a credential has at least.
+/// How many octets a credential has at least, in either version.
 const LEAST_CREDENTIAL: u64 = 67;
 
-/// The next credential, and none where the file ends.
-pub(crate) fn next<F: FieldReader>(
+/// The next credential in a version, and none where the file ends.
+pub(crate) fn next<K: Kept, F: FieldReader>(
     alloc: Global,
+    version: u8,
     reader: &mut F,
-) -> Result<Option<Credential>, FileFault>
-    ensures { Follows (λ next. next) result next_at F.MayFail (F.held reader.old) (F.held reader.new) }
+) -> Result<Option<K>, FileFault>
+    ensures read { Follows (λ next. next) result (next_at K.kept version) F.MayFail (F.held reader.old) (F.held reader.new) }
+    ensures stays { OnOk result (Stays (F.held reader.old) (F.held reader.new)) }
 {
     reader.look_ahead(LEAST_CREDENTIAL)?;
     if reader.is_empty()? {
         return Ok(None);
     }
-    let credential = credential(alloc, reader)?;
-    Ok(Some(credential))
+    let item = credential(alloc, version, reader)?;
+    Ok(Some(item))
 }
 
 /// A field of the header.
 fn header_field<F: FieldReader>(alloc: Global, reader: &mut F) -> Result<HeaderField, FileFault>
-    ensures { Follows (λ field. field) result header_field_at F.MayFail (F.held reader.old) (F.held reader.new) }
+    ensures read { Follows (λ field. field) result header_field_at F.MayFail (F.held reader.old) (F.held reader.new) }
+    ensures stays { OnOk result (Stays (F.held reader.old) (F.held reader.new)) }
 {
     let tag = reader.number16()?;
     let mut value = reader.room(alloc);
@@ -149,7 +204,8 @@ fn header_fields<F: FieldReader>(
     size: u16,
     reader: &mut F,
 ) -> Result<Many<HeaderField>, FileFault>
-    ensures { Follows (λ fields. fields) result (within size (header_fields_at size)) F.MayFail (F.held reader.old) (F.held reader.new) }
+    ensures read { Follows (λ fields. fields) result (within size (header_fields_at size)) F.MayFail (F.held reader.old) (F.held reader.new) }
+    ensures stays { OnOk result (Stays (F.held reader.old) (F.held reader.new)) }
 {
     let outer = reader.end();
     let end = reader.place() + u64::from(size);
@@ -165,49 +221,96 @@ fn header_fields<F: FieldReader>(
 
 /// The header.
 fn header<F: FieldReader>(alloc: Global, reader: &mut F) -> Result<Header, FileFault>
-    ensures { Follows (λ header. header) result header_at F.MayFail (F.held reader.old) (F.held reader.new) }
+    ensures read { Follows (λ header. header) result header_at F.MayFail (F.held reader.old) (F.held reader.new) }
+    ensures stays { OnOk result (Stays (F.held reader.old) (F.held reader.new)) }
 {
     let size = reader.number16()?;
     let fields = header_fields(alloc, size, reader)?;
     Ok(Header { fields })
 }
 
-/// What stands before the credentials.
-#[derive(Drop)]
-pub(crate) struct Front {
-    pub(crate) header: Header,
-    pub(crate) principal: FilePrincipal,
+/// The header, which version 3 does not write.
+fn header_in<F: FieldReader>(
+    alloc: Global,
+    version: u8,
+    reader: &mut F,
+) -> Result<Header, FileFault>
+    ensures read { Follows (λ header. header) result (header_in version) F.MayFail (F.held reader.old) (F.held reader.new) }
+    ensures stays { OnOk result (Stays (F.held reader.old) (F.held reader.new)) }
+{
+    if version == 3 {
+        let fields = Many::new(Vec::new(alloc));
+        return Ok(Header { fields });
+    }
+    header(alloc, reader)
 }
 
-/// What stands before the credentials of a file, from its first octet on.
-pub(crate) fn beginning<F: FieldReader>(alloc: Global, reader: &mut F) -> Result<Front, FileFault>
-    ensures { Follows (λ start. record { header = start.header; principal = start.principal }) result start_at F.MayFail (F.held reader.old) (F.held reader.new) }
+/// What stands before the credentials. Only contracts read it from outside.
+#[derive(Drop)]
+pub struct Start {
+    /// The version of the format.
+    pub version: u8,
+    /// The header, which has no fields in version 3.
+    pub header: Header,
+    /// The default principal.
+    pub principal: FilePrincipal,
+}
+
+/// What stands before the credentials of a file in one of these versions, from its first octet on.
+pub(crate) fn beginning<F: FieldReader>(
+    alloc: Global,
+    versions: &[u8],
+    reader: &mut F,
+) -> Result<Start, FileFault>
+    ensures read { Follows (λ start. start) result (start_at versions.now) F.MayFail (F.held reader.old) (F.held reader.new) }
+    ensures stays { OnOk result (Stays (F.held reader.old) (F.held reader.new)) }
 {
-    reader.version(&[4])?;
-    let header = header(alloc, reader)?;
+    let version = reader.version(versions)?;
+    let header = header_in(alloc, version, reader)?;
     let principal = principal(alloc, reader)?;
-    Ok(Front { header, principal })
+    Ok(Start {
+        version,
+        header,
+        principal,
+    })
 }
 
 /// The credentials up to the end of the file.
-fn credentials(alloc: Global, reader: &mut SliceReader<'_>) -> Result<Many<Credential>, FileFault>
+fn credentials<K: Kept>(
+    alloc: Global,
+    version: u8,
+    reader: &mut SliceReader<'_>,
+) -> Result<Many<K>, FileFault>
     requires { reader.old.end ≡ None }
-    ensures { Gives (λ credentials. credentials) result (credentials_after (source_at reader.old.place reader.old.octets)) }
+    ensures { Gives (λ credentials. credentials) result (credentials_after K.kept version (source_at reader.old.place reader.old.octets)) }
 {
     let mut credentials = Vec::new(alloc);
-    'credentials: while let Some(credential) = next(alloc, reader)? {
-        credentials.push(credential)?;
+    'credentials: while let Some(item) = next(alloc, version, reader)? {
+        credentials.push(item)?;
     }
     Ok(Many::new(credentials))
+}
+
+/// What a file of a version holds: what stands before the credentials, and these.
+fn file<K: Kept>(alloc: Global, version: u8, octets: &[u8]) -> Result<(Start, Many<K>), FileFault>
+    ensures { Gives (λ found. found) result (read_in K.kept version octets.now) }
+{
+    let mut reader = SliceReader::new(octets);
+    let start = beginning(alloc, &[version], &mut reader)?;
+    let credentials = credentials(alloc, version, &mut reader)?;
+    Ok((start, credentials))
 }
 
 /// The cache that a file holds.
 fn whole(alloc: Global, octets: &[u8]) -> Result<Ccache, FileFault>
     ensures { Gives (λ ccache. ccache) result (read octets.now) }
 {
-    let mut reader = SliceReader::new(octets);
-    let Front { header, principal } = beginning(alloc, &mut reader)?;
-    let credentials = credentials(alloc, &mut reader)?;
+    let (start, credentials) = file(alloc, 4, octets)?;
+    let Start {
+        header,
+        principal,
+        ..
+    } = start;
     Ok(Ccache {
         header,
         principal,
@@ -215,10 +318,21 @@ fn whole(alloc: Global, octets: &[u8]) -> Result<Ccache, FileFault>
     })
 }
 
-/// The cache that a file holds. A file that holds none is refused at the first field at fault: Magic
-/// at 0, Version at 1, Overrun for a field that passes the end of the header that it stands in, else
-/// Truncated for one that passes the end of the file. Memory is taken for octets that are there, and
-/// never for a number of addresses that only announces them.
+/// The cache of version 3 that a file holds.
+fn whole3(alloc: Global, octets: &[u8]) -> Result<Cache3, FileFault>
+    ensures { Gives (λ cache. cache) result (read3 octets.now) }
+{
+    let (start, credentials) = file(alloc, 3, octets)?;
+    Ok(Cache3 {
+        principal: start.principal,
+        credentials,
+    })
+}
+
+/// The cache of version 4 that a file holds. A file that holds none is refused at the first field at
+/// fault: Magic at 0, Version at 1, Overrun for a field that passes the end of the header that it
+/// stands in, else Truncated for one that passes the end of the file. Memory is taken for octets that
+/// are there, and never for a number of addresses that only announces them.
 pub fn read(alloc: Global, octets: &[u8]) -> Result<Ccache, FileFault>
     // What is read is spelled so.
     ensures found { IfOk result (λ ccache. CcacheSpells ccache octets.now) }
@@ -229,4 +343,18 @@ pub fn read(alloc: Global, octets: &[u8]) -> Result<Ccache, FileFault>
     ensures refused { IfErr result (IsFaultIn octets.now) }
 {
     whole(alloc, octets)
+}
+
+/// The cache of version 3 that a file holds. A file that holds none is refused as [`read`] refuses
+/// it, but that it has no header.
+pub fn read3(alloc: Global, octets: &[u8]) -> Result<Cache3, FileFault>
+    // What is read is spelled so.
+    ensures found { IfOk result (λ cache. Spells3 cache octets.now) }
+    // What is spelled so is read, unless memory ran out.
+    ensures only { (cache : Cache3Value) → Spells3 cache octets.now → Gives (λ cache. cache) result (Ok cache) }
+    // Which fault it is.
+    ensures exact { Gives (λ cache. cache) result (read3 octets.now) }
+    ensures refused { IfErr result (IsFaultIn octets.now) }
+{
+    whole3(alloc, octets)
 }

@@ -2,7 +2,8 @@
 
 use krb_der::{KString, Many, Octets};
 
-/// A credential cache: its header, the principal whose credentials it holds, and these in order.
+/// A credential cache of version 4: its header, the principal whose credentials it holds, and these in
+/// order.
 #[derive(Drop)]
 pub struct Ccache {
     /// What is said of the cache as a whole.
@@ -11,6 +12,15 @@ pub struct Ccache {
     pub principal: FilePrincipal,
     /// The credentials, configuration entries among them.
     pub credentials: Many<Credential>,
+}
+
+/// A credential cache of version 3, which has no header.
+#[derive(Drop)]
+pub struct Cache3 {
+    /// The default principal, whose credentials these are.
+    pub principal: FilePrincipal,
+    /// The credentials, configuration entries among them.
+    pub credentials: Many<Credential3>,
 }
 
 /// The header of a cache.
@@ -83,6 +93,15 @@ pub struct Credential {
     pub ticket: Octets,
     /// Another ticket, for user-to-user authentication.
     pub second_ticket: Octets,
+}
+
+/// A credential of version 3, which writes the encryption type twice. It has no `Debug` either.
+#[derive(Drop)]
+pub struct Credential3 {
+    /// The credential, with the encryption type as it is written first.
+    pub credential: Credential,
+    /// The encryption type as it is written again, which may differ.
+    pub again: u16,
 }
 
 ghost use Rattle.std.specs.Prelude.{◌≡◌};

@@ -7,9 +7,8 @@ ghost use Rattle.krb_ccache.specs.Reading.{read};
 ghost use Rattle.krb_ccache.specs.Writing.{is_long_principal, is_long_typed, is_long_credential, is_long_field, is_long_header, is_long_ccache, is_too_long};
 
 use crate::value::{Ccache, Credential, FilePrincipal, Header, HeaderField, Typed};
-use krb_der::{
-    Count32, Counted16, Each, GREATEST_FILE, KString, Listed, Measured, Octets, Part, Then,
-};
+use krb_der::{KString, Octets};
+use krb_file::{Count32, Counted16, Each, GREATEST_FILE, Listed, Measured, Part, Then};
 use std::alloc::{AllocError, Global};
 use thiserror::Error;
 

@@ -2,10 +2,6 @@ pub mod Octets
 pub mod Reasons
 pub mod Scalars
 pub mod Sizes
-pub mod Faults
-pub mod Fields
-pub mod FieldReaders
 pub mod Hex
 pub mod Puts
-pub mod Parts
 pub mod inner

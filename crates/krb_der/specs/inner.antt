@@ -1,4 +1,3 @@
 pub mod Numbers
 pub mod Items
 pub mod PrefixFree
-pub mod Takes

@@ -4,15 +4,10 @@
 //!
 //! `Numbers`, `Items` and `PrefixFree` of `specs/inner` define nothing: they prove the laws of [`Der`].
 //!
-//! Beside these stands what keytabs and credential caches share: why a file is refused
-//! ([`FileFault`]), how the fields of files are spelled and read (`specs/Fields`), and how files are
-//! made of parts ([`Part`]).
-//!
 //! Nothing here knows a Kerberos message; `krb_msg` does.
 #![tactic(auto)]
 
 mod der;
-mod files;
 mod flags;
 mod int32;
 mod item;
@@ -23,17 +18,13 @@ mod memory;
 mod micros;
 mod number;
 mod octets;
+mod profile;
 mod room;
 mod verdict;
 mod why;
 mod wide32;
 
 pub use der::Der;
-pub use files::{
-    Count16, Count32, Counted16, Counted32, Each, Field, FieldLimit, FieldReader, FileFault,
-    FileWhy, GREATEST_FILE, Listed, Measured, Part, Plain, SliceReader, StreamReader, String16,
-    String32, Strings16, Then, file_why_number, file_why_text, read_many,
-};
 pub use flags::{Flags, last_or_zero};
 pub use int32::Int32;
 pub use item::{TOO_LONG, add_sizes, item_size, put_header, put_item, put_octets, size_of};
@@ -44,6 +35,7 @@ pub use memory::Memory;
 pub use micros::Micros;
 pub use number::{integer_size, integer_value, number_of, put_integer};
 pub use octets::Octets;
+pub use profile::Profile;
 pub use room::{GiveBack, Room};
 pub use verdict::{Refusal, Verdict};
 pub use why::{Why, why_number, why_text};

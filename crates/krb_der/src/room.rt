@@ -68,7 +68,7 @@ impl Room {
 
     /// A vector without octets: one of those that are kept, where there is one.
     #[inline(always)]
-    pub(crate) fn take(&mut self, alloc: Global) -> Vec<u8>
+    pub fn take(&mut self, alloc: Global) -> Vec<u8>
         ensures { result.items ≡ [] }
     {
         if self.count > 0 {
@@ -90,7 +90,7 @@ impl Room {
     }
 
     /// A list without strings: one of those that are kept, where there is one.
-    pub(crate) fn take_list(&mut self, alloc: Global) -> Vec<KString>
+    pub fn take_list(&mut self, alloc: Global) -> Vec<KString>
         ensures { result.items ≡ [] }
     {
         if self.list_count > 0 {

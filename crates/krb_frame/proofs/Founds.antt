@@ -6,6 +6,7 @@ use Rattle.krb_der.specs.Octets.{number}
 use Rattle.krb_der.specs.declared.why.Why.TheVariants as why
 use Rattle.krb_der.specs.declared.verdict.Refusal.{Refusal}
 use Rattle.krb_der.specs.declared.verdict.Verdict.TheVariants as verdict
+use Rattle.krb_der.specs.declared.profile.Profile.{Profile}
 use Rattle.krb_msg.specs.Term.{Term}
 use Rattle.krb_msg.specs.Judgement.{Open, Bad, Done, message_outcome, judgement_by}
 use Rattle.krb_msg.specs.Stream.{Frames, Boundary, Within, Refused, ends, with_first, frames}
@@ -14,8 +15,8 @@ use Rattle.krb_msg.proofs.Grammars.{whole_outcome, refused_outcome, open_outcome
 use Rattle.krb_scan.specs.At.{open_count}
 use Rattle.krb_scan.specs.Scanner.{At}
 use Rattle.krb_scan.specs.declared.scanner.Scanner.{Scanner}
-use Rattle.krb_frame.specs.Decoding.{Decoding, found, status_at, status_of, first_of, borrowed, open_lengths_of, finish_at, finish_of, AreOfOne, IsOfOneFrame}
-use Rattle.krb_frame.specs.inner.Phases.{end_after, octets_of, decoding_of, IsRefusedIn, IsTaken, phase_of, IsAccepted, HasPartOfLength, HasPart, HasFrame, HasRefused, IsAt, IsScanned, length_present, phase_status}
+use Rattle.krb_frame.specs.Decoding.{Decoding, Room, found, status_at, status_of, first_of, borrowed, open_lengths_of, finish_at, finish_of, AreOfOne, IsOfOneFrame, octets_of, decoding_of, length_present}
+use Rattle.krb_frame.specs.inner.Phases.{end_after, IsRefusedIn, IsTaken, phase_of, IsAccepted, HasPartOfLength, HasPart, HasFrame, HasRefused, IsAt, IsScanned, phase_status}
 use Rattle.krb_frame.specs.declared.decoder.Phase.{Phase}
 use Rattle.krb_frame.specs.declared.decoder.Phase.TheVariants as phase
 use Rattle.krb_frame.specs.declared.decoder.Status.{Status}
@@ -89,12 +90,12 @@ none_ready phase.Ready contents n = absurd (n refl)
 none_ready (phase.Refused refusal) contents n = refl
 
 -- no length is open where nothing came
-none_open : (n : ℕ) → open_count n [] ≡ 0
-none_open zero = refl
-none_open (suc n) = refl
+none_open : (profile : Profile) (n : ℕ) → open_count profile n [] ≡ 0
+none_open profile zero = refl
+none_open profile (suc n) = refl
 
 -- ---- by any messages
-module _ (messages : List Term) where
+module _ (messages : List Term) (profile : Profile) where
   pub high : (limit : ℕ) (announced : List ℕ) (size : ℕ) → Announces announced size → 2 ^ 31 ≤ size → HasRefused messages limit announced [] (record { place = 3; why = why.HighBit })
   high limit announced size a h = record {
     four = a.four;
@@ -184,32 +185,37 @@ module _ (messages : List Term) where
     pub is : status_of messages d ≡ answer
     pub one : IsOfOneFrame messages d
 
-  pub comes : (limit looks : ℕ) (announced contents : List ℕ) (p : Phase) → IsAt messages limit announced contents p → Comes (decoding_of limit looks announced contents p) (phase_status p)
+  pub comes : (limit looks : ℕ) (space : Room) (announced contents : List ℕ) (p : Phase) → IsAt messages limit announced contents p → Comes (decoding_of profile limit looks space announced contents p) (phase_status p)
   unfolding found
-  comes limit looks announced contents p h = record {
+  comes limit looks space announced contents p h = record {
     is = ap (λ f. status_at f.contents f.end) (found-at limit announced contents p h) ∙ status-at p contents;
     one = subst (λ f. AreOfOne (octets_of p announced contents) f.contents f.end) (sym (found-at limit announced contents p h)) (one-at limit announced contents p h);
   }
 
-  pub one-nothing : (limit looks : ℕ) → IsOfOneFrame messages (record { limit = limit; octets = []; looks = looks })
+  pub one-nothing : (limit looks : ℕ) (space : Room) → IsOfOneFrame messages (record { profile = profile; limit = limit; octets = []; looks = looks; room = space })
   unfolding found
-  one-nothing limit looks = subst (λ f. AreOfOne [] f.contents f.end) (sym (frames-nil messages limit)) refl
+  one-nothing limit looks space = subst (λ f. AreOfOne [] f.contents f.end) (sym (frames-nil messages limit)) refl
 
-  pub more-nothing : (limit looks : ℕ) → status_of messages (record { limit = limit; octets = []; looks = looks }) ≡ status.More
+  pub more-nothing : (limit looks : ℕ) (space : Room) → status_of messages (record { profile = profile; limit = limit; octets = []; looks = looks; room = space }) ≡ status.More
   unfolding found
-  more-nothing limit looks = ap (λ f. status_at f.contents f.end) (frames-nil messages limit)
+  more-nothing limit looks space = ap (λ f. status_at f.contents f.end) (frames-nil messages limit)
 
-  pub borrowed-none : (limit looks : ℕ) (announced contents : List ℕ) (p : Phase) → IsAt messages limit announced contents p → (p ≡ phase.Ready → ⊥) → borrowed messages (decoding_of limit looks announced contents p) ≡ None
+  -- a status is told by the limit and the octets
+  pub same-status : (old new : Decoding) → new.limit ≡ old.limit → new.octets ≡ old.octets → status_of messages new ≡ status_of messages old
   unfolding found
-  borrowed-none limit looks announced contents p h n = ap (λ f. first_of f.contents) (found-at limit announced contents p h) ∙ none_ready p contents n
+  same-status old new l o = ap₂ (λ limit octets. status_at (frames messages limit octets).contents (frames messages limit octets).end) l o
 
-  pub borrowed-ready : (limit looks : ℕ) (announced contents : List ℕ) (p : Phase) → IsAt messages limit announced contents p → p ≡ phase.Ready → borrowed messages (decoding_of limit looks announced contents p) ≡ Some contents
+  pub borrowed-none : (limit looks : ℕ) (space : Room) (announced contents : List ℕ) (p : Phase) → IsAt messages limit announced contents p → (p ≡ phase.Ready → ⊥) → borrowed messages (decoding_of profile limit looks space announced contents p) ≡ None
   unfolding found
-  borrowed-ready limit looks announced contents p h e = ap (λ f. first_of f.contents) (found-at limit announced contents p h ∙ ap (λ q. frames_at q contents) e)
+  borrowed-none limit looks space announced contents p h n = ap (λ f. first_of f.contents) (found-at limit announced contents p h) ∙ none_ready p contents n
 
-  pub finish-at : (limit looks : ℕ) (announced contents : List ℕ) (p : Phase) → IsAt messages limit announced contents p → finish_of messages (decoding_of limit looks announced contents p) ≡ finish_at (frames_at p contents).end
+  pub borrowed-ready : (limit looks : ℕ) (space : Room) (announced contents : List ℕ) (p : Phase) → IsAt messages limit announced contents p → p ≡ phase.Ready → borrowed messages (decoding_of profile limit looks space announced contents p) ≡ Some contents
   unfolding found
-  finish-at limit looks announced contents p h = ap (λ f. finish_at f.end) (found-at limit announced contents p h)
+  borrowed-ready limit looks space announced contents p h e = ap (λ f. first_of f.contents) (found-at limit announced contents p h ∙ ap (λ q. frames_at q contents) e)
+
+  pub finish-at : (limit looks : ℕ) (space : Room) (announced contents : List ℕ) (p : Phase) → IsAt messages limit announced contents p → finish_of messages (decoding_of profile limit looks space announced contents p) ≡ finish_at (frames_at p contents).end
+  unfolding found
+  finish-at limit looks space announced contents p h = ap (λ f. finish_at f.end) (found-at limit announced contents p h)
 
   -- the contents are those that are kept
   pub contents-at : (limit : ℕ) (announced contents : List ℕ) (p : Phase) → IsAt messages limit announced contents p → drop 4 (octets_of p announced contents) ≡ contents
@@ -226,20 +232,20 @@ module _ (messages : List Term) where
   looked-at limit announced contents (phase.Refused refusal) h = omega (arith, h.four, length-append (take 4 announced) contents, length-take 4 announced)
 
   -- ---- the lengths that are open
-  pub open-none : (limit looks : ℕ) (announced contents : List ℕ) (p : Phase) → IsAt messages limit announced contents p → length contents ≡ 0 → open_lengths_of (decoding_of limit looks announced contents p) ≡ 0
-  open-none limit looks announced contents p h e =
-      ap (open_count (number (take 4 (octets_of p announced contents)))) (contents-at limit announced contents p h ∙ nil_from_length contents e) ∙ none_open (number (take 4 (octets_of p announced contents)))
+  pub open-none : (limit looks : ℕ) (space : Room) (announced contents : List ℕ) (p : Phase) → IsAt messages limit announced contents p → length contents ≡ 0 → open_lengths_of (decoding_of profile limit looks space announced contents p) ≡ 0
+  open-none limit looks space announced contents p h e =
+      ap (open_count profile (number (take 4 (octets_of p announced contents)))) (contents-at limit announced contents p h ∙ nil_from_length contents e) ∙ none_open profile (number (take 4 (octets_of p announced contents)))
 
-  pub open-some : (limit looks count : ℕ) (announced contents : List ℕ) (p : Phase) (scanner : Scanner) → IsAt messages limit announced contents p → IsScanned scanner announced contents p → 0 < length contents → ((n : ℕ) (octets : List ℕ) → At scanner n octets → count ≡ open_count n octets) → count ≡ open_lengths_of (decoding_of limit looks announced contents p)
-  open-some limit looks count announced contents p scanner h s some each = by p h s
+  pub open-some : (limit looks count : ℕ) (space : Room) (announced contents : List ℕ) (p : Phase) (scanner : Scanner) → IsAt messages limit announced contents p → IsScanned profile scanner announced contents p → 0 < length contents → ((n : ℕ) (octets : List ℕ) → At profile scanner n octets → count ≡ open_count profile n octets) → count ≡ open_lengths_of (decoding_of profile limit looks space announced contents p)
+  open-some limit looks count space announced contents p scanner h s some each = by p h s
     where
-      of_length : (n : ℕ) → length announced ≡ 4 → number announced ≡ n → At scanner n contents → count ≡ open_count (number (take 4 (take 4 announced ++ contents))) (drop 4 (take 4 announced ++ contents))
+      of_length : (n : ℕ) → length announced ≡ 4 → number announced ≡ n → At profile scanner n contents → count ≡ open_count profile (number (take 4 (take 4 announced ++ contents))) (drop 4 (take 4 announced ++ contents))
       of_length n four e at =
           let all : take 4 announced ++ contents ≡ announced ++ contents = four_octets announced contents four in
           each n contents at
-          ∙ ap₂ open_count (sym (ap number (ap (take 4) all ∙ take_at announced contents 4 four) ∙ e)) (sym (ap (drop 4) all ∙ drop_at announced contents 4 four))
+          ∙ ap₂ (open_count profile) (sym (ap number (ap (take 4) all ∙ take_at announced contents 4 four) ∙ e)) (sym (ap (drop 4) all ∙ drop_at announced contents 4 four))
 
-      by : (p : Phase) → IsAt messages limit announced contents p → IsScanned scanner announced contents p → count ≡ open_lengths_of (decoding_of limit looks announced contents p)
+      by : (p : Phase) → IsAt messages limit announced contents p → IsScanned profile scanner announced contents p → count ≡ open_lengths_of (decoding_of profile limit looks space announced contents p)
       by (phase.Length k) h s = absurd (omega (arith, some, ap length h.none))
       by (phase.Contents size) h s = of_length size h.accepted.four h.accepted.is s
       by phase.Ready h s = of_length (length contents) h.accepted.four h.accepted.is s
@@ -279,8 +285,8 @@ module _ (messages : List Term) where
   taken-at limit announced before piece after size used (status.Refused refusal) h t = refused_within limit announced after size refusal h.accepted t.present t.decided
 
   -- the scanner stands for them
-  pub scanned-at : (limit : ℕ) (announced before piece after : List ℕ) (size used : ℕ) (answer : Status) (scanner : Scanner) → HasPart messages limit announced before size → IsTaken messages size before piece after (record { used = used; status = answer }) → At scanner size after → IsScanned scanner announced after (phase_of size answer)
+  pub scanned-at : (limit : ℕ) (announced before piece after : List ℕ) (size used : ℕ) (answer : Status) (scanner : Scanner) → HasPart messages limit announced before size → IsTaken messages size before piece after (record { used = used; status = answer }) → At profile scanner size after → IsScanned profile scanner announced after (phase_of size answer)
   scanned-at limit announced before piece after size used status.More scanner h t at = at
   scanned-at limit announced before piece after size used status.Memory scanner h t at = at
-  scanned-at limit announced before piece after size used status.Ready scanner h t at = subst (λ n. At scanner n after) (sym t.decided.1) at
-  scanned-at limit announced before piece after size used (status.Refused refusal) scanner h t at = inr (subst (λ n. At scanner n after) (sym h.accepted.is) at)
+  scanned-at limit announced before piece after size used status.Ready scanner h t at = subst (λ n. At profile scanner n after) (sym t.decided.1) at
+  scanned-at limit announced before piece after size used (status.Refused refusal) scanner h t at = inr (subst (λ n. At profile scanner n after) (sym h.accepted.is) at)

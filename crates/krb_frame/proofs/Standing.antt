@@ -1,20 +1,21 @@
 -- What a decoder stands for when it is fed, and when a frame is cleared.
-use Rattle.std.proofs.Common.{◌≡◌, ◌≢◌, ℕ, ◌+◌, ◌-◌, ◌<◌, ◌≤◌, ◌⊎◌, inl, inr, List, [], ◌∷◌, ◌++◌, length, take, drop, true, false, Some, None, refl, sym, ◌∙◌, ap, subst, arith, append_assoc, append-nil, length-append, length-take, length-drop}
+use Rattle.std.proofs.Common.{◌≡◌, ◌≢◌, ℕ, ◌+◌, ◌-◌, ◌/◌, ◌<◌, ◌≤◌, ◌⊎◌, inl, inr, List, [], ◌∷◌, ◌++◌, length, take, drop, true, false, Some, None, refl, sym, ◌∙◌, ap, subst, arith, append_assoc, append-nil, length-append, length-take, length-drop}
 use Rattle.std.proofs.lemmas.Bool.{cases_lt}
 use Rattle.std.proofs.Math.Seq.{take-add}
 use Rattle.std.specs.Prelude.{is_some}
+use Rattle.krb_der.specs.declared.profile.Profile.{Profile}
 use Rattle.krb_msg.specs.Term.{Term}
 use Rattle.krb_msg.specs.Stream.{with_first, frames}
-use Rattle.krb_frame.specs.Decoding.{Decoding, status_of, borrowed, kept_contents, IsOfOneFrame}
+use Rattle.krb_frame.specs.Decoding.{Decoding, Room, IsAmple, status_of, borrowed, kept_contents, IsOfOneFrame, octets_of, decoding_of, length_present}
 use Rattle.krb_frame.specs.Stands.{Stands, after_frames}
 use Rattle.krb_frame.specs.Feeds.{IsAnswer, Feeds, Clears}
-use Rattle.krb_frame.specs.inner.Phases.{octets_of, decoding_of, length_present, IsDecided, IsTaken, phase_of, HasPartOfLength, HasPart, HasFrame, IsAt, IsPut, FeedsLength, phase_status}
+use Rattle.krb_frame.specs.inner.Phases.{IsDecided, IsTaken, phase_of, HasPartOfLength, HasPart, HasFrame, IsAt, IsPut, KeepsRoom, FeedsLength, phase_status}
 use Rattle.krb_frame.specs.declared.decoder.Phase.{Phase}
 use Rattle.krb_frame.specs.declared.decoder.Phase.TheVariants as phase
 use Rattle.krb_frame.specs.declared.decoder.Fed.{Fed}
 use Rattle.krb_frame.specs.declared.decoder.Status.{Status}
 use Rattle.krb_frame.specs.declared.decoder.Status.TheVariants as status
-use Rattle.krb_frame.proofs.Founds.{Comes, comes, one-nothing, found-frame, four_octets, borrowed-ready, length_of-part, taken-at}
+use Rattle.krb_frame.proofs.Founds.{Comes, comes, one-nothing, found-frame, four_octets, same-status, borrowed-ready, length_of-part, taken-at}
 
 -- less than a length is there
 pub none-fed : (announced contents piece : List ℕ) (count : ℕ) → HasPartOfLength announced contents count → (piece ≡ []) ⊎ (4 ≤ length (take count announced ++ contents)) → piece ≡ []
@@ -30,10 +31,17 @@ four_present size (status.Refused refusal) = refl
 same_contents : (contents other : List ℕ) → Some contents ≡ Some other → contents ≡ other
 same_contents contents other e = cc
 
+-- room that is not lost is enough as before
+pub ample-kept : (old new : Decoding) → new.limit ≡ old.limit → KeepsRoom old.room new.room → IsAmple old → IsAmple new
+ample-kept old new l k a = record { octets = omega (arith, l, k.octets, a.octets); marks = omega (arith, l, k.marks, a.marks) }
+
+pub room-same : (room : Room) → KeepsRoom room room
+room-same room = record { octets = omega arith; marks = omega arith }
+
 -- ---- by any messages
-module _ (messages : List Term) where
-  pub Stands-new : (limit looks : ℕ) → Stands messages (record { limit = limit; octets = []; looks = looks }) [] []
-  Stands-new limit looks = record { goes_on = λ more. refl; last = record { before = []; parts = refl }; one = one-nothing messages limit looks }
+module _ (messages : List Term) (profile : Profile) where
+  pub Stands-new : (limit looks : ℕ) (space : Room) → Stands messages (record { profile = profile; limit = limit; octets = []; looks = looks; room = space }) [] []
+  Stands-new limit looks space = record { goes_on = λ more. refl; last = record { before = []; parts = refl }; one = one-nothing messages profile limit looks space }
 
   -- octets more
   pub Stands-fed : (old new : Decoding) (used : List ℕ) → new.limit ≡ old.limit → new.octets ≡ old.octets ++ used → IsOfOneFrame messages new → (stream : List ℕ) (cleared : List (List ℕ)) → Stands messages old stream cleared → Stands messages new (stream ++ used) cleared
@@ -49,20 +57,21 @@ module _ (messages : List Term) where
   }
 
   -- one frame less
-  pub Stands-cleared : (limit looks : ℕ) (octets contents : List ℕ) → ((more : List ℕ) → frames messages limit (octets ++ more) ≡ with_first contents (frames messages limit more)) → (stream : List ℕ) (cleared : List (List ℕ)) → Stands messages (record { limit = limit; octets = octets; looks = looks }) stream cleared → Stands messages (record { limit = limit; octets = []; looks = looks }) stream (cleared ++ contents ∷ [])
-  Stands-cleared limit looks octets contents first stream cleared s = record {
+  pub Stands-cleared : (limit looks : ℕ) (space made : Room) (octets contents : List ℕ) → ((more : List ℕ) → frames messages limit (octets ++ more) ≡ with_first contents (frames messages limit more)) → (stream : List ℕ) (cleared : List (List ℕ)) → Stands messages (record { profile = profile; limit = limit; octets = octets; looks = looks; room = space }) stream cleared → Stands messages (record { profile = profile; limit = limit; octets = []; looks = looks; room = made }) stream (cleared ++ contents ∷ [])
+  Stands-cleared limit looks space made octets contents first stream cleared s = record {
     goes_on = λ more.
         s.goes_on more
         ∙ ap (after_frames cleared) (first more)
         ∙ ap (λ l. record { contents = l; end = (frames messages limit more).end }) (sym (append_assoc cleared (contents ∷ []) (frames messages limit more).contents));
     last = record { before = stream; parts = sym (append-nil stream) };
-    one = one-nothing messages limit looks;
+    one = one-nothing messages profile limit looks made;
   }
 
   -- ---- feeds
-  pub Feeds-made : (old new : Decoding) (piece : List ℕ) (count : ℕ) (answer came : Status) → count ≤ length piece → new.limit ≡ old.limit → new.octets ≡ old.octets ++ take count piece → new.looks ≡ old.looks + (length (kept_contents new) - length (kept_contents old)) → status_of messages old ≡ status.More → Comes messages new came → (answer ≡ came) ⊎ ((answer ≡ status.Memory) × (came ≡ status.More)) → (answer ≡ status.More → count ≡ length piece) → (answer ≡ status.Memory → (4 ≤ length new.octets) × (count < length piece)) → Feeds messages old piece new (record { used = count; status = answer })
-  Feeds-made old new piece count answer came k l o s w c a more memory = record {
+  pub Feeds-made : (old new : Decoding) (piece : List ℕ) (count : ℕ) (answer came : Status) → count ≤ length piece → new.profile ≡ old.profile → new.limit ≡ old.limit → new.octets ≡ old.octets ++ take count piece → new.looks ≡ old.looks + (length (kept_contents new) - length (kept_contents old)) → status_of messages old ≡ status.More → Comes messages profile new came → (answer ≡ came) ⊎ ((answer ≡ status.Memory) × (came ≡ status.More)) → (answer ≡ status.More → count ≡ length piece) → (answer ≡ status.Memory → (4 ≤ length new.octets) × (count < length piece)) → KeepsRoom old.room new.room → (IsAmple old → answer ≢ status.Memory) → Feeds messages old piece new (record { used = count; status = answer })
+  Feeds-made old new piece count answer came k q l o s w c a more memory room enough = record {
     within = k;
+    same_profile = q;
     same_limit = l;
     octets = o;
     looks = s;
@@ -70,6 +79,8 @@ module _ (messages : List Term) where
     all = more;
     again = λ n. absurd (n w);
     memory = memory;
+    enough = enough;
+    ample = ample-kept old new l room;
     stands = Stands-fed old new (take count piece) l o c.one;
   }
     where
@@ -78,9 +89,10 @@ module _ (messages : List Term) where
       by (inr (e, f)) = inr (e, c.is ∙ f)
 
   -- nothing is used
-  pub Feeds-nothing : (d : Decoding) (piece : List ℕ) (answer : Status) → Comes messages d answer → (answer ≡ status.More → piece ≡ []) → answer ≢ status.Memory → Feeds messages d piece d (record { used = 0; status = answer })
+  pub Feeds-nothing : (d : Decoding) (piece : List ℕ) (answer : Status) → Comes messages profile d answer → (answer ≡ status.More → piece ≡ []) → answer ≢ status.Memory → Feeds messages d piece d (record { used = 0; status = answer })
   Feeds-nothing d piece answer c none not_memory = record {
     within = omega arith;
+    same_profile = refl;
     same_limit = refl;
     octets = sym (append-nil d.octets);
     looks = omega arith;
@@ -88,13 +100,15 @@ module _ (messages : List Term) where
     all = λ e. omega (arith, ap length (none e));
     again = λ n. (refl, sym c.is);
     memory = λ e. absurd (not_memory e);
+    enough = λ a. not_memory;
+    ample = λ a. a;
     stands = Stands-fed d d [] refl (sym (append-nil d.octets)) c.one;
   }
 
-  pub Feeds-idle : (limit looks : ℕ) (announced contents piece : List ℕ) (p : Phase) (answer : Status) → IsAt messages limit announced contents p → phase_status p ≡ answer → (answer ≡ status.More → piece ≡ []) → answer ≢ status.Memory → Feeds messages (decoding_of limit looks announced contents p) piece (decoding_of limit looks announced contents p) (record { used = 0; status = answer })
-  Feeds-idle limit looks announced contents piece p answer h e none n =
-      Feeds-nothing (decoding_of limit looks announced contents p) piece answer
-      (subst (Comes messages (decoding_of limit looks announced contents p)) e (comes messages limit looks announced contents p h)) none n
+  pub Feeds-idle : (limit looks : ℕ) (space : Room) (announced contents piece : List ℕ) (p : Phase) (answer : Status) → IsAt messages limit announced contents p → phase_status p ≡ answer → (answer ≡ status.More → piece ≡ []) → answer ≢ status.Memory → Feeds messages (decoding_of profile limit looks space announced contents p) piece (decoding_of profile limit looks space announced contents p) (record { used = 0; status = answer })
+  Feeds-idle limit looks space announced contents piece p answer h e none n =
+      Feeds-nothing (decoding_of profile limit looks space announced contents p) piece answer
+      (subst (Comes messages profile (decoding_of profile limit looks space announced contents p)) e (comes messages profile limit looks space announced contents p h)) none n
 
   answer_of : (size used : ℕ) (after piece : List ℕ) (answer : Status) → IsDecided messages size after piece used answer → (answer ≡ phase_status (phase_of size answer)) ⊎ ((answer ≡ status.Memory) × (phase_status (phase_of size answer) ≡ status.More))
   answer_of size used after piece status.More d = inl refl
@@ -114,9 +128,9 @@ module _ (messages : List Term) where
   memory_of size used after piece status.Ready d e = absurd cc
   memory_of size used after piece (status.Refused refusal) d e = absurd cc
 
-  pub Feeds-contents : (limit looks looked : ℕ) (announced before piece after : List ℕ) (size : ℕ) (p : Phase) (fed : Fed) → HasPart messages limit announced before size → IsTaken messages size before piece after fed → looked ≡ looks + fed.used → p ≡ phase_of size fed.status → Feeds messages (decoding_of limit looks announced before (phase.Contents size)) piece (decoding_of limit looked announced after p) fed
-  Feeds-contents limit looks looked announced before piece after size p fed h t k e =
-      let old : Decoding = decoding_of limit looks announced before (phase.Contents size) in
+  pub Feeds-contents : (limit looks looked : ℕ) (space made : Room) (announced before piece after : List ℕ) (size : ℕ) (p : Phase) (fed : Fed) → HasPart messages limit announced before size → IsTaken messages size before piece after fed → looked ≡ looks + fed.used → KeepsRoom space made → (size ≤ space.octets → size / 2 ≤ space.marks → fed.status ≢ status.Memory) → p ≡ phase_of size fed.status → Feeds messages (decoding_of profile limit looks space announced before (phase.Contents size)) piece (decoding_of profile limit looked made announced after p) fed
+  Feeds-contents limit looks looked space made announced before piece after size p fed h t k room enough e =
+      let old : Decoding = decoding_of profile limit looks space announced before (phase.Contents size) in
       let octets : octets_of (phase_of size fed.status) announced after ≡ octets_of (phase.Contents size) announced before ++ take fed.used piece =
       ap (λ n. take n announced ++ after) (four_present size fed.status) ∙ ap (λ l. take 4 announced ++ l) t.contents ∙ sym (append_assoc (take 4 announced) before (take fed.used piece)) in
       let four : 4 ≤ length (octets_of (phase_of size fed.status) announced after) =
@@ -140,24 +154,28 @@ module _ (messages : List Term) where
         length-drop 4 (octets_of (phase_of size fed.status) announced after),
         length-drop 4 (octets_of (phase.Contents size) announced before),
       ) in
-      subst (λ q. Feeds messages old piece (decoding_of limit looked announced after q) fed) (sym e)
-      (Feeds-made old (decoding_of limit looked announced after (phase_of size fed.status)) piece fed.used fed.status (phase_status (phase_of size fed.status)) t.within refl octets seen (comes messages limit looks announced before (phase.Contents size) h).is
-      (comes messages limit looked announced after (phase_of size fed.status) (taken-at messages limit announced before piece after size fed.used fed.status h t))
+      subst (λ q. Feeds messages old piece (decoding_of profile limit looked made announced after q) fed) (sym e)
+      (Feeds-made old (decoding_of profile limit looked made announced after (phase_of size fed.status)) piece fed.used fed.status (phase_status (phase_of size fed.status)) t.within refl refl octets seen (comes messages profile limit looks space announced before (phase.Contents size) h).is
+      (comes messages profile limit looked made announced after (phase_of size fed.status) (taken-at messages profile limit announced before piece after size fed.used fed.status h t))
       (answer_of size fed.used after piece fed.status t.decided)
       (all_of size fed.used after piece fed.status t.decided)
-      (λ m. (four, memory_of size fed.used after piece fed.status t.decided m)))
+      (λ m. (four, memory_of size fed.used after piece fed.status t.decided m))
+      room
+      (λ a. enough (omega (arith, h.accepted.within, a.octets)) (omega (arith, h.accepted.within, a.marks))))
 
   -- no octet of a length is missing
-  pub FeedsLength-none : (limit looks : ℕ) (announced contents piece : List ℕ) (p : Phase) → IsAt messages limit announced contents p → ((count : ℕ) → p ≡ phase.Length count → ⊥) → FeedsLength messages (decoding_of limit looks announced contents p) piece (decoding_of limit looks announced contents p) 0
-  FeedsLength-none limit looks announced contents piece p h n = record {
+  pub FeedsLength-none : (limit looks : ℕ) (space : Room) (announced contents piece : List ℕ) (p : Phase) → IsAt messages limit announced contents p → ((count : ℕ) → p ≡ phase.Length count → ⊥) → FeedsLength messages (decoding_of profile limit looks space announced contents p) piece (decoding_of profile limit looks space announced contents p) 0
+  FeedsLength-none limit looks space announced contents piece p h n = record {
     within = omega arith;
+    same_profile = refl;
     same_limit = refl;
     octets = sym (append-nil (octets_of p announced contents));
     looks = refl;
     contents = refl;
     again = λ m. refl;
+    room = room-same space;
     on = inr (four p h n);
-    one = (comes messages limit looks announced contents p h).one;
+    one = (comes messages profile limit looks space announced contents p h).one;
   }
     where
       four : (p : Phase) → IsAt messages limit announced contents p → ((count : ℕ) → p ≡ phase.Length count → ⊥) → 4 ≤ length (octets_of p announced contents)
@@ -167,9 +185,10 @@ module _ (messages : List Term) where
       four (phase.Refused refusal) h n = omega (arith, h.four, length-append (take 4 announced) contents, length-take 4 announced)
 
   -- octets of a length
-  pub FeedsLength-made : (limit looks looked : ℕ) (announced contents piece after : List ℕ) (present used : ℕ) (p : Phase) → HasPartOfLength announced contents present → IsPut announced present piece after used → length after ≡ 4 → length_present p ≡ present + used → looked ≡ looks → IsAt messages limit after contents p → FeedsLength messages (record { limit = limit; octets = take present announced ++ contents; looks = looks }) piece (decoding_of limit looked after contents p) used
-  FeedsLength-made limit looks looked announced contents piece after present used p h put four n k at = record {
+  pub FeedsLength-made : (limit looks looked : ℕ) (space made : Room) (announced contents piece after : List ℕ) (present used : ℕ) (p : Phase) → HasPartOfLength announced contents present → IsPut announced present piece after used → length after ≡ 4 → length_present p ≡ present + used → looked ≡ looks → KeepsRoom space made → IsAt messages limit after contents p → FeedsLength messages (record { profile = profile; limit = limit; octets = take present announced ++ contents; looks = looks; room = space }) piece (decoding_of profile limit looked made after contents p) used
+  FeedsLength-made limit looks looked space made announced contents piece after present used p h put four n k room at = record {
     within = omega (arith, put.many);
+    same_profile = refl;
     same_limit = refl;
     octets =
         ap (λ l. take (length_present p) after ++ l) h.none
@@ -193,9 +212,10 @@ module _ (messages : List Term) where
       length-drop 4 (octets_of p after contents),
       length-drop 4 (take present announced ++ contents),
     );
-    again = λ m. absurd (m (comes messages limit looks announced contents (phase.Length present) h).is);
+    again = λ m. absurd (m (comes messages profile limit looks space announced contents (phase.Length present) h).is);
+    room = room;
     on = by (cases_lt used (length piece));
-    one = (comes messages limit looked after contents p at).one;
+    one = (comes messages profile limit looked made after contents p at).one;
   }
     where
       by : (used < length piece) ⊎ (length piece ≤ used) → (used ≡ length piece) ⊎ (4 ≤ length (octets_of p after contents))
@@ -206,6 +226,7 @@ module _ (messages : List Term) where
   pub Feeds-both : (old between new : Decoding) (piece : List ℕ) (used : ℕ) (fed : Fed) → FeedsLength messages old piece between used → Feeds messages between (drop used piece) new fed → Feeds messages old piece new (record { used = used + fed.used; status = fed.status })
   Feeds-both old between new piece used fed f g = record {
     within = omega (arith, f.within, g.within, length-drop used piece);
+    same_profile = g.same_profile ∙ f.same_profile;
     same_limit = g.same_limit ∙ f.same_limit;
     octets = octets;
     looks = omega (arith, f.looks, f.contents, g.looks);
@@ -213,6 +234,8 @@ module _ (messages : List Term) where
     all = λ e. omega (arith, g.all e, f.within, length-drop used piece);
     again = λ n. again n (f.again n);
     memory = λ e. ((g.memory e).0, omega (arith, (g.memory e).1, f.within, length-drop used piece));
+    enough = λ a. g.enough (ample-kept old between f.same_limit f.room a);
+    ample = λ a. g.ample (ample-kept old between f.same_limit f.room a);
     stands = λ stream cleared s.
         subst (λ l. Stands messages new l cleared)
         (append_assoc stream (take used piece) (take fed.used (drop used piece)) ∙ ap (λ l. stream ++ l) (sym (take-add used fed.used piece)))
@@ -226,12 +249,9 @@ module _ (messages : List Term) where
           ∙ append_assoc old.octets (take used piece) (take fed.used (drop used piece))
           ∙ ap (λ l. old.octets ++ l) (sym (take-add used fed.used piece))
 
-      same : used ≡ 0 → between ≡ old
-      same e = λ i. record { limit = f.same_limit i; octets = (f.octets ∙ ap (λ n. old.octets ++ take n piece) e ∙ append-nil old.octets) i; looks = f.looks i }
-
       again : status_of messages old ≢ status.More → used ≡ 0 → (used + fed.used ≡ 0) × (fed.status ≡ status_of messages old)
       again n e =
-          let s : status_of messages between ≡ status_of messages old = ap (status_of messages) (same e) in
+          let s : status_of messages between ≡ status_of messages old = same-status messages profile old between f.same_limit (f.octets ∙ ap (λ n. old.octets ++ take n piece) e ∙ append-nil old.octets) in
           let a = g.again (λ m. n (sym s ∙ m)) in
           (omega (arith, e, a.0), a.1 ∙ s)
 
@@ -240,23 +260,25 @@ module _ (messages : List Term) where
   Clears-none d e = record {
     is_ready = sym (ap is_some e);
     left = rw e refl;
+    ample = λ a. a;
     stands = λ stream contents cleared s m. absurd (no_contents contents (sym e ∙ m));
   }
     where
       no_contents : (contents : List ℕ) → None ≡ Some contents → ⊥
       no_contents contents n = cc
 
-  pub Clears-frame : (limit looks looked : ℕ) (announced contents after : List ℕ) → HasFrame messages limit announced contents → after ≡ [] → looked ≡ looks → Clears messages (decoding_of limit looks announced contents phase.Ready) (record { limit = limit; octets = after; looks = looked }) true
-  Clears-frame limit looks looked announced contents after h e k =
-      let d : Decoding = decoding_of limit looks announced contents phase.Ready in
-      let there : borrowed messages d ≡ Some contents = borrowed-ready messages limit looks announced contents phase.Ready h refl in
+  pub Clears-frame : (limit looks looked : ℕ) (space made : Room) (announced contents after : List ℕ) → HasFrame messages limit announced contents → after ≡ [] → looked ≡ looks → (limit ≤ space.octets → limit / 2 ≤ space.marks → KeepsRoom space made) → Clears messages (decoding_of profile limit looks space announced contents phase.Ready) (record { profile = profile; limit = limit; octets = after; looks = looked; room = made }) true
+  Clears-frame limit looks looked space made announced contents after h e k ample =
+      let d : Decoding = decoding_of profile limit looks space announced contents phase.Ready in
+      let there : borrowed messages d ≡ Some contents = borrowed-ready messages profile limit looks space announced contents phase.Ready h refl in
       let first : (more : List ℕ) → frames messages limit ((take 4 announced ++ contents) ++ more) ≡ with_first contents (frames messages limit more) =
-      λ more. ap (λ l. frames messages limit (l ++ more)) (four_octets announced contents h.accepted.four) ∙ found-frame messages limit announced contents more h in
+      λ more. ap (λ l. frames messages limit (l ++ more)) (four_octets announced contents h.accepted.four) ∙ found-frame messages profile limit announced contents more h in
       record {
         is_ready = sym (ap is_some there);
         left = rw (there, e, k) refl;
+        ample = λ a. ample-kept d _ refl (ample a.octets a.marks) a;
         stands = λ stream other cleared s m.
             let same : contents ≡ other = same_contents contents other (sym there ∙ m) in
-            subst (λ o. Stands messages (record { limit = limit; octets = after; looks = looked }) stream (cleared ++ o ∷ [])) same
-            (rw (e, k) (Stands-cleared limit looks (take 4 announced ++ contents) contents first stream cleared s));
+            subst (λ o. Stands messages (record { profile = profile; limit = limit; octets = after; looks = looked; room = made }) stream (cleared ++ o ∷ [])) same
+            (rw (e, k) (Stands-cleared limit looks space made (take 4 announced ++ contents) contents first stream cleared s));
       }

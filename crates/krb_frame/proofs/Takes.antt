@@ -1,10 +1,11 @@
 -- The contents of a frame as they come.
-use Rattle.std.specs.Prelude.{if◌then◌else◌, is_ok, is_err, IfOk, OnErr}
-use Rattle.std.proofs.Common.{◌≡◌, ℕ, suc, ◌+◌, ◌-◌, ◌^◌, ◌<◌, ◌≤◌, min, inl, inr, List, ◌++◌, length, take, false, Result, Ok, Err, refl, sym, ◌∙◌, ap, subst, arith, length-append, length-take}
+use Rattle.std.specs.Prelude.{if◌then◌else◌, is_ok, is_err, IsOk, IfOk, OnErr}
+use Rattle.std.proofs.Common.{◌≡◌, ◌≢◌, ℕ, suc, ◌+◌, ◌-◌, ◌^◌, ◌<◌, ◌≤◌, min, inl, inr, List, ◌++◌, length, take, false, Result, Ok, Err, refl, sym, ◌∙◌, ap, subst, arith, length-append, length-take}
 use Rattle.std.proofs.lemmas.Bool.{cases_lt}
 use Rattle.std.proofs.lemmas.List.{take-append-le, take-take, take_all}
 use Rattle.std.proofs.Math.Seq.{take-append-add}
 use Rattle.krb_der.specs.Octets.{AreOctets}
+use Rattle.krb_der.specs.declared.profile.Profile.{Profile}
 use Rattle.krb_der.specs.declared.memory.Memory.{Memory}
 use Rattle.krb_der.specs.declared.why.Why.{Why}
 use Rattle.krb_der.specs.declared.verdict.Refusal.{Refusal}
@@ -25,6 +26,13 @@ use Rattle.krb_frame.specs.inner.Phases.{IsTaken, IsEarly, status_by}
 pub extended : {A B : Type 0} (r : Result A B) (held all kept : List ℕ) → held ≡ (if is_ok r then all else kept) → false ≡ is_err r → held ≡ all
 extended (Ok done) held all kept e f = e
 extended (Err error) held all kept e f = absurd cc
+
+-- what is answered where memory was not refused
+pub not_memory : (r : Result Verdict Memory) → IsOk r → status_by r ≢ status.Memory
+not_memory (Ok verdict.Open) some e = cc
+not_memory (Ok verdict.Whole) some e = cc
+not_memory (Ok (verdict.Refused refusal)) some e = cc
+not_memory (Err memory) some e = absurd cc
 
 -- ---- by any messages
 module _ (messages : List Term) where
@@ -113,29 +121,29 @@ module _ (messages : List Term) where
       );
     }
 
--- ---- by the messages of the grammar
+-- ---- by the messages of a profile
 both_err : {A B : Type 0} (P Q : Type 0) (r : Result A B) → OnErr r P → OnErr r Q → OnErr r (P × Q)
 both_err P Q (Ok done) p q = tt
 both_err P Q (Err error) p q = (p, q)
 
 -- What a scanner took of octets of a piece, as many as are missing and come.
-pub record Took (size n used : ℕ) (before piece : List ℕ) (scanner : Scanner) (result : Result Verdict Memory) : Type 0 where
+pub record Took (profile : Profile) (size n used : ℕ) (before piece : List ℕ) (scanner : Scanner) (result : Result Verdict Memory) : Type 0 where
   pub some : 0 < size
   pub room : length before ≤ size
   pub many : n ≡ min (length piece) (size - length before)
-  pub undecided : judgement size before ≡ verdict.Open
+  pub undecided : judgement profile size before ≡ verdict.Open
   pub within : used ≤ length (take n piece)
-  pub at : At scanner size (before ++ take used (take n piece))
+  pub at : At profile scanner size (before ++ take used (take n piece))
   pub answer : IfOk result (λ decided. decided ≡ verdict_of scanner)
   pub all : result ≡ Ok verdict.Open → used ≡ length (take n piece)
-  pub sooner : (k : ℕ) → k < used → judgement size (before ++ take k (take n piece)) ≡ verdict.Open
+  pub sooner : (k : ℕ) → k < used → judgement profile size (before ++ take k (take n piece)) ≡ verdict.Open
   pub memory : OnErr result (verdict_of scanner ≡ verdict.Open)
-  pub ends : OnErr result (length (Marks size (before ++ take (used + 1) (take n piece))) ≡ length (Marks size (before ++ take used (take n piece))) + 1)
+  pub ends : OnErr result (length (Marks profile size (before ++ take (used + 1) (take n piece))) ≡ length (Marks profile size (before ++ take used (take n piece))) + 1)
 
-pub took : (size n used : ℕ) (before piece : List ℕ) (scanner : Scanner) (result : Result Verdict Memory) → 0 < size → length before ≤ size → n ≡ min (length piece) (size - length before) → judgement size before ≡ verdict.Open → used ≤ length (take n piece) → At scanner size (before ++ take used (take n piece)) → IfOk result (λ decided. decided ≡ verdict_of scanner) → (result ≡ Ok verdict.Open → used ≡ length (take n piece)) → ((k : ℕ) → k < used → judgement size (before ++ take k (take n piece)) ≡ verdict.Open) → OnErr result (verdict_of scanner ≡ verdict.Open) → OnErr result (length (Marks size (before ++ take (used + 1) (take n piece))) ≡ length (Marks size (before ++ take used (take n piece))) + 1) → Took size n used before piece scanner result
-took size n used before piece scanner result some room many undecided within at answer all sooner memory ends = record { some = some; room = room; many = many; undecided = undecided; within = within; at = at; answer = answer; all = all; sooner = sooner; memory = memory; ends = ends }
+pub took : (profile : Profile) (size n used : ℕ) (before piece : List ℕ) (scanner : Scanner) (result : Result Verdict Memory) → 0 < size → length before ≤ size → n ≡ min (length piece) (size - length before) → judgement profile size before ≡ verdict.Open → used ≤ length (take n piece) → At profile scanner size (before ++ take used (take n piece)) → IfOk result (λ decided. decided ≡ verdict_of scanner) → (result ≡ Ok verdict.Open → used ≡ length (take n piece)) → ((k : ℕ) → k < used → judgement profile size (before ++ take k (take n piece)) ≡ verdict.Open) → OnErr result (verdict_of scanner ≡ verdict.Open) → OnErr result (length (Marks profile size (before ++ take (used + 1) (take n piece))) ≡ length (Marks profile size (before ++ take used (take n piece))) + 1) → Took profile size n used before piece scanner result
+took profile size n used before piece scanner result some room many undecided within at answer all sooner memory ends = record { some = some; room = room; many = many; undecided = undecided; within = within; at = at; answer = answer; all = all; sooner = sooner; memory = memory; ends = ends }
 
-module _ (size n used : ℕ) (before piece : List ℕ) (scanner : Scanner) (result : Result Verdict Memory) (t : Took size n used before piece scanner result) where
+module _ (profile : Profile) (size n used : ℕ) (before piece : List ℕ) (scanner : Scanner) (result : Result Verdict Memory) (t : Took profile size n used before piece scanner result) where
   few : used ≤ length piece
   few = omega (arith, t.within, length-take n piece)
 
@@ -149,16 +157,16 @@ module _ (size n used : ℕ) (before piece : List ℕ) (scanner : Scanner) (resu
   pub took-cut : (held : List ℕ) → held ≡ before ++ take n piece → take (length before + used) held ≡ before ++ take used piece
   took-cut held e = ap (take (length before + used)) e ∙ take-append-add before (take n piece) used ∙ front used (omega arith)
 
-  pub took-at : At scanner size (before ++ take used piece)
-  took-at = subst (At scanner size) (front used (omega arith)) t.at
+  pub took-at : At profile scanner size (before ++ take used piece)
+  took-at = subst (At profile scanner size) (front used (omega arith)) t.at
 
   -- out of memory, there is an octet that was not taken
-  some_left : (r : Result Verdict Memory) → OnErr r (length (Marks size (before ++ take (used + 1) (take n piece))) ≡ length (Marks size (before ++ take used (take n piece))) + 1) → OnErr r (used < length piece)
+  some_left : (r : Result Verdict Memory) → OnErr r (length (Marks profile size (before ++ take (used + 1) (take n piece))) ≡ length (Marks profile size (before ++ take used (take n piece))) + 1) → OnErr r (used < length piece)
   some_left (Ok decided) e = tt
   some_left (Err error) e = elim (cases_lt used (length (take n piece))) [
     | inl h ↦ omega (arith, h, length-take n piece)
     | inr h ↦
-        let same = ap (λ l. length (Marks size (before ++ l))) (take_all (used + 1) (take n piece) (omega (arith, h)) ∙ sym (take_all used (take n piece) h)) in
+        let same = ap (λ l. length (Marks profile size (before ++ l))) (take_all (used + 1) (take n piece) (omega (arith, h)) ∙ sym (take_all used (take n piece) h)) in
         absurd (omega (arith, e, same))
   ]
 
@@ -169,17 +177,17 @@ module _ (size n used : ℕ) (before piece : List ℕ) (scanner : Scanner) (resu
       by : (r : Result Verdict Memory) → IfOk r (λ decided. decided ≡ verdict_of scanner) → IfOk r IsEarly
       by (Ok verdict.Open) a = tt
       by (Ok verdict.Whole) a = tt
-      by (Ok (verdict.Refused refusal)) a = omega (arith, short, (stops grammar size used before piece few room refusal t.undecided (sym (a ∙ took-at.decides))).small)
+      by (Ok (verdict.Refused refusal)) a = omega (arith, short, (stops (grammar profile) size used before piece few room refusal t.undecided (sym (a ∙ took-at.decides))).small)
       by (Err error) a = tt
 
-  pub took-taken : IsTaken grammar size before piece (before ++ take used piece) (record { used = used; status = status_by result })
+  pub took-taken : IsTaken (grammar profile) size before piece (before ++ take used piece) (record { used = used; status = status_by result })
   took-taken = by result t.answer t.all (both_err _ _ result t.memory (some_left result t.ends))
     where
-      sooner : (k : ℕ) → k < used → judgement size (before ++ take k piece) ≡ verdict.Open
-      sooner k h = ap (judgement size) (sym (front k (omega (arith, h)))) ∙ t.sooner k h
+      sooner : (k : ℕ) → k < used → judgement profile size (before ++ take k piece) ≡ verdict.Open
+      sooner k h = ap (judgement profile size) (sym (front k (omega (arith, h)))) ∙ t.sooner k h
 
-      by : (r : Result Verdict Memory) → IfOk r (λ decided. decided ≡ verdict_of scanner) → (r ≡ Ok verdict.Open → used ≡ length (take n piece)) → OnErr r ((verdict_of scanner ≡ verdict.Open) × (used < length piece)) → IsTaken grammar size before piece (before ++ take used piece) (record { used = used; status = status_by r })
-      by (Ok verdict.Open) a all m = taken-open grammar size used before piece few room t.some (omega (arith, all refl, t.many, length-take n piece)) (a ∙ took-at.decides)
-      by (Ok verdict.Whole) a all m = taken-whole grammar size used before piece few room took-at.are_octets (a ∙ took-at.decides)
-      by (Ok (verdict.Refused refusal)) a all m = taken-refused grammar size used before piece few room refusal.place refusal.why t.undecided sooner (sym (a ∙ took-at.decides))
+      by : (r : Result Verdict Memory) → IfOk r (λ decided. decided ≡ verdict_of scanner) → (r ≡ Ok verdict.Open → used ≡ length (take n piece)) → OnErr r ((verdict_of scanner ≡ verdict.Open) × (used < length piece)) → IsTaken (grammar profile) size before piece (before ++ take used piece) (record { used = used; status = status_by r })
+      by (Ok verdict.Open) a all m = taken-open (grammar profile) size used before piece few room t.some (omega (arith, all refl, t.many, length-take n piece)) (a ∙ took-at.decides)
+      by (Ok verdict.Whole) a all m = taken-whole (grammar profile) size used before piece few room took-at.are_octets (a ∙ took-at.decides)
+      by (Ok (verdict.Refused refusal)) a all m = taken-refused (grammar profile) size used before piece few room refusal.place refusal.why t.undecided sooner (sym (a ∙ took-at.decides))
       by (Err error) a all m = record { within = few; contents = refl; present = took-at.fits; decided = (sym took-at.decides ∙ m.0, m.1) }

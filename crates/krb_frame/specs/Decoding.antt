@@ -1,19 +1,54 @@
 -- What a decoder by any messages stands for, and what it answers.
-use Rattle.std.specs.Prelude.{ℕ, ◌+◌, ◌≡◌, if◌then◌else◌, List, [], ◌∷◌, length, take, drop, Option, Some, None, is_some, Result, Ok, Err}
+use Rattle.std.specs.Prelude.{ℕ, ◌+◌, ◌++◌, ◌/◌, ◌≡◌, ◌≤◌, if◌then◌else◌, List, [], ◌∷◌, length, take, drop, Option, Some, None, is_some, Result, Ok, Err}
 use Rattle.krb_der.specs.Octets.{number}
+use Rattle.krb_der.specs.declared.profile.Profile.{Profile}
 use Rattle.krb_der.specs.declared.verdict.Refusal.{Refusal}
 use Rattle.krb_der.specs.declared.why.Why.TheVariants as why
 use Rattle.krb_msg.specs.Term.{Term}
 use Rattle.krb_msg.specs.Stream.{Frames, End, Boundary, Within, Refused, frames}
 use Rattle.krb_scan.specs.At.{open_count}
+use Rattle.krb_frame.specs.declared.decoder.Phase.{Phase}
+use Rattle.krb_frame.specs.declared.decoder.Phase.TheVariants as phase
 use Rattle.krb_frame.specs.declared.decoder.Status.{Status}
 use Rattle.krb_frame.specs.declared.decoder.Status.TheVariants as status
 
--- the greatest length of a frame; the octets of the current frame that were used, its length first; and how many octets of contents were looked at in all, which only contracts see
+-- for how many octets of contents there is room, and for how many marks
+pub record Room : Type 0 where
+  pub octets : ℕ
+  pub marks : ℕ
+
+-- the profile of the messages; the greatest length of a frame; the octets of the current frame that were used, its length first; how many octets of contents were looked at in all, which only contracts see; and the room for contents
 pub record Decoding : Type 0 where
+  pub profile : Profile
   pub limit : ℕ
   pub octets : List ℕ
   pub looks : ℕ
+  pub room : Room
+
+-- ---- the fields of a decoder, as a Decoding
+-- the number of octets of a length that are present
+abbrev pub length_present : Phase → ℕ
+length_present (phase.Length count) = count
+length_present (phase.Contents size) = 4
+length_present phase.Ready = 4
+length_present (phase.Refused refusal) = 4
+
+-- the octets of the current frame: those of the length that are present, and then the contents
+abbrev pub octets_of : Phase → List ℕ → List ℕ → List ℕ
+octets_of phase announced contents = take (length_present phase) announced ++ contents
+
+-- what a decoder stands for
+abbrev pub decoding_of : Profile → ℕ → ℕ → Room → List ℕ → List ℕ → Phase → Decoding
+decoding_of profile limit looks room announced contents phase = record { profile = profile; limit = limit; octets = octets_of phase announced contents; looks = looks; room = room }
+
+-- room for numbers of octets and marks
+abbrev pub room_for : ℕ → ℕ → Room
+room_for octets marks = record { octets = octets; marks = marks }
+
+-- there is room for any frame that the limit allows
+pub record IsAmple (d : Decoding) : Type 0 where
+  pub octets : d.limit ≤ d.room.octets
+  pub marks : d.limit / 2 ≤ d.room.marks
 
 -- the frames of these octets: the current one, where it is whole, and the end
 unfoldable pub found : List Term → Decoding → Frames
@@ -37,9 +72,9 @@ first_of (contents ∷ others) = Some contents
 abbrev pub borrowed : List Term → Decoding → Option (List ℕ)
 borrowed messages d = first_of (found messages d).contents
 
--- what is left where the frame that is ready is cleared, if one is
-abbrev pub after_next : List Term → Decoding → Decoding
-after_next messages d = if is_some (borrowed messages d) then record { limit = d.limit; octets = []; looks = d.looks } else d
+-- what is left where the frame that is ready is cleared, if one is, and this room is left
+abbrev pub after_next : List Term → Decoding → Room → Decoding
+after_next messages d room = if is_some (borrowed messages d) then record d { octets = []; room = room } else d
 
 -- what a stream that ends so is refused for
 abbrev pub finish_at : End → Result (Unit {0}) Refusal
@@ -56,7 +91,7 @@ kept_contents d = drop 4 d.octets
 
 -- how many lengths in the current frame are whole whose contents are not complete
 abbrev pub open_lengths_of : Decoding → ℕ
-open_lengths_of d = open_count (number (take 4 d.octets)) (kept_contents d)
+open_lengths_of d = open_count d.profile (number (take 4 d.octets)) (kept_contents d)
 
 -- the octets are of one frame alone: none is after a whole frame, nor after an octet that is refused
 abbrev pub AreOfOne : List ℕ → List (List ℕ) → End → Type 0

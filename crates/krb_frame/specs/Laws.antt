@@ -1,10 +1,16 @@
 -- What holds of all decoders by any messages, and of all streams. Each is the contract of a function of the module `law`.
-use Rattle.std.specs.Prelude.{ℕ, ◌+◌, ◌≡◌, ◌↔◌, if◌then◌else◌, List, [], ◌++◌, length, Some, None, is_some}
+use Rattle.std.specs.Prelude.{ℕ, ◌+◌, ◌≡◌, ◌<◌, ◌↔◌, if◌then◌else◌, List, [], ◌++◌, length, Some, None, is_some, Err}
+use Rattle.krb_der.specs.Octets.{AreOctets}
+use Rattle.krb_der.specs.declared.profile.Profile.TheVariants.{Lenient}
 use Rattle.krb_der.specs.declared.why.Why.{Why}
+use Rattle.krb_der.specs.declared.why.Why.TheVariants.{Truncated, Charset}
+use Rattle.krb_msg.specs.Grammar.{messages}
 use Rattle.krb_msg.specs.Term.{Term}
 use Rattle.krb_msg.specs.Stream.{Boundary, Within, Refused, ends, with_first, frames}
-use Rattle.krb_frame.specs.Decoding.{Decoding, found, status_of, borrowed, kept_contents}
+use Rattle.krb_frame.specs.Decoding.{Decoding, found, status_of, borrowed, kept_contents, finish_of}
+use Rattle.krb_frame.specs.Feeds.{Feeds}
 use Rattle.krb_frame.specs.Stands.{EndsWith, after_frames, Stands}
+use Rattle.krb_frame.specs.declared.decoder.Fed.{Fed}
 use Rattle.krb_frame.specs.declared.decoder.Status.TheVariants as status
 
 -- What a decoder has of a stream that it stands for.
@@ -26,3 +32,28 @@ StandingTells = (messages : List Term) (d : Decoding) (stream : List ℕ) (clear
 -- Nothing after a refusal is looked at: a stream that is refused is refused so, whatever comes.
 abbrev pub RefusalEnds : Type 0
 RefusalEnds = (messages : List Term) (d : Decoding) (stream more : List ℕ) (cleared : List (List ℕ)) (place : ℕ) (reason : Why) → Stands messages d stream cleared → (frames messages d.limit stream).end ≡ Refused place reason → frames messages d.limit (stream ++ more) ≡ frames messages d.limit stream
+
+-- a feed answers that an octet is refused, at a place and for a reason
+abbrev pub RefusesFor : Why → ℕ → Fed → Type 0
+RefusesFor reason place fed = fed.status ≡ status.Refused (record { place = place; why = reason })
+
+-- The last frame of a stream is refused, at one of its octets.
+pub record IsRefusedInside (messages : List Term) (limit : ℕ) (stream : List ℕ) (place : ℕ) (reason : Why) : Type 0 where
+  pub frame : List ℕ
+  pub last : EndsWith frame stream
+  pub alone : frames messages limit frame ≡ ends (Refused place reason)
+  pub inside : place < length frame
+
+-- A frame is refused at one of its octets, one that was used.
+pub record RefusalsAreInside : Type 0 where
+  pub of_feed : (messages : List Term) (old new : Decoding) (piece : List ℕ) (fed : Fed) (place : ℕ) (reason : Why) → Feeds messages old piece new fed → RefusesFor reason place fed → place < length new.octets
+  pub of_stream : (messages : List Term) (limit : ℕ) (stream : List ℕ) (place : ℕ) (reason : Why) → (frames messages limit stream).end ≡ Refused place reason → IsRefusedInside messages limit stream place reason
+
+-- No feed answers Truncated: what a stream is refused for that ends inside a frame.
+abbrev pub FeedIsNotTruncated : Type 0
+FeedIsNotTruncated = (messages : List Term) (old new : Decoding) (piece : List ℕ) (fed : Fed) (place : ℕ) → Feeds messages old piece new fed → RefusesFor Truncated place fed → ⊥
+
+-- By the lenient profile nothing is refused as Charset.
+pub record LenientHasNoCharset : Type 0 where
+  pub of_feed : (old new : Decoding) (piece : List ℕ) (fed : Fed) (place : ℕ) → AreOctets new.octets → Feeds (messages Lenient) old piece new fed → RefusesFor Charset place fed → ⊥
+  pub of_finish : (d : Decoding) (place : ℕ) → AreOctets d.octets → finish_of (messages Lenient) d ≡ Err (record { place = place; why = Charset }) → ⊥

@@ -1,11 +1,13 @@
 //! The contents of a frame, as they come.
 
-ghost use Rattle.std.specs.Prelude.{◌≡◌, ◌+◌, ◌<◌, ◌≤◌, ◌^◌, [], length, IfOk};
+ghost use Rattle.std.specs.Prelude.{◌≡◌, ◌≢◌, ◌+◌, ◌/◌, ◌<◌, ◌≤◌, ◌^◌, true, [], length, vec_capacity, IfOk};
 ghost use Rattle.krb_der.specs.declared.verdict.Verdict.TheVariants.{Open};
 ghost use Rattle.krb_msg.specs.Grammar.{messages};
 ghost use Rattle.krb_msg.specs.Judgement.{judgement};
-ghost use Rattle.krb_scan.specs.Scanner.{At, ledger_of};
-ghost use Rattle.krb_frame.specs.inner.Phases.{IsTaken, IsEarly, status_by};
+ghost use Rattle.krb_scan.specs.Scanner.{At, ledger_of, profile_of, room_of};
+ghost use Rattle.krb_frame.specs.inner.Phases.{IsTaken, IsEarly, KeepsRoom, status_by};
+ghost use Rattle.krb_frame.specs.Decoding.{room_for};
+ghost use Rattle.krb_frame.specs.declared.decoder.Status.TheVariants as status;
 
 use crate::decoder::{Fed, LENGTH_OCTETS, Status};
 use krb_der::{Memory, Refusal, Verdict};
@@ -21,7 +23,7 @@ const MARKS_KEPT: usize = 1 << 17;
 
 /// Takes octets of the contents of a frame of `size` octets, as many as are missing and come, up to
 /// one that is refused. The scanner looks at each of them once. Where memory is refused none is
-/// taken after those that it has looked at.
+/// taken after those that it has looked at; none is where there is room for the whole frame.
 pub(crate) fn take_contents(
     contents: &mut Vec<u8>,
     scanner: &mut Scanner,
@@ -31,11 +33,14 @@ pub(crate) fn take_contents(
     requires some { 0 < size }
     requires short { size < 2 ^ 31 }
     requires present { length contents.old.items ≤ size }
-    requires undecided { judgement size contents.old.items ≡ Open }
-    requires scanned { At scanner.old size contents.old.items }
-    ensures taken { IsTaken messages size contents.old.items piece.now contents.new.items result }
-    ensures scanned { At scanner.new size contents.new.items }
+    requires undecided { judgement (profile_of scanner.old) size contents.old.items ≡ Open }
+    requires scanned { At (profile_of scanner.old) scanner.old size contents.old.items }
+    ensures taken { IsTaken (messages (profile_of scanner.old)) size contents.old.items piece.now contents.new.items result }
+    ensures scanned { At (profile_of scanner.old) scanner.new size contents.new.items }
+    ensures profile { profile_of scanner.new ≡ profile_of scanner.old }
     ensures looks { ledger_of scanner.new ≡ ledger_of scanner.old + result.used }
+    ensures room { KeepsRoom (room_for (vec_capacity contents.old) (room_of scanner.old)) (room_for (vec_capacity contents.new) (room_of scanner.new)) }
+    ensures enough { size ≤ vec_capacity contents.old → size / 2 ≤ room_of scanner.old → result.status ≢ status.Memory }
 {
     let before = contents.len();
     let count = piece.len().min(size as usize - before);
@@ -70,22 +75,25 @@ fn status_after(verdict: Result<Verdict, Memory>) -> Status
     }
 }
 
-/// Forgets contents. The room of many is given back.
-pub(crate) fn clear_contents(contents: &mut Vec<u8>, alloc: Global)
-    ensures { contents.new.items ≡ [] }
+/// Forgets contents. The room of many is given back, where it is not to stay.
+pub(crate) fn clear_contents(contents: &mut Vec<u8>, alloc: Global, stays: bool)
+    ensures none { contents.new.items ≡ [] }
+    ensures room { stays ≡ true → vec_capacity contents.old ≤ vec_capacity contents.new }
 {
-    if contents.len() > CONTENTS_KEPT {
+    if !stays && contents.len() > CONTENTS_KEPT {
         *contents = Vec::new(alloc);
     } else {
         contents.clear();
     }
 }
 
-/// Gives back the room of many marks.
-pub(crate) fn clear_marks(scanner: &mut Scanner, alloc: Global)
-    ensures { ledger_of scanner.new ≡ ledger_of scanner.old }
+/// Gives back the room of many marks, where it is not to stay.
+pub(crate) fn clear_marks(scanner: &mut Scanner, alloc: Global, stays: bool)
+    ensures looks { ledger_of scanner.new ≡ ledger_of scanner.old }
+    ensures profile { profile_of scanner.new ≡ profile_of scanner.old }
+    ensures room { stays ≡ true → room_of scanner.old ≤ room_of scanner.new }
 {
-    if scanner.marks().len() > MARKS_KEPT {
+    if !stays && scanner.marks().len() > MARKS_KEPT {
         scanner.restart(alloc, 1);
     }
 }

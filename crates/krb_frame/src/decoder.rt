@@ -3,7 +3,7 @@
 use crate::contents::{clear_contents, clear_marks, take_contents};
 use crate::framed::Framed;
 use crate::limit::Limit;
-use krb_der::{Refusal, Why};
+use krb_der::{Memory, Profile, Refusal, Why};
 use krb_scan::Scanner;
 use std::alloc::Global;
 use std::marker::Model;
@@ -64,38 +64,93 @@ impl Model for Decoder {
 
     ghost Value = { Decoding };
 
+    ghost use Rattle.std.specs.Prelude.{vec_capacity};
     ghost use Rattle.krb_msg.specs.Grammar.{messages};
-    ghost use Rattle.krb_scan.specs.Scanner.{ledger_of};
-    ghost use Rattle.krb_frame.specs.inner.Phases.{decoding_of, IsAt, IsScanned};
+    ghost use Rattle.krb_scan.specs.Scanner.{ledger_of, profile_of, room_of};
+    ghost use Rattle.krb_frame.specs.inner.Phases.{IsAt, IsScanned};
+    ghost use Rattle.krb_frame.specs.Decoding.{decoding_of, room_for};
 
-    ghost view = { λ d. decoding_of d.limit (ledger_of d.scanner) d.length d.contents.items d.phase };
+    ghost view = { λ d. decoding_of (profile_of d.scanner) d.limit (ledger_of d.scanner) (room_for (vec_capacity d.contents) (room_of d.scanner)) d.length d.contents.items d.phase };
 
-    ghost invariant = { λ d. IsAt messages d.limit d.length d.contents.items d.phase × IsScanned d.scanner d.length d.contents.items d.phase };
+    ghost invariant = { λ d. IsAt (messages (profile_of d.scanner)) d.limit d.length d.contents.items d.phase × IsScanned (profile_of d.scanner) d.scanner d.length d.contents.items d.phase };
 }
 
-ghost use Rattle.std.specs.Prelude.{◌≡◌, ◌≤◌, ◌<◌, ◌⊎◌, ◌^◌, [], length};
+ghost use Rattle.std.specs.Prelude.{◌≡◌, ◌≤◌, ◌<◌, ◌⊎◌, ◌^◌, ◌↔◌, true, [], length, vec_capacity, IfOk};
 ghost use Rattle.krb_msg.specs.Grammar.{messages};
-ghost use Rattle.krb_scan.specs.Scanner.{ledger_of};
-ghost use Rattle.krb_frame.specs.Decoding.{borrowed, finish_at, finish_of, kept_contents, open_lengths_of};
+ghost use Rattle.krb_scan.specs.Scanner.{ledger_of, profile_of, room_of};
+ghost use Rattle.krb_frame.specs.Decoding.{IsAmple, borrowed, finish_at, finish_of, kept_contents, open_lengths_of, decoding_of, room_for};
 ghost use Rattle.krb_frame.specs.Stands.{Stands};
 ghost use Rattle.krb_frame.specs.Feeds.{Feeds, Clears};
 ghost use Rattle.krb_frame.specs.inner.Phases.{end_after, phase_of, IsLengthJudged, IsPut, IsScanned, FeedsLength};
 ghost use Rattle.krb_frame.specs.declared.decoder.Phase.TheVariants as phase;
 
 impl Decoder {
-    /// A decoder of a stream of which nothing came yet. It takes no memory.
+    /// A decoder of a stream of which nothing came yet, by the lenient profile. It takes no memory.
     pub fn new(alloc: Global, limit: Limit) -> Decoder
-        ensures nothing { result ≡ record { limit = limit; octets = []; looks = result.looks } }
-        ensures stands { Stands messages result [] [] }
+        ensures nothing { result ≡ record { profile = Profile.Lenient; limit = limit; octets = []; looks = result.looks; room = result.room } }
+        ensures stands { Stands (messages Profile.Lenient) result [] [] }
+    {
+        Decoder::with_profile(alloc, limit, Profile::Lenient)
+    }
+
+    /// A decoder of a stream of which nothing came yet, by a profile. It takes no memory.
+    pub fn with_profile(alloc: Global, limit: Limit, profile: Profile) -> Decoder
+        ensures nothing { result ≡ record { profile = profile; limit = limit; octets = []; looks = result.looks; room = result.room } }
+        ensures stands { Stands (messages profile) result [] [] }
+    {
+        let scanner = Scanner::with_profile(alloc, profile, 1);
+        Decoder::over(alloc, limit, Vec::new(alloc), scanner)
+    }
+
+    /// A decoder of a stream of which nothing came yet, by the lenient profile, with room for any
+    /// frame that the limit allows: for as many octets, and for half as many marks, the most that
+    /// they can have. It keeps that room, and `feed` never answers [`Status::Memory`].
+    pub fn reserved(alloc: Global, limit: Limit) -> Result<Decoder, Memory>
+        ensures nothing { IfOk result (λ d. d ≡ record { profile = Profile.Lenient; limit = limit; octets = []; looks = d.looks; room = d.room }) }
+        ensures stands { IfOk result (λ d. Stands (messages Profile.Lenient) d [] []) }
+        ensures ample { IfOk result IsAmple }
+    {
+        Decoder::reserved_with_profile(alloc, limit, Profile::Lenient)
+    }
+
+    /// As [`Decoder::reserved`], by a profile.
+    pub fn reserved_with_profile(
+        alloc: Global,
+        limit: Limit,
+        profile: Profile,
+    ) -> Result<Decoder, Memory>
+        ensures nothing { IfOk result (λ d. d ≡ record { profile = profile; limit = limit; octets = []; looks = d.looks; room = d.room }) }
+        ensures stands { IfOk result (λ d. Stands (messages profile) d [] []) }
+        ensures ample { IfOk result IsAmple }
+    {
+        let octets = limit.get() as usize;
+        let contents = Vec::with_capacity(alloc, octets)?;
+        let mut scanner = Scanner::with_profile(alloc, profile, 1);
+        scanner.reserve(octets / 2)?;
+        Ok(Decoder::over(alloc, limit, contents, scanner))
+    }
+
+    /// A decoder of a stream of which nothing came yet, with the room of contents and a scanner.
+    fn over(alloc: Global, limit: Limit, contents: Vec<u8>, scanner: Scanner) -> Decoder
+        requires { contents.items ≡ [] }
+        ensures { result ≡ record { profile = profile_of scanner; limit = limit; octets = []; looks = ledger_of scanner; room = room_for (vec_capacity contents) (room_of scanner) } }
     {
         Decoder {
             alloc,
             limit,
             length: [0; LENGTH_OCTETS],
             phase: Phase::Length(0),
-            contents: Vec::new(alloc),
-            scanner: Scanner::new(alloc, 1),
+            contents,
+            scanner,
         }
+    }
+
+    /// Whether there is room for any frame that the limit allows.
+    fn is_ample(&self) -> bool
+        ensures { (result ≡ true) ↔ IsAmple self.now }
+    {
+        let octets = self.limit.get() as usize;
+        octets <= self.contents.capacity() && octets / 2 <= self.scanner.room()
     }
 
     /// Uses octets from the front of a piece: all of them, or those up to the end of the frame, or
@@ -104,9 +159,9 @@ impl Decoder {
     /// (`Empty`), in this order; then the contents are refused as messages are, at places counted
     /// from the frame's first octet. A decoder that is ready, or refused, uses nothing and answers
     /// so again. Out of memory, the octets after those that were used may be fed again; the octets
-    /// of a length take no memory.
+    /// of a length take no memory, and nothing does in a [`reserved`](Decoder::reserved) decoder.
     pub fn feed(&mut self, piece: &[u8]) -> Fed
-        ensures { Feeds messages self.old piece.now self.new result }
+        ensures { Feeds (messages self.old.profile) self.old piece.now self.new result }
     {
         let used = self.feed_length(piece);
         let fed = self.feed_contents(&piece[used..]);
@@ -118,7 +173,7 @@ impl Decoder {
 
     /// Uses octets of the length, as many as are missing and come, and judges it with its last one.
     fn feed_length(&mut self, piece: &[u8]) -> usize
-        ensures { FeedsLength messages self.old piece.now self.new result }
+        ensures { FeedsLength (messages self.old.profile) self.old piece.now self.new result }
     {
         let Phase::Length(present) = self.phase else {
             return 0;
@@ -135,7 +190,7 @@ impl Decoder {
     /// Uses octets of the contents, after a length.
     fn feed_contents(&mut self, piece: &[u8]) -> Fed
         requires { (piece.now ≡ []) ⊎ (4 ≤ length self.old.octets) }
-        ensures { Feeds messages self.old piece.now self.new result }
+        ensures { Feeds (messages self.old.profile) self.old piece.now self.new result }
     {
         let size = match self.phase {
             Phase::Length(_) => return answer(Status::More),
@@ -150,7 +205,7 @@ impl Decoder {
 
     /// The frame that is ready, borrowed.
     pub fn ready(&self) -> Option<Framed<'_>>
-        ensures { result ≡ borrowed messages self.now }
+        ensures { result ≡ borrowed (messages self.now.profile) self.now }
     {
         match self.phase {
             Phase::Ready => {
@@ -163,15 +218,17 @@ impl Decoder {
 
     /// Clears the frame that is ready, so that the next one may be fed, and answers whether there
     /// was one. Where there was none nothing changes. The room of a frame that took much is given
-    /// back.
+    /// back, unless there is room for any frame that the limit allows, as in a
+    /// [`reserved`](Decoder::reserved) decoder.
     pub fn next(&mut self) -> bool
-        ensures { Clears messages self.old self.new result }
+        ensures { Clears (messages self.old.profile) self.old self.new result }
     {
         let Phase::Ready = self.phase else {
             return false;
         };
-        clear_contents(&mut self.contents, self.alloc);
-        clear_marks(&mut self.scanner, self.alloc);
+        let stays = self.is_ample();
+        clear_contents(&mut self.contents, self.alloc, stays);
+        clear_marks(&mut self.scanner, self.alloc, stays);
         self.phase = Phase::Length(0);
         true
     }
@@ -180,7 +237,7 @@ impl Decoder {
     /// ready; what was refused; and else `Truncated`, at the number of octets of the frame that
     /// are there, those of its length with them.
     pub fn finish(&self) -> Result<(), Refusal>
-        ensures { result ≡ finish_of messages self.now }
+        ensures { result ≡ finish_of (messages self.now.profile) self.now }
     {
         match self.phase {
             Phase::Length(present) => ended(present),
@@ -275,9 +332,11 @@ fn put_octets(length: &mut [u8; LENGTH_OCTETS], present: usize, piece: &[u8]) ->
 /// What the four octets of a length come to. Where contents follow, the scanner is cleared for them.
 fn judge_length(scanner: &mut Scanner, limit: Limit, announced: [u8; LENGTH_OCTETS]) -> Phase
     requires { length announced ≡ 4 }
-    ensures judged { IsLengthJudged messages limit announced result }
-    ensures scanned { IsScanned scanner.new announced [] result }
+    ensures judged { IsLengthJudged (messages (profile_of scanner.old)) limit announced result }
+    ensures scanned { IsScanned (profile_of scanner.old) scanner.new announced [] result }
+    ensures profile { profile_of scanner.new ≡ profile_of scanner.old }
     ensures looks { ledger_of scanner.new ≡ ledger_of scanner.old }
+    ensures room { room_of scanner.old ≤ room_of scanner.new }
 {
     let size = u32::from_be_bytes(announced);
     if size >= 1 << 31 {

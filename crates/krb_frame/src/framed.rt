@@ -1,6 +1,6 @@
 //! A frame that is ready, borrowed from its decoder.
 
-use krb_der::{Memory, Room};
+use krb_der::{Memory, Profile, Room};
 use krb_msg::{Kind, Message, whole_kind};
 use krb_scan::{Mark, build, build_in, realm};
 use std::alloc::Global;
@@ -15,32 +15,28 @@ pub struct Framed<'a> {
 
 impl<'a> Model for Framed<'a> {
     ghost use Rattle.std.specs.Prelude.{ℕ, List, length};
-    ghost use Rattle.krb_msg.specs.Grammar.{messages};
-    ghost use Rattle.krb_scan.specs.At.{Marks};
-    ghost use Rattle.krb_scan.specs.State.{AreMarks};
-    ghost use Rattle.krb_frame.specs.Frame.{IsWholeFrame};
+    ghost use Rattle.std.specs.Prelude.{◌<◌, ◌^◌};
+    ghost use Rattle.krb_der.specs.Octets.{AreOctets};
+    ghost use Rattle.krb_scan.specs.At.{AreWhole};
 
     ghost Value = { List ℕ };
 
     ghost view = { λ framed. framed.octets.now };
 
-    ghost invariant = { λ framed. IsWholeFrame messages framed.octets.now × AreMarks framed.marks.now (Marks (length framed.octets.now) framed.octets.now) };
+    ghost invariant = { λ framed. (length framed.octets.now < 2 ^ 31) × AreOctets framed.octets.now × AreWhole framed.marks.now framed.octets.now };
 }
 
-ghost use Rattle.std.specs.Prelude.{◌≡◌, IfOk, length};
+ghost use Rattle.std.specs.Prelude.{◌≡◌, ◌<◌, ◌^◌, IfOk, length};
 ghost use Rattle.std.specs.Option.{option_map};
-ghost use Rattle.krb_msg.specs.Grammar.{messages};
 ghost use Rattle.krb_msg.specs.Realm.{AreOfRealm};
 ghost use Rattle.krb_msg.specs.Views.{AreOfKind, message_der};
-ghost use Rattle.krb_scan.specs.At.{Marks};
-ghost use Rattle.krb_scan.specs.State.{AreMarks};
-ghost use Rattle.krb_frame.specs.Frame.{IsWholeFrame};
+ghost use Rattle.krb_scan.specs.At.{AreWhole};
 
 impl<'a> Framed<'a> {
     /// A frame of the octets of one message, with its marks.
     pub(crate) fn new(octets: &'a [u8], marks: &'a [Mark]) -> Framed<'a>
-        requires whole { IsWholeFrame messages octets.now }
-        requires marks { AreMarks marks.now (Marks (length octets.now) octets.now) }
+        requires short { length octets.now < 2 ^ 31 }
+        requires whole { AreWhole marks.now octets.now }
         ensures { result ≡ octets.now }
     {
         Framed { octets, marks }
@@ -55,16 +51,16 @@ impl<'a> Framed<'a> {
 
     /// The kind of the message. It takes no memory.
     pub fn kind(&self) -> Kind
-        ensures { AreOfKind self.now result }
+        ensures { AreOfKind Profile.Lenient self.now result }
     {
         whole_kind(self.octets)
     }
 
     /// The realm of the message, borrowed: of an AS-REQ or a TGS-REQ the realm that its body names,
     /// of an AS-REP or a TGS-REP the client's, of an AP-REQ the ticket's, of a KRB-ERROR the
-    /// server's. An AP-REP names none. It takes no memory.
+    /// server's. The other messages name none. It takes no memory.
     pub fn realm(&self) -> Option<&[u8]>
-        ensures { AreOfRealm self.now (option_map (λ realm. realm.now) result) }
+        ensures { AreOfRealm Profile.Lenient self.now (option_map (λ realm. realm.now) result) }
     {
         realm(self.marks, self.octets)
     }

@@ -1,7 +1,7 @@
 //! Laws of decoders and of the streams that they stand for. Each is the contract of a function that
 //! does nothing.
 
-ghost use Rattle.krb_frame.specs.Laws.{StandingTells, RefusalEnds};
+ghost use Rattle.krb_frame.specs.Laws.{StandingTells, RefusalEnds, RefusalsAreInside, FeedIsNotTruncated, LenientHasNoCharset};
 
 /// What a decoder that stands for a stream has of it.
 pub fn standing_tells()
@@ -11,4 +11,19 @@ pub fn standing_tells()
 /// A stream that is refused is refused so, whatever comes.
 pub fn refusal_ends()
     ensures { RefusalEnds }
+{}
+
+/// A frame is refused at one of its octets, one that was used.
+pub fn refusals_are_inside()
+    ensures { RefusalsAreInside }
+{}
+
+/// No feed answers `Truncated`: [`finish`](crate::Decoder::finish) alone does.
+pub fn feed_is_not_truncated()
+    ensures { FeedIsNotTruncated }
+{}
+
+/// A decoder by the lenient profile never answers `Charset`.
+pub fn lenient_has_no_charset()
+    ensures { LenientHasNoCharset }
 {}

@@ -5,6 +5,7 @@ use Rattle.krb_der.specs.declared.verdict.Verdict.{Verdict}
 use Rattle.krb_der.specs.declared.verdict.Verdict.TheVariants as verdict
 use Rattle.krb_der.specs.declared.why.Why.TheVariants as why
 use Rattle.krb_msg.specs.Term.{Term}
+use Rattle.krb_msg.specs.Profiles.{profile_term}
 use Rattle.krb_msg.specs.Grammar.{messages, ticket, method_data}
 use Rattle.krb_msg.specs.Judgement.{item_outcome, judgement, term_judgement}
 use Rattle.krb_msg.proofs.Grammars.{refused_outcome, refusal_is_final}
@@ -29,7 +30,7 @@ of_term term = inside (term_judgement term) (λ octets p e. bad_within term (len
 
 pub refusals_are_inside : RefusalsAreInside
 refusals_are_inside = record {
-  of_message = inside judgement (λ octets p e. (refusal_is_final messages (length octets) octets p.place p.why (omega arith) e).within);
-  of_ticket = of_term ticket;
+  of_message = λ profile. inside (judgement profile) (λ octets p e. (refusal_is_final (messages profile) (length octets) octets p.place p.why (omega arith) e).within);
+  of_ticket = λ profile. of_term (profile_term profile false ticket);
   of_method_data = of_term method_data;
 }

@@ -1,18 +1,20 @@
 -- Messages that fill a slice.
-use Rattle.std.proofs.Common.{◌≡◌, ◌≢◌, ℕ, ◌^◌, ◌<◌, ◌↔◌, Bool, true, false, List, [], ◌∷◌, ◌++◌, length, get_or, Some, None, refl, sym, ap, ◌∙◌, subst, arith}
+use Rattle.std.proofs.Common.{◌≡◌, ◌≢◌, ℕ, ◌^◌, ◌<◌, ◌↔◌, Bool, true, false, List, [], ◌∷◌, ◌++◌, length, Some, None, refl, sym, ap, ◌∙◌, subst, arith}
 use Rattle.std.specs.Prelude.{nat_lt, ◌==◌, if◌then◌else◌}
 use Rattle.std.proofs.lemmas.Bool.Decides.{nat_tests}
 use Rattle.krb_der.specs.Octets.{AreOctets}
+use Rattle.krb_der.specs.declared.profile.Profile.{Profile}
+use Rattle.krb_der.specs.declared.profile.Profile.TheVariants as profiles
 use Rattle.krb_der.specs.declared.verdict.Refusal.{Refusal}
 use Rattle.krb_der.specs.declared.verdict.Verdict.{Verdict}
 use Rattle.krb_der.specs.declared.verdict.Verdict.TheVariants as verdict
 use Rattle.krb_msg.specs.declared.message.Message.{Message}
-use Rattle.krb_msg.specs.Term.{Term, Value, Fits, der, tag_of}
+use Rattle.krb_msg.specs.Term.{Term, Value, Fits, der}
 use Rattle.krb_msg.specs.Shape.{is_unambiguous}
 use Rattle.krb_msg.specs.Views.{message_der, IsInProfile}
 use Rattle.krb_msg.specs.Judgement.{judgement, term_judgement}
 use Rattle.krb_msg.specs.Laws.{AreMessage}
-use Rattle.krb_msg.proofs.Judged.{whole_is_message, message_is_whole, whole_is_value, value_is_whole, value_is_decided, der_is_prefix_free}
+use Rattle.krb_msg.proofs.Judged.{whole_is_message, message_is_whole, whole_is_value, value_is_whole, value_is_decided, der_is_prefix_free, lenient_whole}
 use Rattle.krb_msg.proofs.Grammars.{all_is_decided}
 use Rattle.krb_msg.specs.Grammar.{messages}
 use Rattle.krb_msg.proofs.Laws.{same_value}
@@ -24,8 +26,8 @@ use Rattle.krb_judge.specs.Parses.{refused, refusal_by, refusal_of, AreOf, AreOf
 pub same_message : {octets : List ℕ} (m other : Message) → message_der m ≡ octets → message_der other ≡ octets → m ≡ other
 same_message m other e f = (der_is_prefix_free m other [] [] (ap (λ l. l ++ []) (e ∙ sym f))).0
 
-pub are_of : {octets : List ℕ} (m : Message) → AreMessage (length octets) octets → message_der m ≡ octets → AreOf octets m
-are_of m w e = record { in_profile = subst IsInProfile (same_message w.message m w.form e) w.in_profile; form = e }
+pub are_of : {octets : List ℕ} (profile : Profile) (m : Message) → AreMessage profile (length octets) octets → message_der m ≡ octets → AreOf profile octets m
+are_of profile m w e = record { in_profile = subst (IsInProfile profile) (same_message w.message m w.form e) w.in_profile; form = e }
 
 -- ---- no refusal
 chosen_none : (long empty : Bool) (first second : Refusal) (v : Verdict) → (if long then Some first else if empty then Some second else refused v) ≡ None → (long ≡ false) × (empty ≡ false) × (refused v ≡ None)
@@ -62,23 +64,26 @@ none_refused : (judge : ℕ → List ℕ → Verdict) (octets : List ℕ) → ju
 none_refused judge octets whole some short = none_chosen (nat_lt 2147483647 (length octets)) (length octets == 0) _ _ (judge (length octets) octets) (grind (arith, nat_tests, short)) (grind (arith, nat_tests, some)) whole
 
 -- ---- messages
-pub whole_message : (octets : List ℕ) → refusal_of octets ≡ None → IsWholeSlice judgement octets
-whole_message octets = whole_slice judgement octets (λ some. all_is_decided messages (length octets) octets some refl)
+pub whole_message : (profile : Profile) (octets : List ℕ) → refusal_of profile octets ≡ None → IsWholeSlice (judgement profile) octets
+whole_message profile octets = whole_slice (judgement profile) octets (λ some. all_is_decided (messages profile) (length octets) octets some refl)
 
-pub message_in : (octets : List ℕ) → AreOctets octets → refusal_of octets ≡ None → AreMessage (length octets) octets
-message_in octets a e = let w = whole_message octets e in whole_is_message (length octets) octets w.short a (omega arith) w.whole
+pub message_in : (profile : Profile) (octets : List ℕ) → AreOctets octets → refusal_of profile octets ≡ None → AreMessage profile (length octets) octets
+message_in profile octets a e = let w = whole_message profile octets e in whole_is_message profile (length octets) octets w.short a (omega arith) w.whole
 
-some_from_whole : (octets : List ℕ) → judgement (length octets) octets ≡ verdict.Whole → 0 < length octets
-some_from_whole [] e = absurd cc
-some_from_whole (octet ∷ octets) e = omega arith
+some_from_whole : (profile : Profile) (octets : List ℕ) → judgement profile (length octets) octets ≡ verdict.Whole → 0 < length octets
+some_from_whole profile [] e = absurd cc
+some_from_whole profile (octet ∷ octets) e = omega arith
 
-pub message_not_refused : {octets : List ℕ} (m : Message) → AreOf octets m → refusal_of octets ≡ None
-message_not_refused {octets = octets} m a =
-    let whole : judgement (length octets) octets ≡ verdict.Whole = subst (λ l. judgement (length l) l ≡ verdict.Whole) a.form (message_is_whole m a.in_profile) in
-    none_refused judgement octets whole (some_from_whole octets whole) (omega (arith, ap length a.form, a.in_profile.short))
+pub message_not_refused : {octets : List ℕ} (profile : Profile) (m : Message) → AreOf profile octets m → refusal_of profile octets ≡ None
+message_not_refused {octets = octets} profile m a =
+    let whole : judgement profile (length octets) octets ≡ verdict.Whole = subst (λ l. judgement profile (length l) l ≡ verdict.Whole) a.form (message_is_whole profile m a.in_profile) in
+    none_refused (judgement profile) octets whole (some_from_whole profile octets whole) (omega (arith, ap length a.form, a.in_profile.short))
 
-pub no_message : (octets : List ℕ) → AreOctets octets → HasNoMessage octets ↔ (refusal_of octets ≢ None)
-no_message octets a = (λ no e. let w = message_in octets a e in no w.message (record { in_profile = w.in_profile; form = w.form }), λ some m f. some (message_not_refused m f))
+pub no_message : (profile : Profile) (octets : List ℕ) → AreOctets octets → HasNoMessage profile octets ↔ (refusal_of profile octets ≢ None)
+no_message profile octets a = (λ no e. let w = message_in profile octets a e in no w.message (record { in_profile = w.in_profile; form = w.form }), λ some m f. some (message_not_refused profile m f))
+
+pub lenient_slice : (profile : Profile) (octets : List ℕ) → AreOctets octets → refusal_of profile octets ≡ None → judgement profiles.Lenient (length octets) octets ≡ verdict.Whole
+lenient_slice profile octets a e = let w = whole_message profile octets e in lenient_whole profile (length octets) octets w.short a (omega arith) w.whole
 
 -- ---- values of a term
 pub whole_value : (term : Term) (octets : List ℕ) → AreOctets octets → refusal_by (term_judgement term) octets ≡ None → IsDer term octets × (length octets < 2 ^ 31)

@@ -2,6 +2,7 @@
 use Rattle.std.proofs.Common.{◌≡◌, ℕ, ◌+◌, ◌^◌, ◌<◌, List, [], ◌++◌, length, None, refl, sym, ap, ◌∙◌, arith, append-nil}
 use Rattle.std.proofs.lemmas.Int.{ints}
 use Rattle.krb_der.specs.Octets.{AreOctets}
+use Rattle.krb_der.specs.declared.profile.Profile.TheVariants.{Lenient}
 use Rattle.krb_msg.specs.declared.ticket.Ticket.{Ticket}
 use Rattle.krb_msg.specs.Term.{Term, Fields, Sequence, Tagged, Application, Required, der, der_of_fields}
 use Rattle.krb_msg.specs.Grammar.{int32, wide32, ticket}
@@ -52,7 +53,7 @@ stands_first f = record { value = f.value; fits = f.fits; rest = []; parts = f.f
 pub ticket_none : (octets : List ℕ) → AreOctets octets → refusal_by (term_judgement (term_at TICKET)) octets ≡ None → IsDer ticket octets × (length octets < 2 ^ 31)
 ticket_none octets a e = whole_value ticket octets a (sym (refused_as ticket octets TICKET ticket_node) ∙ e)
 
-pub are_of_viewed : {octets : List ℕ} (t : Ticket) → IsDer ticket octets × (length octets < 2 ^ 31) → t ≡ ticket_of (value_read ticket octets) → AreOfTicket octets t
+pub are_of_viewed : {octets : List ℕ} (t : Ticket) → IsDer ticket octets × (length octets < 2 ^ 31) → t ≡ ticket_of (value_read ticket octets) → AreOfTicket Lenient octets t
 are_of_viewed {octets = octets} t (f, short) e =
     let read : value_read ticket octets ≡ f.value = ap (value_read ticket) f.form ∙ value_is_read ticket f.value refl (omega (arith, ap length f.form, short)) in
-    are_of_ticket t (f, short, ap (λ (u : Ticket). der ticket (ticket_value u)) (e ∙ ap ticket_of read) ∙ ap (der ticket) (ticket_value-of f.value f.fits) ∙ sym f.form)
+    are_of_ticket Lenient t (f, short, ap (λ (u : Ticket). der ticket (ticket_value u)) (e ∙ ap ticket_of read) ∙ ap (der ticket) (ticket_value-of f.value f.fits) ∙ sym f.form)

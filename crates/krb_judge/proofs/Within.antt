@@ -1,5 +1,5 @@
 -- What the judge's functions need of the judgement: its offsets and counts are within the octets present, and what is left after an item.
-use Rattle.std.proofs.Common.{◌≡◌, ℕ, zero, suc, ◌+◌, ◌-◌, ◌<◌, ◌≤◌, Bool, true, false, ◌⊎◌, inl, inr, List, [], ◌∷◌, length, take, drop, get_or, length-drop, refl, sym, ap, ◌∙◌, arith, add-one}
+use Rattle.std.proofs.Common.{◌≡◌, ℕ, zero, suc, ◌+◌, ◌-◌, ◌<◌, ◌≤◌, Bool, true, false, ◌||◌, nat_lt, ◌⊎◌, inl, inr, List, [], ◌∷◌, length, take, drop, get_or, length-drop, refl, sym, ap, ◌∙◌, arith, add-one, lt-ltb}
 use Rattle.std.proofs.Math.Seq.{drop-cons}
 use Rattle.std.proofs.lemmas.List.{take_all}
 use Rattle.std.specs.List.{AllByRecursion}
@@ -8,10 +8,9 @@ use Rattle.krb_der.specs.Octets.{AreOctets}
 use Rattle.krb_der.specs.declared.why.Why.TheVariants as why
 use Rattle.krb_msg.specs.Term.{Term, Fields, Text, Octets, SequenceOf, Tagged, Application}
 use Rattle.krb_msg.specs.Shape.{depth_of_fields}
-use Rattle.krb_msg.specs.Judgement.{Outcome, Bad, Done, after, then_after, any_contents, only_contents, item_outcome, items_contents, fields_outcome}
+use Rattle.krb_msg.specs.Judgement.{Outcome, Bad, Done, after, then_after, any_contents, each_contents, text_octet, only_contents, item_outcome, items_contents, fields_outcome}
 use Rattle.krb_msg.specs.Nodes.{nodes, term_at}
 use Rattle.krb_msg.specs.Table.{IsFormOf, IsSlot, with_slot, fields_from}
-use Rattle.krb_msg.specs.declared.grammar.Form.{Form}
 use Rattle.krb_msg.specs.declared.grammar.Form.TheVariants as form
 use Rattle.krb_msg.specs.declared.grammar.Slot.{Slot}
 use Rattle.krb_msg.specs.declared.grammar.Slot.TheVariants as slot
@@ -31,21 +30,38 @@ pub taken : (term : Term) (room : ℕ) (sole : Bool) (octets : List ℕ) (count 
 taken term room sole octets count h e = done_within term room sole octets count h (sym e)
 
 -- ---- forms
-text_of : (term : Term) → IsFormOf nodes form.Text term → (before size : ℕ) (octets : List ℕ) → AreOctets octets → sized_outcome term before size octets ≡ after before (any_contents size octets)
-text_of (Text greatest) h before size octets a = rw h (ap (after before) (text-any why.Charset size octets a))
-text_of term h before size octets a = absurd h
+-- a string that may have any octets
+pub any_text_of : (most : ℕ) (term : Term) → IsFormOf nodes (form.Text most) term → most ≡ 255 → (before size : ℕ) (octets : List ℕ) → AreOctets octets → sized_outcome term before size octets ≡ after before (any_contents size octets)
+any_text_of most (Text greatest) h e before size octets a =
+    let g : greatest ≡ 255 = sym h ∙ e in
+    rw g (ap (after before) (text-any why.Charset size octets a))
+any_text_of most term h e before size octets a = absurd h
 
-octets_of : (term : Term) → IsFormOf nodes form.Octets term → (before size : ℕ) (octets : List ℕ) → sized_outcome term before size octets ≡ after before (any_contents size octets)
+pub text_of : (most : ℕ) (term : Term) → IsFormOf nodes (form.Text most) term → (before size : ℕ) (octets : List ℕ) → sized_outcome term before size octets ≡ after before (each_contents (text_octet most) why.Charset size 0 octets)
+text_of most (Text greatest) h before size octets = rw h refl
+text_of most term h before size octets = absurd h
+
+pub octets_of : (term : Term) → IsFormOf nodes form.Octets term → (before size : ℕ) (octets : List ℕ) → sized_outcome term before size octets ≡ after before (any_contents size octets)
 octets_of Octets h before size octets = refl
 octets_of term h before size octets = absurd h
 
-pub string_of : (it : Form) (term : Term) → (it ≡ form.Text) ⊎ (it ≡ form.Octets) → IsFormOf nodes it term → (before size : ℕ) (octets : List ℕ) → AreOctets octets → sized_outcome term before size octets ≡ after before (any_contents size octets)
-string_of it term (inl e) h before size octets a = text_of term (rw e at h) before size octets a
-string_of it term (inr e) h before size octets a = octets_of term (rw e at h) before size octets
+-- items that are some, or may be none
+pub some_or_empty : (empty : Bool) (size : ℕ) → (empty ≡ true) ⊎ ((empty ≡ false) × (0 < size)) → (empty || nat_lt 0 size) ≡ true
+some_or_empty empty size (inl e) = rw e refl
+some_or_empty empty size (inr p) = rw (p.0, lt-ltb 0 size p.1) refl
 
-pub items_of : (node : ℕ) (term : Term) → IsFormOf nodes (form.Items node) term → (before size : ℕ) (octets : List ℕ) → sized_outcome term before size octets ≡ items_contents (λ left. item_outcome (term_at node) left false) size before size octets
-items_of node (SequenceOf empty term) h before size octets = rw (h.1, h.2)
-items_of node term h before size octets = absurd h
+-- items, which are some or may be none
+pub items_of : (node : ℕ) (none : Bool) (term : Term) → IsFormOf nodes (form.Items node none) term → (before size : ℕ) (octets : List ℕ) → (none || nat_lt 0 size) ≡ true → sized_outcome term before size octets ≡ items_contents (λ left. item_outcome (term_at node) left false) size before size octets
+items_of node none (SequenceOf empty term) h before size octets e =
+    let t : (empty || nat_lt 0 size) ≡ true = ap (λ b. b || nat_lt 0 size) (sym h.1) ∙ e in
+    rw (t, h.2) refl
+items_of node none term h before size octets e = absurd h
+
+pub no_items_of : (node : ℕ) (none : Bool) (term : Term) → IsFormOf nodes (form.Items node none) term → (before size : ℕ) (octets : List ℕ) → (none || nat_lt 0 size) ≡ false → sized_outcome term before size octets ≡ Bad (before - 1) why.Size
+no_items_of node none (SequenceOf empty term) h before size octets e =
+    let t : (empty || nat_lt 0 size) ≡ false = ap (λ b. b || nat_lt 0 size) (sym h.1) ∙ e in
+    rw t refl
+no_items_of node none term h before size octets e = absurd h
 
 pub only_of : (node : ℕ) (term : Term) → IsFormOf nodes (form.Item node) term → (before size : ℕ) (octets : List ℕ) → sized_outcome term before size octets ≡ only_contents before size (item_outcome (term_at node) size true octets)
 only_of node (Tagged index term) h before size octets = rw h.1

@@ -1,5 +1,6 @@
 -- What is answered for a whole slice.
-use Rattle.std.specs.Prelude.{ℕ, ◌≡◌, ◌<◌, ◌^◌, nat_lt, ◌==◌, if◌then◌else◌, List, length, map, Option, Some, None}
+use Rattle.std.specs.Prelude.{ℕ, ◌≡◌, ◌<◌, ◌^◌, nat_lt, ◌==◌, if◌then◌else◌, false, List, length, map, Option, Some, None}
+use Rattle.krb_der.specs.declared.profile.Profile.{Profile}
 use Rattle.krb_der.specs.declared.verdict.Refusal.{Refusal}
 use Rattle.krb_der.specs.declared.verdict.Verdict.{Verdict}
 use Rattle.krb_der.specs.declared.verdict.Verdict.TheVariants as verdict
@@ -7,6 +8,7 @@ use Rattle.krb_der.specs.declared.why.Why.TheVariants as why
 use Rattle.krb_msg.specs.declared.message.Message.{Message}
 use Rattle.krb_msg.specs.declared.ticket.Ticket.{Ticket}
 use Rattle.krb_msg.specs.declared.pa_data.PaData.{PaData}
+use Rattle.krb_msg.specs.Profiles.{profile_term, profile_value}
 use Rattle.krb_msg.specs.Term.{Term, Value, der, Fits}
 use Rattle.krb_msg.specs.Grammar.{ticket, method_data}
 use Rattle.krb_msg.specs.Nodes.{term_at}
@@ -29,33 +31,33 @@ refusal_by judge octets =
     else if length octets == 0 then Some (record { place = 0; why = why.Empty })
     else refused (judge (length octets) octets)
 
--- why a slice is no message, no Ticket and no METHOD-DATA
-abbrev pub refusal_of : List ℕ → Option Refusal
-refusal_of = refusal_by judgement
+-- why a slice is no message and no Ticket of a profile, and no METHOD-DATA
+abbrev pub refusal_of : Profile → List ℕ → Option Refusal
+refusal_of profile = refusal_by (judgement profile)
 
-abbrev pub ticket_refusal : List ℕ → Option Refusal
-ticket_refusal = refusal_by (term_judgement ticket)
+abbrev pub ticket_refusal : Profile → List ℕ → Option Refusal
+ticket_refusal profile = refusal_by (term_judgement (profile_term profile false ticket))
 
 abbrev pub method_data_refusal : List ℕ → Option Refusal
 method_data_refusal = refusal_by (term_judgement method_data)
 
 -- what a slice is judged as
 abbrev pub judged_as : Expected → ℕ → List ℕ → Verdict
-judged_as expected.Message = judgement
+judged_as (expected.Message profile) = judgement profile
 judged_as (expected.Node node) = term_judgement (term_at node)
 
 abbrev pub IsKnown : Expected → Type 0
-IsKnown expected.Message = Unit {0}
+IsKnown (expected.Message profile) = Unit {0}
 IsKnown (expected.Node node) = IsNode node
 
--- the octets are those of this message of the profile
-pub record AreOf (octets : List ℕ) (m : Message) : Type 0 where
-  pub in_profile : IsInProfile m
+-- the octets are those of this message of a profile
+pub record AreOf (profile : Profile) (octets : List ℕ) (m : Message) : Type 0 where
+  pub in_profile : IsInProfile profile m
   pub form : message_der m ≡ octets
 
--- no message of the profile has these octets
-abbrev pub HasNoMessage : List ℕ → Type 0
-HasNoMessage octets = (m : Message) → AreOf octets m → ⊥
+-- no message of a profile has these octets
+abbrev pub HasNoMessage : Profile → List ℕ → Type 0
+HasNoMessage profile octets = (m : Message) → AreOf profile octets m → ⊥
 
 -- the octets, fewer than 2147483648, are those of a value of a type
 pub record AreOfValue {A : Type 0} (term : Term) (value_of : A → Value term) (octets : List ℕ) (a : A) : Type 0 where
@@ -63,8 +65,12 @@ pub record AreOfValue {A : Type 0} (term : Term) (value_of : A → Value term) (
   pub short : length octets < 2 ^ 31
   pub form : der term (value_of a) ≡ octets
 
-abbrev pub AreOfTicket : List ℕ → Ticket → Type 0
-AreOfTicket = AreOfValue ticket ticket_value
+-- a Ticket as the value of a profile's term
+abbrev pub ticket_value_in : (profile : Profile) → Ticket → Value (profile_term profile false ticket)
+ticket_value_in profile t = profile_value profile false ticket (ticket_value t)
+
+abbrev pub AreOfTicket : Profile → List ℕ → Ticket → Type 0
+AreOfTicket profile = AreOfValue (profile_term profile false ticket) (ticket_value_in profile)
 
 abbrev pub AreOfMethodData : List ℕ → List PaData → Type 0
 AreOfMethodData = AreOfValue method_data (map pa_data_value)

@@ -1,8 +1,8 @@
 //! What the octets present of a message decide, by the table of the grammar (`krb_msg::grammar`).
 //!
 //! Each function is the definition of its name in `krb_msg/specs/Judgement`. Octets are read from
-//! the front and no further than the first that decides; those of a string are counted and not
-//! looked at.
+//! the front and no further than the first that decides; those of a string that may have any are
+//! counted and not looked at.
 
 pub(crate) mod head;
 mod leaf;
@@ -17,10 +17,11 @@ ghost use Rattle.krb_msg.specs.Table.{IsNode, IsSlot, fields_from};
 ghost use Rattle.krb_judge.specs.inner.Outcomes.{outcome_of, outcome_in, sized_outcome, IsLeft, IsDue, IsStep};
 
 use crate::judging::head::{Head, part, read_head};
-use crate::judging::leaf::{bits, integer, string, time};
+use crate::judging::leaf::{bits, integer, string, text, time};
 use crate::judging::outcome::Outcome;
-use krb_der::{Refusal, Verdict, Why};
+use krb_der::{Profile, Refusal, Verdict, Why};
 use krb_msg::grammar::{Form, Slot, form_of, message_of, tag_of};
+use krb_msg::has_bits;
 
 /// What of a container is not judged yet.
 #[derive(Clone, Copy)]
@@ -53,17 +54,27 @@ enum Due {
     Item { node: u16 },
 }
 
-/// What the octets present of a message of `n` octets decide.
+/// What the octets present of a message of `n` octets decide, by the lenient profile.
 pub fn judge(n: u32, front: &[u8]) -> Verdict
     requires some { 0 < n }
     requires short { n < 2 ^ 31 }
     requires present { length front.now ≤ n }
-    ensures { result ≡ judgement n front.now }
+    ensures { result ≡ judgement Profile.Lenient n front.now }
+{
+    judge_in(Profile::Lenient, n, front)
+}
+
+/// What the octets present of a message of `n` octets decide, by a profile.
+pub fn judge_in(profile: Profile, n: u32, front: &[u8]) -> Verdict
+    requires some { 0 < n }
+    requires short { n < 2 ^ 31 }
+    requires present { length front.now ≤ n }
+    ensures { result ≡ judgement profile n front.now }
 {
     let Some(tag) = front.first() else {
         return Verdict::Open;
     };
-    match message_of(*tag) {
+    match message_of(profile, *tag) {
         Some(node) => verdict(item(node, n, true, front)),
         None => Verdict::Refused(Refusal {
             place: 0,
@@ -147,13 +158,17 @@ fn contents(node: u16, before: u32, size: u32, octets: &[u8]) -> Outcome
             integer(low, high, before, size, octets)
         }
         Form::Time if size == 15 => time(before, octets),
-        Form::Bits if 0 < size => bits(before, size, octets),
-        Form::Integer { .. } | Form::Time | Form::Bits => Outcome::Bad {
-            offset: before - 1,
-            why: Why::Size,
-        },
-        Form::Text | Form::Octets => string(before, size, octets),
-        Form::Items { node } => items(node, before, size, octets),
+        Form::Bits { least } if has_bits(least, size) => bits(least, before, size, octets),
+        Form::Octets => string(before, size, octets),
+        Form::Text { greatest } if greatest == 0xFF => string(before, size, octets),
+        Form::Text { greatest } => text(greatest, before, size, octets),
+        Form::Items { node, empty } if empty || 0 < size => items(node, before, size, octets),
+        Form::Integer { .. } | Form::Time | Form::Bits { .. } | Form::Items { .. } => {
+            Outcome::Bad {
+                offset: before - 1,
+                why: Why::Size,
+            }
+        }
         Form::Item { node } => only(node, before, size, octets),
         Form::Fields { fields: slots } => fields(slots, before, size, octets),
     }

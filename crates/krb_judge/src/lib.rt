@@ -8,8 +8,10 @@ mod opening;
 mod parsing;
 mod viewing;
 
-pub use judging::judge;
-pub use krb_der::{Refusal, Verdict, Why};
+pub use judging::{judge, judge_in};
+pub use krb_der::{Profile, Refusal, Verdict, Why};
 pub use opening::Items;
-pub use parsing::{ParseFault, parse, parse_method_data, parse_ticket, read_ticket};
+pub use parsing::{
+    ParseFault, parse, parse_in, parse_method_data, parse_ticket, parse_ticket_in, read_ticket,
+};
 pub use viewing::{NameView, SealedView, TicketView};

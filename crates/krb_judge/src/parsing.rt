@@ -2,10 +2,12 @@
 
 mod split;
 
-ghost use Rattle.std.specs.Prelude.{◌≡◌, ◌≢◌, ◌^◌, ◌<◌, ◌↔◌, ◌⊎◌, true, List, IfOk, IsErrOf, Ok, Err, Some, None, length};
+ghost use Rattle.std.specs.Prelude.{◌≡◌, ◌≢◌, ◌^◌, ◌<◌, ◌↔◌, ◌⊎◌, true, false, List, IfOk, IsErrOf, Ok, Err, Some, None, length};
 ghost use Rattle.krb_der.specs.declared.verdict.Verdict.TheVariants.{Whole};
 ghost use Rattle.krb_msg.specs.Judgement.{judgement, term_judgement};
+ghost use Rattle.krb_msg.specs.Grammar.{ticket};
 ghost use Rattle.krb_msg.specs.Nodes.{term_at};
+ghost use Rattle.krb_msg.specs.Profiles.{profile_term};
 ghost use Rattle.krb_msg.specs.Table.{IsNode};
 ghost use Rattle.krb_msg.specs.Views.{message_der};
 ghost use Rattle.krb_judge.specs.Faults.{parse_fault_text};
@@ -16,11 +18,11 @@ ghost use Rattle.krb_judge.specs.Parses.{refusal_by, refusal_of as refusal_in, t
 ghost use Rattle.krb_judge.specs.Viewed.{ticket_viewed};
 ghost use Rattle.krb_judge.specs.declared.parsing.ParseFault.TheVariants as fault;
 
-use crate::judging::{judge, judge_node};
+use crate::judging::{judge_in, judge_node};
 use crate::parsing::split::Slice;
 use crate::viewing::{TicketView, view_ticket};
-use krb_der::{Many, Memory, Refusal, Verdict, Why};
-use krb_msg::grammar::Row;
+use krb_der::{Many, Memory, Profile, Refusal, Verdict, Why};
+use krb_msg::grammar::{ROWS, Row};
 use krb_msg::{Decode, Message, PaData, Ticket, decode, decode_whole, whole_kind};
 use std::alloc::{AllocError, Global};
 use std::error::Error;
@@ -68,8 +70,8 @@ impl Error for ParseFault {}
 /// What a slice is judged as.
 #[derive(Clone, Copy)]
 enum Expected {
-    /// A message of any kind.
-    Message,
+    /// A message of any kind, of a profile.
+    Message(Profile),
     /// An item of the term of a node of `krb_msg::grammar`.
     Node(u16),
 }
@@ -77,39 +79,74 @@ enum Expected {
 /// The node of a Ticket (RFC 4120, 5.3).
 const TICKET: u16 = Row::Ticket as u16;
 
+/// That of a Ticket of the strict profile.
+const STRICT_TICKET: u16 = Row::Ticket as u16 + ROWS as u16;
+
 /// The node of METHOD-DATA (RFC 4120, 5.9.1).
 const METHOD_DATA: u16 = Row::MethodData as u16;
 
-/// The message that octets are, or why they are none. A slice of more than 2147483647 octets is
-/// `TooLong` at 0, an empty one `Empty` at 0; else [`judge`] refuses it. A refusal is decided
-/// before memory is taken.
+/// The message that octets are, or why they are none, by the lenient profile. A slice of more than
+/// 2147483647 octets is `TooLong` at 0, an empty one `Empty` at 0; else [`judge`](crate::judge)
+/// refuses it. A refusal is decided before memory is taken.
 pub fn parse(alloc: Global, octets: &[u8]) -> Result<Message, ParseFault>
-    ensures message { IfOk result (AreOf octets.now) }
-    ensures found { (m : Message) → AreOf octets.now m → (result ≡ Ok m) ⊎ (result ≡ Err fault.Memory) }
-    ensures refused { (r : Refusal) → IsErrOf result (fault.Refused r) ↔ (refusal_in octets.now ≡ Some r) }
-    ensures none { HasNoMessage octets.now ↔ (refusal_in octets.now ≢ None) }
+    ensures message { IfOk result (AreOf Profile.Lenient octets.now) }
+    ensures found { (m : Message) → AreOf Profile.Lenient octets.now m → (result ≡ Ok m) ⊎ (result ≡ Err fault.Memory) }
+    ensures refused { (r : Refusal) → IsErrOf result (fault.Refused r) ↔ (refusal_in Profile.Lenient octets.now ≡ Some r) }
+    ensures none { HasNoMessage Profile.Lenient octets.now ↔ (refusal_in Profile.Lenient octets.now ≢ None) }
 {
-    match refusal_of(Expected::Message, octets) {
+    parse_in(alloc, Profile::Lenient, octets)
+}
+
+/// The message of a profile that octets are, or why they are none, as [`parse`] has it.
+pub fn parse_in(alloc: Global, profile: Profile, octets: &[u8]) -> Result<Message, ParseFault>
+    ensures message { IfOk result (AreOf profile octets.now) }
+    ensures found { (m : Message) → AreOf profile octets.now m → (result ≡ Ok m) ⊎ (result ≡ Err fault.Memory) }
+    ensures refused { (r : Refusal) → IsErrOf result (fault.Refused r) ↔ (refusal_in profile octets.now ≡ Some r) }
+    ensures none { HasNoMessage profile octets.now ↔ (refusal_in profile octets.now ≢ None) }
+{
+    match refusal_of(Expected::Message(profile), octets) {
         Some(refusal) => Err(ParseFault::Refused(refusal)),
         None => Ok(parse_whole(alloc, octets)?),
     }
 }
 
-/// The Ticket (RFC 4120, 5.3) that octets are, or why they are none, as [`parse`] has it of a
-/// message.
+/// The Ticket (RFC 4120, 5.3) that octets are, or why they are none, by the lenient profile, as
+/// [`parse`] has it of a message.
 pub fn parse_ticket(alloc: Global, octets: &[u8]) -> Result<Ticket, ParseFault>
-    ensures ticket { IfOk result (AreOfTicket octets.now) }
-    ensures found { (t : Ticket) → AreOfTicket octets.now t → (result ≡ Ok t) ⊎ (result ≡ Err fault.Memory) }
-    ensures refused { (r : Refusal) → IsErrOf result (fault.Refused r) ↔ (ticket_refusal octets.now ≡ Some r) }
-    ensures none { ((t : Ticket) → AreOfTicket octets.now t → ⊥) ↔ (ticket_refusal octets.now ≢ None) }
+    ensures ticket { IfOk result (AreOfTicket Profile.Lenient octets.now) }
+    ensures found { (t : Ticket) → AreOfTicket Profile.Lenient octets.now t → (result ≡ Ok t) ⊎ (result ≡ Err fault.Memory) }
+    ensures refused { (r : Refusal) → IsErrOf result (fault.Refused r) ↔ (ticket_refusal Profile.Lenient octets.now ≡ Some r) }
+    ensures none { ((t : Ticket) → AreOfTicket Profile.Lenient octets.now t → ⊥) ↔ (ticket_refusal Profile.Lenient octets.now ≢ None) }
 {
-    parse_node(alloc, TICKET, octets)
+    parse_ticket_in(alloc, Profile::Lenient, octets)
 }
 
-/// The Ticket that octets are, where it stands, or why they are none. It takes no memory.
+/// The Ticket of a profile that octets are, or why they are none, as [`parse`] has it of a message.
+pub fn parse_ticket_in(alloc: Global, profile: Profile, octets: &[u8]) -> Result<Ticket, ParseFault>
+    ensures ticket { IfOk result (AreOfTicket profile octets.now) }
+    ensures found { (t : Ticket) → AreOfTicket profile octets.now t → (result ≡ Ok t) ⊎ (result ≡ Err fault.Memory) }
+    ensures refused { (r : Refusal) → IsErrOf result (fault.Refused r) ↔ (ticket_refusal profile octets.now ≡ Some r) }
+    ensures none { ((t : Ticket) → AreOfTicket profile octets.now t → ⊥) ↔ (ticket_refusal profile octets.now ≢ None) }
+{
+    parse_node(alloc, profile, ticket_node(profile), octets)
+}
+
+/// The node of a Ticket of a profile.
+fn ticket_node(profile: Profile) -> u16
+    ensures known { IsNode result }
+    ensures term { term_at result ≡ profile_term profile false ticket }
+{
+    match profile {
+        Profile::Lenient => TICKET,
+        Profile::Strict => STRICT_TICKET,
+    }
+}
+
+/// The Ticket that octets are, where it stands, or why they are none, by the lenient profile. It
+/// takes no memory.
 pub fn read_ticket(octets: &[u8]) -> Result<TicketView<'_>, Refusal>
-    ensures ticket { IfOk result (λ view. AreOfTicket octets.now (ticket_viewed view)) }
-    ensures refused { (r : Refusal) → IsErrOf result r ↔ (ticket_refusal octets.now ≡ Some r) }
+    ensures ticket { IfOk result (λ view. AreOfTicket Profile.Lenient octets.now (ticket_viewed view)) }
+    ensures refused { (r : Refusal) → IsErrOf result r ↔ (ticket_refusal Profile.Lenient octets.now ≡ Some r) }
 {
     match refusal_of(Expected::Node(TICKET), octets) {
         Some(refusal) => Err(refusal),
@@ -125,19 +162,24 @@ pub fn parse_method_data(alloc: Global, octets: &[u8]) -> Result<Vec<PaData>, Pa
     ensures refused { (r : Refusal) → IsErrOf result (fault.Refused r) ↔ (method_data_refusal octets.now ≡ Some r) }
     ensures none { ((items : List PaData) → AreOfMethodData octets.now items → ⊥) ↔ (method_data_refusal octets.now ≢ None) }
 {
-    match parse_node::<Many<PaData>>(alloc, METHOD_DATA, octets) {
+    match parse_node::<Many<PaData>>(alloc, Profile::Lenient, METHOD_DATA, octets) {
         Ok(items) => Ok(items.into_vec()),
         Err(fault) => Err(fault),
     }
 }
 
-/// The value whose octets these are, as an item of a node's term.
-fn parse_node<T: Decode>(alloc: Global, node: u16, octets: &[u8]) -> Result<T, ParseFault>
+/// The value whose octets these are, as an item of a node's term, which is that of a profile.
+fn parse_node<T: Decode>(
+    alloc: Global,
+    _profile: Profile,
+    node: u16,
+    octets: &[u8],
+) -> Result<T, ParseFault>
     requires known { IsNode node }
-    requires term { term_at node ≡ T.term }
+    requires term { term_at node ≡ profile_term _profile false T.term }
     requires unambiguous { is_unambiguous T.term ≡ true }
-    ensures value { IfOk result (λ value. IsDer T.term octets.now × (length octets.now < 2 ^ 31) × (der T.term (T.value value) ≡ octets.now)) }
-    ensures refused { (r : Refusal) → IsErrOf result (fault.Refused r) ↔ (refusal_by (term_judgement T.term) octets.now ≡ Some r) }
+    ensures value { IfOk result (λ value. IsDer (profile_term _profile false T.term) octets.now × (length octets.now < 2 ^ 31) × (der T.term (T.value value) ≡ octets.now)) }
+    ensures refused { (r : Refusal) → IsErrOf result (fault.Refused r) ↔ (refusal_by (term_judgement (profile_term _profile false T.term)) octets.now ≡ Some r) }
 {
     match refusal_of(Expected::Node(node), octets) {
         Some(refusal) => Err(ParseFault::Refused(refusal)),
@@ -177,7 +219,7 @@ fn verdict_on(expected: Expected, octets: &[u8]) -> Verdict
 {
     let n = octets.len() as u32;
     match expected {
-        Expected::Message => judge(n, octets),
+        Expected::Message(profile) => judge_in(profile, n, octets),
         Expected::Node(node) => judge_node(node, n, octets),
     }
 }
@@ -185,7 +227,7 @@ fn verdict_on(expected: Expected, octets: &[u8]) -> Verdict
 /// The message whose octets these are, which are judged whole.
 fn parse_whole(alloc: Global, octets: &[u8]) -> Result<Message, Memory>
     requires short { length octets.now < 2 ^ 31 }
-    requires whole { judgement (length octets.now) octets.now ≡ Whole }
+    requires whole { judgement Profile.Lenient (length octets.now) octets.now ≡ Whole }
     ensures { IfOk result (λ m. message_der m ≡ octets.now) }
 {
     Ok(decode(alloc, whole_kind(octets), Slice { octets })?)

@@ -1,7 +1,7 @@
 -- An entry that is read up to an end of its own, after which the fields have the end that they had.
 use Rattle.std.proofs.Common.{◌≡◌, ℕ, ◌+◌, Option, Some, ◌∙◌, ap, ap₂, subst}
-use Rattle.krb_der.specs.Fields.{Bounds, Reader, within}
-use Rattle.krb_der.specs.FieldReaders.{Held, HasRead, bounded}
+use Rattle.krb_file.specs.Fields.{Bounds, Reader, within}
+use Rattle.krb_file.specs.FieldReaders.{Held, HasRead, bounded}
 
 within_at : {A : Type 0} (size : ℕ) (reader : Reader A) (v : A) (old inner : Held) → HasRead reader v (bounded (Some (old.place + size)) old) inner → HasRead (within size reader) v old (bounded old.bounds.end inner)
 within_at size reader v old inner read = record {

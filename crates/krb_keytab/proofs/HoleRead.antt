@@ -7,9 +7,9 @@ use Rattle.std.specs.Int.RustNames.{FitsSigned}
 use lib.IntN.{nat_abs}
 use lib.Signed.{lt_z}
 use mir.Val.{to_z, of_z}
-use Rattle.krb_der.specs.Fields.{Source, Fault, Bounds, onward, next_octets_at, are_zero}
-use Rattle.krb_der.specs.FieldReaders.{Held, source_at, HasRead, skipped_at}
-use Rattle.krb_der.proofs.Fields.{done, ok_is, onward-ok}
+use Rattle.krb_file.specs.Fields.{Source, Fault, Bounds, onward, next_octets_at, are_zero}
+use Rattle.krb_file.specs.FieldReaders.{Held, source_at, HasRead, skipped_at}
+use Rattle.krb_file.proofs.Fields.{done, ok_is, onward-ok}
 use Rattle.krb_keytab.specs.declared.value.Record.TheVariants as records
 use Rattle.krb_keytab.specs.declared.reading.Next.{Next}
 use Rattle.krb_keytab.specs.declared.reading.Next.TheVariants as nexts

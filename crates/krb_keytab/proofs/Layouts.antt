@@ -2,7 +2,7 @@
 use Rattle.std.proofs.Common.{◌≡◌, ℕ, List, ◌++◌, length, append_assoc}
 use Rattle.std.specs.List.{flat_map}
 use Rattle.std.specs.Int.{w8, w16, w32, to_be_bytes}
-use Rattle.krb_der.specs.Fields.{signed, counted}
+use Rattle.krb_file.specs.Fields.{signed, counted}
 use Rattle.krb_keytab.specs.declared.value.Entry.{Entry}
 use Rattle.krb_keytab.specs.Spelling.{entry}
 

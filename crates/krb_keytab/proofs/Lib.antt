@@ -11,3 +11,4 @@ pub mod Answered
 pub mod HoleRead
 pub mod Streams
 pub mod Bounded
+pub mod Reaching

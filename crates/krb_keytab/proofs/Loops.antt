@@ -1,11 +1,11 @@
 -- The records of a file read one after the other, as a loop reads them.
 use Rattle.std.proofs.Common.{◌≡◌, ℕ, ◌<◌, Option, None, Result, Ok, List, [], ◌∷◌, ◌++◌, length, sym, ◌∙◌, ap, subst, append_assoc}
 use Rattle.std.proofs.lemmas.List.{append-nil}
-use Rattle.krb_der.specs.Fields.{Source, Fault, limited, Fails}
-use Rattle.krb_der.specs.FieldReaders.{Slice, of_slice, source_at, HasRead}
-use Rattle.krb_der.proofs.FieldReaders.{known}
-use Rattle.krb_der.specs.declared.files.fault.FileFault.{FileFault}
-use Rattle.krb_der.specs.declared.files.fault.FileFault.TheVariants as faults
+use Rattle.krb_file.specs.Fields.{Source, Fault, limited, Fails}
+use Rattle.krb_file.specs.FieldReaders.{Slice, of_slice, source_at, HasRead}
+use Rattle.krb_file.proofs.FieldReaders.{known}
+use Rattle.krb_file.specs.declared.fault.FileFault.{FileFault}
+use Rattle.krb_file.specs.declared.fault.FileFault.TheVariants as faults
 use Rattle.krb_keytab.specs.declared.value.Keytab.{Keytab}
 use Rattle.krb_keytab.specs.declared.value.Record.{Record}
 use Rattle.krb_keytab.specs.declared.value.Stop.{Stop}

@@ -4,8 +4,8 @@ use Rattle.std.proofs.lemmas.List.{nil_from_length}
 use Rattle.std.specs.Int.{w32}
 use Rattle.std.specs.Int.RustNames.{FitsSigned}
 use Rattle.krb_der.specs.Octets.{AreOctets}
-use Rattle.krb_der.specs.Fields.{signed, Source, Fault, limited, onward, next_octets_at, signed_at, within, are_zero}
-use Rattle.krb_der.proofs.Fields.{at, done, ok_is, onward-ok, Inside, Took, Took-then, Took-none, piece-ok, piece-took, piece-again, Reads-signed}
+use Rattle.krb_file.specs.Fields.{signed, Source, Fault, limited, onward, next_octets_at, signed_at, within, are_zero}
+use Rattle.krb_file.proofs.Fields.{at, done, ok_is, onward-ok, Inside, Took, Took-then, Took-none, piece-ok, piece-took, piece-again, Reads-signed}
 use Rattle.krb_keytab.specs.declared.value.Record.{Record}
 use Rattle.krb_keytab.specs.declared.value.Record.TheVariants as records
 use Rattle.krb_keytab.specs.declared.reading.Next.{Next}

@@ -1,24 +1,17 @@
--- How many octets a keytab has, and what its entries are made of.
-use Rattle.std.proofs.Common.{◌≡◌, ℕ, zero, suc, ◌+◌, ◌≤◌, ◌<◌, Bool, true, false, ◌||◌, Option, Some, None, List, [], ◌∷◌, ◌++◌, length, get_or, take, drop, refl, sym, ap, ◌∙◌, arith, length-append, lt-ltb}
+-- How many octets a keytab has, and which of its records has the first fault.
+use Rattle.std.proofs.Common.{◌≡◌, ℕ, zero, suc, ◌+◌, ◌<◌, Option, Some, None, List, [], ◌∷◌, ◌++◌, length, get_or, take, drop, refl, sym, ap, ◌∙◌, arith, length-append}
 use native.Mathlib.Numerals.{unary_clauses}
 use Rattle.std.proofs.lemmas.List.{take_more}
 use Rattle.std.proofs.lemmas.List.Concat.{flat_map-append, flat_map-cons}
 use Rattle.std.specs.List.{flat_map}
-use Rattle.krb_der.specs.Fields.{zeros}
+use Rattle.krb_file.specs.Fields.{zeros}
 use Rattle.krb_keytab.specs.Holes.{HoleModel}
 use Rattle.krb_keytab.specs.declared.value.Entry.{Entry}
 use Rattle.krb_keytab.specs.declared.value.Record.{Record}
 use Rattle.krb_keytab.specs.declared.value.Record.TheVariants as records
 use Rattle.krb_keytab.specs.declared.writing.KeytabFault.{KeytabFault}
 use Rattle.krb_keytab.specs.Spelling.{entry}
-use Rattle.krb_keytab.specs.Writing.{has_long_part, is_long_entry, or_else, record_fault, records_fault, written_record}
-
-or_true : (b : Bool) → (b || true) ≡ true
-or_true true = refl
-or_true false = refl
-
-pub long_content : (e : Entry) → 2147483648 ≤ length (entry e) → is_long_entry e ≡ true
-long_content e h = ap (λ (b : Bool). has_long_part e || b) (lt-ltb _ _ (omega arith)) ∙ or_true (has_long_part e)
+use Rattle.krb_keytab.specs.Writing.{or_else, record_fault, records_fault, written_record}
 
 -- ---- a record
 pub length-zeros : (n : ℕ) → length (zeros n) ≡ n

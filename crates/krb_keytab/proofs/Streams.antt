@@ -1,17 +1,20 @@
 -- A keytab that is read one record at a time: what each call makes of what is still to be given.
 use Rattle.std.proofs.Common.{◌≡◌, ℕ, suc, Option, Some, Result, Ok, Err, List, [], ◌∷◌, ◌++◌, length, refl, sym, ◌∙◌, ap, subst, arith, append_assoc, append-nil, length-append}
-use Rattle.krb_der.specs.Fields.{Source, Fault, Bounds, limited, version_at}
-use Rattle.krb_der.specs.FieldReaders.{Held, source_at, HasRead, FailsBy}
-use Rattle.krb_der.specs.declared.files.fault.FileFault.{FileFault}
-use Rattle.krb_der.specs.declared.files.fault.FileFault.TheVariants as faults
-use Rattle.krb_der.proofs.FieldReaders.{some_rest}
+use Rattle.std.specs.Prelude.{IfErr}
+use Rattle.krb_file.specs.Fields.{Source, Fault, Bounds, limited, version_at, StandsIn}
+use Rattle.krb_file.specs.FieldReaders.{Held, source_at, HasRead, FailsBy}
+use Rattle.krb_file.specs.declared.fault.FileFault.{FileFault}
+use Rattle.krb_file.specs.declared.fault.FileFault.TheVariants as faults
+use Rattle.krb_file.proofs.FieldReaders.{some_rest}
 use Rattle.krb_keytab.specs.declared.value.Record.{Record}
 use Rattle.krb_keytab.specs.declared.value.Stop.{Stop}
+use Rattle.krb_keytab.specs.declared.reading.Next.{Next}
 use Rattle.krb_keytab.specs.declared.reading.Next.TheVariants as nexts
 use Rattle.krb_keytab.specs.declared.records.State.{State}
 use Rattle.krb_keytab.specs.declared.records.State.TheVariants as states
 use Rattle.krb_keytab.specs.Reading.{record_at, Items, with_first, no_items, opened, items_after, items}
 use Rattle.krb_keytab.specs.Streaming.{before, Reads, IsItem, EndsBy, GivesNext}
+use Rattle.krb_keytab.proofs.Faults.{items-fault}
 use Rattle.krb_keytab.proofs.Stepwise.{after-item, after-done, after-fault}
 
 regroup : (given : List Record) (r : Record) (left : Items) → before given (with_first r left) ≡ before (given ++ r ∷ []) left
@@ -68,7 +71,7 @@ item_given limit file count r old new reads read =
       after,
     )
 
-pub stop_given : (limit : Option ℕ) (file : List ℕ) (count : ℕ) (stop : Stop) (old new : Held) → Reads limit old states.Open file count → HasRead record_at (nexts.Done stop) old new → EndsBy (items limit file) count (Ok stop)
+pub stop_given : (limit : Option ℕ) (file : List ℕ) (count : ℕ) (stop : Stop) (old new : Held) → Reads limit old states.Open file count → HasRead record_at (nexts.Done stop) old new → EndsBy (items limit file) count (Ok (stop, new.place))
 stop_given limit file count stop old new reads read =
     let now = some_rest new in
     let a = read.from now.rest now.there in
@@ -77,7 +80,6 @@ stop_given limit file count stop old new reads read =
     let here = after-done limit (source_at old.place a.0) (source_at new.place now.rest) stop e in
     let whole = sym b.2 ∙ ap (before reads.given) (b.1 ∙ here) in
     record {
-      place = new.place;
       counted = ap (λ (i : Items). length i.records) whole ∙ ap length (append-nil reads.given) ∙ reads.counted;
       is = ap (λ (i : Items). i.end) whole;
     }
@@ -86,7 +88,6 @@ ends_so : (limit : Option ℕ) (file : List ℕ) (count : ℕ) (fault : Fault) (
 ends_so limit file count fault given left counted is whole =
     let all = sym whole ∙ ap (before given) is in
     record {
-      place = 0;
       counted = ap (λ (i : Items). length i.records) all ∙ ap length (append-nil given) ∙ counted;
       is = ap (λ (i : Items). i.end) all;
     }
@@ -114,3 +115,10 @@ not_done limit file count stop held reads = let now = some_rest held in (reads.r
 
 pub not_failed : (limit : Option ℕ) (file : List ℕ) (count : ℕ) (fault : FileFault) (held : Held) → Reads limit held (states.Failed fault) file count → ⊥
 not_failed limit file count fault held reads = let now = some_rest held in (reads.rest now.rest now.there).1
+
+-- a refusal stands in the file or at its end
+pub stands_in : (limit : Option ℕ) (file : List ℕ) (count : ℕ) (given : Result Next FileFault) (held : Held) (state : State) → GivesNext limit file count given held state → IfErr given (StandsIn file)
+stands_in limit file count (Ok answered) held state answer = tt
+stands_in limit file count (Err faults.Read) held state answer = tt
+stands_in limit file count (Err faults.Memory) held state answer = tt
+stands_in limit file count (Err (faults.Refused place why)) held state answer = let p = items-fault limit file (record { place = place; why = why }) answer.is in omega (arith, p.upto)

@@ -2,8 +2,8 @@
 use Rattle.std.specs.Prelude.{ℕ, zero, suc, pos, ◌≡◌, Bool, true, false, Some, None, Result, Ok, Err, List, [], ◌∷◌, ◌++◌, codes, take, refl}
 use Rattle.krb_der.specs.Octets.{when}
 use Rattle.krb_der.specs.Hex.{hex}
-use Rattle.krb_der.specs.Fields.{Fault}
-use Rattle.krb_der.specs.declared.files.fault.FileWhy.TheVariants as why
+use Rattle.krb_file.specs.Fields.{Fault}
+use Rattle.krb_file.specs.declared.fault.FileWhy.TheVariants as why
 use Rattle.krb_keytab.specs.declared.value.Keytab.{Keytab}
 use Rattle.krb_keytab.specs.declared.value.Entry.{Entry}
 use Rattle.krb_keytab.specs.declared.value.Record.TheVariants as records

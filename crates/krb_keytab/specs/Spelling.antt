@@ -3,7 +3,7 @@ use Rattle.std.specs.Prelude.{ℕ, zero, suc, ℤ, pos, negsuc, ◌^◌, ◌<◌
 use Rattle.std.specs.Int.{w8, w16, w32, to_be_bytes, from_be_bytes}
 use Rattle.std.specs.Int.RustNames.{FitsSigned}
 use Rattle.krb_der.specs.Octets.{when, AreOctets}
-use Rattle.krb_der.specs.Fields.{signed, counted, Names, names, IsCounted, AreNames, zeros, are_zero}
+use Rattle.krb_file.specs.Fields.{signed, counted, Names, names, IsCounted, AreNames, zeros, are_zero}
 use Rattle.krb_keytab.specs.Holes.{HoleModel, IsHoleSize}
 use Rattle.krb_keytab.specs.declared.value.Keytab.{Keytab}
 use Rattle.krb_keytab.specs.declared.value.Record.{Record}

@@ -1,9 +1,9 @@
 -- A keytab read one record at a time, under a field limit.
 use Rattle.std.specs.Prelude.{ℕ, suc, ◌≡◌, List, ◌∷◌, ◌++◌, [], length, Option, Result, Ok, Err}
-use Rattle.krb_der.specs.Fields.{Source, Fault, limited, version_at}
-use Rattle.krb_der.specs.FieldReaders.{Held, MayHave, source_at}
-use Rattle.krb_der.specs.declared.files.fault.FileFault.{FileFault}
-use Rattle.krb_der.specs.declared.files.fault.FileFault.TheVariants as faults
+use Rattle.krb_file.specs.Fields.{Source, Fault, limited, version_at}
+use Rattle.krb_file.specs.FieldReaders.{Held, MayHave, source_at}
+use Rattle.krb_file.specs.declared.fault.FileFault.{FileFault}
+use Rattle.krb_file.specs.declared.fault.FileFault.TheVariants as faults
 use Rattle.krb_keytab.specs.declared.value.Record.{Record}
 use Rattle.krb_keytab.specs.declared.value.Stop.{Stop}
 use Rattle.krb_keytab.specs.declared.reading.Next.{Next}
@@ -37,21 +37,15 @@ pub record IsItem (items : Items) (count : ℕ) (item : Record) : Type 0 where
   pub counted : length front ≡ count
   pub parts : items.records ≡ front ++ item ∷ back
 
--- the stop with the place that it is told at, or the fault
-abbrev pub end_at : Result Stop Fault → ℕ → Result (Stop × ℕ) Fault
-end_at (Ok stop) place = Ok (stop, place)
-end_at (Err fault) place = Err fault
-
 -- no item after `count` of them
-pub record EndsBy (items : Items) (count : ℕ) (end : Result Stop Fault) : Type 0 where
-  pub place : ℕ
+pub record EndsBy (items : Items) (count : ℕ) (end : Result (Stop × ℕ) Fault) : Type 0 where
   pub counted : length items.records ≡ count
-  pub is : items.end ≡ end_at end place
+  pub is : items.end ≡ end
 
--- What a call gives where `count` were given: the next item, after which one more was given; else the stop or the fault, where no item is left. Else the device failed or memory ran out.
+-- What a call gives where `count` were given: the next item, after which one more was given; else the stop, at whose end the reader stands, or the fault, where no item is left. Else the device failed or memory ran out.
 abbrev pub GivesNext : Option ℕ → List ℕ → ℕ → Result Next FileFault → Held → State → Type 0
 GivesNext limit file count (Ok (nexts.Item item)) held state = IsItem (items limit file) count item × Reads limit held state file (suc count)
-GivesNext limit file count (Ok (nexts.Done stop)) held state = EndsBy (items limit file) count (Ok stop)
+GivesNext limit file count (Ok (nexts.Done stop)) held state = EndsBy (items limit file) count (Ok (stop, held.place))
 GivesNext limit file count (Err (faults.Refused place why)) held state = EndsBy (items limit file) count (Err (record { place = place; why = why }))
 GivesNext limit file count (Err faults.Read) held state = Unit {0}
 GivesNext limit file count (Err faults.Memory) held state = Unit {0}

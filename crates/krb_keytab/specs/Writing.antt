@@ -3,8 +3,8 @@ use Rattle.std.specs.Prelude.{ℕ, pos, ◌≡◌, Bool, true, ◌||◌, nat_lt,
 use Rattle.std.specs.List.{flat_map, list_any}
 use Rattle.std.specs.Int.{w32}
 use Rattle.krb_der.specs.Octets.{when}
-use Rattle.krb_der.specs.Fields.{signed, zeros}
-use Rattle.krb_der.specs.Parts.{is_long16, greatest}
+use Rattle.krb_file.specs.Fields.{signed, zeros}
+use Rattle.krb_file.specs.Parts.{is_long16, greatest}
 use Rattle.krb_keytab.specs.Holes.{IsHoleSize}
 use Rattle.krb_keytab.specs.declared.value.Keytab.{Keytab}
 use Rattle.krb_keytab.specs.declared.value.Record.{Record}

@@ -1,15 +1,16 @@
 //! Keytabs, read from octets.
 
-ghost use Rattle.std.specs.Prelude.{◌≡◌, ℕ, None, Some, Ok, IfOk, IfErr};
+ghost use Rattle.std.specs.Prelude.{◌≡◌, ℕ, None, Some, Ok, IfOk, IfErr, OnOk};
 ghost use Rattle.std.specs.Int.{w16, w32};
-ghost use Rattle.krb_der.specs.Fields.{Gives, IsFaultIn, ended, limited, within};
-ghost use Rattle.krb_der.specs.FieldReaders.{Follows, source_at};
+ghost use Rattle.krb_file.specs.Fields.{Gives, IsFaultIn, ended, limited, within};
+ghost use Rattle.krb_file.specs.FieldReaders.{Follows, Stays, source_at};
 ghost use Rattle.krb_keytab.specs.Spelling.{ReadAs};
 ghost use Rattle.krb_keytab.specs.declared.value.Keytab.{Keytab as KeytabValue};
 ghost use Rattle.krb_keytab.specs.Reading.{entry_at, record_of, record_at, items_after, keytab_of_items, read};
 
 use crate::value::{Entry, Hole, Keytab, Record, Stop};
-use krb_der::{FieldReader, FileFault, KString, Many, Octets, SliceReader};
+use krb_der::{KString, Many, Octets};
+use krb_file::{FieldReader, FileFault, SliceReader};
 use std::alloc::Global;
 
 /// What stands where a record is due.
@@ -24,7 +25,8 @@ pub enum Next {
 /// The entry whose content is what is left up to the end that the reader knows.
 #[inline(never)]
 fn entry<F: FieldReader>(alloc: Global, reader: &mut F) -> Result<Entry, FileFault>
-    ensures { Follows (λ entry. entry) result entry_at F.MayFail (F.held reader.old) (F.held reader.new) }
+    ensures read { Follows (λ entry. entry) result entry_at F.MayFail (F.held reader.old) (F.held reader.new) }
+    ensures stays { OnOk result (Stays (F.held reader.old) (F.held reader.new)) }
 {
     let mut realm = reader.room(alloc);
     let mut components = reader.list(alloc);
@@ -55,7 +57,8 @@ fn entry_within<F: FieldReader>(
     size: u32,
     reader: &mut F,
 ) -> Result<Entry, FileFault>
-    ensures { Follows (λ entry. entry) result (within size entry_at) F.MayFail (F.held reader.old) (F.held reader.new) }
+    ensures read { Follows (λ entry. entry) result (within size entry_at) F.MayFail (F.held reader.old) (F.held reader.new) }
+    ensures stays { OnOk result (Stays (F.held reader.old) (F.held reader.new)) }
 {
     let outer = reader.end();
     let place = reader.place();
@@ -71,7 +74,8 @@ fn record_after<F: FieldReader>(
     length: i32,
     reader: &mut F,
 ) -> Result<Next, FileFault>
-    ensures { Follows (λ next. next) result (record_of length) F.MayFail (F.held reader.old) (F.held reader.new) }
+    ensures read { Follows (λ next. next) result (record_of length) F.MayFail (F.held reader.old) (F.held reader.new) }
+    ensures stays { OnOk result (Stays (F.held reader.old) (F.held reader.new)) }
 {
     let size = length.unsigned_abs();
     if length == 0 {
@@ -91,7 +95,8 @@ const LENGTH_OCTETS: u64 = 4;
 
 /// The next record, or how the records end.
 pub(crate) fn record<F: FieldReader>(alloc: Global, reader: &mut F) -> Result<Next, FileFault>
-    ensures { Follows (λ next. next) result record_at F.MayFail (F.held reader.old) (F.held reader.new) }
+    ensures read { Follows (λ next. next) result record_at F.MayFail (F.held reader.old) (F.held reader.new) }
+    ensures stays { OnOk result (Stays (F.held reader.old) (F.held reader.new)) }
 {
     reader.look_ahead(LENGTH_OCTETS)?;
     if reader.is_empty()? {

@@ -1,15 +1,17 @@
 //! Keytabs, read one record at a time.
 
-ghost use Rattle.std.specs.Prelude.{◌≡◌, ℕ, List, Some, Ok, Err, IfErr};
+ghost use Rattle.std.specs.Prelude.{◌≡◌, ℕ, List, [], Some, Ok, Err, IfErr, OnOk};
+ghost use Rattle.krb_file.specs.Fields.{StandsIn};
+ghost use Rattle.krb_file.specs.FieldReaders.{Stays};
 ghost use Rattle.krb_keytab.specs.declared.value.Stop.{Stop as StopValue};
 ghost use Rattle.krb_keytab.specs.declared.reading.Next.TheVariants as nexts;
 ghost use Rattle.krb_keytab.specs.declared.records.State.TheVariants as states;
-ghost use Rattle.krb_der.specs.declared.files.fault.FileFault.{FileFault as FaultValue};
+ghost use Rattle.krb_file.specs.declared.fault.FileFault.{FileFault as FaultValue};
 ghost use Rattle.krb_keytab.specs.Streaming.{Reads, GivesNext};
 
 use crate::reading::{Next, record};
 use crate::value::{Entry, Record, Stop};
-use krb_der::{FieldLimit, FieldReader, FileFault, StreamReader};
+use krb_file::{FieldLimit, FieldReader, FileFault, StreamReader};
 use std::alloc::Global;
 use std::io::Read;
 
@@ -38,7 +40,9 @@ impl<R: Read> Records<R> {
     /// The records of what a reader gives, where no field of octets may be longer than a limit.
     /// Nothing is read yet.
     pub fn new(reader: R, limit: FieldLimit) -> Records<R>
-        ensures { (file : List ℕ) → R.remaining reader ≡ Some file → Reads (Some limit) result.reader result.state file 0 }
+        ensures begins { (file : List ℕ) → R.remaining reader ≡ Some file → Reads (Some limit) result.reader result.state file 0 }
+        // No octet was taken.
+        ensures reach { result.reader.ahead ≡ [] }
     {
         let reader = StreamReader::new(reader, limit);
         Records {
@@ -50,13 +54,19 @@ impl<R: Read> Records<R> {
     /// The next record, or how the records end. A keytab is refused as [`read`](crate::read) refuses
     /// it, but that a realm, a component, a key or what stands after the key of an entry is TooLong
     /// where it is longer than the limit: after Overrun, and before Truncated. After a fault of any
-    /// kind each call answers this fault, and after the end each call answers the end.
+    /// kind each call answers this fault, and after the end each call answers the end; neither reads any
+    /// more.
     pub fn next_record(&mut self, alloc: Global) -> Result<Next, FileFault>
         // The records of a file that its reader tells, one after another, and then the stop or the fault.
         ensures next { (file : List ℕ) (limit : ℕ) (given : ℕ) → Reads (Some limit) self.old.reader self.old.state file given → GivesNext (Some limit) file given result self.new.reader self.new.state }
+        // A refusal stands in the file or at its end.
+        ensures refused { (file : List ℕ) (limit : ℕ) (given : ℕ) → Reads (Some limit) self.old.reader self.old.state file given → IfErr result (StandsIn file) }
+        // No octet after what is answered was taken, if none was ahead before.
+        ensures reach { OnOk result (self.old.reader.ahead ≡ [] → self.new.reader.ahead ≡ []) }
         ensures ends { (stop : StopValue) → result ≡ Ok (nexts.Done stop) → self.new.state ≡ states.Done stop }
-        ensures ended { (stop : StopValue) → self.old.state ≡ states.Done stop → (result ≡ Ok (nexts.Done stop)) × (self.new.state ≡ states.Done stop) }
-        ensures failed { (fault : FaultValue) → self.old.state ≡ states.Failed fault → (result ≡ Err fault) × (self.new.state ≡ states.Failed fault) }
+        // After the stop or a fault nothing more is read.
+        ensures ended { (stop : StopValue) → self.old.state ≡ states.Done stop → (result ≡ Ok (nexts.Done stop)) × (self.new.state ≡ states.Done stop) × (self.new.reader ≡ self.old.reader) }
+        ensures failed { (fault : FaultValue) → self.old.state ≡ states.Failed fault → (result ≡ Err fault) × (self.new.state ≡ states.Failed fault) × (self.new.reader ≡ self.old.reader) }
         ensures fails { IfErr result (λ fault. self.new.state ≡ states.Failed fault) }
     {
         match self.state {
@@ -96,6 +106,8 @@ impl<R: Read> Records<R> {
     /// The next record after the version.
     fn next_open(&mut self, alloc: Global) -> Result<Next, FileFault>
         ensures next { (file : List ℕ) (limit : ℕ) (given : ℕ) → Reads (Some limit) self.old.reader states.Open file given → GivesNext (Some limit) file given result self.new.reader self.new.state }
+        ensures refused { (file : List ℕ) (limit : ℕ) (given : ℕ) → Reads (Some limit) self.old.reader states.Open file given → IfErr result (StandsIn file) }
+        ensures stays { OnOk result (Stays self.old.reader self.new.reader) }
         ensures ends { (stop : StopValue) → result ≡ Ok (nexts.Done stop) → self.new.state ≡ states.Done stop }
         ensures fails { IfErr result (λ fault. self.new.state ≡ states.Failed fault) }
     {

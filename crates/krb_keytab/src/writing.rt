@@ -5,17 +5,16 @@ ghost use Rattle.std.specs.Int.{w32};
 ghost use Rattle.std.specs.List.{flat_map, AllByRecursion};
 ghost use Rattle.std.specs.Vec.{vec_len, vec_capacity};
 ghost use Rattle.krb_der.specs.Puts.{Puts};
-ghost use Rattle.krb_der.specs.Fields.{signed, zeros};
-ghost use Rattle.krb_der.specs.Parts.{greatest};
+ghost use Rattle.krb_file.specs.Fields.{signed, zeros};
+ghost use Rattle.krb_file.specs.Parts.{greatest};
 ghost use Rattle.krb_keytab.specs.declared.writing.KeytabFault.TheVariants.{Dirty, TooLong, Memory};
 ghost use Rattle.krb_keytab.specs.Spelling.{entry as content_of, EntryFits, negated, stop_octets, KeytabSpells};
 ghost use Rattle.krb_keytab.specs.Reading.{read};
 ghost use Rattle.krb_keytab.specs.Writing.{has_long_part, is_long_entry, record_fault, records_fault, write_fault, written_record, written, CanWrite};
 
 use crate::value::{Entry, Hole, Keytab, Record, Stop};
-use krb_der::{
-    Count16, Counted16, GREATEST_FILE, KString, Part, Plain, Strings16, Then, put_octets,
-};
+use krb_der::{KString, put_octets};
+use krb_file::{Count16, Counted16, GREATEST_FILE, Part, Plain, Strings16, Then};
 use std::alloc::{AllocError, Global};
 use thiserror::Error;
 

@@ -1,6 +1,7 @@
 -- All that the lines of a cache show is printable: blanks and graphic characters of ASCII.
 use Rattle.std.proofs.Common.{ℕ, zero, suc, ◌/◌, ◌%◌, ◌==◌, ◌^◌, ◌<◌, nat_lt, Bool, true, false, Option, Some, None, List, [], ◌∷◌, length, map, refl, arith, codes}
 use Rattle.std.proofs.lemmas.Nat.{and_le_r}
+use Rattle.krb_der.specs.declared.profile.Profile.TheVariants as profiles
 use Rattle.krb_der.specs.Octets.{AreOctets, when}
 use Rattle.krb_der.specs.inner.Numbers.{AreOctets-take, AreOctets-drop}
 use Rattle.krb_der.specs.Reasons.{reason_number}
@@ -141,7 +142,7 @@ judged now c (Some r) octets h a = credential now c h (refused r) (word (codes "
 
 ticket_field : (now : Option ℕ) (c : Credential) (octets : List ℕ) → CredentialIsOfOctets c → AreOctets octets → Prints (state_line now c (field_state octets))
 ticket_field now c [] h a = credential now c h (word (codes "absent") refl) (word (codes "-") refl)
-ticket_field now c (o ∷ octets) h a = judged now c (ticket_refusal (o ∷ octets)) (o ∷ octets) h a
+ticket_field now c (o ∷ octets) h a = judged now c (ticket_refusal profiles.Lenient (o ∷ octets)) (o ∷ octets) h a
 
 by_kind : (now : Option ℕ) (c : Credential) (is : Bool) → CredentialIsOfOctets c → Prints (state_line now c (when is (λ _. states.Config) (λ _. field_state c.ticket)))
 by_kind now c true h = config c h

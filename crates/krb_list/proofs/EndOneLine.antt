@@ -1,9 +1,9 @@
 -- All that the lines of refusals and of the ends of streams show is printable, and then there is one line feed.
 use Rattle.std.proofs.Common.{ℕ, List, ◌++◌, refl, codes}
-use Rattle.krb_der.specs.Faults.{file_reason_number, file_reason_name}
+use Rattle.krb_file.specs.Faults.{file_reason_number, file_reason_name}
 use Rattle.krb_der.specs.Reasons.{reason_number, reason_name}
-use Rattle.krb_der.specs.declared.files.fault.FileWhy.{FileWhy}
-use Rattle.krb_der.specs.declared.files.fault.FileWhy.TheVariants as files
+use Rattle.krb_file.specs.declared.fault.FileWhy.{FileWhy}
+use Rattle.krb_file.specs.declared.fault.FileWhy.TheVariants as files
 use Rattle.krb_der.specs.declared.verdict.Refusal.{Refusal}
 use Rattle.krb_der.specs.declared.why.Why.{Why}
 use Rattle.krb_der.specs.declared.why.Why.TheVariants as whys

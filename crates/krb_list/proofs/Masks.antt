@@ -1,7 +1,7 @@
 -- The lines of a keytab show no octet of a key.
 use Rattle.std.proofs.Common.{◌≡◌, ℕ, zero, suc, List, [], ◌∷◌, ◌++◌, length, map, refl, ap}
 use Rattle.std.specs.List.{flat_map}
-use Rattle.krb_der.specs.Fields.{zeros}
+use Rattle.krb_file.specs.Fields.{zeros}
 use Rattle.krb_keytab.specs.declared.value.Keytab.{Keytab}
 use Rattle.krb_keytab.specs.declared.value.Record.{Record}
 use Rattle.krb_keytab.specs.declared.value.Record.TheVariants as records

@@ -5,12 +5,13 @@ use Rattle.std.proofs.lemmas.Bool.Decides.{nat_tests}
 use Rattle.std.specs.List.{AllByRecursion, flat_map, list_all}
 use Rattle.std.specs.Option.{option_map}
 use Rattle.std.specs.Fmt.{decimal, signed_decimal, digit_glyph, digits, digits_onto}
+use Rattle.krb_der.specs.declared.profile.Profile.TheVariants as profiles
 use Rattle.krb_der.specs.Octets.{AreOctets}
 use Rattle.krb_der.specs.Scalars.{IsTimeFrom}
-use Rattle.krb_msg.specs.Grammar.{kerberos_string, principal_name, kdc_req_body, ap_req, krb_error, ticket}
+use Rattle.krb_msg.specs.Grammar.{kerberos_string, principal_name, host_address, kdc_req_body, ap_req, krb_safe, krb_error, ticket}
 use Rattle.krb_msg.specs.Term.{Fits, IfPresent}
 use Rattle.krb_msg.specs.Notes.{notes_of}
-use Rattle.krb_msg.specs.Views.{IsInProfile, principal_name_value, ticket_value, kdc_req_body_value, ap_req_value, krb_error_value}
+use Rattle.krb_msg.specs.Views.{IsInProfile, principal_name_value, ticket_value, host_address_value, kdc_req_body_value, ap_req_value, krb_safe_value, krb_error_value}
 use Rattle.krb_msg.specs.declared.encrypted_data.EncryptedData.{EncryptedData}
 use Rattle.krb_msg.specs.declared.principal_name.PrincipalName.{PrincipalName}
 use Rattle.krb_msg.specs.declared.ticket.Ticket.{Ticket}
@@ -18,12 +19,17 @@ use Rattle.krb_msg.specs.declared.kdc_req.KdcReq.{KdcReq}
 use Rattle.krb_msg.specs.declared.kdc_rep.KdcRep.{KdcRep}
 use Rattle.krb_msg.specs.declared.ap_req.ApReq.{ApReq}
 use Rattle.krb_msg.specs.declared.ap_rep.ApRep.{ApRep}
+use Rattle.krb_msg.specs.declared.host_address.HostAddress.{HostAddress}
+use Rattle.krb_msg.specs.declared.checksum.Checksum.{Checksum}
+use Rattle.krb_msg.specs.declared.krb_safe.KrbSafe.{KrbSafe}
+use Rattle.krb_msg.specs.declared.krb_priv.KrbPriv.{KrbPriv}
+use Rattle.krb_msg.specs.declared.krb_cred.KrbCred.{KrbCred}
 use Rattle.krb_msg.specs.declared.krb_error.KrbError.{KrbError}
 use Rattle.krb_msg.specs.declared.message.Message.{Message}
 use Rattle.krb_msg.specs.declared.message.Message.TheVariants as message
 use Rattle.krb_list.specs.Laws.{IsPrintable, AllAreOctets}
 use Rattle.krb_list.specs.Text.{hex, escape, joined, principal_text, or_dash, sealed_text, list_text, field}
-use Rattle.krb_list.specs.Messages.{in_realm, client_text, flags_text, count_text, quoted_text, padata_text, notes_text, code_name, code_suffix, code_text, methods_in, methods_text, kdc_req_text, kdc_rep_text, ap_req_text, ap_rep_text, krb_error_text, message_text}
+use Rattle.krb_list.specs.Messages.{in_realm, client_text, flags_text, count_text, quoted_text, padata_text, address_text, checksum_text, notes_text, code_name, code_suffix, code_text, methods_in, methods_text, kdc_req_text, kdc_rep_text, ap_req_text, ap_rep_text, krb_safe_text, krb_priv_text, krb_cred_text, krb_error_text, message_text}
 use Rattle.krb_list.proofs.Escapes.{IsGraphic, IsGraphic-escape, glyph-range}
 
 pub record Prints (text : List ℕ) : Type 0 where
@@ -163,6 +169,16 @@ flags bits h = join (join (number _) (word (codes ":") refl)) (in_hex bits.1 h)
 count : {A : Type 0} (vs : List A) → Prints (count_text vs)
 count vs = number (length vs)
 
+address : (a : HostAddress) → Fits host_address (host_address_value a) → Prints (address_text a)
+address a fit = join (join (signed a.addr_type) (word (codes ":") refl)) (in_hex a.address fit.1.0)
+
+optional_address : (a : Option HostAddress) → IfPresent (Fits host_address) (option_map host_address_value a) → Prints (or_dash address_text a)
+optional_address None fit = word (codes "-") refl
+optional_address (Some a) fit = address a fit
+
+checksum : (c : Checksum) → Prints (checksum_text c)
+checksum c = join (join (signed c.cksumtype) (word (codes ":") refl)) (count c.checksum)
+
 quoted : (octets : List ℕ) → AreOctets octets → Prints (quoted_text octets)
 quoted octets h = join (join (word (codes "\"") refl) (escaped octets h)) (word (codes "\"") refl)
 
@@ -226,6 +242,26 @@ ap_rep_line : (m : ApRep) → Prints (ap_rep_text (codes "AP-REP") m)
 unfolding ap_rep_text
 ap_rep_line m = add (word (codes "AP-REP") refl) (codes "enc") refl (sealed m.enc_part)
 
+safe_line : (m : KrbSafe) → Fits krb_safe (krb_safe_value m) → Prints (krb_safe_text (codes "KRB-SAFE") m)
+unfolding krb_safe_text
+safe_line m (version, (type, ((user_data, (timestamp, (usec, (seq_number, (s_address, (r_address, no_more)))))), rest))) =
+    add (add (add (add (add (add (add (word (codes "KRB-SAFE") refl)
+    (codes "size") refl (count m.body.user_data))
+    (codes "time") refl (optional (λ t. t) (IsTimeFrom 14) time m.body.timestamp timestamp))
+    (codes "usec") refl (always decimal number m.body.usec))
+    (codes "seq") refl (always signed_decimal signed m.body.seq_number))
+    (codes "sender") refl (address m.body.s_address s_address))
+    (codes "receiver") refl (optional_address m.body.r_address r_address))
+    (codes "cksum") refl (checksum m.cksum)
+
+priv_line : (m : KrbPriv) → Prints (krb_priv_text (codes "KRB-PRIV") m)
+unfolding krb_priv_text
+priv_line m = add (word (codes "KRB-PRIV") refl) (codes "enc") refl (sealed m.enc_part)
+
+cred_line : (m : KrbCred) → Prints (krb_cred_text (codes "KRB-CRED") m)
+unfolding krb_cred_text
+cred_line m = add (add (word (codes "KRB-CRED") refl) (codes "tickets") refl (count m.tickets)) (codes "enc") refl (sealed m.enc_part)
+
 error_line : (m : KrbError) → Fits krb_error (krb_error_value m) → Prints (krb_error_text (codes "KRB-ERROR") m)
 unfolding krb_error_text
 error_line m (version, (type, (ctime, (cusec, (stime, (susec, (error_code, (crealm, (cname, (realm, (sname, (text, rest)))))))))))) =
@@ -244,14 +280,17 @@ error_line m (version, (type, (ctime, (cusec, (stime, (susec, (error_code, (crea
 notes : (m : Message) {fields : List ℕ} → Prints fields → Prints (fields ++ field (codes "notes") (notes_text (notes_of m)))
 notes m before = add before (codes "notes") refl (list decimal number _)
 
-line : (m : Message) → IsInProfile m → Prints (message_text m)
+line : (m : Message) → IsInProfile profiles.Lenient m → Prints (message_text m)
 line (message.AsReq m) good = notes (message.AsReq m) (kdc_req (codes "AS-REQ") m (word (codes "AS-REQ") refl) good.fits.1.1.1.0)
 line (message.AsRep m) good = notes (message.AsRep m) (kdc_rep (codes "AS-REP") m (word (codes "AS-REP") refl) good.fits.1.1.1.0.0 good.fits.1.1.1.1.0 good.fits.1.1.1.1.1.0)
 line (message.TgsReq m) good = notes (message.TgsReq m) (kdc_req (codes "TGS-REQ") m (word (codes "TGS-REQ") refl) good.fits.1.1.1.0)
 line (message.TgsRep m) good = notes (message.TgsRep m) (kdc_rep (codes "TGS-REP") m (word (codes "TGS-REP") refl) good.fits.1.1.1.0.0 good.fits.1.1.1.1.0 good.fits.1.1.1.1.1.0)
 line (message.ApReq m) good = notes (message.ApReq m) (ap_req_line m good.fits)
 line (message.ApRep m) good = notes (message.ApRep m) (ap_rep_line m)
+line (message.KrbSafe m) good = notes (message.KrbSafe m) (safe_line m good.fits)
+line (message.KrbPriv m) good = notes (message.KrbPriv m) (priv_line m)
+line (message.KrbCred m) good = notes (message.KrbCred m) (cred_line m)
 line (message.KrbError m) good = notes (message.KrbError m) (error_line m good.fits)
 
-pub one_line : (m : Message) → IsInProfile m → IsPrintable (message_text m)
+pub one_line : (m : Message) → IsInProfile profiles.Lenient m → IsPrintable (message_text m)
 one_line m good = (line m good).all

@@ -1,7 +1,7 @@
 -- Texts, computed.
 use Rattle.std.specs.Prelude.{pos, true, Some, None, ◌≡◌, [], ◌∷◌, refl, codes}
 use Rattle.std.specs.Fmt.{digits}
-use Rattle.krb_der.specs.declared.files.fault.FileWhy.TheVariants as why
+use Rattle.krb_file.specs.declared.fault.FileWhy.TheVariants as why
 use Rattle.krb_keytab.specs.declared.value.Entry.{Entry}
 use Rattle.krb_keytab.specs.declared.value.Record.TheVariants as records
 use Rattle.krb_keytab.specs.declared.value.Stop.TheVariants as stops

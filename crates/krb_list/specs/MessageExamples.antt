@@ -4,7 +4,7 @@ use Rattle.std.specs.Fmt.{digits}
 use Rattle.krb_der.specs.Hex.{hex}
 use Rattle.krb_msg.specs.Reading.{message_read}
 use Rattle.krb_list.specs.Text.{field, principal_text}
-use Rattle.krb_list.specs.Messages.{message_text, kdc_req_text, kdc_rep_text, ap_req_text, ap_rep_text, krb_error_text, code_name, code_suffix, code_text, methods_text}
+use Rattle.krb_list.specs.Messages.{message_text, kdc_req_text, kdc_rep_text, ap_req_text, ap_rep_text, krb_safe_text, krb_priv_text, krb_cred_text, krb_error_text, code_name, code_suffix, code_text, methods_text}
 
 -- the line of the message that octets are
 abbrev line_of : List ℕ → List ℕ
@@ -51,6 +51,26 @@ as_req = refl
 tgs_req : line_of (hex (codes "6C6B3069 A103020105 A20302010C A45D305B A00703050000000000 A2031B0141 A511180F31393730303130313030303030305A A703020101 A8023000 AB2F302D") ++ ticket) ≡ codes "TGS-REQ realm=A client=- server=- options=32:00000000 from=- till=19700101000000Z rtime=- nonce=1 etypes=[] padata=- addresses=- authdata=- tickets=1 notes=[]"
 unfolding digits principal_text field kdc_req_text
 tgs_req = refl
+
+-- a KRB-SAFE with this octet as its seq-number
+abbrev safe_with : List ℕ → List ℕ
+safe_with number = line_of (hex (codes "743B3039 A003020105 A103020114 A21E301C A0040402CAFE A3030201") ++ number ++ hex (codes "A40F300DA003020102A10604040A000001 A30D300BA003020110A1040402BEEF"))
+
+krb_safe : safe_with (hex (codes "01")) ≡ codes "KRB-SAFE size=2 time=- usec=- seq=1 sender=2:0a000001 receiver=- cksum=16:2 notes=[]"
+unfolding digits field krb_safe_text
+krb_safe = refl
+
+negative_seq_number : safe_with (hex (codes "FF")) ≡ codes "KRB-SAFE size=2 time=- usec=- seq=-1 sender=2:0a000001 receiver=- cksum=16:2 notes=[3]"
+unfolding digits field krb_safe_text
+negative_seq_number = refl
+
+krb_priv : line_of (hex (codes "751B3019 A003020105 A103020115 A30D") ++ sealed) ≡ codes "KRB-PRIV enc=18:-:2 notes=[]"
+unfolding digits field krb_priv_text
+krb_priv = refl
+
+krb_cred : line_of (hex (codes "764C304A A003020105 A103020116 A22F302D") ++ ticket ++ hex (codes "A30D") ++ sealed) ≡ codes "KRB-CRED tickets=1 enc=18:-:2 notes=[]"
+unfolding digits field krb_cred_text
+krb_cred = refl
 
 -- a KRB-ERROR with this data
 abbrev error_with : List ℕ → List ℕ

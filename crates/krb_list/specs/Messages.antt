@@ -13,6 +13,11 @@ use Rattle.krb_msg.specs.declared.kdc_req.KdcReq.{KdcReq}
 use Rattle.krb_msg.specs.declared.kdc_rep.KdcRep.{KdcRep}
 use Rattle.krb_msg.specs.declared.ap_req.ApReq.{ApReq}
 use Rattle.krb_msg.specs.declared.ap_rep.ApRep.{ApRep}
+use Rattle.krb_msg.specs.declared.host_address.HostAddress.{HostAddress}
+use Rattle.krb_msg.specs.declared.checksum.Checksum.{Checksum}
+use Rattle.krb_msg.specs.declared.krb_safe.KrbSafe.{KrbSafe}
+use Rattle.krb_msg.specs.declared.krb_priv.KrbPriv.{KrbPriv}
+use Rattle.krb_msg.specs.declared.krb_cred.KrbCred.{KrbCred}
 use Rattle.krb_msg.specs.declared.krb_error.KrbError.{KrbError}
 use Rattle.krb_msg.specs.declared.message.Message.{Message}
 use Rattle.krb_msg.specs.declared.message.Kind.TheVariants as kind
@@ -46,6 +51,14 @@ quoted_text octets = codes "\"" ++ escape octets ++ codes "\""
 -- pre-authentication data is listed by its types
 abbrev pub padata_text : PaData → List ℕ
 padata_text padata = signed_decimal padata.padata_type
+
+-- an address is its type, and its octets in hexadecimal
+abbrev pub address_text : HostAddress → List ℕ
+address_text address = signed_decimal address.addr_type ++ codes ":" ++ hex address.address
+
+-- a checksum is its type, and how many octets it has
+abbrev pub checksum_text : Checksum → List ℕ
+checksum_text checksum = signed_decimal checksum.cksumtype ++ codes ":" ++ count_text checksum.checksum
 
 -- ---- notes
 -- the numbers of the notes that hold
@@ -133,6 +146,26 @@ ap_req_text name m =
 unfoldable pub ap_rep_text : List ℕ → ApRep → List ℕ
 ap_rep_text name m = name ++ field (codes "enc") (sealed_text m.enc_part)
 
+unfoldable pub krb_safe_text : List ℕ → KrbSafe → List ℕ
+krb_safe_text name m =
+    name
+    ++ field (codes "size") (count_text m.body.user_data)
+    ++ field (codes "time") (or_dash (λ time. time) m.body.timestamp)
+    ++ field (codes "usec") (or_dash decimal m.body.usec)
+    ++ field (codes "seq") (or_dash signed_decimal m.body.seq_number)
+    ++ field (codes "sender") (address_text m.body.s_address)
+    ++ field (codes "receiver") (or_dash address_text m.body.r_address)
+    ++ field (codes "cksum") (checksum_text m.cksum)
+
+unfoldable pub krb_priv_text : List ℕ → KrbPriv → List ℕ
+krb_priv_text name m = name ++ field (codes "enc") (sealed_text m.enc_part)
+
+unfoldable pub krb_cred_text : List ℕ → KrbCred → List ℕ
+krb_cred_text name m =
+    name
+    ++ field (codes "tickets") (count_text m.tickets)
+    ++ field (codes "enc") (sealed_text m.enc_part)
+
 unfoldable pub krb_error_text : List ℕ → KrbError → List ℕ
 krb_error_text name m =
     name
@@ -155,6 +188,9 @@ fields_text (message.TgsReq m) = kdc_req_text (kind_name kind.TgsReq) m
 fields_text (message.TgsRep m) = kdc_rep_text (kind_name kind.TgsRep) m
 fields_text (message.ApReq m) = ap_req_text (kind_name kind.ApReq) m
 fields_text (message.ApRep m) = ap_rep_text (kind_name kind.ApRep) m
+fields_text (message.KrbSafe m) = krb_safe_text (kind_name kind.KrbSafe) m
+fields_text (message.KrbPriv m) = krb_priv_text (kind_name kind.KrbPriv) m
+fields_text (message.KrbCred m) = krb_cred_text (kind_name kind.KrbCred) m
 fields_text (message.KrbError m) = krb_error_text (kind_name kind.KrbError) m
 
 abbrev pub message_text : Message → List ℕ

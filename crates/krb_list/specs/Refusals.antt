@@ -1,9 +1,9 @@
 -- The lines of a refused file, and of octets that are no message.
 use Rattle.std.specs.Prelude.{ℕ, List, ◌++◌, codes}
 use Rattle.std.specs.Fmt.{decimal}
-use Rattle.krb_der.specs.Faults.{file_reason_number, file_reason_name}
+use Rattle.krb_file.specs.Faults.{file_reason_number, file_reason_name}
 use Rattle.krb_der.specs.Reasons.{reason_number, reason_name}
-use Rattle.krb_der.specs.declared.files.fault.FileWhy.{FileWhy}
+use Rattle.krb_file.specs.declared.fault.FileWhy.{FileWhy}
 use Rattle.krb_der.specs.declared.verdict.Refusal.{Refusal}
 use Rattle.krb_list.specs.Text.{line_feed}
 

@@ -1,5 +1,5 @@
 //! Laws of the texts. Each is the contract of a function that does nothing.
-ghost use Rattle.krb_list.specs.Laws.{CacheEndIsOneLine, CacheIsOneLine, CredentialIsOneLine, CredentialKeyIsNotShown, DatesAreTheCalendars, EscapeIsGraphic, FileRefusalIsOneLine, KeysAreNotShown, KeytabEndIsOneLine, MessageIsOneLine, MessageRefusalIsOneLine, PrincipalTextTells, RecordIsOneLine, RecordKeyIsNotShown, SessionKeysAreNotShown, StreamEndIsOneLine};
+ghost use Rattle.krb_list.specs.Laws.{CacheEndIsOneLine, CacheIsOneLine, CredentialIsOneLine, CredentialKeyIsNotShown, DatesAreTheCalendars, EscapeIsGraphic, FileRefusalIsOneLine, KeysAreNotShown, KeytabEndIsOneLine, MessageIsOneLine, MessageRefusalIsOneLine, PrincipalTextTells, RecordIsOneLine, RecordKeyIsNotShown, SessionKeys3AreNotShown, SessionKeysAreNotShown, StreamEndIsOneLine};
 
 /// Different components or realms have different texts.
 pub fn principal_text_tells()
@@ -48,9 +48,10 @@ pub fn keys_are_not_shown()
     ensures record { RecordKeyIsNotShown }
 {}
 
-/// The lines of a cache, and the line of each credential, are those of the same with every octet of
-/// each key 00.
+/// The lines of a cache, in version 4 or 3, and the line of each credential, are those of the same
+/// with every octet of each key 00.
 pub fn session_keys_are_not_shown()
     ensures cache { SessionKeysAreNotShown }
+    ensures cache3 { SessionKeys3AreNotShown }
     ensures credential { CredentialKeyIsNotShown }
 {}

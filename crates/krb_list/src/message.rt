@@ -3,14 +3,16 @@
 ghost use Rattle.std.specs.Prelude.{◌≡◌, ◌++◌, IfOk, OnOk, codes, string_bytes};
 ghost use Rattle.std.specs.Fmt.{signed_decimal};
 ghost use Rattle.krb_list.specs.Text.{escape, field, list_text, or_dash, sealed_text};
-ghost use Rattle.krb_list.specs.Messages.{count_text, flags_text, in_realm, padata_text, kdc_req_text, kdc_rep_text, ap_req_text, ap_rep_text, fields_text, message_text, message_line};
+ghost use Rattle.krb_list.specs.Messages.{count_text, flags_text, in_realm, padata_text, kdc_req_text, kdc_rep_text, ap_req_text, ap_rep_text, krb_safe_text, krb_priv_text, krb_cred_text, fields_text, message_text, message_line};
 
 use crate::error::put_krb_error;
 use crate::field::{
     put_count_field, put_labelled, put_optional_principal_field, put_principal_field,
 };
 use krb_der::Memory;
-use krb_msg::{ApRep, ApReq, KdcRep, KdcReq, KdcReqBody, Message, notes_of};
+use krb_msg::{
+    ApRep, ApReq, KdcRep, KdcReq, KdcReqBody, KrbCred, KrbPriv, KrbSafe, Message, notes_of,
+};
 use std::alloc::{AllocError, Global};
 
 /// Appends the fields of a KDC-REQ up to the end of the renewable life.
@@ -92,8 +94,40 @@ fn put_ap_rep(line: &mut String, rep: &ApRep) -> Result<(), AllocError>
     put_labelled(line, " enc=", &rep.enc_part)
 }
 
+#[tactic(auto, unfolding(crate::specs::Messages::krb_safe_text, crate::specs::Text::field))]
+fn put_krb_safe(line: &mut String, safe: &KrbSafe) -> Result<(), AllocError>
+    ensures { OnOk result (string_bytes line.new ≡ krb_safe_text (string_bytes line.old) safe.now) }
+{
+    let size = safe.body.user_data.as_slice().len();
+    put_labelled(line, " size=", &size)?;
+    put_labelled(line, " time=", &safe.body.timestamp)?;
+    put_labelled(line, " usec=", &safe.body.usec)?;
+    put_labelled(line, " seq=", &safe.body.seq_number)?;
+    put_labelled(line, " sender=", &safe.body.s_address)?;
+    put_labelled(line, " receiver=", &safe.body.r_address)?;
+    put_labelled(line, " cksum=", &safe.cksum)?;
+    Ok(())
+}
+
+#[tactic(auto, unfolding(crate::specs::Messages::krb_priv_text, crate::specs::Text::field))]
+fn put_krb_priv(line: &mut String, private: &KrbPriv) -> Result<(), AllocError>
+    ensures { OnOk result (string_bytes line.new ≡ krb_priv_text (string_bytes line.old) private.now) }
+{
+    put_labelled(line, " enc=", &private.enc_part)
+}
+
+#[tactic(auto, unfolding(crate::specs::Messages::krb_cred_text, crate::specs::Text::field))]
+fn put_krb_cred(line: &mut String, cred: &KrbCred) -> Result<(), AllocError>
+    ensures { OnOk result (string_bytes line.new ≡ krb_cred_text (string_bytes line.old) cred.now) }
+{
+    let tickets = cred.tickets.as_slice().len();
+    put_labelled(line, " tickets=", &tickets)?;
+    put_labelled(line, " enc=", &cred.enc_part)?;
+    Ok(())
+}
+
 /// Appends the name of a message, and its fields but the notes.
-#[tactic(auto, using(crate::proofs::Lines::kdc_req_after, crate::proofs::Lines::kdc_rep_after, crate::proofs::Lines::ap_req_after, crate::proofs::Lines::ap_rep_after, crate::proofs::Lines::krb_error_after))]
+#[tactic(auto, using(crate::proofs::Lines::kdc_req_after, crate::proofs::Lines::kdc_rep_after, crate::proofs::Lines::ap_req_after, crate::proofs::Lines::ap_rep_after, crate::proofs::Lines::krb_safe_after, crate::proofs::Lines::krb_priv_after, crate::proofs::Lines::krb_cred_after, crate::proofs::Lines::krb_error_after))]
 fn put_fields(line: &mut String, message: &Message) -> Result<(), Memory>
     ensures { OnOk result (string_bytes line.new ≡ string_bytes line.old ++ fields_text message.now) }
 {
@@ -105,6 +139,9 @@ fn put_fields(line: &mut String, message: &Message) -> Result<(), Memory>
         Message::TgsRep(rep) => put_kdc_rep(line, rep)?,
         Message::ApReq(req) => put_ap_req(line, req)?,
         Message::ApRep(rep) => put_ap_rep(line, rep)?,
+        Message::KrbSafe(safe) => put_krb_safe(line, safe)?,
+        Message::KrbPriv(private) => put_krb_priv(line, private)?,
+        Message::KrbCred(cred) => put_krb_cred(line, cred)?,
         Message::KrbError(error) => put_krb_error(line, error)?,
     }
     Ok(())

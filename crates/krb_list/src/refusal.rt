@@ -3,7 +3,8 @@
 ghost use Rattle.std.specs.Prelude.{◌≡◌, ◌++◌, OnOk, string_bytes};
 ghost use Rattle.krb_list.specs.Refusals.{fault_text, file_refused_line, message_refused_line};
 
-use krb_der::{FileWhy, Refusal, file_why_number, file_why_text, why_number, why_text};
+use krb_der::{Refusal, why_number, why_text};
+use krb_file::{FileWhy, file_why_number, file_why_text};
 use std::alloc::AllocError;
 
 /// Appends a place, and the number and the name of a reason: ` place=P why=NUMBER NAME`.

@@ -4,12 +4,12 @@ ghost use Rattle.std.specs.Prelude.{◌≡◌, ◌++◌, List, ℕ, OnOk, string
 ghost use Rattle.std.specs.List.{flat_map};
 ghost use Rattle.std.specs.Fmt.{decimal, signed_decimal};
 ghost use Rattle.krb_list.specs.Text.{escape, or_dash, list_text, joined, sealed_text, yes_or_no};
-ghost use Rattle.krb_list.specs.Messages.{flags_text, padata_text};
+ghost use Rattle.krb_list.specs.Messages.{flags_text, padata_text, address_text, checksum_text};
 
 use crate::escape::{put_ascii, put_escaped, put_hex};
 use itoa::{Buffer, Integer};
 use krb_der::{Flags, Int32, KString, KerberosTime, Many, Micros, Wide32};
-use krb_msg::{EncryptedData, PaData};
+use krb_msg::{Checksum, EncryptedData, HostAddress, PaData};
 use std::alloc::AllocError;
 use std::marker::Model;
 
@@ -214,6 +214,28 @@ impl Shown for EncryptedData {
         self.kvno.put(line)?;
         line.push(':')?;
         put_number(line, self.cipher.as_slice().len())
+    }
+}
+
+/// The address type, `:` and the octets in hexadecimal.
+impl Shown for HostAddress {
+    ghost text = { address_text };
+
+    fn put(&self, line: &mut String) -> Result<(), AllocError> {
+        self.addr_type.put(line)?;
+        line.push(':')?;
+        put_hex(line, self.address.as_slice())
+    }
+}
+
+/// The checksum type, `:` and the number of octets.
+impl Shown for Checksum {
+    ghost text = { checksum_text };
+
+    fn put(&self, line: &mut String) -> Result<(), AllocError> {
+        self.cksumtype.put(line)?;
+        line.push(':')?;
+        put_number(line, self.checksum.as_slice().len())
     }
 }
 

@@ -1,75 +1,83 @@
 -- The laws of the judgement and of DER, at the messages of the crate.
-use Rattle.std.proofs.Common.{◌≡◌, ℕ, suc, ◌^◌, ◌<◌, ◌≤◌, inl, inr, ℤ, pos, negsuc, true, List, [], ◌∷◌, ◌++◌, length, get_or, map, take, Option, Some, None, refl, sym, ◌∙◌, ap, ap₂, subst, arith, append-nil}
+use Rattle.std.proofs.Common.{◌≡◌, false, ℕ, suc, ◌^◌, ◌<◌, ◌≤◌, inl, inr, ℤ, pos, negsuc, List, [], ◌∷◌, length, get_or, map, take, Option, Some, None, refl, sym, ◌∙◌, ap, ap₂, subst, arith}
 use Rattle.std.specs.Prelude.{◌≤ℤ◌}
 use Rattle.std.specs.Option.{option_map}
 use Rattle.std.proofs.lemmas.Int.{ints}
-use Rattle.std.proofs.lemmas.List.{take_all}
 use Rattle.krb_der.specs.Octets.{AreOctets}
+use Rattle.krb_der.specs.declared.profile.Profile.{Profile}
+use Rattle.krb_der.specs.declared.profile.Profile.TheVariants as profiles
 use Rattle.krb_der.specs.declared.why.Why.{Why}
-use Rattle.krb_der.specs.declared.verdict.Refusal.{Refusal}
 use Rattle.krb_der.specs.declared.verdict.Verdict.TheVariants as verdict
 use Rattle.krb_msg.specs.declared.message.Message.{Message}
 use Rattle.krb_msg.specs.declared.message.Message.TheVariants as message
-use Rattle.krb_msg.specs.declared.kdc_req.KdcReq.{KdcReq}
-use Rattle.krb_msg.specs.declared.kdc_rep.KdcRep.{KdcRep}
 use Rattle.krb_msg.specs.declared.message.Kind.{Kind}
 use Rattle.krb_msg.specs.declared.message.Kind.TheVariants as kind
-use Rattle.krb_msg.specs.Term.{Term, tag_of, Value, der, Fits, IfPresent}
+use Rattle.krb_msg.specs.Term.{Term, Value, der, Fits, IfPresent}
 use Rattle.std.specs.List.{AllByRecursion}
-use Rattle.krb_msg.specs.Grammar.{messages, sequence_of, ticket, principal_name, kdc_req_body, microseconds, krb_error, pa_data, host_address, encrypted_data, ap_req, ap_rep}
-use Rattle.krb_msg.specs.Shape.{IsOneOf, IsGrammar}
+use Rattle.krb_msg.specs.Grammar.{messages, sequence_of, ticket, principal_name, kdc_req_body, microseconds, krb_error, pa_data, host_address, encrypted_data, ap_req, ap_rep, krb_safe_body, krb_safe, krb_priv, krb_cred}
+use Rattle.krb_msg.specs.Profiles.{narrowed, narrowed_value, profile_term, profile_value}
+use Rattle.krb_msg.specs.Shape.{IsOneOf, IsGrammar, greatest_depth}
 use Rattle.krb_msg.specs.Judgement.{judgement}
-use Rattle.krb_msg.specs.Views.{kind_of, kind_term, kind_of_tag, message_value, message_of, message_der, pa_data_value, pa_data_of, principal_name_value, principal_name_of, host_address_value, host_address_of, encrypted_data_value, encrypted_data_of, ticket_value, ticket_of, kdc_req_body_value, kdc_req_body_of, KdcReqValue, kdc_req_value, kdc_req_of, KdcRepValue, kdc_rep_value, kdc_rep_of, micros_of, krb_error_value, krb_error_of, ap_req_value, ap_req_of, ap_rep_value, ap_rep_of, IsInProfile, AreOfKind}
-use Rattle.krb_msg.specs.inner.RoundTrips.{kdc_req_body-back, krb_error-back}
+use Rattle.krb_msg.specs.Views.{kind_of, kind_term, kind_term_in, message_value_in, kind_of_tag, message_value, message_der, pa_data_value, pa_data_of, principal_name_value, principal_name_of, host_address_value, host_address_of, encrypted_data_value, encrypted_data_of, ticket_value, ticket_of, kdc_req_body_value, kdc_req_body_of, KdcReqValue, kdc_req_value, kdc_req_of, KdcRepValue, kdc_rep_value, kdc_rep_of, micros_of, krb_error_value, krb_error_of, ap_req_value, ap_req_of, ap_rep_value, ap_rep_of, krb_safe_body_value, krb_safe_body_of, krb_safe_value, krb_safe_of, krb_priv_value, krb_priv_of, krb_cred_value, krb_cred_of, IsInProfile, AreOfKind}
 use Rattle.krb_msg.specs.inner.Told.{option-back, list-back}
 use Rattle.krb_msg.specs.Laws.{AreOneOf, AreMessage}
-use Rattle.krb_der.specs.inner.Items.{same_from_cons}
 use Rattle.krb_der.specs.inner.PrefixFree.{same_pair}
 use Rattle.krb_msg.specs.Reads.{IsDer}
-use Rattle.krb_msg.specs.inner.Values.{der-append, der_is}
-use Rattle.krb_msg.proofs.Laws.{same_value}
-use Rattle.krb_msg.proofs.Grammars.{whole_is_one_of, unambiguous_message, one_of_is_whole, refusal_is_none_of}
+use Rattle.krb_msg.specs.inner.Values.{der_is}
+use Rattle.krb_msg.proofs.Profiles.{der_narrowed, fits_narrowed, widened_value, narrowed_widened}
+use Rattle.krb_msg.proofs.Grammars.{whole_is_one_of, one_of_is_whole, refusal_is_none_of}
 pub use Rattle.krb_msg.specs.inner.MessageTold.{kind_of_tag-tag, message_round_trips, der_is_prefix_free}
 pub use Rattle.krb_msg.proofs.Grammars.{whole_outcome, refused_outcome, open_outcome, whole_is_value, value_is_whole, value_is_decided}
 
 -- ---- the grammar
-pub messages_are_grammar : IsGrammar messages
-messages_are_grammar = record { own_tags = refl; unambiguous = refl; octet_tags = refl }
+pub messages_are_grammar : (profile : Profile) → IsGrammar (messages profile)
+messages_are_grammar profiles.Lenient = record { own_tags = refl; unambiguous = refl; octet_tags = refl }
+messages_are_grammar profiles.Strict = record { own_tags = refl; unambiguous = refl; octet_tags = refl }
+
+pub messages_nest : (profile : Profile) → greatest_depth (messages profile) ≡ 13
+messages_nest profiles.Lenient = refl
+messages_nest profiles.Strict = refl
 
 -- ---- messages of each kind
-pub kind_is_one_of : (k : Kind) → IsOneOf (kind_term k) messages
-kind_is_one_of kind.AsReq = inl refl
-kind_is_one_of kind.AsRep = inr (inl refl)
-kind_is_one_of kind.TgsReq = inr (inr (inl refl))
-kind_is_one_of kind.TgsRep = inr (inr (inr (inl refl)))
-kind_is_one_of kind.ApReq = inr (inr (inr (inr (inl refl))))
-kind_is_one_of kind.ApRep = inr (inr (inr (inr (inr (inl refl)))))
-kind_is_one_of kind.KrbError = inr (inr (inr (inr (inr (inr (inl refl))))))
+pub kind_is_one_of : (profile : Profile) (k : Kind) → IsOneOf (kind_term_in profile k) (messages profile)
+kind_is_one_of profile kind.AsReq = inl refl
+kind_is_one_of profile kind.AsRep = inr (inl refl)
+kind_is_one_of profile kind.TgsReq = inr (inr (inl refl))
+kind_is_one_of profile kind.TgsRep = inr (inr (inr (inl refl)))
+kind_is_one_of profile kind.ApReq = inr (inr (inr (inr (inl refl))))
+kind_is_one_of profile kind.ApRep = inr (inr (inr (inr (inr (inl refl)))))
+kind_is_one_of profile kind.KrbSafe = inr (inr (inr (inr (inr (inr (inl refl))))))
+kind_is_one_of profile kind.KrbPriv = inr (inr (inr (inr (inr (inr (inr (inl refl)))))))
+kind_is_one_of profile kind.KrbCred = inr (inr (inr (inr (inr (inr (inr (inr (inl refl))))))))
+kind_is_one_of profile kind.KrbError = inr (inr (inr (inr (inr (inr (inr (inr (inr (inl refl)))))))))
 
-kind_of_one_of : (term : Term) → IsOneOf term messages → (k : Kind) × (term ≡ kind_term k)
-kind_of_one_of term (inl e) = (kind.AsReq, e)
-kind_of_one_of term (inr (inl e)) = (kind.AsRep, e)
-kind_of_one_of term (inr (inr (inl e))) = (kind.TgsReq, e)
-kind_of_one_of term (inr (inr (inr (inl e)))) = (kind.TgsRep, e)
-kind_of_one_of term (inr (inr (inr (inr (inl e))))) = (kind.ApReq, e)
-kind_of_one_of term (inr (inr (inr (inr (inr (inl e)))))) = (kind.ApRep, e)
-kind_of_one_of term (inr (inr (inr (inr (inr (inr (inl e))))))) = (kind.KrbError, e)
-kind_of_one_of term (inr (inr (inr (inr (inr (inr (inr none))))))) = absurd none
+kind_of_one_of : (profile : Profile) (term : Term) → IsOneOf term (messages profile) → (k : Kind) × (term ≡ kind_term_in profile k)
+kind_of_one_of profile term (inl e) = (kind.AsReq, e)
+kind_of_one_of profile term (inr (inl e)) = (kind.AsRep, e)
+kind_of_one_of profile term (inr (inr (inl e))) = (kind.TgsReq, e)
+kind_of_one_of profile term (inr (inr (inr (inl e)))) = (kind.TgsRep, e)
+kind_of_one_of profile term (inr (inr (inr (inr (inl e))))) = (kind.ApReq, e)
+kind_of_one_of profile term (inr (inr (inr (inr (inr (inl e)))))) = (kind.ApRep, e)
+kind_of_one_of profile term (inr (inr (inr (inr (inr (inr (inl e))))))) = (kind.KrbSafe, e)
+kind_of_one_of profile term (inr (inr (inr (inr (inr (inr (inr (inl e)))))))) = (kind.KrbPriv, e)
+kind_of_one_of profile term (inr (inr (inr (inr (inr (inr (inr (inr (inl e))))))))) = (kind.KrbCred, e)
+kind_of_one_of profile term (inr (inr (inr (inr (inr (inr (inr (inr (inr (inl e)))))))))) = (kind.KrbError, e)
+kind_of_one_of profile term (inr (inr (inr (inr (inr (inr (inr (inr (inr (inr none)))))))))) = absurd none
 
 exactly_one : (k : ℕ) (z : ℤ) → pos k ≤ℤ z → z ≤ℤ pos k → pos k ≡ z
 exactly_one k z low high = omega (arith, ints)
 
--- the message that a value stands for
+-- the message that a value stands for, which is in each profile that the value is in
 pub record StandsFor (term : Term) (value : Value term) : Type 0 where
   pub message : Message
-  pub fits : Fits (kind_term (kind_of message)) (message_value message)
+  pub fits_in : (profile : Profile) → Fits (profile_term profile false term) (profile_value profile false term value) → Fits (kind_term_in profile (kind_of message)) (message_value_in profile message)
   pub form : message_der message ≡ der term value
 
--- a message whose value is one that fits
-StandsFor-same : (m : Message) (value : Value (kind_term (kind_of m))) → message_value m ≡ value → Fits (kind_term (kind_of m)) value → StandsFor (kind_term (kind_of m)) value
-StandsFor-same m value e f = record {
+-- a message whose value is this
+StandsFor-same : (m : Message) (value : Value (kind_term (kind_of m))) → message_value m ≡ value → StandsFor (kind_term (kind_of m)) value
+StandsFor-same m value e = record {
   message = m;
-  fits = subst (λ v. Fits (kind_term (kind_of m)) v) (sym e) f;
+  fits_in = λ profile f. subst (λ v. Fits (kind_term_in profile (kind_of m)) (profile_value profile false (kind_term (kind_of m)) v)) (sym e) f;
   form = ap (der (kind_term (kind_of m))) e;
 }
 
@@ -91,6 +99,9 @@ name_value-of = option-back principal_name_of principal_name_value (λ p. refl)
 
 sealed_value-of : (o : Option (Value encrypted_data)) → option_map encrypted_data_value (option_map encrypted_data_of o) ≡ o
 sealed_value-of = option-back encrypted_data_of encrypted_data_value (λ e. refl)
+
+address_value-of : (o : Option (Value host_address)) → option_map host_address_value (option_map host_address_of o) ≡ o
+address_value-of = option-back host_address_of host_address_value (λ a. refl)
 
 addresses_value-of : (o : Option (List (Value host_address))) → option_map (map host_address_value) (option_map (map host_address_of) o) ≡ o
 addresses_value-of = list-back host_address_of host_address_value (λ a. refl)
@@ -128,55 +139,128 @@ ap_req_value-of v f p q = same_pair _ _ p (same_pair _ _ q (search ticket_value-
 ap_rep_value-of : (v : Value ap_rep) → pos 5 ≡ v.0 → pos 15 ≡ v.1.0 → ap_rep_value (ap_rep_of v) ≡ v
 ap_rep_value-of v p q = same_pair _ _ p (same_pair _ _ q refl)
 
+-- the values of a KRB-SAFE-BODY, and the numbers that a KRB-SAFE, a KRB-PRIV and a KRB-CRED fix
+safe_body_value-of : (v : Value krb_safe_body) → Fits krb_safe_body v → krb_safe_body_value (krb_safe_body_of v) ≡ v
+safe_body_value-of v f = search (option_micros-of, address_value-of)
+
+krb_safe_value-of : (v : Value krb_safe) → Fits krb_safe_body v.1.1.0 → pos 5 ≡ v.0 → pos 20 ≡ v.1.0 → krb_safe_value (krb_safe_of v) ≡ v
+krb_safe_value-of v f p q = same_pair _ _ p (same_pair _ _ q (search safe_body_value-of))
+
+krb_priv_value-of : (v : Value krb_priv) → pos 5 ≡ v.0 → pos 21 ≡ v.1.0 → krb_priv_value (krb_priv_of v) ≡ v
+krb_priv_value-of v p q = same_pair _ _ p (same_pair _ _ q refl)
+
+krb_cred_value-of : (v : Value krb_cred) → Fits (sequence_of ticket) v.1.1.0 → pos 5 ≡ v.0 → pos 22 ≡ v.1.0 → krb_cred_value (krb_cred_of v) ≡ v
+krb_cred_value-of v f p q = same_pair _ _ p (same_pair _ _ q (same_pair _ _ (tickets_value-of v.1.1.0 f.1) refl))
+
 kind_stands : (k : Kind) (value : Value (kind_term k)) → Fits (kind_term k) value → StandsFor (kind_term k) value
 kind_stands kind.AsReq value f =
     let p : pos 5 ≡ value.0 = exactly_one 5 value.0 f.0.0 f.0.1 in
     let q : pos 10 ≡ value.1.0 = exactly_one 10 value.1.0 f.1.0.0 f.1.0.1 in
-    StandsFor-same (message.AsReq (kdc_req_of value)) value (kdc_req_value-of 10 value p q f.1.1.1.0) f
+    StandsFor-same (message.AsReq (kdc_req_of value)) value (kdc_req_value-of 10 value p q f.1.1.1.0)
 kind_stands kind.AsRep value f =
     let p : pos 5 ≡ value.0 = exactly_one 5 value.0 f.0.0 f.0.1 in
     let q : pos 11 ≡ value.1.0 = exactly_one 11 value.1.0 f.1.0.0 f.1.0.1 in
-    StandsFor-same (message.AsRep (kdc_rep_of value)) value (kdc_rep_value-of 11 value p q f.1.1.1.1.1.0) f
+    StandsFor-same (message.AsRep (kdc_rep_of value)) value (kdc_rep_value-of 11 value p q f.1.1.1.1.1.0)
 kind_stands kind.TgsReq value f =
     let p : pos 5 ≡ value.0 = exactly_one 5 value.0 f.0.0 f.0.1 in
     let q : pos 12 ≡ value.1.0 = exactly_one 12 value.1.0 f.1.0.0 f.1.0.1 in
-    StandsFor-same (message.TgsReq (kdc_req_of value)) value (kdc_req_value-of 12 value p q f.1.1.1.0) f
+    StandsFor-same (message.TgsReq (kdc_req_of value)) value (kdc_req_value-of 12 value p q f.1.1.1.0)
 kind_stands kind.TgsRep value f =
     let p : pos 5 ≡ value.0 = exactly_one 5 value.0 f.0.0 f.0.1 in
     let q : pos 13 ≡ value.1.0 = exactly_one 13 value.1.0 f.1.0.0 f.1.0.1 in
-    StandsFor-same (message.TgsRep (kdc_rep_of value)) value (kdc_rep_value-of 13 value p q f.1.1.1.1.1.0) f
+    StandsFor-same (message.TgsRep (kdc_rep_of value)) value (kdc_rep_value-of 13 value p q f.1.1.1.1.1.0)
+kind_stands kind.KrbSafe value f =
+    let p : pos 5 ≡ value.0 = exactly_one 5 value.0 f.0.0 f.0.1 in
+    let q : pos 20 ≡ value.1.0 = exactly_one 20 value.1.0 f.1.0.0 f.1.0.1 in
+    StandsFor-same (message.KrbSafe (krb_safe_of value)) value (krb_safe_value-of value f.1.1.0 p q)
+kind_stands kind.KrbPriv value f =
+    let p : pos 5 ≡ value.0 = exactly_one 5 value.0 f.0.0 f.0.1 in
+    let q : pos 21 ≡ value.1.0 = exactly_one 21 value.1.0 f.1.0.0 f.1.0.1 in
+    StandsFor-same (message.KrbPriv (krb_priv_of value)) value (krb_priv_value-of value p q)
+kind_stands kind.KrbCred value f =
+    let p : pos 5 ≡ value.0 = exactly_one 5 value.0 f.0.0 f.0.1 in
+    let q : pos 22 ≡ value.1.0 = exactly_one 22 value.1.0 f.1.0.0 f.1.0.1 in
+    StandsFor-same (message.KrbCred (krb_cred_of value)) value (krb_cred_value-of value f.1.1.0 p q)
 kind_stands kind.KrbError value f =
     let p : pos 5 ≡ value.0 = exactly_one 5 value.0 f.0.0 f.0.1 in
     let q : pos 30 ≡ value.1.0 = exactly_one 30 value.1.0 f.1.0.0 f.1.0.1 in
-    StandsFor-same (message.KrbError (krb_error_of value)) value (krb_error_value-of value f p q) f
+    StandsFor-same (message.KrbError (krb_error_of value)) value (krb_error_value-of value f p q)
 kind_stands kind.ApReq value f =
     let p : pos 5 ≡ value.0 = exactly_one 5 value.0 f.0.0 f.0.1 in
     let q : pos 14 ≡ value.1.0 = exactly_one 14 value.1.0 f.1.0.0 f.1.0.1 in
-    StandsFor-same (message.ApReq (ap_req_of value)) value (ap_req_value-of value f p q) f
+    StandsFor-same (message.ApReq (ap_req_of value)) value (ap_req_value-of value f p q)
 kind_stands kind.ApRep value f =
     let p : pos 5 ≡ value.0 = exactly_one 5 value.0 f.0.0 f.0.1 in
     let q : pos 15 ≡ value.1.0 = exactly_one 15 value.1.0 f.1.0.0 f.1.0.1 in
-    StandsFor-same (message.ApRep (ap_rep_of value)) value (ap_rep_value-of value p q) f
+    StandsFor-same (message.ApRep (ap_rep_of value)) value (ap_rep_value-of value p q)
 
-stands_for : (term : Term) → IsOneOf term messages → (value : Value term) → Fits term value → StandsFor term value
-stands_for term c = let k : (k : Kind) × (term ≡ kind_term k) = kind_of_one_of term c in subst (λ t. (value : Value t) → Fits t value → StandsFor t value) (sym k.1) (kind_stands k.0)
+-- a message of a profile whose value is one of the profile's term
+record StandsIn (profile : Profile) (term : Term) (value : Value term) : Type 0 where
+  pub message : Message
+  pub fits : Fits (kind_term_in profile (kind_of message)) (message_value_in profile message)
+  pub form : message_der message ≡ der term value
+
+kind_stands_in : (profile : Profile) (k : Kind) (value : Value (kind_term_in profile k)) → Fits (kind_term_in profile k) value → StandsIn profile (kind_term_in profile k) value
+kind_stands_in profiles.Lenient k value f = let s : StandsFor (kind_term k) value = kind_stands k value f in record { message = s.message; fits = s.fits_in profiles.Lenient f; form = s.form }
+kind_stands_in profiles.Strict k value f = by (kind_stands k wide (fits_narrowed false (kind_term k) wide fits).0)
+  where
+    wide : Value (kind_term k)
+    wide = widened_value false (kind_term k) value
+
+    same : narrowed_value false (kind_term k) wide ≡ value
+    same = narrowed_widened false (kind_term k) value
+
+    fits : Fits (narrowed false (kind_term k)) (narrowed_value false (kind_term k) wide)
+    fits = subst (Fits (narrowed false (kind_term k))) (sym same) f
+
+    by : StandsFor (kind_term k) wide → StandsIn profiles.Strict (kind_term_in profiles.Strict k) value
+    by s = record {
+      message = s.message;
+      fits = s.fits_in profiles.Strict fits;
+      form = s.form ∙ sym (der_narrowed false (kind_term k) wide) ∙ ap (der (narrowed false (kind_term k))) same;
+    }
+
+stands_in : (profile : Profile) (term : Term) → IsOneOf term (messages profile) → (value : Value term) → Fits term value → StandsIn profile term value
+stands_in profile term c = let k : (k : Kind) × (term ≡ kind_term_in profile k) = kind_of_one_of profile term c in subst (λ t. (value : Value t) → Fits t value → StandsIn profile t value) (sym k.1) (kind_stands_in profile k.0)
+
+-- the DER of a message as that of its value in a profile
+pub message_der_in : (profile : Profile) (m : Message) → der (kind_term_in profile (kind_of m)) (message_value_in profile m) ≡ message_der m
+message_der_in profiles.Lenient m = refl
+message_der_in profiles.Strict m = der_narrowed false (kind_term (kind_of m)) (message_value m)
 
 -- ---- the laws
-pub whole_is_message : (n : ℕ) (octets : List ℕ) → n < 2 ^ 31 → AreOctets octets → length octets ≤ n → judgement n octets ≡ verdict.Whole → AreMessage n octets
-whole_is_message n octets small a l e = by (whole_is_one_of messages n octets a l e)
+pub whole_is_message : (profile : Profile) (n : ℕ) (octets : List ℕ) → n < 2 ^ 31 → AreOctets octets → length octets ≤ n → judgement profile n octets ≡ verdict.Whole → AreMessage profile n octets
+whole_is_message profile n octets small a l e = by (whole_is_one_of (messages profile) n octets a l e)
   where
-    by : AreOneOf messages n octets → AreMessage n octets
+    by : AreOneOf (messages profile) n octets → AreMessage profile n octets
     by w =
-        let s : StandsFor w.term w.is_der.value = stands_for w.term w.one_of w.is_der.value w.is_der.fits in
+        let s : StandsIn profile w.term w.is_der.value = stands_in profile w.term w.one_of w.is_der.value w.is_der.fits in
         let form : message_der s.message ≡ octets = s.form ∙ sym w.is_der.form in
         record { message = s.message; in_profile = record { fits = s.fits; short = omega (arith, ap length form) }; form = form; all = w.all }
 
-pub message_is_whole : (m : Message) → IsInProfile m → judgement (length (message_der m)) (message_der m) ≡ verdict.Whole
-message_is_whole m p = one_of_is_whole messages messages_are_grammar (kind_term (kind_of m)) (kind_is_one_of (kind_of m)) (message_value m) p.fits (omega (arith, p.short))
+pub message_is_whole : (profile : Profile) (m : Message) → IsInProfile profile m → judgement profile (length (message_der m)) (message_der m) ≡ verdict.Whole
+message_is_whole profile m p =
+    subst (λ octets. judgement profile (length octets) octets ≡ verdict.Whole) (message_der_in profile m)
+    (one_of_is_whole (messages profile) (messages_are_grammar profile) (kind_term_in profile (kind_of m)) (kind_is_one_of profile (kind_of m)) (message_value_in profile m) p.fits (omega (arith, p.short, ap length (message_der_in profile m))))
 
-pub refusal_is_right : (n : ℕ) (octets : List ℕ) (place : ℕ) (reason : Why) → length octets ≤ n → judgement n octets ≡ verdict.Refused (record { place = place; why = reason }) → (m : Message) → IsInProfile m → length (message_der m) ≡ n → take (suc place) (message_der m) ≡ take (suc place) octets → ⊥
-refusal_is_right n octets place reason l e m p same begins =
-    refusal_is_none_of messages messages_are_grammar n octets place reason l e (kind_term (kind_of m)) (kind_is_one_of (kind_of m)) (message_value m) p.fits (omega (arith, p.short)) same begins
+pub refusal_is_right : (profile : Profile) (n : ℕ) (octets : List ℕ) (place : ℕ) (reason : Why) → length octets ≤ n → judgement profile n octets ≡ verdict.Refused (record { place = place; why = reason }) → (m : Message) → IsInProfile profile m → length (message_der m) ≡ n → take (suc place) (message_der m) ≡ take (suc place) octets → ⊥
+refusal_is_right profile n octets place reason l e m p same begins =
+    let form : der (kind_term_in profile (kind_of m)) (message_value_in profile m) ≡ message_der m = message_der_in profile m in
+    refusal_is_none_of (messages profile) (messages_are_grammar profile) n octets place reason l e (kind_term_in profile (kind_of m)) (kind_is_one_of profile (kind_of m)) (message_value_in profile m) p.fits
+    (omega (arith, p.short, ap length form)) (ap length form ∙ same) (ap (take (suc place)) form ∙ begins)
+
+-- a message of a profile is one of the lenient profile
+pub lenient_message : (profile : Profile) (m : Message) → IsInProfile profile m → IsInProfile profiles.Lenient m
+lenient_message profiles.Lenient m p = p
+lenient_message profiles.Strict m p = record { fits = (fits_narrowed false (kind_term (kind_of m)) (message_value m) p.fits).0; short = p.short }
+
+pub lenient_whole : (profile : Profile) (n : ℕ) (octets : List ℕ) → n < 2 ^ 31 → AreOctets octets → length octets ≤ n → judgement profile n octets ≡ verdict.Whole → judgement profiles.Lenient n octets ≡ verdict.Whole
+lenient_whole profile n octets small a l e = by (whole_is_message profile n octets small a l e)
+  where
+    by : AreMessage profile n octets → judgement profiles.Lenient n octets ≡ verdict.Whole
+    by w =
+        subst (λ k. judgement profiles.Lenient k octets ≡ verdict.Whole) w.all
+        (subst (λ those. judgement profiles.Lenient (length those) those ≡ verdict.Whole) w.form (message_is_whole profiles.Lenient w.message (lenient_message profile w.message w.in_profile)))
 
 -- ---- the kind of a message
 pub kind_of_octets : {octets : List ℕ} (m : Message) → message_der m ≡ octets → kind_of m ≡ kind_of_tag (get_or octets 0 0)
@@ -184,5 +268,5 @@ kind_of_octets m e =
     sym (kind_of_tag-tag (kind_of m))
     ∙ ap (λ (l : List ℕ). kind_of_tag (get_or l 0 0)) (sym (der_is (kind_term (kind_of m)) (message_value m)) ∙ e)
 
-pub der_of_kind : {octets : List ℕ} {k : Kind} → AreOfKind octets k → IsDer (kind_term k) octets
+pub der_of_kind : {octets : List ℕ} {k : Kind} → AreOfKind profiles.Lenient octets k → IsDer (kind_term k) octets
 der_of_kind {octets = octets} a = subst (λ k. IsDer (kind_term k) octets) a.same_kind (record { value = message_value a.message; fits = a.in_profile.fits; form = sym a.form })

@@ -14,12 +14,16 @@ pub mod Encoded
 pub mod Ambiguous
 pub mod Streams
 pub mod Grammars
+pub mod Profiles
+pub mod ProfileValues
 pub mod Judged
 pub mod Fronts
 pub mod Table
 pub mod Layouts
 pub mod Noted
+pub mod Strictness
 pub mod Read
 pub mod MessageRead
 pub mod Puts
 pub mod EachOctet
+pub mod Reasons

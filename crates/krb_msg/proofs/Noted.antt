@@ -2,15 +2,18 @@
 use Rattle.std.proofs.Common.{◌≡◌, pos, Bool, true, false, ◌||◌, List, [], ◌∷◌, Option, Some, None, map, refl, ap}
 use Rattle.std.specs.List.{list_any}
 use Rattle.std.specs.Option.{option_map}
-use Rattle.krb_msg.specs.Grammar.{ticket, pa_data, host_address, principal_name, encrypted_data, kdc_req_body, as_req, as_rep, krb_error}
+use Rattle.krb_msg.specs.Grammar.{ticket, pa_data, host_address, principal_name, encrypted_data, kdc_req_body, as_req, as_rep, krb_safe_body, krb_safe, krb_cred, krb_error}
 use Rattle.krb_msg.specs.Notes.{Note, HighOctet, FewFlags, Negative, EmptyList, text_has, flags_have, number_has, list_has, option_any, has, notes_by}
-use Rattle.krb_msg.specs.Views.{ticket_value, pa_data_value, host_address_value, principal_name_value, encrypted_data_value, kdc_req_body_value, kdc_req_value, kdc_rep_value, krb_error_value}
+use Rattle.krb_msg.specs.Views.{ticket_value, pa_data_value, host_address_value, principal_name_value, encrypted_data_value, kdc_req_body_value, kdc_req_value, kdc_rep_value, krb_safe_body_value, krb_safe_value, krb_cred_value, krb_error_value}
 use Rattle.krb_msg.specs.declared.pa_data.PaData.{PaData}
 use Rattle.krb_msg.specs.declared.ticket.Ticket.{Ticket}
 use Rattle.krb_msg.specs.declared.host_address.HostAddress.{HostAddress}
 use Rattle.krb_msg.specs.declared.kdc_req.KdcReq.{KdcReq}
 use Rattle.krb_msg.specs.declared.kdc_rep.KdcRep.{KdcRep}
 use Rattle.krb_msg.specs.declared.kdc_req_body.KdcReqBody.{KdcReqBody}
+use Rattle.krb_msg.specs.declared.krb_safe_body.KrbSafeBody.{KrbSafeBody}
+use Rattle.krb_msg.specs.declared.krb_safe.KrbSafe.{KrbSafe}
+use Rattle.krb_msg.specs.declared.krb_cred.KrbCred.{KrbCred}
 use Rattle.krb_msg.specs.declared.krb_error.KrbError.{KrbError}
 
 -- The notes by two tests are the same where the tests are.
@@ -104,6 +107,21 @@ kdc_rep-has n m = reply _ _ _ _ _ _ (padata-has n m.padata)
   where
     reply : (padata padata₂ realm name ticket sealed : Bool) → padata ≡ padata₂ → (padata || (realm || (name || (ticket || (sealed || false))))) ≡ ((((padata₂ || realm) || name) || ticket) || sealed)
     reply padata padata₂ realm name ticket sealed e = rw e (simp (or-false, or_assoc))
+
+pub krb_safe_body-has : (n : Note) (b : KrbSafeBody) → has n krb_safe_body (krb_safe_body_value b) ≡ option_any (number_has n) b.seq_number
+krb_safe_body-has n b =
+    body _ _ _ _ (option_none b.timestamp) (option_none (option_map pos b.usec)) (option_none (option_map host_address_value b.r_address))
+  where
+    body : (time microseconds number receiver : Bool) → time ≡ false → microseconds ≡ false → receiver ≡ false →
+        (time || (microseconds || (number || (receiver || false)))) ≡ number
+    body time microseconds number receiver t u r = rw (t, u, r) (or-false number)
+
+pub krb_safe-has : (n : Note) (m : KrbSafe) → has n krb_safe (krb_safe_value m) ≡ has n krb_safe_body (krb_safe_body_value m.body)
+krb_safe-has n m = or-false (has n krb_safe_body (krb_safe_body_value m.body))
+
+pub krb_cred-has : (n : Note) (m : KrbCred) →
+    has n krb_cred (krb_cred_value m) ≡ (list_any (λ x. has n ticket (ticket_value x)) m.tickets || has n encrypted_data (encrypted_data_value m.enc_part))
+krb_cred-has n m = rw (any-map (has n ticket) ticket_value m.tickets, or-false (has n encrypted_data (encrypted_data_value m.enc_part))) refl
 
 pub krb_error-has : (n : Note) (m : KrbError) →
     has n krb_error (krb_error_value m)

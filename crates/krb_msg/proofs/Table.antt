@@ -3,14 +3,15 @@ use Rattle.std.proofs.Common.{◌≡◌, ℕ, zero, suc, ◌+◌, ◌<◌, ◌�
 use Rattle.std.proofs.Math.Seq.{drop-cons}
 use Rattle.std.proofs.lemmas.List.{drop_all}
 use Rattle.std.specs.List.{AllByRecursion}
+use Rattle.krb_der.specs.declared.profile.Profile.TheVariants as profile
 use Rattle.krb_der.specs.declared.why.Why.TheVariants as why
 use Rattle.krb_msg.specs.Grammar.{messages}
 use Rattle.krb_msg.specs.Judgement.{Bad, item_outcome, message_outcome}
 use Rattle.krb_msg.specs.Term.{Term, tag_of}
 use Rattle.krb_msg.specs.Nodes.{nodes, term_in, term_at}
-use Rattle.krb_msg.specs.Table.{IsNode, IsFormOf, IsRowOf, RowsAre}
+use Rattle.krb_msg.specs.Table.{IsNode, IsRowOf, RowsAre}
 use Rattle.krb_msg.specs.declared.grammar.Node.{Node}
-use Rattle.krb_msg.specs.declared.grammar.TheConstants.{MESSAGES, NODES}
+use Rattle.krb_msg.specs.declared.grammar.TheConstants.{LENIENT, STRICT, NODES}
 
 row_from : (terms : List Term) (rows : List Node) (others : List Term) (k : ℕ) (none : Node) (absent : Term) → RowsAre terms rows others → k < length rows → IsRowOf terms (get_or rows k none) (get_or others k absent)
 row_from terms [] others k none absent h le = absurd (omega arith)
@@ -29,6 +30,10 @@ all_there terms [] (term ∷ others) h = absurd h
 all_there terms (row ∷ rows) [] h = absurd h
 all_there terms (row ∷ rows) (term ∷ others) h = omega (arith, all_there terms rows others h.1)
 
+-- facts of twenty rows, and then those of the rows after them
+pub twenty : {A1 A2 A3 A4 A5 A6 A7 A8 A9 A10 A11 A12 A13 A14 A15 A16 A17 A18 A19 A20 B : Type 0} → A1 × (A2 × (A3 × (A4 × (A5 × (A6 × (A7 × (A8 × (A9 × (A10 × (A11 × (A12 × (A13 × (A14 × (A15 × (A16 × (A17 × (A18 × (A19 × (A20))))))))))))))))))) → B → A1 × (A2 × (A3 × (A4 × (A5 × (A6 × (A7 × (A8 × (A9 × (A10 × (A11 × (A12 × (A13 × (A14 × (A15 × (A16 × (A17 × (A18 × (A19 × (A20 × (B))))))))))))))))))))
+twenty facts rest = (facts.0, (facts.1.0, (facts.1.1.0, (facts.1.1.1.0, (facts.1.1.1.1.0, (facts.1.1.1.1.1.0, (facts.1.1.1.1.1.1.0, (facts.1.1.1.1.1.1.1.0, (facts.1.1.1.1.1.1.1.1.0, (facts.1.1.1.1.1.1.1.1.1.0, (facts.1.1.1.1.1.1.1.1.1.1.0, (facts.1.1.1.1.1.1.1.1.1.1.1.0, (facts.1.1.1.1.1.1.1.1.1.1.1.1.0, (facts.1.1.1.1.1.1.1.1.1.1.1.1.1.0, (facts.1.1.1.1.1.1.1.1.1.1.1.1.1.1.0, (facts.1.1.1.1.1.1.1.1.1.1.1.1.1.1.1.0, (facts.1.1.1.1.1.1.1.1.1.1.1.1.1.1.1.1.0, (facts.1.1.1.1.1.1.1.1.1.1.1.1.1.1.1.1.1.0, (facts.1.1.1.1.1.1.1.1.1.1.1.1.1.1.1.1.1.1.0, (facts.1.1.1.1.1.1.1.1.1.1.1.1.1.1.1.1.1.1.1, rest))))))))))))))))))))
+
 nodes_long : length nodes ≡ NODES
 unfolding nodes
 nodes_long = refl
@@ -36,9 +41,13 @@ nodes_long = refl
 pub row_there : (rows : List Node) (node : ℕ) → RowsAre nodes rows nodes → IsNode node → node < length rows
 row_there rows node h k = omega (arith, all_there nodes rows nodes h, nodes_long, k)
 
-pub message_terms : map term_at MESSAGES ≡ messages
+pub lenient_terms : map term_at LENIENT ≡ messages profile.Lenient
 unfolding term_in nodes
-message_terms = refl
+lenient_terms = refl
+
+pub strict_terms : map term_at STRICT ≡ messages profile.Strict
+unfolding term_in nodes
+strict_terms = refl
 
 -- ---- the messages by their tags
 message_first : (term : Term) (terms : List Term) (tag : ℕ) → eqb tag (tag_of term) ≡ true → (room : ℕ) (octets : List ℕ) → message_outcome (term ∷ terms) room (tag ∷ octets) ≡ item_outcome term room true (tag ∷ octets)
@@ -61,13 +70,13 @@ message_next chosen k none tag h e room octets =
 pub message_none : (chosen : List ℕ) (k tag : ℕ) → length chosen ≤ k → (room : ℕ) (octets : List ℕ) → message_outcome (map term_at (drop k chosen)) room (tag ∷ octets) ≡ Bad 0 why.Tag
 message_none chosen k tag h room octets = ap (λ some. message_outcome (map term_at some) room (tag ∷ octets)) (drop_all k chosen h)
 
-all_known : (chosen : List ℕ) → AllByRecursion (IsNode) chosen → (k none : ℕ) → k < length chosen → IsNode (get_or chosen k none)
+pub all_known : (chosen : List ℕ) → AllByRecursion (IsNode) chosen → (k none : ℕ) → k < length chosen → IsNode (get_or chosen k none)
 all_known [] a k none h = absurd (omega arith)
 all_known (node ∷ chosen) a zero none h = a.0
 all_known (node ∷ chosen) a (suc k) none h = all_known chosen a.1 k none (omega arith)
 
-messages_known : AllByRecursion (IsNode) MESSAGES
-messages_known = search rules
+pub lenient_known : AllByRecursion IsNode LENIENT
+lenient_known = search rules
 
-pub message_known : (k none : ℕ) → k < length MESSAGES → IsNode (get_or MESSAGES k none)
-message_known = all_known MESSAGES messages_known
+pub strict_known : AllByRecursion IsNode STRICT
+strict_known = search rules

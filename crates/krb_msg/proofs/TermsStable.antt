@@ -1,9 +1,9 @@
 -- Every term's judgement is stable.
-use Rattle.std.proofs.Common.{◌≡◌, ℕ, zero, suc, ◌+◌, ◌-◌, ◌<◌, ◌⊎◌, inl, inr, Bool, true, false, ◌&&◌, ltb, leb, eqb, List, [], ◌∷◌, drop, refl, arith, eqb-true, ltb-true}
+use Rattle.std.proofs.Common.{◌≡◌, ℕ, zero, suc, ◌+◌, ◌-◌, ◌<◌, ◌⊎◌, inl, inr, Bool, true, false, ◌&&◌, ltb, leb, eqb, List, [], ◌∷◌, drop, refl, arith, ltb-true}
 use Rattle.std.proofs.lemmas.Bool.{cases_Bool, and_parts}
 use Rattle.krb_der.specs.declared.why.Why.TheVariants as why
 use Rattle.krb_msg.specs.Term.{Term, Fields, Integer, Text, Octets, Time, Bits, Sequence, SequenceOf, Tagged, Application, End, Required, Optional, tag_of}
-use Rattle.krb_msg.specs.Judgement.{Outcome, Open, Bad, Done, after, then_after, has_size, item_with, item_outcome, only_contents, items_contents, integer_contents, each_contents, text_octet, time_octet, any_contents, bits_contents, contents_outcome, fields_outcome}
+use Rattle.krb_msg.specs.Judgement.{Outcome, Open, Bad, Done, then_after, has_size, item_with, item_outcome, only_contents, items_contents, integer_contents, each_contents, text_octet, time_octet, any_contents, bits_contents, contents_outcome, fields_outcome}
 use Rattle.krb_msg.proofs.Stable.{need, IsStable, IsStable-constant, IsStable-open, IsStable-refusal, IsStable-after, IsStable-then_after, refusal}
 use Rattle.krb_msg.proofs.Leaves.{IsStable-any_contents, IsStable-integer_contents, IsStable-bits_contents, IsStable-each_contents}
 use Rattle.krb_msg.proofs.Items.{IsStable-first, IsStable-item}

@@ -1,7 +1,9 @@
 -- RFC 4120, appendix A, as terms. A line of a SEQUENCE is a line of the appendix: the index, the field's name, its type.
--- The lenient profile: a string has any octets, flags are of any number, a list may be empty.
-use Rattle.std.specs.Prelude.{ℕ, pos, negsuc, true, List, [], ◌∷◌}
+-- The terms are those of the lenient profile: a string has any octets, flags are of any number, a list may be empty.
+use Rattle.std.specs.Prelude.{ℕ, pos, negsuc, true, false, List, [], ◌∷◌, map}
 use Prim.Native.String.{String}
+use Rattle.krb_der.specs.declared.profile.Profile.{Profile}
+use Rattle.krb_msg.specs.Profiles.{profile_term}
 use Rattle.krb_msg.specs.Term.{Term, Fields, Integer, Text, Octets, Time, Bits, Sequence, SequenceOf, Tagged, Application, End, Required, Optional}
 
 -- writes the fields of a SEQUENCE one after another
@@ -69,6 +71,12 @@ encrypted_data = Sequence (
     field 0 "etype" int32
     ⨟ optional 1 "kvno" wide32
     ⨟ field 2 "cipher" octet_string
+    ⨟ End)
+
+abbrev pub checksum : Term
+checksum = Sequence (
+    field 0 "cksumtype" int32
+    ⨟ field 1 "checksum" octet_string
     ⨟ End)
 
 -- ---- 5.3
@@ -149,6 +157,42 @@ ap_rep = Application 15 (Sequence (
     ⨟ field 2 "enc-part" encrypted_data
     ⨟ End))
 
+-- ---- 5.6.1
+abbrev pub krb_safe_body : Term
+krb_safe_body = Sequence (
+    field 0 "user-data" octet_string
+    ⨟ optional 1 "timestamp" kerberos_time
+    ⨟ optional 2 "usec" microseconds
+    ⨟ optional 3 "seq-number" wide32
+    ⨟ field 4 "s-address" host_address
+    ⨟ optional 5 "r-address" host_address
+    ⨟ End)
+
+abbrev pub krb_safe : Term
+krb_safe = Application 20 (Sequence (
+    field 0 "pvno" version
+    ⨟ field 1 "msg-type" (exactly 20)
+    ⨟ field 2 "safe-body" krb_safe_body
+    ⨟ field 3 "cksum" checksum
+    ⨟ End))
+
+-- ---- 5.7.1: there is no [2]
+abbrev pub krb_priv : Term
+krb_priv = Application 21 (Sequence (
+    field 0 "pvno" version
+    ⨟ field 1 "msg-type" (exactly 21)
+    ⨟ field 3 "enc-part" encrypted_data
+    ⨟ End))
+
+-- ---- 5.8.1
+abbrev pub krb_cred : Term
+krb_cred = Application 22 (Sequence (
+    field 0 "pvno" version
+    ⨟ field 1 "msg-type" (exactly 22)
+    ⨟ field 2 "tickets" (sequence_of ticket)
+    ⨟ field 3 "enc-part" encrypted_data
+    ⨟ End))
+
 -- ---- 5.9.1
 abbrev pub krb_error : Term
 krb_error = Application 30 (Sequence (
@@ -170,6 +214,8 @@ krb_error = Application 30 (Sequence (
 abbrev pub method_data : Term
 method_data = sequence_of pa_data
 
--- The messages that are judged, by their tags; any other first octet is refused.
-abbrev pub messages : List Term
-messages = as_req ∷ as_rep ∷ tgs_req ∷ tgs_rep ∷ ap_req ∷ ap_rep ∷ krb_error ∷ []
+-- The messages of a profile, by their tags; any other first octet is refused.
+abbrev pub messages : Profile → List Term
+messages profile =
+    map (profile_term profile false)
+    (as_req ∷ as_rep ∷ tgs_req ∷ tgs_rep ∷ ap_req ∷ ap_rep ∷ krb_safe ∷ krb_priv ∷ krb_cred ∷ krb_error ∷ [])

@@ -2,6 +2,7 @@
 -- The octets present are no more than the room that the container has left.
 use Rattle.std.specs.Prelude.{ℕ, zero, suc, ℤ, pos, negsuc, ◌+◌, ◌-◌, ◌*◌, ◌%◌, ◌^◌, Bool, true, false, ◌&&◌, ◌||◌, ◌==◌, nat_lt, nat_le, max, if◌then◌else◌, List, [], ◌∷◌, length, take, drop}
 use Rattle.krb_der.specs.Octets.{when, number, integer_octets, integer_value, last_or_zero}
+use Rattle.krb_der.specs.declared.profile.Profile.{Profile}
 use Rattle.krb_der.specs.declared.why.Why.{Why}
 use Rattle.krb_der.specs.declared.why.Why.TheVariants as why
 use Rattle.krb_der.specs.declared.verdict.Verdict.{Verdict}
@@ -188,9 +189,9 @@ verdict_of (Done count) = verdict.Whole
 abbrev pub judgement_by : List Term → ℕ → List ℕ → Verdict
 judgement_by terms n octets = verdict_of (message_outcome terms n octets)
 
--- The judgement by the messages of RFC 4120.
-abbrev pub judgement : ℕ → List ℕ → Verdict
-judgement = judgement_by messages
+-- The judgement by the messages of a profile.
+abbrev pub judgement : Profile → ℕ → List ℕ → Verdict
+judgement profile = judgement_by (messages profile)
 
 -- The judgement of the octets present of an item of a term, which alone has n octets.
 abbrev pub term_judgement : Term → ℕ → List ℕ → Verdict

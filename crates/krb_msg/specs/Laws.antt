@@ -1,16 +1,25 @@
 -- What holds of all grammars, of all messages and of all octets. Each is the contract of a function of the module `law`.
-use Rattle.std.specs.Prelude.{ℕ, suc, true, ◌≡◌, ◌^◌, ◌<◌, ◌≤◌, List, ◌++◌, length, take}
+use Rattle.std.specs.Prelude.{ℕ, suc, true, ◌≡◌, ◌^◌, ◌<◌, ◌≤◌, ◌↔◌, false, List, ◌++◌, length, take}
 use Rattle.krb_der.specs.Octets.{AreOctets}
+use Rattle.krb_der.specs.declared.profile.Profile.{Profile}
+use Rattle.krb_der.specs.declared.profile.Profile.TheVariants.{Lenient, Strict}
 use Rattle.krb_der.specs.declared.why.Why.{Why}
+use Rattle.krb_der.specs.declared.why.Why.TheVariants.{Truncated, Charset}
+use Rattle.krb_der.specs.declared.verdict.Verdict.{Verdict}
 use Rattle.krb_der.specs.declared.verdict.Verdict.TheVariants.{Open, Whole, Refused}
 use Rattle.krb_msg.specs.declared.message.Message.{Message}
-use Rattle.krb_msg.specs.Views.{kind_of, message_value, message_of, message_der, IsInProfile}
+use Rattle.krb_msg.specs.Views.{kind_of, message_value, message_of, message_der, IsInProfile, is_strict}
 use Rattle.krb_msg.specs.Term.{Term, Value, der, Fits}
 use Rattle.krb_msg.specs.Shape.{is_unambiguous, greatest_depth, IsOneOf, IsGrammar}
+use Rattle.krb_msg.specs.Notes.{notes_of, notes_have}
 use Rattle.krb_msg.specs.Grammar.{messages}
 use Rattle.krb_msg.specs.Judgement.{judgement_by, judgement, term_judgement}
 use Rattle.krb_msg.specs.Reading.{value_read, message_read}
 use Rattle.krb_msg.specs.Reads.{IsDer}
+
+-- refused for a reason, at some place
+abbrev pub IsRefusedFor : Why → Verdict → Type 0
+IsRefusedFor reason verdict = (place : ℕ) × (verdict ≡ Refused (record { place = place; why = reason }))
 
 -- ---- any term
 -- What is judged whole as an item of a term is the DER of a value.
@@ -24,6 +33,10 @@ ValueIsWhole = (term : Term) (value : Value term) → is_unambiguous term ≡ tr
 -- What is read of the DER of a value is the value, if tags tell the term's fields apart.
 abbrev pub ValueIsRead : Type 0
 ValueIsRead = (term : Term) (value : Value term) → is_unambiguous term ≡ true → length (der term value) < 2 ^ 32 → value_read term (der term value) ≡ value
+
+-- No octets of an item are refused as Truncated.
+abbrev pub ItemIsNotTruncated : Type 0
+ItemIsNotTruncated = (term : Term) (n : ℕ) (octets : List ℕ) → IsRefusedFor Truncated (term_judgement term n octets) → ⊥
 
 -- ---- any messages
 -- the octets are all of the n, and the DER of a value of one of the messages
@@ -50,6 +63,10 @@ RefusalIsFinal = (messages : List Term) (n : ℕ) (octets : List ℕ) (place : �
 abbrev pub AllIsDecided : Type 0
 AllIsDecided = (messages : List Term) (n : ℕ) (octets : List ℕ) → 0 < n → length octets ≡ n → judgement_by messages n octets ≡ Open → ⊥
 
+-- No octets are refused as Truncated; a stream that ends inside a frame is.
+abbrev pub RefusalIsNotTruncated : Type 0
+RefusalIsNotTruncated = (messages : List Term) (n : ℕ) (octets : List ℕ) → IsRefusedFor Truncated (judgement_by messages n octets) → ⊥
+
 -- ---- any grammar
 -- The DER of a value of one of the messages is judged whole.
 abbrev pub OneOfIsWhole : Type 0
@@ -74,41 +91,57 @@ AreSame value other = value ≡ other
 abbrev pub OneOfTells : Type 0
 OneOfTells = (messages : List Term) → IsGrammar messages → (term other : Term) → IsOneOf term messages → IsOneOf other messages → (v : Value term) (w : Value other) (x y : List ℕ) → der term v ++ x ≡ der other w ++ y → AreSame (term, v) (other, w) × (x ≡ y)
 
--- ---- the messages of the crate
+-- ---- the messages of a profile
 -- They are a grammar.
 abbrev pub MessagesAreGrammar : Type 0
-MessagesAreGrammar = IsGrammar messages
+MessagesAreGrammar = (profile : Profile) → IsGrammar (messages profile)
 
 -- No more than 13 items are nested in one another, and in some message that many are.
 abbrev pub MessagesNest : Type 0
-MessagesNest = greatest_depth messages ≡ 13
+MessagesNest = (profile : Profile) → greatest_depth (messages profile) ≡ 13
 
--- the octets are all of the n, and the DER of a message
-pub record AreMessage (n : ℕ) (octets : List ℕ) : Type 0 where
+-- the octets are all of the n, and the DER of a message of a profile
+pub record AreMessage (profile : Profile) (n : ℕ) (octets : List ℕ) : Type 0 where
   pub message : Message
-  pub in_profile : IsInProfile message
+  pub in_profile : IsInProfile profile message
   pub form : message_der message ≡ octets
   pub all : length octets ≡ n
 
 -- What is judged whole is the DER of a message.
 abbrev pub WholeIsMessage : Type 0
-WholeIsMessage = (n : ℕ) (octets : List ℕ) → n < 2 ^ 31 → AreOctets octets → length octets ≤ n → judgement n octets ≡ Whole → AreMessage n octets
+WholeIsMessage = (profile : Profile) (n : ℕ) (octets : List ℕ) → n < 2 ^ 31 → AreOctets octets → length octets ≤ n → judgement profile n octets ≡ Whole → AreMessage profile n octets
 
 -- The DER of a message is judged whole.
 abbrev pub MessageIsWhole : Type 0
-MessageIsWhole = (m : Message) → IsInProfile m → judgement (length (message_der m)) (message_der m) ≡ Whole
+MessageIsWhole = (profile : Profile) (m : Message) → IsInProfile profile m → judgement profile (length (message_der m)) (message_der m) ≡ Whole
 
 -- What is read of the DER of a message is the message.
 abbrev pub MessageIsRead : Type 0
-MessageIsRead = (m : Message) → IsInProfile m → message_read (message_der m) ≡ m
+MessageIsRead = (profile : Profile) (m : Message) → IsInProfile profile m → message_read (message_der m) ≡ m
 
 -- No message of n octets begins with the octets up to and with one that is refused.
 abbrev pub RefusalIsRight : Type 0
-RefusalIsRight = (n : ℕ) (octets : List ℕ) (place : ℕ) (reason : Why) → length octets ≤ n → judgement n octets ≡ Refused (record { place = place; why = reason }) → (m : Message) → IsInProfile m → length (message_der m) ≡ n → take (suc place) (message_der m) ≡ take (suc place) octets → ⊥
+RefusalIsRight = (profile : Profile) (n : ℕ) (octets : List ℕ) (place : ℕ) (reason : Why) → length octets ≤ n → judgement profile n octets ≡ Refused (record { place = place; why = reason }) → (m : Message) → IsInProfile profile m → length (message_der m) ≡ n → take (suc place) (message_der m) ≡ take (suc place) octets → ⊥
 
 -- No message's DER begins another's, and different messages have different DER.
 abbrev pub DerIsPrefixFree : Type 0
 DerIsPrefixFree = (m other : Message) (x y : List ℕ) → message_der m ++ x ≡ message_der other ++ y → (m ≡ other) × (x ≡ y)
+
+-- A message is in the strict profile exactly where it is in the lenient one and keeps the strict rules.
+abbrev pub StrictIsNarrower : Type 0
+StrictIsNarrower = (m : Message) → IsInProfile Strict m ↔ (IsInProfile Lenient m × (is_strict m ≡ true))
+
+-- A message keeps the strict rules exactly where none of the notes 1 to 4 holds.
+abbrev pub StrictHasNoNotes : Type 0
+StrictHasNoNotes = (m : Message) → (is_strict m ≡ true) ↔ ((number : ℕ) → 1 ≤ number → number ≤ 4 → notes_have (notes_of m) number ≡ false)
+
+-- The lenient profile refuses no octets as Charset.
+abbrev pub LenientHasNoCharset : Type 0
+LenientHasNoCharset = (n : ℕ) (octets : List ℕ) → AreOctets octets → IsRefusedFor Charset (judgement Lenient n octets) → ⊥
+
+-- What the strict profile judges whole, the lenient one does.
+abbrev pub StrictIsLenient : Type 0
+StrictIsLenient = (n : ℕ) (octets : List ℕ) → n < 2 ^ 31 → AreOctets octets → length octets ≤ n → judgement Strict n octets ≡ Whole → judgement Lenient n octets ≡ Whole
 
 -- The way back from the value of a message gives the message.
 abbrev pub MessageRoundTrips : Type 0

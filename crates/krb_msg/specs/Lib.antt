@@ -1,4 +1,5 @@
 pub mod Term
+pub mod Profiles
 pub mod Shape
 pub mod Grammar
 pub mod Judgement

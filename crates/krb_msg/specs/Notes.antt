@@ -1,7 +1,8 @@
 -- What of a message deserves a note. A note holds of a value where it holds of any part of it, Tickets inside included; the octets of an OCTET STRING are no part.
-use Rattle.std.specs.Prelude.{ℕ, ℤ, pos, negsuc, ◌-◌, ◌*◌, Bool, true, false, ◌&&◌, ◌||◌, ◌==◌, nat_lt, List, [], length, Option, Some, None, if◌then◌else◌}
+use Rattle.std.specs.Prelude.{ℕ, ℤ, negsuc, ◌-◌, ◌*◌, Bool, true, false, ◌&&◌, ◌||◌, ◌==◌, nat_lt, List, [], length, Option, Some, None, if◌then◌else◌}
 use Rattle.std.specs.List.{list_any}
 use Rattle.krb_msg.specs.Term.{Term, Fields, Integer, Text, Octets, Time, Bits, Sequence, SequenceOf, Tagged, Application, End, Required, Optional, Value, Values}
+use Rattle.krb_msg.specs.Profiles.{is_unsigned}
 use Rattle.krb_msg.specs.Views.{kind_of, kind_term, message_value}
 use Rattle.krb_msg.specs.declared.message.Message.{Message}
 use Rattle.krb_msg.specs.declared.notes.Notes.{Notes}
@@ -22,15 +23,10 @@ abbrev pub flags_have : Note → ℕ × List ℕ → Bool
 flags_have FewFlags bits = nat_lt (8 * length bits.1 - bits.0) 32
 flags_have other bits = false
 
--- a number of the type of kvno and nonce is negative
+-- a number of the type of kvno, nonce and seq-number is negative
 abbrev pub number_has : Note → ℤ → Bool
 number_has Negative (negsuc number) = true
 number_has other number = false
-
--- whether an INTEGER has the type of kvno and nonce, by its greatest number
-abbrev pub is_unsigned : ℤ → Bool
-is_unsigned (pos high) = high == 4294967295
-is_unsigned (negsuc high) = false
 
 -- a list is empty, which notes hold of where it is an OPTIONAL field: padata, addresses, additional-tickets
 abbrev pub list_has : {A : Type 0} → Note → List A → Bool

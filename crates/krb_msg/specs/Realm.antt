@@ -1,10 +1,11 @@
 -- The realm that a message is of (RFC 4120, 5.2.2).
 use Rattle.std.specs.Prelude.{ℕ, ◌≡◌, List, Option, Some, None}
+use Rattle.krb_der.specs.declared.profile.Profile.{Profile}
 use Rattle.krb_msg.specs.declared.message.Message.{Message}
 use Rattle.krb_msg.specs.declared.message.Message.TheVariants as message
 use Rattle.krb_msg.specs.Views.{message_der, IsInProfile}
 
--- of a request the realm that its body names (5.4.1), of its answer the client's (5.4.2), of an AP-REQ the ticket's (5.5.1), of an error that of the server (5.9.1); an AP-REP names none
+-- of a request the realm that its body names (5.4.1), of its answer the client's (5.4.2), of an AP-REQ the ticket's (5.5.1), of an error that of the server (5.9.1); the other messages name none
 abbrev pub realm_of : Message → Option (List ℕ)
 realm_of (message.AsReq m) = Some m.body.realm
 realm_of (message.AsRep m) = Some m.crealm
@@ -12,11 +13,14 @@ realm_of (message.TgsReq m) = Some m.body.realm
 realm_of (message.TgsRep m) = Some m.crealm
 realm_of (message.ApReq m) = Some m.ticket.realm
 realm_of (message.ApRep m) = None
+realm_of (message.KrbSafe m) = None
+realm_of (message.KrbPriv m) = None
+realm_of (message.KrbCred m) = None
 realm_of (message.KrbError m) = Some m.realm
 
--- the octets are those of some message of the profile, of this realm
-pub record AreOfRealm (octets : List ℕ) (realm : Option (List ℕ)) : Type 0 where
+-- the octets are those of some message of a profile, of this realm
+pub record AreOfRealm (profile : Profile) (octets : List ℕ) (realm : Option (List ℕ)) : Type 0 where
   pub message : Message
-  pub in_profile : IsInProfile message
+  pub in_profile : IsInProfile profile message
   pub form : message_der message ≡ octets
   pub same_realm : realm_of message ≡ realm

@@ -4,7 +4,6 @@ use Rattle.std.specs.List.{AllByRecursion}
 use Rattle.krb_der.specs.Octets.{integer_octets}
 use Rattle.krb_der.specs.declared.why.Why.TheVariants as why
 use Rattle.krb_msg.specs.Term.{Term, Fields, Integer, Text, Octets, Time, Bits, Sequence, SequenceOf, Tagged, Application, End, Required, Optional, tag_of}
-use Rattle.krb_msg.specs.Grammar.{messages}
 use Rattle.krb_msg.specs.Judgement.{Bad, item_outcome, message_outcome}
 use Rattle.krb_msg.specs.Nodes.{term_in, term_at}
 use Rattle.krb_msg.specs.declared.grammar.Node.{Node}
@@ -34,11 +33,11 @@ IsSlot (slot.Optional node) = IsNode node
 -- a form is that of the contents of a term
 abbrev pub IsFormOf : List Term → Form → Term → Type 0
 IsFormOf terms (form.Integer low high widest) (Integer from to) = (low ≡ from) × (high ≡ to) × (widest ≡ max (length (integer_octets from)) (length (integer_octets to))) × (widest ≤ 5)
-IsFormOf terms form.Text (Text greatest) = greatest ≡ 255
+IsFormOf terms (form.Text most) (Text greatest) = most ≡ greatest
 IsFormOf terms form.Octets Octets = Unit {0}
 IsFormOf terms form.Time Time = Unit {0}
-IsFormOf terms form.Bits (Bits least) = least ≡ 0
-IsFormOf terms (form.Items node) (SequenceOf empty term) = IsNode node × (empty ≡ true) × (term_in terms node ≡ term)
+IsFormOf terms (form.Bits fewest) (Bits least) = fewest ≡ least
+IsFormOf terms (form.Items node none) (SequenceOf empty term) = IsNode node × (none ≡ empty) × (term_in terms node ≡ term)
 IsFormOf terms (form.Item node) (Tagged index term) = IsNode node × (term_in terms node ≡ term)
 IsFormOf terms (form.Item node) (Application number term) = IsNode node × (term_in terms node ≡ term)
 IsFormOf terms (form.Fields slots) (Sequence fields) = AllByRecursion IsSlot slots.now × (fields_from terms slots.now ≡ fields)
@@ -55,7 +54,7 @@ RowsAre terms [] [] = Unit {0}
 RowsAre terms (row ∷ rows) (term ∷ others) = IsRowOf terms row term × RowsAre terms rows others
 RowsAre terms rows others = ⊥
 
--- the node of the message that a tag octet chooses, if it chooses one
-abbrev pub IsMessageOf : ℕ → Option ℕ → Type 0
-IsMessageOf tag None = (room : ℕ) (octets : List ℕ) → message_outcome messages room (tag ∷ octets) ≡ Bad 0 why.Tag
-IsMessageOf tag (Some node) = IsNode node × ((room : ℕ) (octets : List ℕ) → message_outcome messages room (tag ∷ octets) ≡ item_outcome (term_at node) room true (tag ∷ octets))
+-- the node of the message that a tag octet chooses among these, if it chooses one
+abbrev pub IsMessageOf : List Term → ℕ → Option ℕ → Type 0
+IsMessageOf messages tag None = (room : ℕ) (octets : List ℕ) → message_outcome messages room (tag ∷ octets) ≡ Bad 0 why.Tag
+IsMessageOf messages tag (Some node) = IsNode node × ((room : ℕ) (octets : List ℕ) → message_outcome messages room (tag ∷ octets) ≡ item_outcome (term_at node) room true (tag ∷ octets))

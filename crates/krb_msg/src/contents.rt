@@ -1,7 +1,8 @@
 //! What contents may be, octet by octet.
 
 ghost use Rattle.std.specs.Prelude.{◌≡◌};
-ghost use Rattle.krb_msg.specs.Judgement.{time_octet, is_padded as padded};
+ghost use Rattle.krb_msg.specs.Term.{Bits};
+ghost use Rattle.krb_msg.specs.Judgement.{time_octet, has_size, is_padded as padded};
 
 /// Whether the first nine bits are equal, as they are not in an INTEGER of the fewest octets (X.690,
 /// 8.3.2).
@@ -26,4 +27,13 @@ pub fn is_time_octet(place: usize, octet: u8) -> bool
     } else {
         octet == b'Z'
     }
+}
+
+/// Whether contents of a size can hold `least` bits, after the count of the unused ones (X.690,
+/// 8.6.2).
+#[inline(always)]
+pub fn has_bits(least: u8, size: u32) -> bool
+    ensures { result ≡ has_size (Bits least) size }
+{
+    0 < size && u64::from(least) <= 8 * u64::from(size - 1)
 }

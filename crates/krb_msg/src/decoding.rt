@@ -1,6 +1,7 @@
 //! Messages from octets.
 
 ghost use Rattle.std.specs.Prelude.{◌≡◌, ◌^◌, ◌<◌, true, IfOk, length};
+ghost use Rattle.krb_der.specs.declared.profile.Profile.TheVariants.{Lenient};
 ghost use Rattle.krb_der.specs.declared.verdict.Verdict.TheVariants.{Whole};
 ghost use Rattle.krb_msg.specs.Judgement.{judgement};
 ghost use Rattle.krb_msg.specs.Views.{AreOfKind, kind_of_tag, kind_term, message_der};
@@ -31,6 +32,9 @@ pub fn decode<S: Source>(alloc: Global, kind: Kind, octets: S) -> Result<Message
         Kind::TgsRep => Ok(Message::TgsRep(KdcRep::decode::<13, S>(alloc, octets)?)),
         Kind::ApReq => Ok(Message::ApReq(decode_whole(alloc, octets)?)),
         Kind::ApRep => Ok(Message::ApRep(decode_whole(alloc, octets)?)),
+        Kind::KrbSafe => Ok(Message::KrbSafe(decode_whole(alloc, octets)?)),
+        Kind::KrbPriv => Ok(Message::KrbPriv(decode_whole(alloc, octets)?)),
+        Kind::KrbCred => Ok(Message::KrbCred(decode_whole(alloc, octets)?)),
         Kind::KrbError => Ok(Message::KrbError(decode_whole(alloc, octets)?)),
     }
 }
@@ -38,8 +42,8 @@ pub fn decode<S: Source>(alloc: Global, kind: Kind, octets: S) -> Result<Message
 /// The kind of the message whose octets these are, which are judged whole. It takes no memory.
 pub fn whole_kind(octets: &[u8]) -> Kind
     requires short { length octets.now < 2 ^ 31 }
-    requires whole { judgement (length octets.now) octets.now ≡ Whole }
-    ensures { AreOfKind octets.now result }
+    requires whole { judgement Lenient (length octets.now) octets.now ≡ Whole }
+    ensures { AreOfKind Lenient octets.now result }
 {
     kind(octets[0])
 }

@@ -3,6 +3,7 @@
 ghost use Rattle.std.specs.Prelude.{◌≡◌, ◌+◌, ◌<◌, ◌≤◌, ◌++◌, ◌↔◌, length, min, IfOk, IfSome, IsNone, IsErrOf};
 ghost use Rattle.std.specs.Vec.{vec_len, vec_capacity};
 ghost use Rattle.krb_der.specs.Puts.{Puts};
+ghost use Rattle.krb_der.specs.declared.profile.Profile.TheVariants.{Lenient};
 ghost use Rattle.krb_msg.specs.Term.{Fits};
 ghost use Rattle.krb_msg.specs.Views.{kind_of, kind_term, message_value, message_der, IsInProfile};
 ghost use Rattle.krb_msg.specs.inner.Fitting.{IsSized};
@@ -36,7 +37,7 @@ impl From<AllocError> for EncodeFault {
 /// The number of DER octets of a message, and `None` where they are more than 2147483647.
 pub fn size(message: &Message) -> Option<u32>
     ensures value { IfSome result (λ size. size ≡ length (message_der message.now)) }
-    ensures in_profile { IfSome result (λ _. IsInProfile message.now) }
+    ensures in_profile { IfSome result (λ _. IsInProfile Lenient message.now) }
     ensures none { IsNone result ↔ (2147483647 < length (message_der message.now)) }
 {
     let octets = octets_of(message);
@@ -51,7 +52,7 @@ pub fn size(message: &Message) -> Option<u32>
 /// then memory is taken once.
 pub fn encode(alloc: Global, message: &Message) -> Result<Vec<u8>, EncodeFault>
     ensures octets { IfOk result (λ octets. octets.items ≡ message_der message.now) }
-    ensures in_profile { IfOk result (λ _. IsInProfile message.now) }
+    ensures in_profile { IfOk result (λ _. IsInProfile Lenient message.now) }
     ensures room { IfOk result (λ octets. vec_capacity octets ≡ vec_len octets) }
     ensures too_long { IsErrOf result EncodeFault.TooLong ↔ (2147483647 < length (message_der message.now)) }
 {
@@ -73,6 +74,9 @@ fn octets_of(message: &Message) -> u64
         Message::TgsRep(rep) => rep.size::<13>(),
         Message::ApReq(req) => req.size(),
         Message::ApRep(rep) => rep.size(),
+        Message::KrbSafe(safe) => safe.size(),
+        Message::KrbPriv(private) => private.size(),
+        Message::KrbCred(cred) => cred.size(),
         Message::KrbError(error) => error.size(),
     }
 }
@@ -91,6 +95,9 @@ pub fn put(message: &Message, out: &mut Vec<u8>)
         Message::TgsRep(rep) => rep.put::<13>(out),
         Message::ApReq(req) => req.put(out),
         Message::ApRep(rep) => rep.put(out),
+        Message::KrbSafe(safe) => safe.put(out),
+        Message::KrbPriv(private) => private.put(out),
+        Message::KrbCred(cred) => cred.put(out),
         Message::KrbError(error) => error.put(out),
     }
 }

@@ -2,12 +2,17 @@
 
 use crate::ap_rep::ApRep;
 use crate::ap_req::ApReq;
+use crate::checksum::Checksum;
 use crate::encrypted_data::EncryptedData;
 use crate::host_address::HostAddress;
 use crate::kdc_rep::KdcRep;
 use crate::kdc_req::KdcReq;
 use crate::kdc_req_body::KdcReqBody;
+use crate::krb_cred::KrbCred;
 use crate::krb_error::KrbError;
+use crate::krb_priv::KrbPriv;
+use crate::krb_safe::KrbSafe;
+use crate::krb_safe_body::KrbSafeBody;
 use crate::message::Message;
 use crate::pa_data::PaData;
 use crate::principal_name::PrincipalName;
@@ -35,6 +40,12 @@ impl GiveBack for PaData {
 impl GiveBack for HostAddress {
     fn give_back(self, room: &mut Room) {
         self.address.give_back(room);
+    }
+}
+
+impl GiveBack for Checksum {
+    fn give_back(self, room: &mut Room) {
+        self.checksum.give_back(room);
     }
 }
 
@@ -117,6 +128,42 @@ impl GiveBack for ApRep {
     }
 }
 
+impl GiveBack for KrbSafeBody {
+    fn give_back(self, room: &mut Room) {
+        let KrbSafeBody {
+            user_data,
+            s_address,
+            r_address,
+            ..
+        } = self;
+        user_data.give_back(room);
+        s_address.give_back(room);
+        r_address.give_back(room);
+    }
+}
+
+impl GiveBack for KrbSafe {
+    fn give_back(self, room: &mut Room) {
+        let KrbSafe { body, cksum } = self;
+        body.give_back(room);
+        cksum.give_back(room);
+    }
+}
+
+impl GiveBack for KrbPriv {
+    fn give_back(self, room: &mut Room) {
+        self.enc_part.give_back(room);
+    }
+}
+
+impl GiveBack for KrbCred {
+    fn give_back(self, room: &mut Room) {
+        let KrbCred { tickets, enc_part } = self;
+        tickets.give_back(room);
+        enc_part.give_back(room);
+    }
+}
+
 impl GiveBack for KrbError {
     fn give_back(self, room: &mut Room) {
         let KrbError {
@@ -144,6 +191,9 @@ impl GiveBack for Message {
             Message::AsRep(reply) | Message::TgsRep(reply) => reply.give_back(room),
             Message::ApReq(request) => request.give_back(room),
             Message::ApRep(reply) => reply.give_back(room),
+            Message::KrbSafe(safe) => safe.give_back(room),
+            Message::KrbPriv(private) => private.give_back(room),
+            Message::KrbCred(cred) => cred.give_back(room),
             Message::KrbError(error) => error.give_back(room),
         }
     }

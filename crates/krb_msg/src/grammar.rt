@@ -1,12 +1,15 @@
 //! The grammar of `specs/Grammar` as a table, from which octets are judged.
 
 ghost use Rattle.std.specs.Prelude.{◌≡◌, length, map};
+ghost use Rattle.std.specs.List.{AllByRecursion};
 ghost use Rattle.krb_msg.specs.Term.{tag_of as term_tag};
 ghost use Rattle.krb_msg.specs.Grammar.{messages};
 ghost use Rattle.krb_msg.specs.Nodes.{nodes, term_at};
 ghost use Rattle.krb_msg.specs.Table.{IsNode, IsRowOf, RowsAre, IsFormOf, IsMessageOf};
 
-/// The rows of the table, in their order: the terms of RFC 4120 by their names, those in a tag by
+use krb_der::Profile;
+
+/// The rows of a profile, in their order: the terms of RFC 4120 by their names, those in a tag by
 /// the field that has it.
 pub enum Row {
     // basic types, and lists of one type
@@ -24,9 +27,13 @@ pub enum Row {
     TgsRepType,
     ApReqType,
     ApRepType,
+    KrbSafeType,
+    KrbPrivType,
+    KrbCredType,
     KrbErrorType,
     KerberosStrings,
     Int32s,
+    CredTickets,
     HostAddresses,
     Tickets,
     MethodData,
@@ -47,6 +54,10 @@ pub enum Row {
     EncryptedDataEtype,
     EncryptedDataKvno,
     EncryptedDataCipher,
+    // Checksum
+    Checksum,
+    ChecksumCksumtype,
+    ChecksumChecksum,
     // Ticket
     Ticket,
     TicketFields,
@@ -116,6 +127,34 @@ pub enum Row {
     ApRepPvno,
     ApRepMsgType,
     ApRepEncPart,
+    // KRB-SAFE-BODY
+    KrbSafeBody,
+    KrbSafeBodyUserData,
+    KrbSafeBodyTimestamp,
+    KrbSafeBodyUsec,
+    KrbSafeBodySeqNumber,
+    KrbSafeBodySAddress,
+    KrbSafeBodyRAddress,
+    // KRB-SAFE
+    KrbSafe,
+    KrbSafeFields,
+    KrbSafePvno,
+    KrbSafeMsgType,
+    KrbSafeSafeBody,
+    KrbSafeCksum,
+    // KRB-PRIV
+    KrbPriv,
+    KrbPrivFields,
+    KrbPrivPvno,
+    KrbPrivMsgType,
+    KrbPrivEncPart,
+    // KRB-CRED
+    KrbCred,
+    KrbCredFields,
+    KrbCredPvno,
+    KrbCredMsgType,
+    KrbCredTickets,
+    KrbCredEncPart,
     // KRB-ERROR
     KrbError,
     KrbErrorFields,
@@ -139,16 +178,16 @@ pub enum Row {
 pub enum Form {
     /// An INTEGER from `low` to `high`, which has at most `widest` octets.
     Integer { low: i64, high: i64, widest: u32 },
-    /// A KerberosString.
-    Text,
+    /// A KerberosString of octets up to the `greatest`.
+    Text { greatest: u8 },
     /// An OCTET STRING.
     Octets,
     /// A KerberosTime.
     Time,
-    /// A BIT STRING.
-    Bits,
-    /// Any number of items of one node.
-    Items { node: u16 },
+    /// A BIT STRING of `least` bits or more.
+    Bits { least: u8 },
+    /// Any number of items of one node, also none if it may be `empty`.
+    Items { node: u16, empty: bool },
     /// The one item of a tag.
     Item { node: u16 },
     /// The fields of a SEQUENCE.
@@ -173,172 +212,260 @@ pub enum Slot {
     Optional { node: u16 },
 }
 
-macro_rules! node {
-    (Integer, $low:expr, $high:expr, $widest:expr) => {
-        Node { tag: 0x02, form: Form::Integer { low: $low, high: $high, widest: $widest } }
-    };
-    (Text) => { Node { tag: 0x1B, form: Form::Text } };
-    (Octets) => { Node { tag: 0x04, form: Form::Octets } };
-    (Time) => { Node { tag: 0x18, form: Form::Time } };
-    (Bits) => { Node { tag: 0x03, form: Form::Bits } };
-    (Items, $row:ident) => { Node { tag: 0x30, form: Form::Items { node: Row::$row as u16 } } };
-    (Sequence, $($slot:ident $row:ident),*) => {
-        Node { tag: 0x30, form: Form::Fields { fields: &[$(Slot::$slot { node: Row::$row as u16 }),*] } }
-    };
-    (Tagged, $index:expr, $row:ident) => {
-        Node { tag: 0xA0 + $index, form: Form::Item { node: Row::$row as u16 } }
-    };
-    (Application, $number:expr, $row:ident) => {
-        Node { tag: 0x60 + $number, form: Form::Item { node: Row::$row as u16 } }
+// what a profile has: the lenient one, or else the strict one
+macro_rules! by_profile {
+    (Lenient, $lenient:expr, $strict:expr) => { $lenient };
+    (Strict, $lenient:expr, $strict:expr) => { $strict };
+}
+
+macro_rules! row {
+    ($profile:ident, $row:ident) => {
+        by_profile!($profile, Row::$row as u16, Row::$row as u16 + ROWS as u16)
     };
 }
 
+macro_rules! node {
+    ($profile:ident, Integer, $low:expr, $high:expr, $widest:expr) => {
+        Node { tag: 0x02, form: Form::Integer { low: $low, high: $high, widest: $widest } }
+    };
+    ($profile:ident, Unsigned) => {
+        Node { tag: 0x02, form: Form::Integer { low: by_profile!($profile, -2147483648, 0), high: 4294967295, widest: 5 } }
+    };
+    ($profile:ident, Text) => { Node { tag: 0x1B, form: Form::Text { greatest: by_profile!($profile, 0xFF, 0x7F) } } };
+    ($profile:ident, Octets) => { Node { tag: 0x04, form: Form::Octets } };
+    ($profile:ident, Time) => { Node { tag: 0x18, form: Form::Time } };
+    ($profile:ident, Bits) => { Node { tag: 0x03, form: Form::Bits { least: by_profile!($profile, 0, 32) } } };
+    ($profile:ident, Items, $row:ident) => {
+        Node { tag: 0x30, form: Form::Items { node: row!($profile, $row), empty: true } }
+    };
+    ($profile:ident, OptionalItems, $row:ident) => {
+        Node { tag: 0x30, form: Form::Items { node: row!($profile, $row), empty: by_profile!($profile, true, false) } }
+    };
+    ($profile:ident, Sequence, $($slot:ident $row:ident),*) => {
+        Node { tag: 0x30, form: Form::Fields { fields: &[$(Slot::$slot { node: row!($profile, $row) }),*] } }
+    };
+    ($profile:ident, Tagged, $index:expr, $row:ident) => {
+        Node { tag: 0xA0 + $index, form: Form::Item { node: row!($profile, $row) } }
+    };
+    ($profile:ident, Application, $number:expr, $row:ident) => {
+        Node { tag: 0x60 + $number, form: Form::Item { node: row!($profile, $row) } }
+    };
+}
+
+// the rows of the lenient profile, and then those of the strict one
+macro_rules! both {
+    ($(($($row:tt)*)),* $(,)?) => {
+        [$(node!(Lenient, $($row)*)),*, $(node!(Strict, $($row)*)),*]
+    };
+}
+
+/// How many rows a profile has.
+pub const ROWS: usize = 140;
+
 /// How many rows the table has.
-pub const NODES: usize = 109;
+pub const NODES: usize = 280;
 
-/// A row for each term of the grammar, in the order of [`Row`]. That they are, [`row_at`] says.
-pub static GRAMMAR: [Node; NODES] = [
+/// A row for each term of the grammar: those of the lenient profile in the order of [`Row`], and
+/// then those of the strict one in the same order. That they are, [`rows`] says.
+pub static GRAMMAR: [Node; NODES] = both![
     // basic types, and lists of one type
-    node!(Integer, -2147483648, 2147483647, 4),
-    node!(Integer, -2147483648, 4294967295, 5),
-    node!(Integer, 0, 999999, 3),
-    node!(Text),
-    node!(Octets),
-    node!(Time),
-    node!(Bits),
-    node!(Integer, 5, 5, 1),
-    node!(Integer, 10, 10, 1),
-    node!(Integer, 11, 11, 1),
-    node!(Integer, 12, 12, 1),
-    node!(Integer, 13, 13, 1),
-    node!(Integer, 14, 14, 1),
-    node!(Integer, 15, 15, 1),
-    node!(Integer, 30, 30, 1),
-    node!(Items, KerberosString),
-    node!(Items, Int32),
-    node!(Items, HostAddress),
-    node!(Items, Ticket),
-    node!(Items, PaData),
+    (Integer, -2147483648, 2147483647, 4),
+    (Unsigned),
+    (Integer, 0, 999999, 3),
+    (Text),
+    (Octets),
+    (Time),
+    (Bits),
+    (Integer, 5, 5, 1),
+    (Integer, 10, 10, 1),
+    (Integer, 11, 11, 1),
+    (Integer, 12, 12, 1),
+    (Integer, 13, 13, 1),
+    (Integer, 14, 14, 1),
+    (Integer, 15, 15, 1),
+    (Integer, 20, 20, 1),
+    (Integer, 21, 21, 1),
+    (Integer, 22, 22, 1),
+    (Integer, 30, 30, 1),
+    (Items, KerberosString),
+    (Items, Int32),
+    (Items, Ticket),
+    (OptionalItems, HostAddress),
+    (OptionalItems, Ticket),
+    (OptionalItems, PaData),
     // PrincipalName
-    node!(Sequence, Required PrincipalNameNameType, Required PrincipalNameNameString),
-    node!(Tagged, 0, Int32),
-    node!(Tagged, 1, KerberosStrings),
+    (Sequence, Required PrincipalNameNameType, Required PrincipalNameNameString),
+    (Tagged, 0, Int32),
+    (Tagged, 1, KerberosStrings),
     // HostAddress
-    node!(Sequence, Required HostAddressAddrType, Required HostAddressAddress),
-    node!(Tagged, 0, Int32),
-    node!(Tagged, 1, OctetString),
+    (Sequence, Required HostAddressAddrType, Required HostAddressAddress),
+    (Tagged, 0, Int32),
+    (Tagged, 1, OctetString),
     // PA-DATA
-    node!(Sequence, Required PaDataPadataType, Required PaDataPadataValue),
-    node!(Tagged, 1, Int32),
-    node!(Tagged, 2, OctetString),
+    (Sequence, Required PaDataPadataType, Required PaDataPadataValue),
+    (Tagged, 1, Int32),
+    (Tagged, 2, OctetString),
     // EncryptedData
-    node!(Sequence, Required EncryptedDataEtype, Optional EncryptedDataKvno, Required EncryptedDataCipher),
-    node!(Tagged, 0, Int32),
-    node!(Tagged, 1, Wide32),
-    node!(Tagged, 2, OctetString),
+    (Sequence, Required EncryptedDataEtype, Optional EncryptedDataKvno, Required EncryptedDataCipher),
+    (Tagged, 0, Int32),
+    (Tagged, 1, Wide32),
+    (Tagged, 2, OctetString),
+    // Checksum
+    (Sequence, Required ChecksumCksumtype, Required ChecksumChecksum),
+    (Tagged, 0, Int32),
+    (Tagged, 1, OctetString),
     // Ticket
-    node!(Application, 1, TicketFields),
-    node!(Sequence, Required TicketTktVno, Required TicketRealm, Required TicketSname, Required TicketEncPart),
-    node!(Tagged, 0, Version),
-    node!(Tagged, 1, KerberosString),
-    node!(Tagged, 2, PrincipalName),
-    node!(Tagged, 3, EncryptedData),
+    (Application, 1, TicketFields),
+    (Sequence, Required TicketTktVno, Required TicketRealm, Required TicketSname, Required TicketEncPart),
+    (Tagged, 0, Version),
+    (Tagged, 1, KerberosString),
+    (Tagged, 2, PrincipalName),
+    (Tagged, 3, EncryptedData),
     // KDC-REQ-BODY
-    node!(Sequence, Required KdcReqBodyKdcOptions, Optional KdcReqBodyCname, Required KdcReqBodyRealm, Optional KdcReqBodySname, Optional KdcReqBodyFrom, Required KdcReqBodyTill, Optional KdcReqBodyRtime, Required KdcReqBodyNonce, Required KdcReqBodyEtype, Optional KdcReqBodyAddresses, Optional KdcReqBodyEncAuthorizationData, Optional KdcReqBodyAdditionalTickets),
-    node!(Tagged, 0, KerberosFlags),
-    node!(Tagged, 1, PrincipalName),
-    node!(Tagged, 2, KerberosString),
-    node!(Tagged, 3, PrincipalName),
-    node!(Tagged, 4, KerberosTime),
-    node!(Tagged, 5, KerberosTime),
-    node!(Tagged, 6, KerberosTime),
-    node!(Tagged, 7, Wide32),
-    node!(Tagged, 8, Int32s),
-    node!(Tagged, 9, HostAddresses),
-    node!(Tagged, 10, EncryptedData),
-    node!(Tagged, 11, Tickets),
+    (Sequence, Required KdcReqBodyKdcOptions, Optional KdcReqBodyCname, Required KdcReqBodyRealm, Optional KdcReqBodySname, Optional KdcReqBodyFrom, Required KdcReqBodyTill, Optional KdcReqBodyRtime, Required KdcReqBodyNonce, Required KdcReqBodyEtype, Optional KdcReqBodyAddresses, Optional KdcReqBodyEncAuthorizationData, Optional KdcReqBodyAdditionalTickets),
+    (Tagged, 0, KerberosFlags),
+    (Tagged, 1, PrincipalName),
+    (Tagged, 2, KerberosString),
+    (Tagged, 3, PrincipalName),
+    (Tagged, 4, KerberosTime),
+    (Tagged, 5, KerberosTime),
+    (Tagged, 6, KerberosTime),
+    (Tagged, 7, Wide32),
+    (Tagged, 8, Int32s),
+    (Tagged, 9, HostAddresses),
+    (Tagged, 10, EncryptedData),
+    (Tagged, 11, Tickets),
     // AS-REQ
-    node!(Application, 10, AsReqFields),
-    node!(Sequence, Required AsReqPvno, Required AsReqMsgType, Optional AsReqPadata, Required AsReqReqBody),
-    node!(Tagged, 1, Version),
-    node!(Tagged, 2, AsReqType),
-    node!(Tagged, 3, MethodData),
-    node!(Tagged, 4, KdcReqBody),
+    (Application, 10, AsReqFields),
+    (Sequence, Required AsReqPvno, Required AsReqMsgType, Optional AsReqPadata, Required AsReqReqBody),
+    (Tagged, 1, Version),
+    (Tagged, 2, AsReqType),
+    (Tagged, 3, MethodData),
+    (Tagged, 4, KdcReqBody),
     // TGS-REQ
-    node!(Application, 12, TgsReqFields),
-    node!(Sequence, Required TgsReqPvno, Required TgsReqMsgType, Optional TgsReqPadata, Required TgsReqReqBody),
-    node!(Tagged, 1, Version),
-    node!(Tagged, 2, TgsReqType),
-    node!(Tagged, 3, MethodData),
-    node!(Tagged, 4, KdcReqBody),
+    (Application, 12, TgsReqFields),
+    (Sequence, Required TgsReqPvno, Required TgsReqMsgType, Optional TgsReqPadata, Required TgsReqReqBody),
+    (Tagged, 1, Version),
+    (Tagged, 2, TgsReqType),
+    (Tagged, 3, MethodData),
+    (Tagged, 4, KdcReqBody),
     // AS-REP
-    node!(Application, 11, AsRepFields),
-    node!(Sequence, Required AsRepPvno, Required AsRepMsgType, Optional AsRepPadata, Required AsRepCrealm, Required AsRepCname, Required AsRepTicket, Required AsRepEncPart),
-    node!(Tagged, 0, Version),
-    node!(Tagged, 1, AsRepType),
-    node!(Tagged, 2, MethodData),
-    node!(Tagged, 3, KerberosString),
-    node!(Tagged, 4, PrincipalName),
-    node!(Tagged, 5, Ticket),
-    node!(Tagged, 6, EncryptedData),
+    (Application, 11, AsRepFields),
+    (Sequence, Required AsRepPvno, Required AsRepMsgType, Optional AsRepPadata, Required AsRepCrealm, Required AsRepCname, Required AsRepTicket, Required AsRepEncPart),
+    (Tagged, 0, Version),
+    (Tagged, 1, AsRepType),
+    (Tagged, 2, MethodData),
+    (Tagged, 3, KerberosString),
+    (Tagged, 4, PrincipalName),
+    (Tagged, 5, Ticket),
+    (Tagged, 6, EncryptedData),
     // TGS-REP
-    node!(Application, 13, TgsRepFields),
-    node!(Sequence, Required TgsRepPvno, Required TgsRepMsgType, Optional TgsRepPadata, Required TgsRepCrealm, Required TgsRepCname, Required TgsRepTicket, Required TgsRepEncPart),
-    node!(Tagged, 0, Version),
-    node!(Tagged, 1, TgsRepType),
-    node!(Tagged, 2, MethodData),
-    node!(Tagged, 3, KerberosString),
-    node!(Tagged, 4, PrincipalName),
-    node!(Tagged, 5, Ticket),
-    node!(Tagged, 6, EncryptedData),
+    (Application, 13, TgsRepFields),
+    (Sequence, Required TgsRepPvno, Required TgsRepMsgType, Optional TgsRepPadata, Required TgsRepCrealm, Required TgsRepCname, Required TgsRepTicket, Required TgsRepEncPart),
+    (Tagged, 0, Version),
+    (Tagged, 1, TgsRepType),
+    (Tagged, 2, MethodData),
+    (Tagged, 3, KerberosString),
+    (Tagged, 4, PrincipalName),
+    (Tagged, 5, Ticket),
+    (Tagged, 6, EncryptedData),
     // AP-REQ
-    node!(Application, 14, ApReqFields),
-    node!(Sequence, Required ApReqPvno, Required ApReqMsgType, Required ApReqApOptions, Required ApReqTicket, Required ApReqAuthenticator),
-    node!(Tagged, 0, Version),
-    node!(Tagged, 1, ApReqType),
-    node!(Tagged, 2, KerberosFlags),
-    node!(Tagged, 3, Ticket),
-    node!(Tagged, 4, EncryptedData),
+    (Application, 14, ApReqFields),
+    (Sequence, Required ApReqPvno, Required ApReqMsgType, Required ApReqApOptions, Required ApReqTicket, Required ApReqAuthenticator),
+    (Tagged, 0, Version),
+    (Tagged, 1, ApReqType),
+    (Tagged, 2, KerberosFlags),
+    (Tagged, 3, Ticket),
+    (Tagged, 4, EncryptedData),
     // AP-REP
-    node!(Application, 15, ApRepFields),
-    node!(Sequence, Required ApRepPvno, Required ApRepMsgType, Required ApRepEncPart),
-    node!(Tagged, 0, Version),
-    node!(Tagged, 1, ApRepType),
-    node!(Tagged, 2, EncryptedData),
+    (Application, 15, ApRepFields),
+    (Sequence, Required ApRepPvno, Required ApRepMsgType, Required ApRepEncPart),
+    (Tagged, 0, Version),
+    (Tagged, 1, ApRepType),
+    (Tagged, 2, EncryptedData),
+    // KRB-SAFE-BODY
+    (Sequence, Required KrbSafeBodyUserData, Optional KrbSafeBodyTimestamp, Optional KrbSafeBodyUsec, Optional KrbSafeBodySeqNumber, Required KrbSafeBodySAddress, Optional KrbSafeBodyRAddress),
+    (Tagged, 0, OctetString),
+    (Tagged, 1, KerberosTime),
+    (Tagged, 2, Microseconds),
+    (Tagged, 3, Wide32),
+    (Tagged, 4, HostAddress),
+    (Tagged, 5, HostAddress),
+    // KRB-SAFE
+    (Application, 20, KrbSafeFields),
+    (Sequence, Required KrbSafePvno, Required KrbSafeMsgType, Required KrbSafeSafeBody, Required KrbSafeCksum),
+    (Tagged, 0, Version),
+    (Tagged, 1, KrbSafeType),
+    (Tagged, 2, KrbSafeBody),
+    (Tagged, 3, Checksum),
+    // KRB-PRIV
+    (Application, 21, KrbPrivFields),
+    (Sequence, Required KrbPrivPvno, Required KrbPrivMsgType, Required KrbPrivEncPart),
+    (Tagged, 0, Version),
+    (Tagged, 1, KrbPrivType),
+    (Tagged, 3, EncryptedData),
+    // KRB-CRED
+    (Application, 22, KrbCredFields),
+    (Sequence, Required KrbCredPvno, Required KrbCredMsgType, Required KrbCredTickets, Required KrbCredEncPart),
+    (Tagged, 0, Version),
+    (Tagged, 1, KrbCredType),
+    (Tagged, 2, CredTickets),
+    (Tagged, 3, EncryptedData),
     // KRB-ERROR
-    node!(Application, 30, KrbErrorFields),
-    node!(Sequence, Required KrbErrorPvno, Required KrbErrorMsgType, Optional KrbErrorCtime, Optional KrbErrorCusec, Required KrbErrorStime, Required KrbErrorSusec, Required KrbErrorErrorCode, Optional KrbErrorCrealm, Optional KrbErrorCname, Required KrbErrorRealm, Required KrbErrorSname, Optional KrbErrorEText, Optional KrbErrorEData),
-    node!(Tagged, 0, Version),
-    node!(Tagged, 1, KrbErrorType),
-    node!(Tagged, 2, KerberosTime),
-    node!(Tagged, 3, Microseconds),
-    node!(Tagged, 4, KerberosTime),
-    node!(Tagged, 5, Microseconds),
-    node!(Tagged, 6, Int32),
-    node!(Tagged, 7, KerberosString),
-    node!(Tagged, 8, PrincipalName),
-    node!(Tagged, 9, KerberosString),
-    node!(Tagged, 10, PrincipalName),
-    node!(Tagged, 11, KerberosString),
-    node!(Tagged, 12, OctetString),
+    (Application, 30, KrbErrorFields),
+    (Sequence, Required KrbErrorPvno, Required KrbErrorMsgType, Optional KrbErrorCtime, Optional KrbErrorCusec, Required KrbErrorStime, Required KrbErrorSusec, Required KrbErrorErrorCode, Optional KrbErrorCrealm, Optional KrbErrorCname, Required KrbErrorRealm, Required KrbErrorSname, Optional KrbErrorEText, Optional KrbErrorEData),
+    (Tagged, 0, Version),
+    (Tagged, 1, KrbErrorType),
+    (Tagged, 2, KerberosTime),
+    (Tagged, 3, Microseconds),
+    (Tagged, 4, KerberosTime),
+    (Tagged, 5, Microseconds),
+    (Tagged, 6, Int32),
+    (Tagged, 7, KerberosString),
+    (Tagged, 8, PrincipalName),
+    (Tagged, 9, KerberosString),
+    (Tagged, 10, PrincipalName),
+    (Tagged, 11, KerberosString),
+    (Tagged, 12, OctetString),
 ];
 
-/// The messages that are judged.
-pub static MESSAGES: [u16; 7] = [
-    Row::AsReq as u16,
-    Row::AsRep as u16,
-    Row::TgsReq as u16,
-    Row::TgsRep as u16,
-    Row::ApReq as u16,
-    Row::ApRep as u16,
-    Row::KrbError as u16,
-];
+macro_rules! messages {
+    ($profile:ident) => {
+        [
+            row!($profile, AsReq),
+            row!($profile, AsRep),
+            row!($profile, TgsReq),
+            row!($profile, TgsRep),
+            row!($profile, ApReq),
+            row!($profile, ApRep),
+            row!($profile, KrbSafe),
+            row!($profile, KrbPriv),
+            row!($profile, KrbCred),
+            row!($profile, KrbError),
+        ]
+    };
+}
 
-/// The table has a row for each term, and the messages that are judged are those of the grammar.
+/// The messages of the lenient profile.
+pub static LENIENT: [u16; 10] = messages!(Lenient);
+
+/// The messages of the strict profile.
+pub static STRICT: [u16; 10] = messages!(Strict);
+
+/// There is a term for each row, and the messages of each profile are those of the grammar.
 pub fn tables()
-    ensures rows { length nodes ≡ NODES }
-    ensures judged { map term_at MESSAGES ≡ messages }
+    ensures terms { length nodes ≡ NODES }
+    ensures lenient { map term_at LENIENT ≡ messages Profile.Lenient }
+    ensures strict { map term_at STRICT ≡ messages Profile.Strict }
 {}
+
+/// The rows of [`GRAMMAR`]: each is that of the term at its place.
+#[inline(always)]
+pub fn rows() -> &'static [Node]
+    ensures { RowsAre nodes result.now nodes }
+{
+    &GRAMMAR
+}
 
 /// The row of a node, in rows that are those of the terms.
 #[inline(always)]
@@ -356,7 +483,7 @@ pub fn row_at(node: u16) -> Node
     requires { IsNode node }
     ensures { IsRowOf nodes result (term_at node) }
 {
-    row_in(&GRAMMAR, node)
+    row_in(rows(), node)
 }
 
 /// The tag octet of a node's term.
@@ -375,13 +502,24 @@ pub fn form_of(node: u16) -> Form
     row_at(node).form
 }
 
-/// The node of the message that begins with a tag octet, of those that are judged.
-pub fn message_of(tag: u8) -> Option<u16>
-    ensures { IsMessageOf tag result }
+/// The node of the message of a profile that begins with a tag octet.
+pub fn message_of(profile: Profile, tag: u8) -> Option<u16>
+    ensures { IsMessageOf (messages profile) tag result }
 {
-    for node in MESSAGES {
-        if tag_of(node) == tag {
-            return Some(node);
+    match profile {
+        Profile::Lenient => message_among(&LENIENT, tag),
+        Profile::Strict => message_among(&STRICT, tag),
+    }
+}
+
+/// The node of the message that begins with a tag octet, of those of some nodes.
+fn message_among(chosen: &[u16], tag: u8) -> Option<u16>
+    requires { AllByRecursion IsNode chosen.now }
+    ensures { IsMessageOf (map term_at chosen.now) tag result }
+{
+    for node in chosen {
+        if tag_of(*node) == tag {
+            return Some(*node);
         }
     }
     None

@@ -1,6 +1,6 @@
 //! Laws of grammars, of the messages, of their DER and of the judgement of octets. Each is the
 //! contract of a function that does nothing.
-ghost use Rattle.krb_msg.specs.Laws.{WholeIsValue, ValueIsWhole, ValueIsRead, WholeIsOneOf, RefusalIsFinal, AllIsDecided, OneOfIsWhole, OneOfIsOctets, RefusalIsNoneOf, OneOfTells, MessagesAreGrammar, MessagesNest, WholeIsMessage, MessageIsWhole, MessageIsRead, RefusalIsRight, DerIsPrefixFree, MessageRoundTrips};
+ghost use Rattle.krb_msg.specs.Laws.{WholeIsValue, ValueIsWhole, ValueIsRead, ItemIsNotTruncated, WholeIsOneOf, RefusalIsFinal, AllIsDecided, RefusalIsNotTruncated, OneOfIsWhole, OneOfIsOctets, RefusalIsNoneOf, OneOfTells, MessagesAreGrammar, MessagesNest, WholeIsMessage, MessageIsWhole, MessageIsRead, RefusalIsRight, DerIsPrefixFree, MessageRoundTrips, StrictIsNarrower, StrictHasNoNotes, LenientHasNoCharset, StrictIsLenient};
 
 /// What is judged whole as an item of a term, a Ticket say, is the DER of one of its values.
 pub fn whole_is_value()
@@ -17,6 +17,11 @@ pub fn value_is_read()
     ensures { ValueIsRead }
 {}
 
+/// No octets of an item are refused as `Truncated`.
+pub fn item_is_not_truncated()
+    ensures { ItemIsNotTruncated }
+{}
+
 /// By any messages, what is judged whole is the DER of a value of one of them.
 pub fn whole_is_one_of()
     ensures { WholeIsOneOf }
@@ -31,6 +36,11 @@ pub fn refusal_is_final()
 /// By any messages, with all the octets present something is decided.
 pub fn all_is_decided()
     ensures { AllIsDecided }
+{}
+
+/// By any messages, no octets are refused as `Truncated`; a stream that ends inside a frame is.
+pub fn refusal_is_not_truncated()
+    ensures { RefusalIsNotTruncated }
 {}
 
 /// By any grammar, the DER of a value of one of its messages is judged whole.
@@ -55,7 +65,7 @@ pub fn one_of_tells()
     ensures { OneOfTells }
 {}
 
-/// The messages of this crate are a grammar.
+/// The messages of a profile are a grammar.
 pub fn messages_are_grammar()
     ensures { MessagesAreGrammar }
 {}
@@ -65,12 +75,12 @@ pub fn messages_nest()
     ensures { MessagesNest }
 {}
 
-/// What is judged whole is the DER of a message.
+/// What is judged whole is the DER of a message of the profile.
 pub fn whole_is_message()
     ensures { WholeIsMessage }
 {}
 
-/// The DER of a message is judged whole.
+/// The DER of a message of the profile is judged whole.
 pub fn message_is_whole()
     ensures { MessageIsWhole }
 {}
@@ -88,6 +98,27 @@ pub fn refusal_is_right()
 /// No message's DER begins another's, and different messages have different DER.
 pub fn der_is_prefix_free()
     ensures { DerIsPrefixFree }
+{}
+
+/// A message is in the strict profile exactly where it is in the lenient one and keeps the strict
+/// rules.
+pub fn strict_is_narrower()
+    ensures { StrictIsNarrower }
+{}
+
+/// A message keeps the strict rules exactly where none of the notes 1 to 4 holds in it.
+pub fn strict_has_no_notes()
+    ensures { StrictHasNoNotes }
+{}
+
+/// The lenient profile refuses no octets as `Charset`.
+pub fn lenient_has_no_charset()
+    ensures { LenientHasNoCharset }
+{}
+
+/// What the strict profile judges whole, the lenient one does.
+pub fn strict_is_lenient()
+    ensures { StrictIsLenient }
 {}
 
 /// The way back from the value of a message gives the message.

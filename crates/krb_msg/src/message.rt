@@ -7,7 +7,10 @@ use crate::ap_rep::ApRep;
 use crate::ap_req::ApReq;
 use crate::kdc_rep::KdcRep;
 use crate::kdc_req::KdcReq;
+use crate::krb_cred::KrbCred;
 use crate::krb_error::KrbError;
+use crate::krb_priv::KrbPriv;
+use crate::krb_safe::KrbSafe;
 
 /// A message of any kind (RFC 4120, section 5).
 #[derive(PartialEq, Eq, Debug, Drop)]
@@ -24,6 +27,12 @@ pub enum Message {
     ApReq(ApReq),
     /// The reply of an application server (5.5.2).
     ApRep(ApRep),
+    /// What one sends the other, protected against changes (5.6.1).
+    KrbSafe(KrbSafe),
+    /// What one sends the other, sealed (5.7.1).
+    KrbPriv(KrbPriv),
+    /// Tickets that one hands on to the other (5.8.1).
+    KrbCred(KrbCred),
     /// What is sent in place of any answer (5.9.1).
     KrbError(KrbError),
 }
@@ -43,6 +52,12 @@ pub enum Kind {
     ApReq,
     /// AP-REP, `[APPLICATION 15]`.
     ApRep,
+    /// KRB-SAFE, `[APPLICATION 20]`.
+    KrbSafe,
+    /// KRB-PRIV, `[APPLICATION 21]`.
+    KrbPriv,
+    /// KRB-CRED, `[APPLICATION 22]`.
+    KrbCred,
     /// KRB-ERROR, `[APPLICATION 30]`.
     KrbError,
 }
@@ -59,6 +74,9 @@ impl Message {
             Message::TgsRep(_) => Kind::TgsRep,
             Message::ApReq(_) => Kind::ApReq,
             Message::ApRep(_) => Kind::ApRep,
+            Message::KrbSafe(_) => Kind::KrbSafe,
+            Message::KrbPriv(_) => Kind::KrbPriv,
+            Message::KrbCred(_) => Kind::KrbCred,
             Message::KrbError(_) => Kind::KrbError,
         }
     }
@@ -76,6 +94,9 @@ impl Kind {
             Kind::TgsRep => 13,
             Kind::ApReq => 14,
             Kind::ApRep => 15,
+            Kind::KrbSafe => 20,
+            Kind::KrbPriv => 21,
+            Kind::KrbCred => 22,
             Kind::KrbError => 30,
         }
     }
@@ -98,6 +119,9 @@ impl Kind {
             Kind::TgsRep => "TGS-REP",
             Kind::ApReq => "AP-REQ",
             Kind::ApRep => "AP-REP",
+            Kind::KrbSafe => "KRB-SAFE",
+            Kind::KrbPriv => "KRB-PRIV",
+            Kind::KrbCred => "KRB-CRED",
             Kind::KrbError => "KRB-ERROR",
         }
     }
@@ -113,6 +137,9 @@ impl Kind {
             0x6D => Some(Kind::TgsRep),
             0x6E => Some(Kind::ApReq),
             0x6F => Some(Kind::ApRep),
+            0x74 => Some(Kind::KrbSafe),
+            0x75 => Some(Kind::KrbPriv),
+            0x76 => Some(Kind::KrbCred),
             0x7E => Some(Kind::KrbError),
             _ => None,
         }

@@ -2,8 +2,8 @@
 
 ghost use Rattle.std.specs.Prelude.{◌≡◌, Bool, false, nat_lt};
 ghost use Rattle.std.specs.List.{list_any};
-ghost use Rattle.krb_msg.specs.Grammar.{principal_name, encrypted_data, ticket, kdc_req_body, as_req, as_rep, ap_req, ap_rep, krb_error};
-ghost use Rattle.krb_msg.specs.Views.{principal_name_value, encrypted_data_value, ticket_value, kdc_req_body_value, kdc_req_value, kdc_rep_value, ap_req_value, ap_rep_value, krb_error_value};
+ghost use Rattle.krb_msg.specs.Grammar.{principal_name, encrypted_data, ticket, kdc_req_body, as_req, as_rep, ap_req, ap_rep, krb_safe_body, krb_safe, krb_priv, krb_cred, krb_error};
+ghost use Rattle.krb_msg.specs.Views.{principal_name_value, encrypted_data_value, ticket_value, kdc_req_body_value, kdc_req_value, kdc_rep_value, ap_req_value, ap_rep_value, krb_safe_body_value, krb_safe_value, krb_priv_value, krb_cred_value, krb_error_value, is_strict};
 ghost use Rattle.krb_msg.specs.Notes.{text_has, flags_have, number_has, list_has, option_any, has, notes_by, notes_of, notes_have, either};
 
 use crate::ap_rep::ApRep;
@@ -12,7 +12,11 @@ use crate::encrypted_data::EncryptedData;
 use crate::kdc_rep::KdcRep;
 use crate::kdc_req::KdcReq;
 use crate::kdc_req_body::KdcReqBody;
+use crate::krb_cred::KrbCred;
 use crate::krb_error::KrbError;
+use crate::krb_priv::KrbPriv;
+use crate::krb_safe::KrbSafe;
+use crate::krb_safe_body::KrbSafeBody;
 use crate::message::Message;
 use crate::principal_name::PrincipalName;
 use crate::ticket::Ticket;
@@ -23,7 +27,7 @@ use krb_der::{Flags, KString, Many, Wide32};
 ///
 /// 1. a KerberosString has an octet above 7F;
 /// 2. there are fewer than 32 flags;
-/// 3. a kvno or a nonce is negative;
+/// 3. a kvno, a nonce or a seq-number is negative;
 /// 4. a padata, an addresses or an additional-tickets is there and empty.
 #[derive(Clone, Copy, PartialEq, Eq, Debug)]
 pub struct Notes {
@@ -244,6 +248,38 @@ impl Noted for ApRep {
     }
 }
 
+impl Noted for KrbSafeBody {
+    ghost noted = { λ note body. has note krb_safe_body (krb_safe_body_value body) };
+
+    fn notes(&self) -> Notes {
+        self.seq_number.notes()
+    }
+}
+
+impl Noted for KrbSafe {
+    ghost noted = { λ note safe. has note krb_safe (krb_safe_value safe) };
+
+    fn notes(&self) -> Notes {
+        self.body.notes()
+    }
+}
+
+impl Noted for KrbPriv {
+    ghost noted = { λ note private. has note krb_priv (krb_priv_value private) };
+
+    fn notes(&self) -> Notes {
+        self.enc_part.notes()
+    }
+}
+
+impl Noted for KrbCred {
+    ghost noted = { λ note cred. has note krb_cred (krb_cred_value cred) };
+
+    fn notes(&self) -> Notes {
+        self.tickets.notes().or(self.enc_part.notes())
+    }
+}
+
 impl Noted for KrbError {
     ghost noted = { λ note error. has note krb_error (krb_error_value error) };
 
@@ -268,6 +304,18 @@ pub fn notes_of(message: &Message) -> Notes
         Message::TgsRep(rep) => rep.notes(),
         Message::ApReq(req) => req.notes(),
         Message::ApRep(rep) => rep.notes(),
+        Message::KrbSafe(safe) => safe.notes(),
+        Message::KrbPriv(private) => private.notes(),
+        Message::KrbCred(cred) => cred.notes(),
         Message::KrbError(error) => error.notes(),
     }
+}
+
+/// Whether a message keeps the strict rules (`Profile::Strict`): none of the notes 1 to 4 holds in
+/// it. It takes no memory.
+pub fn is_strict(message: &Message) -> bool
+    ensures { result ≡ is_strict message.now }
+{
+    let notes = notes_of(message);
+    !(notes.high_octet | notes.few_flags | notes.negative | notes.empty_list)
 }

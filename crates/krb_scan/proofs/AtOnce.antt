@@ -1,9 +1,11 @@
 -- Items that are taken at once.
-use Rattle.std.proofs.Common.{◌≡◌, ℕ, zero, suc, ℤ, pos, ◌+◌, ◌-◌, ◌<◌, ◌≤◌, ◌^◌, ◌==◌, Bool, true, false, true≢false, Option, Some, None, List, [], ◌∷◌, ◌++◌, length, map, take, drop, reverse, refl, sym, ap, ◌∙◌, subst, arith, drop_at, append-nil}
+use Rattle.std.proofs.Common.{◌≡◌, ℕ, zero, suc, ℤ, pos, ◌+◌, ◌-◌, ◌<◌, ◌≤◌, ◌^◌, ◌==◌, Bool, true, false, true≢false, Option, Some, None, List, [], ◌∷◌, ◌++◌, length, map, take, drop, reverse, refl, sym, ap, ◌∙◌, subst, arith, drop_at, append-nil, ◌||◌, lt-ltb}
+use Rattle.std.proofs.Math.Bool.{or-true}
 use Rattle.std.proofs.lemmas.List.{length-append, length-take, length-drop, take-append-drop, take_all, reverse-append}
 use Rattle.std.specs.Coded.{le_prop}
 use Rattle.std.proofs.Math.Logic.{∥∥₁_elim, ∥∥₁_map}
 use Rattle.std.specs.List.{AllByRecursion}
+use Rattle.krb_der.specs.declared.profile.Profile.{Profile}
 use Rattle.krb_der.specs.Octets.{AreOctets, when}
 use Rattle.krb_der.specs.inner.Numbers.{AreOctets-append, AreOctets-take}
 use Rattle.krb_der.specs.declared.verdict.Verdict.{Verdict}
@@ -44,29 +46,29 @@ pub stays_to : (items given now : List Open) (stack : List Frame) (marks : List 
 stays_to items given now stack marks place left by answer e f k = (k.stack, k.is, subst (λ rest. AreOpen by rest k.stack) (ap (take left) e ∙ sym f) k.frames)
 
 -- ---- a path that stands between items
-pub record Stood (path : Path) (before : List ℕ) : Type 0 where
+pub record Stood (profile : Profile) (path : Path) (before : List ℕ) : Type 0 where
   pub outer : List Frame
   pub marks : List Marked
-  pub reads : reading.reading messages path.size before ≡ Ongoing (state_of marks (frame_of path.inner.end (due_at path.inner.due) ∷ outer) (Between path.looked))
+  pub reads : reading.reading (messages profile) path.size before ≡ Ongoing (state_of marks (frame_of path.inner.end (due_at path.inner.due) ∷ outer) (Between path.looked))
   pub frames : AreOpen path.inner path.outer.items (frame_of path.inner.end (due_at path.inner.due) ∷ outer)
   pub are_marks : AreMarks path.marks.items marks
   pub known : IsPlace path.inner.due
   pub room : path.looked < path.inner.end
   pub within : path.inner.end ≤ path.size
 
-pub stood : (path : Path) (before : List ℕ) → StandsFor path before → path.tip ≡ tip.Between → Stood path before
-stood path before s e =
+pub stood : {profile : Profile} (path : Path) (before : List ℕ) → StandsFor profile path before → path.tip ≡ tip.Between → Stood profile path before
+stood {profile = profile} path before s e =
     by_tip s.state.tip s.state.stack s.state.marks refl (subst (λ kept. TipIs path.looked kept s.state.tip) e s.holds.tip) s.holds.containers s.holds.marks s.reads
     reached.reached.at roomy.roomy.nested
   where
     reached : ReachedAnswer (Ongoing s.state)
-    reached = subst ReachedAnswer s.reads (reading_reached messages path.size before s.some)
+    reached = subst ReachedAnswer s.reads (reading_reached (messages profile) path.size before s.some)
 
     roomy : AnswerIsRoomy path.size (Ongoing s.state)
-    roomy = subst (AnswerIsRoomy path.size) s.reads (reading_roomy messages path.size before s.some)
+    roomy = subst (AnswerIsRoomy path.size) s.reads (reading_roomy (messages profile) path.size before s.some)
 
-    by_stack : (stack : List Frame) (marks : List Marked) (place : ℕ) → path.looked ≡ place → AreOpen path.inner path.outer.items stack → AreMarks path.marks.items marks → reading.reading messages path.size before ≡ Ongoing (state_of marks stack (Between place)) →
-        HasRoom place stack → IsNested path.size stack → Stood path before
+    by_stack : (stack : List Frame) (marks : List Marked) (place : ℕ) → path.looked ≡ place → AreOpen path.inner path.outer.items stack → AreMarks path.marks.items marks → reading.reading (messages profile) path.size before ≡ Ongoing (state_of marks stack (Between place)) →
+        HasRoom place stack → IsNested path.size stack → Stood profile path before
     by_stack [] marks place l o m r k n = absurd k
     by_stack (frame ∷ outer) marks place l o m r k n =
         let is : IsFrame path.inner frame = o.frames.0 in
@@ -83,8 +85,8 @@ stood path before s e =
           within = omega (arith, le, is.end);
         }
 
-    by_tip : (kept : Tip) (stack : List Frame) (marks : List Marked) → kept ≡ s.state.tip → TipIs path.looked tip.Between kept → AreOpen path.inner path.outer.items stack → AreMarks path.marks.items (reading.marks_at kept marks) → reading.reading messages path.size before ≡ Ongoing (state_of marks stack kept) →
-        IsReachedState kept stack marks → IsNested path.size stack → Stood path before
+    by_tip : (kept : Tip) (stack : List Frame) (marks : List Marked) → kept ≡ s.state.tip → TipIs path.looked tip.Between kept → AreOpen path.inner path.outer.items stack → AreMarks path.marks.items (reading.marks_at kept marks) → reading.reading (messages profile) path.size before ≡ Ongoing (state_of marks stack kept) →
+        IsReachedState kept stack marks → IsNested path.size stack → Stood profile path before
     by_tip (Between place) stack marks f t o m r k n = by_stack stack marks place t o m r k n
     by_tip (InHead term from octets) stack marks f t o m r k n = absurd t
     by_tip (InLeaf term start count octets) stack marks f t o m r k n = absurd t
@@ -106,10 +108,10 @@ mark_added items marks mark given a n e = record {
 }
 
 -- ---- octets that are accepted
-pub accepted : (old new : Path) (before octets : List ℕ) (it : Accepted) (stack : List Frame) (marks : List Marked) (place : ℕ) → StandsFor old before → AreOctets octets → 0 < it.count → it.count ≤ length octets →
-    reading.reading messages old.size (before ++ take it.count octets) ≡ settle stack marks place → ClosesTo new marks place (settle stack marks place) (Some it.verdict) → AreMarks new.marks.items marks →
-    new.size ≡ old.size → new.tip ≡ tip.Between → new.looked ≡ place → new.looked ≡ old.looked + it.count → place ≤ old.size → IsAccepted old new before octets it
-accepted old new before octets it stack marks place s are some there reads closes are_marks size at looked count within = record {
+pub accepted : {profile : Profile} (old new : Path) (before octets : List ℕ) (it : Accepted) (stack : List Frame) (marks : List Marked) (place : ℕ) → StandsFor profile old before → AreOctets octets → 0 < it.count → it.count ≤ length octets →
+    reading.reading (messages profile) old.size (before ++ take it.count octets) ≡ settle stack marks place → ClosesTo new marks place (settle stack marks place) (Some it.verdict) → AreMarks new.marks.items marks →
+    new.size ≡ old.size → new.tip ≡ tip.Between → new.looked ≡ place → new.looked ≡ old.looked + it.count → place ≤ old.size → IsAccepted profile old new before octets it
+accepted {profile = profile} old new before octets it stack marks place s are some there reads closes are_marks size at looked count within = record {
   some = some;
   there = there;
   size = size;
@@ -121,10 +123,10 @@ accepted old new before octets it stack marks place s are some there reads close
     all : List ℕ
     all = before ++ take it.count octets
 
-    reads_new : reading.reading messages new.size all ≡ settle stack marks place
-    reads_new = ap (λ n. reading.reading messages n all) size ∙ reads
+    reads_new : reading.reading (messages profile) new.size all ≡ settle stack marks place
+    reads_new = ap (λ n. reading.reading (messages profile) n all) size ∙ reads
 
-    by_verdict : (decided : Verdict) → ClosesTo new marks place (settle stack marks place) (Some decided) → Decides new all decided
+    by_verdict : (decided : Verdict) → ClosesTo new marks place (settle stack marks place) (Some decided) → Decides profile new all decided
     by_verdict verdict.Open k = record {
       are_octets = AreOctets-append before (take it.count octets) s.are_octets (AreOctets-take it.count octets are);
       some = omega (arith, s.some, size);
@@ -211,55 +213,55 @@ take_parts (suc h) c (octet ∷ octets) =
     ap (λ n. take n (octet ∷ octets)) e ∙ ap (λ rest. octet ∷ rest) (take_parts h c octets)
 
 -- ---- an item without items
-pub leaf_reading : (path : Path) (before octets : List ℕ) (it : Found) (k : Stood path before) (f : IsFound path.inner path.looked octets it) (row : Place) (contents : List ℕ) (value : ℤ) → 0 < path.size → IsPlaceOf row (due_at it.place) →
+pub leaf_reading : {profile : Profile} (path : Path) (before octets : List ℕ) (it : Found) (k : Stood profile path before) (f : IsFound path.inner path.looked octets it) (row : Place) (contents : List ℕ) (value : ℤ) → 0 < path.size → IsPlaceOf row (due_at it.place) →
     contents ≡ take it.size (drop it.header octets) → length contents ≡ it.size → AreLeaf (item_at it.place) contents value →
-    reading.reading messages path.size (before ++ take (it.header + it.size) octets)
+    reading.reading (messages profile) path.size (before ++ take (it.header + it.size) octets)
     ≡ settle (frame_of path.inner.end (due_at row.next) ∷ k.outer) (k.marks ++ mark_of (term_at row.node) (path.looked + it.header) it.size value ∷ []) (path.looked + it.header + it.size)
-leaf_reading path before octets it k f row contents value some r e n l =
+leaf_reading {profile = profile} path before octets it k f row contents value some r e n l =
     let leaf : AreLeaf f.picked.item contents value = subst (λ term. AreLeaf term contents value) (item_is path.inner path.looked octets it f) l in
     let sized : has_size f.picked.item it.size ≡ true = ap (has_size f.picked.item) (sym n) ∙ leaf.sized in
     let a : AtFront path.inner path.looked octets it f.picked.item f.picked.left contents = at_front path.inner path.looked octets it f contents sized in
     let i : IsItem row f.picked.item f.picked.left = item_row path.inner path.looked octets it f row r in
     let done : leaf_outcome f.picked.item it.size contents ≡ Done it.size = ap (λ c. leaf_outcome f.picked.item c contents) (sym n) ∙ leaf.done ∙ ap Done n in
-    ap (λ more. reading.reading messages path.size (before ++ more)) (take_parts it.header it.size octets ∙ ap (λ rest. take it.header octets ++ rest) (sym e) ∙ a.parts)
-    ∙ reading_from messages path.size before (a.tag ∷ a.tail) (state_of k.marks (frame_of path.inner.end (due_at path.inner.due) ∷ k.outer) (Between path.looked)) _ some k.reads
+    ap (λ more. reading.reading (messages profile) path.size (before ++ more)) (take_parts it.header it.size octets ∙ ap (λ rest. take it.header octets ++ rest) (sym e) ∙ a.parts)
+    ∙ reading_from (messages profile) path.size before (a.tag ∷ a.tail) (state_of k.marks (frame_of path.inner.end (due_at path.inner.due) ∷ k.outer) (Between path.looked)) _ some k.reads
     (closes (due_at path.inner.due) path.inner.end path.looked a.tag a.tail contents f.picked.item f.picked.left it.header it.size k.outer k.marks a.begins leaf.leaf a.after n done)
     ∙ ap (λ number. settle (frame_of path.inner.end f.picked.left ∷ k.outer) (k.marks ++ mark_of f.picked.item (path.looked + it.header) it.size number ∷ []) (path.looked + it.header + it.size)) leaf.value
     ∙ ap (λ due. settle (frame_of path.inner.end due ∷ k.outer) (k.marks ++ mark_of f.picked.item (path.looked + it.header) it.size value ∷ []) (path.looked + it.header + it.size)) (sym i.next)
     ∙ ap (λ term. settle (frame_of path.inner.end (due_at row.next) ∷ k.outer) (k.marks ++ mark_of term (path.looked + it.header) it.size value ∷ []) (path.looked + it.header + it.size)) (sym i.node)
 
 -- ---- a container
-pub first_is : (first : ℕ) (term : Term) → AreContents (contents.Items first) term → IsPlace first × BeginsWith term (due_at first)
-first_is first (Sequence fields) h = (h.0, h.1)
-first_is first (SequenceOf empty term) h = (h.0, (h.1, h.2))
-first_is first (Tagged index term) h = (h.0, h.1)
-first_is first (Application number term) h = (h.0, h.1)
-first_is first (Integer low high) h = absurd h
-first_is first (Text greatest) h = absurd h
-first_is first Octets h = absurd h
-first_is first Time h = absurd h
-first_is first (Bits least) h = absurd h
+pub first_is : (first : ℕ) (none : Bool) (term : Term) → AreContents (contents.Items first none) term → IsPlace first × BeginsWith term (due_at first)
+first_is first none (Sequence fields) h = (h.0, h.1)
+first_is first none (SequenceOf empty term) h = (h.0, h.1)
+first_is first none (Tagged index term) h = (h.0, h.1)
+first_is first none (Application number term) h = (h.0, h.1)
+first_is first none (Integer low high) h = absurd h
+first_is first none (Text greatest) h = absurd h
+first_is first none Octets h = absurd h
+first_is first none Time h = absurd h
+first_is first none (Bits least) h = absurd h
 
-container_sized : (term : Term) (due : Due) (count : ℕ) → BeginsWith term due → has_size term count ≡ true
-container_sized (Sequence fields) due count b = refl
-container_sized (SequenceOf empty term) due count b = rw b.1 refl
-container_sized (Tagged index term) due count b = refl
-container_sized (Application number term) due count b = refl
-container_sized (Integer low high) due count b = absurd b
-container_sized (Text greatest) due count b = absurd b
-container_sized Octets due count b = absurd b
-container_sized Time due count b = absurd b
-container_sized (Bits least) due count b = absurd b
+container_sized : (term : Term) (due : Due) (count : ℕ) → BeginsWith term due → 0 < count → has_size term count ≡ true
+container_sized (Sequence fields) due count b some = refl
+container_sized (SequenceOf empty term) due count b some = ap (λ more. empty || more) (lt-ltb 0 count some) ∙ or-true empty
+container_sized (Tagged index term) due count b some = refl
+container_sized (Application number term) due count b some = refl
+container_sized (Integer low high) due count b some = absurd b
+container_sized (Text greatest) due count b some = absurd b
+container_sized Octets due count b some = absurd b
+container_sized Time due count b some = absurd b
+container_sized (Bits least) due count b some = absurd b
 
-pub head_reading : (path : Path) (before octets : List ℕ) (it : Found) (k : Stood path before) (f : IsFound path.inner path.looked octets it) (row : Place) (first : ℕ) → 0 < path.size → IsPlaceOf row (due_at it.place) → BeginsWith (item_at it.place) (due_at first) → 0 < it.size →
-    reading.reading messages path.size (before ++ take it.header octets)
+pub head_reading : {profile : Profile} (path : Path) (before octets : List ℕ) (it : Found) (k : Stood profile path before) (f : IsFound path.inner path.looked octets it) (row : Place) (first : ℕ) → 0 < path.size → IsPlaceOf row (due_at it.place) → BeginsWith (item_at it.place) (due_at first) → 0 < it.size →
+    reading.reading (messages profile) path.size (before ++ take it.header octets)
     ≡ Ongoing (state_of (with_mark k.marks (term_at row.node) (path.looked + it.header) it.size) (frame_of (path.looked + it.header + it.size) (due_at first) ∷ frame_of path.inner.end (due_at row.next) ∷ k.outer) (Between (path.looked + it.header)))
-head_reading path before octets it k f row first some r b size =
+head_reading {profile = profile} path before octets it k f row first some r b size =
     let begins : BeginsWith f.picked.item (due_at first) = subst (λ term. BeginsWith term (due_at first)) (item_is path.inner path.looked octets it f) b in
-    let a : AtFront path.inner path.looked octets it f.picked.item f.picked.left [] = at_front path.inner path.looked octets it f [] (container_sized f.picked.item (due_at first) it.size begins) in
+    let a : AtFront path.inner path.looked octets it f.picked.item f.picked.left [] = at_front path.inner path.looked octets it f [] (container_sized f.picked.item (due_at first) it.size begins size) in
     let i : IsItem row f.picked.item f.picked.left = item_row path.inner path.looked octets it f row r in
-    ap (λ more. reading.reading messages path.size (before ++ more)) (sym (append-nil (take it.header octets)) ∙ a.parts)
-    ∙ reading_from messages path.size before (a.tag ∷ a.tail) (state_of k.marks (frame_of path.inner.end (due_at path.inner.due) ∷ k.outer) (Between path.looked)) _ some k.reads
+    ap (λ more. reading.reading (messages profile) path.size (before ++ more)) (sym (append-nil (take it.header octets)) ∙ a.parts)
+    ∙ reading_from (messages profile) path.size before (a.tag ∷ a.tail) (state_of k.marks (frame_of path.inner.end (due_at path.inner.due) ∷ k.outer) (Between path.looked)) _ some k.reads
     (opens (due_at path.inner.due) path.inner.end path.looked a.tag a.tail f.picked.item f.picked.left (due_at first) it.header it.size k.outer k.marks a.begins (omega (arith, a.long)) begins size)
     ∙ ap (λ due. Ongoing (state_of (with_mark k.marks f.picked.item (path.looked + it.header) it.size) (frame_of (path.looked + it.header + it.size) (due_at first) ∷ frame_of path.inner.end due ∷ k.outer) (Between (path.looked + it.header)))) (sym i.next)
     ∙ ap (λ term. Ongoing (state_of (with_mark k.marks term (path.looked + it.header) it.size) (frame_of (path.looked + it.header + it.size) (due_at first) ∷ frame_of path.inner.end (due_at row.next) ∷ k.outer) (Between (path.looked + it.header)))) (sym i.node)
@@ -267,7 +269,7 @@ head_reading path before octets it k f row first some r b size =
 -- ---- a tag and its one item, which has no items
 only_due : (term : Term) (due : Due) → BeginsWith term due → is_sole due ≡ true → (inner : Term) × (due ≡ OneOf (inner ∷ []))
 only_due (Sequence fields) due b e = absurd (true≢false (sym e ∙ ap is_sole b))
-only_due (SequenceOf empty term) due b e = absurd (true≢false (sym e ∙ ap is_sole b.0))
+only_due (SequenceOf empty term) due b e = absurd (true≢false (sym e ∙ ap is_sole b))
 only_due (Tagged index term) due b e = (term, b)
 only_due (Application number term) due b e = (term, b)
 only_due (Integer low high) due b e = absurd b
@@ -287,15 +289,15 @@ pick_only tag inner item left = by_tag (tag == tag_of inner)
     by_tag true e = (sym (ap item_in e), sym (ap left_of e))
     by_tag false e = absurd (cc e)
 
-pub tag_reading : (path : Path) (before octets : List ℕ) (it only : Found) (k : Stood path before) (f : IsFound path.inner path.looked octets it) (row only_row : Place) (first : ℕ) (contents leaf : List ℕ) (value : ℤ) → 0 < path.size →
+pub tag_reading : {profile : Profile} (path : Path) (before octets : List ℕ) (it only : Found) (k : Stood profile path before) (f : IsFound path.inner path.looked octets it) (row only_row : Place) (first : ℕ) (contents leaf : List ℕ) (value : ℤ) → 0 < path.size →
     IsPlaceOf row (due_at it.place) → BeginsWith (item_at it.place) (due_at first) → contents ≡ take it.size (drop it.header octets) → length contents ≡ it.size →
     IsFound (record { end = path.looked + it.header + it.size; due = first }) (path.looked + it.header) contents only → IsPlaceOf only_row (due_at only.place) → only_row.sole ≡ true →
     leaf ≡ drop only.header contents → AreLeaf (item_at only.place) leaf value →
-    reading.reading messages path.size (before ++ take (it.header + it.size) octets)
+    reading.reading (messages profile) path.size (before ++ take (it.header + it.size) octets)
     ≡ settle (frame_of path.inner.end (due_at row.next) ∷ k.outer) (with_mark k.marks (term_at row.node) (path.looked + it.header) it.size ++ mark_of (term_at only_row.node) (path.looked + it.header + only.header) only.size value ∷ []) (path.looked + it.header + it.size)
-tag_reading path before octets it only k f row only_row first contents leaf value some r b e n g only_r sole leaf_is l =
-    ap (λ more. reading.reading messages path.size (before ++ more)) (take_parts it.header it.size octets ∙ ap (λ rest. take it.header octets ++ rest) (sym e) ∙ ap (λ head. head ++ contents) (sym (append-nil (take it.header octets)) ∙ a.parts) ∙ ap (λ rest. (a.tag ∷ a.tail) ++ rest) (parts ∙ c.parts))
-    ∙ reading_from messages path.size before ((a.tag ∷ a.tail) ++ c.tag ∷ c.tail) (state_of k.marks (frame_of path.inner.end (due_at path.inner.due) ∷ k.outer) (Between path.looked)) _ some k.reads
+tag_reading {profile = profile} path before octets it only k f row only_row first contents leaf value some r b e n g only_r sole leaf_is l =
+    ap (λ more. reading.reading (messages profile) path.size (before ++ more)) (take_parts it.header it.size octets ∙ ap (λ rest. take it.header octets ++ rest) (sym e) ∙ ap (λ head. head ++ contents) (sym (append-nil (take it.header octets)) ∙ a.parts) ∙ ap (λ rest. (a.tag ∷ a.tail) ++ rest) (parts ∙ c.parts))
+    ∙ reading_from (messages profile) path.size before ((a.tag ∷ a.tail) ++ c.tag ∷ c.tail) (state_of k.marks (frame_of path.inner.end (due_at path.inner.due) ∷ k.outer) (Between path.looked)) _ some k.reads
     (closes_tag (due_at path.inner.due) path.inner.end path.looked a.tag c.tag a.tail c.tail leaf f.picked.item g.picked.item f.picked.left it.header it.size only.header only.size k.outer k.marks a.begins (omega (arith, a.long)) (subst (BeginsWith f.picked.item) due_is begins) inner_begins are_leaf.leaf c.after long done)
     ∙ ap (λ number. settle (frame_of path.inner.end f.picked.left ∷ k.outer) (with_mark k.marks f.picked.item (path.looked + it.header) it.size ++ mark_of g.picked.item (path.looked + it.header + only.header) only.size number ∷ []) (path.looked + it.header + it.size)) are_leaf.value
     ∙ ap (λ due. settle (frame_of path.inner.end due ∷ k.outer) (with_mark k.marks f.picked.item (path.looked + it.header) it.size ++ mark_of g.picked.item (path.looked + it.header + only.header) only.size value ∷ []) (path.looked + it.header + it.size)) (sym i.next)
@@ -315,7 +317,7 @@ tag_reading path before octets it only k f row only_row first contents leaf valu
     begins = subst (λ term. BeginsWith term (due_at first)) (item_is path.inner path.looked octets it f) b
 
     a : AtFront path.inner path.looked octets it f.picked.item f.picked.left []
-    a = at_front path.inner path.looked octets it f [] (container_sized f.picked.item (due_at first) it.size begins)
+    a = at_front path.inner path.looked octets it f [] (container_sized f.picked.item (due_at first) it.size begins (omega (arith, g.fits, g.begins.long)))
 
     is_only : (inner : Term) × (due_at first ≡ OneOf (inner ∷ []))
     is_only = only_due f.picked.item (due_at first) begins (sym g.picked.same ∙ sym only_r.sole ∙ sole)
@@ -351,19 +353,19 @@ tag_reading path before octets it only k f row only_row first contents leaf valu
 
 -- ---- where the items end, and what is open after one
 pub short_end : (path : Path) → IsReached path → path.tip ≡ tip.Between → path.inner.end < 2 ^ 31
-short_end path r e = ∥∥₁_elim r le_prop (λ (s : (octets : List ℕ) × StandsFor path octets). let k : Stood path s.0 = stood path s.0 s.1 e in omega (arith, k.within, s.1.short))
+short_end path r e = ∥∥₁_elim r le_prop (λ (s : (octets : List ℕ) × (profile : Profile) × StandsFor profile path octets). let k : Stood s.1 path s.0 = stood path s.0 s.2 e in omega (arith, k.within, s.2.short))
 
 pub place_before : (path : Path) → IsReached path → path.tip ≡ tip.Between → path.looked < path.inner.end
-place_before path r e = ∥∥₁_elim r le_prop (λ (s : (octets : List ℕ) × StandsFor path octets). (stood path s.0 s.1 e).room)
+place_before path r e = ∥∥₁_elim r le_prop (λ (s : (octets : List ℕ) × (profile : Profile) × StandsFor profile path octets). (stood path s.0 s.2 e).room)
 
 pub known_due : (path : Path) → IsReached path → path.tip ≡ tip.Between → IsPlace path.inner.due
-known_due path r e = ∥∥₁_elim r le_prop (λ (s : (octets : List ℕ) × StandsFor path octets). (stood path s.0 s.1 e).known)
+known_due path r e = ∥∥₁_elim r le_prop (λ (s : (octets : List ℕ) × (profile : Profile) × StandsFor profile path octets). (stood path s.0 s.2 e).known)
 
-pub open_next : (path : Path) (before : List ℕ) (k : Stood path before) (next : ℕ) → IsPlace next → AreOpen (record { end = path.inner.end; due = next }) path.outer.items (frame_of path.inner.end (due_at next) ∷ k.outer)
+pub open_next : {profile : Profile} (path : Path) (before : List ℕ) (k : Stood profile path before) (next : ℕ) → IsPlace next → AreOpen (record { end = path.inner.end; due = next }) path.outer.items (frame_of path.inner.end (due_at next) ∷ k.outer)
 open_next path before k next p = record { frames = (record { end = refl; known = p; due = refl }, k.frames.frames.1) }
 
 pub frames_next : (path : Path) → IsReached path → path.tip ≡ tip.Between → (next : ℕ) → IsPlace next → HasFrames (record { end = path.inner.end; due = next }) path.outer.items
-frames_next path r e next p = ∥∥₁_map r (λ (s : (octets : List ℕ) × StandsFor path octets). let k : Stood path s.0 = stood path s.0 s.1 e in (frame_of path.inner.end (due_at next) ∷ k.outer, open_next path s.0 k next p))
+frames_next path r e next p = ∥∥₁_map r (λ (s : (octets : List ℕ) × (profile : Profile) × StandsFor profile path octets). let k : Stood s.1 path s.0 = stood path s.0 s.2 e in (frame_of path.inner.end (due_at next) ∷ k.outer, open_next path s.0 k next p))
 
 -- ---- what is accepted
 pub leaf_accepted : (old new : Path) (octets : List ℕ) (it : Found) (decided : Verdict) (row : Place) (contents : List ℕ) (value : ℤ) → old.tip ≡ tip.Between → IsFound old.inner old.looked octets it → IsPlaceOf row (due_at it.place) →
@@ -371,9 +373,9 @@ pub leaf_accepted : (old new : Path) (octets : List ℕ) (it : Found) (decided :
     ((stack : List Frame) (marks : List Marked) → AreOpen (record { end = old.inner.end; due = row.next }) old.outer.items stack → ClosesTo new marks (old.looked + it.header + it.size) (settle stack marks (old.looked + it.header + it.size)) (Some decided)) →
     new.size ≡ old.size → new.tip ≡ old.tip → new.looked ≡ old.looked + it.header + it.size →
     new.marks.items ≡ old.marks.items ++ record { node = row.node; start = old.looked + it.header; len = it.size; value = value } ∷ [] →
-    (before : List ℕ) → StandsFor old before → IsAccepted old new before octets (record { count = it.header + it.size; verdict = decided })
-leaf_accepted old new octets it decided row contents value e f r c n l are closes_to size same looked marks before s =
-    let k : Stood old before = stood old before s e in
+    (profile : Profile) (before : List ℕ) → StandsFor profile old before → IsAccepted profile old new before octets (record { count = it.header + it.size; verdict = decided })
+leaf_accepted old new octets it decided row contents value e f r c n l are closes_to size same looked marks profile before s =
+    let k : Stood profile old before = stood old before s e in
     let i : IsItem row f.picked.item f.picked.left = item_row old.inner old.looked octets it f row r in
     let long : length contents ≤ length octets - it.header = omega (arith, ap length c, length-take it.size (drop it.header octets), length-drop it.header octets) in
     accepted old new before octets (record { count = it.header + it.size; verdict = decided }) (frame_of old.inner.end (due_at row.next) ∷ k.outer) (k.marks ++ mark_of (term_at row.node) (old.looked + it.header) it.size value ∷ []) (old.looked + it.header + it.size) s are
@@ -391,16 +393,16 @@ pub front_long : (size before : ℕ) (octets : List ℕ) → size ≤ length (ta
 front_long size before octets h = omega (arith, h, length-take size (take (length octets - before) (drop before octets)))
 
 -- ---- a container that is opened
-pub opened_path : (path : Path) (before octets : List ℕ) (it : Found) (k : Stood path before) (f : IsFound path.inner path.looked octets it) (row : Place) (first : ℕ) → 0 < path.size → IsPlaceOf row (due_at it.place) → BeginsWith (item_at it.place) (due_at first) → 0 < it.size → length path.outer.items < 13
-opened_path path before octets it k f row first some r b size =
+pub opened_path : {profile : Profile} (path : Path) (before octets : List ℕ) (it : Found) (k : Stood profile path before) (f : IsFound path.inner path.looked octets it) (row : Place) (first : ℕ) → 0 < path.size → IsPlaceOf row (due_at it.place) → BeginsWith (item_at it.place) (due_at first) → 0 < it.size → length path.outer.items < 13
+opened_path {profile = profile} path before octets it k f row first some r b size =
     let deep : OpenAtMost 14 (Ongoing (state_of (with_mark k.marks (term_at row.node) (path.looked + it.header) it.size) (frame_of (path.looked + it.header + it.size) (due_at first) ∷ frame_of path.inner.end (due_at row.next) ∷ k.outer) (Between (path.looked + it.header))))
-    = subst (OpenAtMost 14) (head_reading path before octets it k f row first some r b size) (reading_deep path.size (before ++ take it.header octets)) in
+    = subst (OpenAtMost 14) (head_reading path before octets it k f row first some r b size) (reading_deep profile path.size (before ++ take it.header octets)) in
     let all : length (frame_of path.inner.end (due_at path.inner.due) ∷ k.outer) ≡ suc (length path.outer.items) = open_length path.inner path.outer.items (frame_of path.inner.end (due_at path.inner.due) ∷ k.outer) k.frames in
     omega (arith, deep, all)
 
 pub room_outside : (path : Path) (octets : List ℕ) (it : Found) (row : Place) (first : ℕ) → IsReached path → path.tip ≡ tip.Between → IsFound path.inner path.looked octets it → IsPlaceOf row (due_at it.place) → BeginsWith (item_at it.place) (due_at first) → 0 < it.size → length path.outer.items < 13
 room_outside path octets it row first r e f p b size =
-    ∥∥₁_elim r le_prop (λ (s : (before : List ℕ) × StandsFor path before). opened_path path s.0 octets it (stood path s.0 s.1 e) f row first s.1.some p b size)
+    ∥∥₁_elim r le_prop (λ (s : (before : List ℕ) × (profile : Profile) × StandsFor profile path before). opened_path path s.0 octets it (stood path s.0 s.2 e) f row first s.2.some p b size)
 
 frames_pushed : (outer : List Open) (next : Open) → reverse (outer ++ next ∷ []) ≡ next ∷ reverse outer
 frames_pushed outer next = reverse-append outer (next ∷ [])
@@ -409,9 +411,9 @@ pub head_accepted : (old new : Path) (octets : List ℕ) (it : Found) (row : Pla
     new.size ≡ old.size → new.tip ≡ old.tip → new.looked ≡ old.looked + it.header →
     new.inner ≡ record { end = old.looked + it.header + it.size; due = first } → new.outer.items ≡ old.outer.items ++ record { end = old.inner.end; due = row.next } ∷ [] →
     new.marks.items ≡ old.marks.items ++ record { node = row.node; start = old.looked + it.header; len = it.size; value = pos 0 } ∷ [] →
-    (before : List ℕ) → StandsFor old before → IsAccepted old new before octets (record { count = it.header; verdict = verdict.Open })
-head_accepted old new octets it row first e f r known b some are size same looked inner outer marks before s =
-    let k : Stood old before = stood old before s e in
+    (profile : Profile) (before : List ℕ) → StandsFor profile old before → IsAccepted profile old new before octets (record { count = it.header; verdict = verdict.Open })
+head_accepted old new octets it row first e f r known b some are size same looked inner outer marks profile before s =
+    let k : Stood profile old before = stood old before s e in
     let i : IsItem row f.picked.item f.picked.left = item_row old.inner old.looked octets it f row r in
     let all_marks : List Marked = with_mark k.marks (term_at row.node) (old.looked + it.header) it.size in
     let next : Open = record { end = old.inner.end; due = row.next } in
@@ -428,7 +430,7 @@ head_accepted old new octets it row first e f r known b some are size same looke
         short = omega (arith, s.short, size);
         looked = omega (arith, looked, s.looked, length-append before (take it.header octets), length-take it.header octets, f.begins.there);
         state = state_of all_marks stack (Between (old.looked + it.header));
-        reads = ap (λ n. reading.reading messages n (before ++ take it.header octets)) size ∙ head_reading old before octets it k f row first s.some r b some;
+        reads = ap (λ n. reading.reading (messages profile) n (before ++ take it.header octets)) size ∙ head_reading old before octets it k f row first s.some r b some;
         holds = record {
           tip = subst (λ kept. TipIs new.looked kept (Between (old.looked + it.header))) (sym (same ∙ e)) looked;
           containers = subst (λ by. AreOpen by new.outer.items stack) (sym inner) (subst (λ items. AreOpen (record { end = old.looked + it.header + it.size; due = first }) items stack) (sym outer)
@@ -445,9 +447,9 @@ pub tag_accepted : (old new : Path) (octets : List ℕ) (it only : Found) (decid
     ((stack : List Frame) (marks : List Marked) → AreOpen (record { end = old.inner.end; due = row.next }) old.outer.items stack → ClosesTo new marks (old.looked + it.header + it.size) (settle stack marks (old.looked + it.header + it.size)) (Some decided)) →
     new.size ≡ old.size → new.tip ≡ old.tip → new.looked ≡ old.looked + it.header + it.size →
     new.marks.items ≡ (old.marks.items ++ record { node = row.node; start = old.looked + it.header; len = it.size; value = pos 0 } ∷ []) ++ record { node = only_row.node; start = old.looked + it.header + only.header; len = only.size; value = value } ∷ [] →
-    (before : List ℕ) → StandsFor old before → IsAccepted old new before octets (record { count = it.header + it.size; verdict = decided })
-tag_accepted old new octets it only decided row only_row first contents leaf value e f r b c n g only_r sole leaf_is l are closes_to size same looked marks before s =
-    let k : Stood old before = stood old before s e in
+    (profile : Profile) (before : List ℕ) → StandsFor profile old before → IsAccepted profile old new before octets (record { count = it.header + it.size; verdict = decided })
+tag_accepted old new octets it only decided row only_row first contents leaf value e f r b c n g only_r sole leaf_is l are closes_to size same looked marks profile before s =
+    let k : Stood profile old before = stood old before s e in
     let i : IsItem row f.picked.item f.picked.left = item_row old.inner old.looked octets it f row r in
     let j : IsItem only_row g.picked.item g.picked.left = item_row (record { end = old.looked + it.header + it.size; due = first }) (old.looked + it.header) contents only g only_row only_r in
     let long : length contents ≤ length octets - it.header = omega (arith, ap length c, length-take it.size (drop it.header octets), length-drop it.header octets) in

@@ -1,11 +1,13 @@
 -- Look-ups in the table of places.
 use Rattle.std.proofs.Common.{◌≡◌, ℕ, zero, suc, ◌<◌, ◌≤◌, eqb, eq-eqb, ne_eqb, true, false, true≢false, Some, None, List, [], ◌∷◌, length, get_or, refl, sym, ap, ◌∙◌, subst, arith}
+use Rattle.krb_der.specs.declared.profile.Profile.TheVariants as profile
+use Rattle.krb_msg.specs.Grammar.{messages}
 use Rattle.krb_msg.specs.Term.{Term, Fields, End, Required, Optional, tag_of}
 use Rattle.krb_scan.specs.Reading.{Due, Listed, Each, OneOf, is_sole}
 use Rattle.krb_scan.specs.inner.Machine.{pick}
 use Rattle.krb_scan.specs.inner.Places.{IsPlace, IsPlaceOf, IsInstead, IsPicked, ArePlaces, dues, due_in, due_at, offered}
 use Rattle.krb_scan.specs.declared.places.Place.{Place}
-use Rattle.krb_scan.specs.declared.places.TheConstants.{PLACES}
+use Rattle.krb_scan.specs.declared.places.TheConstants.{MESSAGE, STRICT_MESSAGE, PLACES}
 
 row_from : (rows : List Place) (others : List Due) (k : ℕ) (none : Place) (absent : Due) → ArePlaces rows others → k < length rows → IsPlaceOf (get_or rows k none) (get_or others k absent)
 row_from [] others k none absent h le = absurd (omega arith)
@@ -30,6 +32,15 @@ dues_long = refl
 
 pub row_there : (rows : List Place) (place : ℕ) → ArePlaces rows dues → IsPlace place → place < length rows
 row_there rows place h k = omega (arith, all_there rows dues h, dues_long, k)
+
+-- what is due before a message of a profile
+pub lenient_message : due_at MESSAGE ≡ OneOf (messages profile.Lenient)
+unfolding due_in dues
+lenient_message = refl
+
+pub strict_message : due_at STRICT_MESSAGE ≡ OneOf (messages profile.Strict)
+unfolding due_in dues
+strict_message = refl
 
 -- how many items may come instead of one another
 abbrev pub others_in : Fields → ℕ

@@ -167,7 +167,7 @@ enters_items Octets due start count stack marks h = absurd h
 enters_items Time due start count stack marks h = absurd h
 enters_items (Bits least) due start count stack marks h = absurd h
 enters_items (Sequence fields) due start count stack marks h = ap (λ d. opened (Sequence fields) d start count stack marks) (sym h)
-enters_items (SequenceOf empty term) due start count stack marks h = ap (λ d. opened (SequenceOf empty term) d start count stack marks) (sym h.0)
+enters_items (SequenceOf empty term) due start count stack marks h = ap (λ d. opened (SequenceOf empty term) d start count stack marks) (sym h)
 enters_items (Tagged index term) due start count stack marks h = ap (λ d. opened (Tagged index term) d start count stack marks) (sym h)
 enters_items (Application number term) due start count stack marks h = ap (λ d. opened (Application number term) d start count stack marks) (sym h)
 

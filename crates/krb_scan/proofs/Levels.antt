@@ -1,8 +1,10 @@
 -- How many lengths are open at once.
-use Rattle.std.proofs.Common.{◌≡◌, ℕ, zero, suc, ◌+◌, ◌-◌, ◌≤◌, ◌&&◌, ◌==◌, nat_lt, List, [], ◌∷◌, length, take, drop, refl, arith, le_trans}
+use Rattle.std.proofs.Common.{◌≡◌, ℕ, zero, suc, ◌+◌, ◌-◌, ◌≤◌, ◌&&◌, ◌==◌, nat_lt, List, [], ◌∷◌, length, take, drop, arith, le_trans}
+use Rattle.krb_der.specs.declared.profile.Profile.{Profile}
 use Rattle.krb_der.specs.declared.why.Why.{Why}
 use Rattle.krb_msg.specs.Term.{Term, Fields, Integer, Text, Octets, Time, Bits, Sequence, SequenceOf, Tagged, Application, End, Required, Optional, tag_of}
 use Rattle.krb_msg.specs.Grammar.{messages}
+use Rattle.krb_msg.proofs.Judged.{messages_nest}
 use Rattle.krb_msg.specs.Shape.{depth, depth_of_fields, greatest_depth}
 use Rattle.krb_msg.specs.Judgement.{Outcome, Open, Bad, Done, Head, Partial, Refused, Got, head, has_size}
 use Rattle.krb_scan.specs.Reading.{Mark, Due, Listed, Each, OneOf, Frame, Tip, InHead, State, Seen, Within, Fault, Past, then_seen, limit, sole_in, frame_of, with_mark, leaf_outcome, of_leaf, leaf_seen, of_head_seen, begun, between, required_seen, optional_seen, ended_seen, each_seen, contents_seen, fields_seen, one_of_seen, message_seen, lengths_at, Answer, Ongoing, Refusing, Whole, answer, reading}
@@ -19,8 +21,8 @@ depth_some (SequenceOf empty term) = omega arith
 depth_some (Tagged index term) = omega arith
 depth_some (Application number term) = omega arith
 
-messages_depth : greatest_depth messages ≡ 13
-messages_depth = refl
+messages_depth : (profile : Profile) → greatest_depth (messages profile) ≡ 13
+messages_depth = messages_nest
 
 -- the lengths that are open, and one that is being read
 abbrev pub levels_at : Tip → ℕ → ℕ
@@ -155,8 +157,8 @@ OpenAtMost most (Refusing place reason) = Unit {0}
 OpenAtMost most (Whole marks) = Unit {0}
 
 -- Never more than thirteen lengths are open.
-pub reading_deep : (n : ℕ) (octets : List ℕ) → OpenAtMost 14 (reading messages n octets)
-reading_deep n octets = by_seen (message_seen messages n octets) (one_of_deep messages (OneOf messages) n [] [] 0 n octets 14 (omega (arith, messages_depth)))
+pub reading_deep : (profile : Profile) (n : ℕ) (octets : List ℕ) → OpenAtMost 14 (reading (messages profile) n octets)
+reading_deep profile n octets = by_seen (message_seen (messages profile) n octets) (one_of_deep (messages profile) (OneOf (messages profile)) n [] [] 0 n octets 14 (omega (arith, messages_depth profile)))
   where
     by_seen : (seen : Seen) → IsNoDeeper 14 seen → OpenAtMost 14 (answer seen)
     by_seen (Within state) h = h.no_deeper

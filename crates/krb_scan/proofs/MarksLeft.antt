@@ -2,18 +2,19 @@
 use Rattle.std.proofs.Common.{◌≡◌, ℕ, ℤ, pos, ◌+◌, ◌^◌, ◌<◌, ◌≤◌, List, [], ◌∷◌, ◌++◌, length, take, drop, Option, Some, None, refl, sym, ◌∙◌, ap, subst, arith, append-nil, append_assoc, length-append, lt-ltb, le-ltb, drop_at, one-add}
 use Rattle.std.proofs.lemmas.List.{take_at, drop-drop, length-drop}
 use Rattle.std.specs.List.{flat_map}
+use Rattle.krb_der.specs.declared.profile.Profile.{Profile}
 use Rattle.krb_der.specs.Octets.{integer_octets, integer_value, length_octets, item, AreOctets}
 use Rattle.krb_der.specs.inner.Numbers.{integer_value-integer_octets}
 use Rattle.krb_der.specs.inner.Items.{same_from_cons, same_from_length_octets, item-append}
 use Rattle.krb_msg.specs.Term.{Term, Fields, Integer, Text, Octets, Time, Bits, Sequence, SequenceOf, Tagged, Application, End, Required, Optional, Value, Values, der, der_of_fields, octets_of_option}
 use Rattle.krb_scan.specs.Reading.{Mark, mark_of}
-use Rattle.krb_scan.specs.ValueMarks.{start_of, list_marks, option_marks, value_marks, fields_marks}
+use Rattle.krb_scan.specs.ValueMarks.{start_of, list_marks, option_marks, value_marks, fields_marks, message_marks}
 use Rattle.krb_scan.specs.inner.MarksLeft.{passed, IsFirst, AreLeft, StandsAt, HasMark}
 use Rattle.krb_der.specs.declared.verdict.Verdict.TheVariants as verdict
 use Rattle.krb_msg.specs.Judgement.{judgement}
 use Rattle.krb_msg.specs.Laws.{AreMessage}
-use Rattle.krb_msg.specs.Views.{kind_of, kind_term, message_value, message_der}
-use Rattle.krb_msg.proofs.Judged.{whole_is_message}
+use Rattle.krb_msg.specs.Views.{kind_of, kind_term_in, message_value_in, message_der}
+use Rattle.krb_msg.proofs.Judged.{whole_is_message, message_der_in}
 use Rattle.krb_scan.specs.At.{Marks}
 use Rattle.krb_scan.proofs.ValueMarks.{whole_has_marks_of_message}
 
@@ -158,14 +159,15 @@ stands_at_value term value =
     record { within = omega arith; left = rw (append-nil (der term value), append-nil (value_marks term 0 value)) at left }
 
 -- and at the front of a whole message
-pub stands_at_message : (n : ℕ) (octets : List ℕ) → n < 2 ^ 31 → AreOctets octets → length octets ≤ n → judgement n octets ≡ verdict.Whole → StandsAt octets 0 (Marks n octets)
-stands_at_message n octets small a l e = by (whole_is_message n octets small a l e)
+pub stands_at_message : (profile : Profile) (n : ℕ) (octets : List ℕ) → n < 2 ^ 31 → AreOctets octets → length octets ≤ n → judgement profile n octets ≡ verdict.Whole → StandsAt octets 0 (Marks profile n octets)
+stands_at_message profile n octets small a l e = by (whole_is_message profile n octets small a l e)
   where
-    by : AreMessage n octets → StandsAt octets 0 (Marks n octets)
+    by : AreMessage profile n octets → StandsAt octets 0 (Marks profile n octets)
     by w =
-        let marks : Marks n octets ≡ value_marks (kind_term (kind_of w.message)) 0 (message_value w.message) =
-        ap (Marks n) (sym w.form) ∙ ap (λ k. Marks k (message_der w.message)) (sym w.all ∙ ap length (sym w.form)) ∙ whole_has_marks_of_message w.message w.in_profile in
-        subst (λ given. StandsAt octets 0 given) (sym marks) (subst (λ given. StandsAt given 0 (value_marks (kind_term (kind_of w.message)) 0 (message_value w.message))) w.form (stands_at_value (kind_term (kind_of w.message)) (message_value w.message)))
+        let marks : Marks profile n octets ≡ message_marks profile w.message =
+        ap (Marks profile n) (sym w.form) ∙ ap (λ k. Marks profile k (message_der w.message)) (sym w.all ∙ ap length (sym w.form)) ∙ whole_has_marks_of_message profile w.message w.in_profile in
+        subst (λ given. StandsAt octets 0 given) (sym marks)
+        (subst (λ given. StandsAt given 0 (message_marks profile w.message)) (message_der_in profile w.message ∙ w.form) (stands_at_value (kind_term_in profile (kind_of w.message)) (message_value_in profile w.message)))
 
 -- the next mark is that of the item that stands there
 pub first_parts : (place : ℕ) (octets : List ℕ) (mark : Mark) (first : IsFirst place octets mark) (tag : ℕ) (inner more : List ℕ) → octets ≡ item tag inner ++ more → (first.tag ≡ tag) × (mark.count ≡ length inner) × (first.rest ≡ inner ++ more)

@@ -1,8 +1,11 @@
 -- A scanner's path and verdict after an octet more.
-use Rattle.std.proofs.Common.{◌≡◌, ℕ, suc, pos, zero-le, ◌+◌, ◌-◌, ◌*◌, ◌<◌, ◌≤◌, ◌^◌, Ok, Err, Result, OnErr, List, [], ◌∷◌, ◌++◌, length, reverse, take, refl, sym, ap, ◌∙◌, subst, arith}
+use Rattle.std.proofs.Common.{◌≡◌, ℕ, suc, pos, zero-le, ◌+◌, ◌-◌, ◌*◌, ◌/◌, ◌<◌, ◌≤◌, ◌^◌, ◌⊎◌, inl, inr, Ok, Err, Result, OnErr, List, [], ◌∷◌, ◌++◌, length, reverse, take, refl, sym, ap, ◌∙◌, subst, arith}
+use Rattle.std.specs.Prelude.{IsOk}
+use Rattle.std.proofs.lemmas.Bool.{cases_lt}
 use Rattle.std.proofs.lemmas.List.{length-append, length-take, take-append-le, take_all}
 use Rattle.std.proofs.Math.Logic.{∥∥₁_elim, ∥∥₁_map}
 use Rattle.std.specs.Coded.{le_prop}
+use Rattle.krb_der.specs.declared.profile.Profile.{Profile}
 use Rattle.krb_der.specs.inner.Numbers.{AreOctets-append}
 use Rattle.krb_der.specs.declared.verdict.Verdict.{Verdict}
 use Rattle.krb_der.specs.declared.verdict.Verdict.TheVariants as verdict
@@ -17,6 +20,8 @@ use Rattle.krb_scan.specs.State.{AreMarks, AreOpen, AreFrames, TipIs, open_lengt
 use Rattle.krb_scan.specs.Places.{IsPlace, due_at}
 use Rattle.krb_scan.specs.inner.Paths.{StandsFor, Holds, IsUnchanged, IsTaken, IsReached, Becomes, AddsMark}
 use Rattle.krb_scan.specs.State as kept
+use Rattle.krb_msg.proofs.Grammars.{all_is_decided}
+use Rattle.krb_scan.specs.Laws.{MarksAreFew}
 use Rattle.krb_scan.specs.At.{IsAt, Keeps, Marks, marks_from, marks_before, lengths_from, lengths_before}
 use Rattle.krb_scan.specs.declared.path.Path.{Path}
 use Rattle.krb_scan.specs.declared.tip.Tip.{Tip as Kept}
@@ -31,14 +36,14 @@ use Rattle.krb_scan.proofs.Resume.{ReachedAnswer, reading_step, run_reading}
 use Rattle.krb_scan.proofs.Room.{open_short}
 
 -- what a reading says of the octets is their judgement
-pub judged : (n : ℕ) (octets : List ℕ) (given : Answer) → 0 < n → length octets ≤ n → reading.reading messages n octets ≡ given → judgement n octets ≡ verdict_of (outcome_of n given)
-judged n octets given some le e = ap verdict_of (reading_outcome messages n octets some le ∙ ap (outcome_of n) e)
+pub judged : (profile : Profile) (n : ℕ) (octets : List ℕ) (given : Answer) → 0 < n → length octets ≤ n → reading.reading (messages profile) n octets ≡ given → judgement profile n octets ≡ verdict_of (outcome_of n given)
+judged profile n octets given some le e = ap verdict_of (reading_outcome (messages profile) n octets some le ∙ ap (outcome_of n) e)
 
 -- a path whose octets decide nothing stands for them
-pub stands_for : (path : Path) (decided : Verdict) (n : ℕ) (octets : List ℕ) → IsAt path decided n octets → decided ≡ verdict.Open → StandsFor path octets
-stands_for path decided n octets at still = by_answer (reading.reading messages n octets) refl
+pub stands_for : {profile : Profile} (path : Path) (decided : Verdict) (n : ℕ) (octets : List ℕ) → IsAt profile path decided n octets → decided ≡ verdict.Open → StandsFor profile path octets
+stands_for {profile = profile} path decided n octets at still = by_answer (reading.reading (messages profile) n octets) refl
   where
-    by_answer : (given : Answer) → reading.reading messages n octets ≡ given → StandsFor path octets
+    by_answer : (given : Answer) → reading.reading (messages profile) n octets ≡ given → StandsFor profile path octets
     by_answer (Ongoing state) e =
         let keeps : Keeps path (Ongoing state) = subst (Keeps path) e at.keeps in
         record {
@@ -47,14 +52,14 @@ stands_for path decided n octets at still = by_answer (reading.reading messages 
           short = omega (arith, at.short, at.size);
           looked = at.looked;
           state = state;
-          reads = ap (λ k. reading.reading messages k octets) at.size ∙ e;
-          holds = record { tip = keeps.1; containers = keeps.0; marks = subst (λ given. AreMarks path.marks.items (marks_from given (λ place. reading.reading messages n (take place octets)))) e at.marks };
+          reads = ap (λ k. reading.reading (messages profile) k octets) at.size ∙ e;
+          holds = record { tip = keeps.1; containers = keeps.0; marks = subst (λ given. AreMarks path.marks.items (marks_from given (λ place. reading.reading (messages profile) n (take place octets)))) e at.marks };
         }
     by_answer (Refusing place reason) e =
-        let same : verdict.Open ≡ verdict.Refused (record { place = place; why = reason }) = sym still ∙ at.decides ∙ judged n octets (Refusing place reason) at.some at.fits e in
+        let same : verdict.Open ≡ verdict.Refused (record { place = place; why = reason }) = sym still ∙ at.decides ∙ judged profile n octets (Refusing place reason) at.some at.fits e in
         absurd (cc same)
     by_answer (Whole marks) e =
-        let same : verdict.Open ≡ verdict.Whole = sym still ∙ at.decides ∙ judged n octets (Whole marks) at.some at.fits e in
+        let same : verdict.Open ≡ verdict.Whole = sym still ∙ at.decides ∙ judged profile n octets (Whole marks) at.some at.fits e in
         absurd (cc same)
 
 same_tip : (taken : ℕ) (a : Kept) (b : Tip) (count : ℕ) → TipIs taken a b → kept.lengths_at a count ≡ lengths_at b count
@@ -78,8 +83,8 @@ same_lengths path taken state h =
     same_tip taken path.tip state.tip (length path.outer.items) h.tip ∙ ap (lengths_at state.tip) same
 
 -- where memory was refused, the octets are the same
-pub unchanged_at : (old new : Path) (decided : Verdict) (n : ℕ) (octets : List ℕ) → IsAt old decided n octets → IsUnchanged old new → new.size ≡ old.size → new.looked ≡ old.looked → IsAt new decided n octets
-unchanged_at old new decided n octets at same size looked = record {
+pub unchanged_at : {profile : Profile} (old new : Path) (decided : Verdict) (n : ℕ) (octets : List ℕ) → IsAt profile old decided n octets → IsUnchanged old new → new.size ≡ old.size → new.looked ≡ old.looked → IsAt profile new decided n octets
+unchanged_at {profile = profile} old new decided n octets at same size looked = record {
   are_octets = at.are_octets;
   some = at.some;
   short = at.short;
@@ -87,9 +92,9 @@ unchanged_at old new decided n octets at same size looked = record {
   size = size ∙ at.size;
   decides = at.decides;
   looked = looked ∙ at.looked;
-  marks = subst (λ all. AreMarks all (Marks n octets)) (sym same.marks) at.marks;
+  marks = subst (λ all. AreMarks all (Marks profile n octets)) (sym same.marks) at.marks;
   lengths = ap (λ t. kept.lengths_at t (length new.outer.items)) same.tip ∙ ap (λ items. kept.lengths_at old.tip (length items)) same.outer ∙ at.lengths;
-  keeps = by_answer (reading.reading messages n octets) at.keeps;
+  keeps = by_answer (reading.reading (messages profile) n octets) at.keeps;
 }
   where
     by_answer : (given : Answer) → Keeps old given → Keeps new given
@@ -105,66 +110,66 @@ abbrev pub counted : Path → Path
 counted path = record path { looked = path.looked + 1 }
 
 -- an octet that is refused is the one that was taken
-refused_here : (path : Path) (octets : List ℕ) (octet place : ℕ) (reason : Why) (s : StandsFor path octets) → reading.reading messages path.size (octets ++ octet ∷ []) ≡ Refusing place reason → place ≡ length octets
-refused_here path octets octet place reason s e =
-    let stepped : step s.state octet ≡ Refusing place reason = sym (reading_step messages path.size octets octet s.some ∙ ap (λ given. go_on given (λ state. step state octet)) s.reads) ∙ e in
-    let placed : Placed (length octets) (Ongoing s.state) = subst (Placed (length octets)) s.reads (reading_placed messages path.size octets s.some) in
-    let reached : ReachedAnswer (Ongoing s.state) = subst ReachedAnswer s.reads (reading_reached messages path.size octets s.some) in
+refused_here : {profile : Profile} (path : Path) (octets : List ℕ) (octet place : ℕ) (reason : Why) (s : StandsFor profile path octets) → reading.reading (messages profile) path.size (octets ++ octet ∷ []) ≡ Refusing place reason → place ≡ length octets
+refused_here {profile = profile} path octets octet place reason s e =
+    let stepped : step s.state octet ≡ Refusing place reason = sym (reading_step (messages profile) path.size octets octet s.some ∙ ap (λ given. go_on given (λ state. step state octet)) s.reads) ∙ e in
+    let placed : Placed (length octets) (Ongoing s.state) = subst (Placed (length octets)) s.reads (reading_placed (messages profile) path.size octets s.some) in
+    let reached : ReachedAnswer (Ongoing s.state) = subst ReachedAnswer s.reads (reading_reached (messages profile) path.size octets s.some) in
     let at : IsPlaced (taken s.state) (Refusing place reason) = subst (IsPlaced (taken s.state)) stepped (step_placed s.state octet reached.reached placed.1) in
     at.placed ∙ placed.0
 
 -- an octet that was taken
-pub taken_at : (old new : Path) (decided before : Verdict) (n : ℕ) (octets : List ℕ) (octet : ℕ) → IsAt old before n octets → before ≡ verdict.Open → octet < 256 → new.size ≡ old.size → new.looked ≡ old.looked →
-    IsTaken old new (Ok decided) (reading.reading messages old.size (octets ++ octet ∷ [])) → IsAt (counted new) decided n (octets ++ octet ∷ [])
-taken_at old new decided before n octets octet at still small size looked is =
-    by_answer decided (reading.reading messages n (octets ++ octet ∷ [])) refl (subst (λ k. Becomes old new decided (reading.reading messages k (octets ++ octet ∷ []))) at.size is.takes)
+pub taken_at : {profile : Profile} (old new : Path) (decided before : Verdict) (n : ℕ) (octets : List ℕ) (octet : ℕ) → IsAt profile old before n octets → before ≡ verdict.Open → octet < 256 → new.size ≡ old.size → new.looked ≡ old.looked →
+    IsTaken old new (Ok decided) (reading.reading (messages profile) old.size (octets ++ octet ∷ [])) → IsAt profile (counted new) decided n (octets ++ octet ∷ [])
+taken_at {profile = profile} old new decided before n octets octet at still small size looked is =
+    by_answer decided (reading.reading (messages profile) n (octets ++ octet ∷ [])) refl (subst (λ k. Becomes old new decided (reading.reading (messages profile) k (octets ++ octet ∷ []))) at.size is.takes)
   where
-    s : StandsFor old octets
+    s : StandsFor profile old octets
     s = stands_for old before n octets at still
 
-    reads : reading.reading messages n octets ≡ Ongoing s.state
-    reads = ap (λ k. reading.reading messages k octets) (sym at.size) ∙ s.reads
+    reads : reading.reading (messages profile) n octets ≡ Ongoing s.state
+    reads = ap (λ k. reading.reading (messages profile) k octets) (sym at.size) ∙ s.reads
 
     more : length (octets ++ octet ∷ []) ≡ length octets + 1
     more = omega (arith, length-append octets (octet ∷ []))
 
     fits : length (octets ++ octet ∷ []) ≤ n
-    fits = omega (arith, more, open_short messages n octets s.state at.some reads)
+    fits = omega (arith, more, open_short (messages profile) n octets s.state at.some reads)
 
     here : new.looked + 1 ≡ old.looked + 1
     here = ap (λ k. k + 1) looked
 
-    made : (verdict_now : Verdict) (given : Answer) → reading.reading messages n (octets ++ octet ∷ []) ≡ given → verdict_now ≡ verdict_of (outcome_of n given) →
-        AreMarks new.marks.items (marks_from given (λ place. reading.reading messages n (take place (octets ++ octet ∷ [])))) →
-        open_lengths_of new ≡ lengths_from given (λ place. reading.reading messages n (take place (octets ++ octet ∷ []))) →
-        Keeps (counted new) given → IsAt (counted new) verdict_now n (octets ++ octet ∷ [])
+    made : (verdict_now : Verdict) (given : Answer) → reading.reading (messages profile) n (octets ++ octet ∷ []) ≡ given → verdict_now ≡ verdict_of (outcome_of n given) →
+        AreMarks new.marks.items (marks_from given (λ place. reading.reading (messages profile) n (take place (octets ++ octet ∷ [])))) →
+        open_lengths_of new ≡ lengths_from given (λ place. reading.reading (messages profile) n (take place (octets ++ octet ∷ []))) →
+        Keeps (counted new) given → IsAt profile (counted new) verdict_now n (octets ++ octet ∷ [])
     made verdict_now given e decides marks lengths keeps = record {
       are_octets = AreOctets-append octets (octet ∷ []) at.are_octets (small, tt {0});
       some = at.some;
       short = at.short;
       fits = fits;
       size = size ∙ at.size;
-      decides = decides ∙ sym (judged n (octets ++ octet ∷ []) given at.some fits e);
+      decides = decides ∙ sym (judged profile n (octets ++ octet ∷ []) given at.some fits e);
       looked = here ∙ ap (λ k. k + 1) at.looked ∙ sym more;
-      marks = subst (λ answer. AreMarks new.marks.items (marks_from answer (λ place. reading.reading messages n (take place (octets ++ octet ∷ []))))) (sym e) marks;
-      lengths = lengths ∙ ap (λ answer. lengths_from answer (λ place. reading.reading messages n (take place (octets ++ octet ∷ [])))) (sym e);
+      marks = subst (λ answer. AreMarks new.marks.items (marks_from answer (λ place. reading.reading (messages profile) n (take place (octets ++ octet ∷ []))))) (sym e) marks;
+      lengths = lengths ∙ ap (λ answer. lengths_from answer (λ place. reading.reading (messages profile) n (take place (octets ++ octet ∷ [])))) (sym e);
       keeps = subst (Keeps (counted new)) (sym e) keeps;
     }
 
-    front : (place : ℕ) → place ≡ length octets → reading.reading messages n (take place (octets ++ octet ∷ [])) ≡ Ongoing s.state
-    front place e = ap (λ k. reading.reading messages n (take k (octets ++ octet ∷ []))) e ∙ ap (reading.reading messages n) (take-append-le (length octets) octets (octet ∷ []) (omega arith) ∙ take_all (length octets) octets (omega arith)) ∙ reads
+    front : (place : ℕ) → place ≡ length octets → reading.reading (messages profile) n (take place (octets ++ octet ∷ [])) ≡ Ongoing s.state
+    front place e = ap (λ k. reading.reading (messages profile) n (take k (octets ++ octet ∷ []))) e ∙ ap (reading.reading (messages profile) n) (take-append-le (length octets) octets (octet ∷ []) (omega arith) ∙ take_all (length octets) octets (omega arith)) ∙ reads
 
-    by_answer : (verdict_now : Verdict) (given : Answer) → reading.reading messages n (octets ++ octet ∷ []) ≡ given → Becomes old new verdict_now given → IsAt (counted new) verdict_now n (octets ++ octet ∷ [])
+    by_answer : (verdict_now : Verdict) (given : Answer) → reading.reading (messages profile) n (octets ++ octet ∷ []) ≡ given → Becomes old new verdict_now given → IsAt profile (counted new) verdict_now n (octets ++ octet ∷ [])
     by_answer verdict.Open (Ongoing state) e h =
         made verdict.Open (Ongoing state) e refl h.marks (same_lengths new (old.looked + 1) state h) (h.containers, subst (λ k. TipIs k new.tip state.tip) (sym here) h.tip)
     by_answer verdict.Open (Refusing place reason) e h = absurd h
     by_answer verdict.Open (Whole marks) e h = absurd h
     by_answer (verdict.Refused refusal) (Ongoing state) e h = absurd h
     by_answer (verdict.Refused refusal) (Refusing place reason) e h =
-        let there : place ≡ length octets = refused_here old octets octet place reason s (ap (λ k. reading.reading messages k (octets ++ octet ∷ [])) at.size ∙ e) in
+        let there : place ≡ length octets = refused_here old octets octet place reason s (ap (λ k. reading.reading (messages profile) k (octets ++ octet ∷ [])) at.size ∙ e) in
         made (verdict.Refused refusal) (Refusing place reason) e
         (ap (λ k. verdict.Refused (record { place = k; why = refusal.why })) (h.0 ∙ at.looked ∙ sym there) ∙ ap (λ w. verdict.Refused (record { place = place; why = w })) h.1)
-        (subst (λ all. AreMarks all (marks_before (reading.reading messages n (take place (octets ++ octet ∷ []))))) (sym h.2.marks) (subst (λ given. AreMarks old.marks.items (marks_before given)) (sym (front place there)) s.holds.marks))
+        (subst (λ all. AreMarks all (marks_before (reading.reading (messages profile) n (take place (octets ++ octet ∷ []))))) (sym h.2.marks) (subst (λ given. AreMarks old.marks.items (marks_before given)) (sym (front place there)) s.holds.marks))
         (ap (λ t. kept.lengths_at t (length new.outer.items)) h.2.tip ∙ ap (λ items. kept.lengths_at old.tip (length items)) h.2.outer ∙ same_lengths old old.looked s.state s.holds ∙ ap lengths_before (sym (front place there)))
         (tt {0})
     by_answer (verdict.Refused refusal) (Whole marks) e h = absurd h
@@ -176,23 +181,23 @@ taken_at old new decided before n octets octet at still small size looked is =
 -- ---- some octets
 
 abbrev pub SomeAt : Path → Verdict → Type 0
-SomeAt path decided = ∥ ((octets : List ℕ) × IsAt path decided path.size octets) ∥₁
+SomeAt path decided = ∥ ((octets : List ℕ) × (profile : Profile) × IsAt profile path decided path.size octets) ∥₁
 
 pub some_stand : (path : Path) (decided : Verdict) → SomeAt path decided → decided ≡ verdict.Open → IsReached path
-some_stand path decided r still = ∥∥₁_map r (λ (k : (octets : List ℕ) × IsAt path decided path.size octets). (k.0, stands_for path decided path.size k.0 k.1 still))
+some_stand path decided r still = ∥∥₁_map r (λ (k : (octets : List ℕ) × (profile : Profile) × IsAt profile path decided path.size octets). (k.0, k.1, stands_for path decided path.size k.0 k.2 still))
 
 pub some_unchanged : (old new : Path) (decided : Verdict) → SomeAt old decided → IsUnchanged old new → new.size ≡ old.size → new.looked ≡ old.looked → SomeAt new decided
 some_unchanged old new decided r same size looked =
-    ∥∥₁_map r (λ (k : (octets : List ℕ) × IsAt old decided old.size octets). (k.0, subst (λ n. IsAt new decided n k.0) (sym size) (unchanged_at old new decided old.size k.0 k.1 same size looked)))
+    ∥∥₁_map r (λ (k : (octets : List ℕ) × (profile : Profile) × IsAt profile old decided old.size octets). (k.0, k.1, subst (λ n. IsAt k.1 new decided n k.0) (sym size) (unchanged_at old new decided old.size k.0 k.2 same size looked)))
 
 pub some_taken : (old new : Path) (decided before : Verdict) (octet : ℕ) → SomeAt old before → before ≡ verdict.Open → octet < 256 → new.size ≡ old.size → new.looked ≡ old.looked →
-    ((octets : List ℕ) → StandsFor old octets → IsTaken old new (Ok decided) (reading.reading messages old.size (octets ++ octet ∷ []))) → SomeAt (counted new) decided
+    ((profile : Profile) (octets : List ℕ) → StandsFor profile old octets → IsTaken old new (Ok decided) (reading.reading (messages profile) old.size (octets ++ octet ∷ []))) → SomeAt (counted new) decided
 some_taken old new decided before octet r still small size looked takes =
-    ∥∥₁_map r (λ (k : (octets : List ℕ) × IsAt old before old.size octets).
-    (k.0 ++ octet ∷ [], subst (λ n. IsAt (counted new) decided n (k.0 ++ octet ∷ [])) (sym size) (taken_at old new decided before old.size k.0 octet k.1 still small size looked (takes k.0 (stands_for old before old.size k.0 k.1 still)))))
+    ∥∥₁_map r (λ (k : (octets : List ℕ) × (profile : Profile) × IsAt profile old before old.size octets).
+    (k.0 ++ octet ∷ [], k.1, subst (λ n. IsAt k.1 (counted new) decided n (k.0 ++ octet ∷ [])) (sym size) (taken_at old new decided before old.size k.0 octet k.2 still small size looked (takes k.1 k.0 (stands_for old before old.size k.0 k.2 still)))))
 
 pub looked_small : (path : Path) (decided : Verdict) → SomeAt path decided → path.looked < 2 ^ 31
-looked_small path decided r = ∥∥₁_elim r le_prop (λ (k : (octets : List ℕ) × IsAt path decided path.size octets). omega (arith, k.1.looked, k.1.fits, k.1.short))
+looked_small path decided r = ∥∥₁_elim r le_prop (λ (k : (octets : List ℕ) × (profile : Profile) × IsAt profile path decided path.size octets). omega (arith, k.2.looked, k.2.fits, k.2.short))
 
 pub err_holds : {A E P : Type 0} (result : Result A E) → P → OnErr result P
 err_holds (Ok value) p = tt {0}
@@ -216,8 +221,8 @@ open_few (Refusing place reason) before h k = lengths_deep (before place) (k pla
 open_few (Whole marks) before h k = zero-le
 
 pub lengths_few : (path : Path) (decided : Verdict) → SomeAt path decided → open_lengths_of path ≤ 13
-lengths_few path decided r = ∥∥₁_elim r le_prop (λ (k : (octets : List ℕ) × IsAt path decided path.size octets).
-    subst (λ count. count ≤ 13) (sym k.1.lengths) (open_few (reading.reading messages path.size k.0) (λ place. reading.reading messages path.size (take place k.0)) (reading_deep path.size k.0) (λ place. reading_deep path.size (take place k.0))))
+lengths_few path decided r = ∥∥₁_elim r le_prop (λ (k : (octets : List ℕ) × (profile : Profile) × IsAt profile path decided path.size octets).
+    subst (λ count. count ≤ 13) (sym k.2.lengths) (open_few (reading.reading (messages k.1) path.size k.0) (λ place. reading.reading (messages k.1) path.size (take place k.0)) (reading_deep k.1 path.size k.0) (λ place. reading_deep k.1 path.size (take place k.0))))
 
 few_before : (count : ℕ) (given : Answer) → Placed count given → 2 * length (marks_before given) ≤ count
 few_before count (Ongoing state) h = by_tip state.tip state.marks h.0 h.1
@@ -229,33 +234,45 @@ few_before count (Ongoing state) h = by_tip state.tip state.marks h.0 h.1
 few_before count (Refusing place reason) h = omega arith
 few_before count (Whole marks) h = omega arith
 
-few_from : (n : ℕ) (octets : List ℕ) (given : Answer) → 0 < n → Placed (length octets) given → 2 * length (marks_from given (λ place. reading.reading messages n (take place octets))) ≤ length octets
-few_from n octets (Ongoing state) some h = few_before (length octets) (Ongoing state) h
-few_from n octets (Refusing place reason) some h =
-    let few : 2 * length (marks_before (reading.reading messages n (take place octets))) ≤ length (take place octets) = few_before (length (take place octets)) (reading.reading messages n (take place octets)) (reading_placed messages n (take place octets) some) in
+few_from : (profile : Profile) (n : ℕ) (octets : List ℕ) (given : Answer) → 0 < n → Placed (length octets) given → 2 * length (marks_from given (λ place. reading.reading (messages profile) n (take place octets))) ≤ length octets
+few_from profile n octets (Ongoing state) some h = few_before (length octets) (Ongoing state) h
+few_from profile n octets (Refusing place reason) some h =
+    let few : 2 * length (marks_before (reading.reading (messages profile) n (take place octets))) ≤ length (take place octets) = few_before (length (take place octets)) (reading.reading (messages profile) n (take place octets)) (reading_placed (messages profile) n (take place octets) some) in
     omega (arith, few, length-take place octets)
-few_from n octets (Whole marks) some h = h
+few_from profile n octets (Whole marks) some h = h
+
+-- twice the marks is at most the octets
+pub marks_are_few : MarksAreFew
+marks_are_few profile n octets some = few_from profile n octets (reading.reading (messages profile) n octets) some (reading_placed (messages profile) n octets some)
 
 pub marks_few : (path : Path) (decided : Verdict) → SomeAt path decided → 2 * length path.marks.items ≤ path.looked
-marks_few path decided r = ∥∥₁_elim r le_prop (λ (k : (octets : List ℕ) × IsAt path decided path.size octets).
-    let few : 2 * length (Marks path.size k.0) ≤ length k.0 = few_from path.size k.0 (reading.reading messages path.size k.0) k.1.some (reading_placed messages path.size k.0 k.1.some) in
-    omega (arith, few, length_values path.marks.items (Marks path.size k.0) k.1.marks, k.1.looked))
+marks_few path decided r = ∥∥₁_elim r le_prop (λ (k : (octets : List ℕ) × (profile : Profile) × IsAt profile path decided path.size octets).
+    omega (arith, marks_are_few k.1 path.size k.0 k.2.some, length_values path.marks.items (Marks k.1 path.size k.0) k.2.marks, k.2.looked))
+
+-- room for half as many marks as the message has octets is enough for what an octet more can add
+pub enough : {profile : Profile} (result : Result Verdict Memory) (path : Path) (decided : Verdict) (n : ℕ) (octets longer : List ℕ) (room : ℕ) → IsAt profile path decided n octets → OnErr result (decided ≡ verdict.Open) → length longer ≤ length octets + 1 → OnErr result (length (Marks profile n longer) ≡ length (Marks profile n octets) + 1) → OnErr result (room ≤ length path.marks.items) → n / 2 ≤ room → IsOk result
+enough (Ok value) path decided n octets longer room at undecided one ends full much = refl
+enough {profile = profile} (Err error) path decided n octets longer room at undecided one ends full much = absurd (by (cases_lt (length octets) n))
+  where
+    by : (length octets < n) ⊎ (n ≤ length octets) → ⊥
+    by (inl h) = omega (arith, marks_are_few profile n longer at.some, length_values path.marks.items (Marks profile n octets) at.marks, h, one, ends, full, much)
+    by (inr h) = all_is_decided (messages profile) n octets at.some (omega (arith, at.fits, h)) (sym at.decides ∙ undecided)
 
 -- where memory was refused, the octet ends a length
-pub ends_length : (old new : Path) (decided : Verdict) (n : ℕ) (octets : List ℕ) (octet : ℕ) (memory : Memory) → IsAt old decided n octets → IsTaken old new (Err memory) (reading.reading messages old.size (octets ++ octet ∷ [])) → length (Marks n (octets ++ octet ∷ [])) ≡ length (Marks n octets) + 1
-ends_length old new decided n octets octet memory at is =
-    by_answer (reading.reading messages n (octets ++ octet ∷ [])) (subst (λ k. AddsMark (length old.marks.items) (reading.reading messages k (octets ++ octet ∷ []))) at.size is.takes.1)
-    ∙ ap (λ count. count + 1) (sym (length_values old.marks.items (Marks n octets) at.marks))
+pub ends_length : {profile : Profile} (old new : Path) (decided : Verdict) (n : ℕ) (octets : List ℕ) (octet : ℕ) (memory : Memory) → IsAt profile old decided n octets → IsTaken old new (Err memory) (reading.reading (messages profile) old.size (octets ++ octet ∷ [])) → length (Marks profile n (octets ++ octet ∷ [])) ≡ length (Marks profile n octets) + 1
+ends_length {profile = profile} old new decided n octets octet memory at is =
+    by_answer (reading.reading (messages profile) n (octets ++ octet ∷ [])) (subst (λ k. AddsMark (length old.marks.items) (reading.reading (messages profile) k (octets ++ octet ∷ []))) at.size is.takes.1)
+    ∙ ap (λ count. count + 1) (sym (length_values old.marks.items (Marks profile n octets) at.marks))
   where
-    by_answer : (given : Answer) → AddsMark (length old.marks.items) given → length (marks_from given (λ place. reading.reading messages n (take place (octets ++ octet ∷ [])))) ≡ length old.marks.items + 1
+    by_answer : (given : Answer) → AddsMark (length old.marks.items) given → length (marks_from given (λ place. reading.reading (messages profile) n (take place (octets ++ octet ∷ [])))) ≡ length old.marks.items + 1
     by_answer (Ongoing state) h = h
     by_answer (Refusing place reason) h = absurd h
     by_answer (Whole marks) h = h
 
 -- ---- none of the octets
 
-pub none_at : (path : Path) (n : ℕ) → 0 < n → n < 2 ^ 31 → path.size ≡ n → path.looked ≡ 0 → path.tip ≡ tip.Between → path.inner.end ≡ n → IsPlace path.inner.due → due_at path.inner.due ≡ OneOf messages → path.outer.items ≡ [] → path.marks.items ≡ [] → IsAt path verdict.Open n []
-none_at path n some short size looked at_tip ends known due outer marks = record {
+pub none_at : {profile : Profile} (path : Path) (n : ℕ) → 0 < n → n < 2 ^ 31 → path.size ≡ n → path.looked ≡ 0 → path.tip ≡ tip.Between → path.inner.end ≡ n → IsPlace path.inner.due → due_at path.inner.due ≡ OneOf (messages profile) → path.outer.items ≡ [] → path.marks.items ≡ [] → IsAt profile path verdict.Open n []
+none_at {profile = profile} path n some short size looked at_tip ends known due outer marks = record {
   are_octets = tt {0};
   some = some;
   short = short;
@@ -263,13 +280,13 @@ none_at path n some short size looked at_tip ends known due outer marks = record
   size = size;
   decides = refl;
   looked = looked;
-  marks = subst (λ given. AreMarks path.marks.items (marks_from given (λ place. reading.reading messages n (take place [])))) (sym reads) (subst (λ all. AreMarks all []) (sym marks) no_marks);
-  lengths = ap (λ t. kept.lengths_at t (length path.outer.items)) at_tip ∙ ap length outer ∙ ap (λ given. lengths_from given (λ place. reading.reading messages n (take place []))) (sym reads);
+  marks = subst (λ given. AreMarks path.marks.items (marks_from given (λ place. reading.reading (messages profile) n (take place [])))) (sym reads) (subst (λ all. AreMarks all []) (sym marks) no_marks);
+  lengths = ap (λ t. kept.lengths_at t (length path.outer.items)) at_tip ∙ ap length outer ∙ ap (λ given. lengths_from given (λ place. reading.reading (messages profile) n (take place []))) (sym reads);
   keeps = subst (Keeps path) (sym reads) (
-    record { frames = subst (λ items. AreFrames (path.inner ∷ reverse items) (frame_of n (OneOf messages) ∷ [])) (sym outer) (record { end = ends; known = known; due = due }, tt {0}) },
+    record { frames = subst (λ items. AreFrames (path.inner ∷ reverse items) (frame_of n (OneOf (messages profile)) ∷ [])) (sym outer) (record { end = ends; known = known; due = due }, tt {0}) },
     subst (λ t. TipIs path.looked t (reading.Between 0)) (sym at_tip) looked,
   );
 }
   where
-    reads : reading.reading messages n [] ≡ Ongoing (initial messages n)
-    reads = run_reading messages n [] some
+    reads : reading.reading (messages profile) n [] ≡ Ongoing (initial (messages profile) n)
+    reads = run_reading (messages profile) n [] some

@@ -15,7 +15,7 @@ use Rattle.krb_scan.specs.inner.Places.{AreContents}
 use Rattle.krb_scan.specs.declared.places.Contents.TheVariants as contents
 use Rattle.krb_scan.specs.declared.leaf.Leaf.{Leaf}
 use Rattle.krb_scan.specs.declared.tip.Tip.TheVariants as tip
-use Rattle.krb_scan.proofs.Numbers.{length_push, value_push, leaf_next_right, text_next_any}
+use Rattle.krb_scan.proofs.Numbers.{length_push, value_push, leaf_next_right}
 use Rattle.krb_scan.proofs.Stable.{Counts, leaf_counts}
 
 -- what a leaf's octets and one more decide, what is kept of them, and the number that they are
@@ -72,42 +72,41 @@ first_push [] octet = refl
 first_push (first ∷ octets) octet = ap (λ b. if b then octet else first) (ne_eqb (suc (length octets)) 0 (λ e. omega arith))
 
 -- a BIT STRING
-pub bits_reads : (term : Term) (count seen : ℕ) (value : ℤ) (unused first octet : ℕ) (octets : List ℕ) (next : Leaf) → AreContents contents.Bits term → LeafReads term count value unused octets → octet < 256 → seen ≡ length octets → first ≡ (if seen == 0 then octet else unused) → LeafIs next (bits_next 0 count seen unused octet) → GoesOn term count octets octet next value first (pos 0)
-bits_reads (Bits least) count seen value unused first octet octets next is reads small at e h = record {
+pub bits_reads : (few : ℕ) (term : Term) (count seen : ℕ) (value : ℤ) (unused first octet : ℕ) (octets : List ℕ) (next : Leaf) → AreContents (contents.Bits few) term → LeafReads term count value unused octets → octet < 256 → seen ≡ length octets → first ≡ (if seen == 0 then octet else unused) → LeafIs next (bits_next few count seen unused octet) → GoesOn term count octets octet next value first (pos 0)
+bits_reads few (Bits least) count seen value unused first octet octets next is reads small at e h = record {
   decides =
       subst (LeafIs next) (sym (leaf_next_right (Bits least) count octets octet reads.are_octets small reads.open_still))
-      (subst (λ few. LeafIs next (bits_next few count (length octets) (first_or_zero octets) octet)) (sym is)
-      (subst (λ u. LeafIs next (bits_next 0 count (length octets) u octet)) reads.keeps.1 (subst (λ k. LeafIs next (bits_next 0 count k unused octet)) at h)));
+      (subst (λ fewest. LeafIs next (bits_next fewest count (length octets) (first_or_zero octets) octet)) is
+      (subst (λ u. LeafIs next (bits_next few count (length octets) u octet)) reads.keeps.1 (subst (λ k. LeafIs next (bits_next few count k unused octet)) at h)));
   keeps = (reads.keeps.0, e ∙ ap (λ k. if k == 0 then octet else unused) at ∙ ap (λ u. if length octets == 0 then octet else u) reads.keeps.1 ∙ first_push octets octet);
   number_is = refl;
 }
-bits_reads (Integer low high) count seen value unused first octet octets next is reads small at e h = absurd is
-bits_reads (Text greatest) count seen value unused first octet octets next is reads small at e h = absurd is
-bits_reads Octets count seen value unused first octet octets next is reads small at e h = absurd is
-bits_reads Time count seen value unused first octet octets next is reads small at e h = absurd is
-bits_reads (Sequence fields) count seen value unused first octet octets next is reads small at e h = absurd is
-bits_reads (SequenceOf empty term) count seen value unused first octet octets next is reads small at e h = absurd is
-bits_reads (Tagged index term) count seen value unused first octet octets next is reads small at e h = absurd is
-bits_reads (Application number term) count seen value unused first octet octets next is reads small at e h = absurd is
+bits_reads few (Integer low high) count seen value unused first octet octets next is reads small at e h = absurd is
+bits_reads few (Text greatest) count seen value unused first octet octets next is reads small at e h = absurd is
+bits_reads few Octets count seen value unused first octet octets next is reads small at e h = absurd is
+bits_reads few Time count seen value unused first octet octets next is reads small at e h = absurd is
+bits_reads few (Sequence fields) count seen value unused first octet octets next is reads small at e h = absurd is
+bits_reads few (SequenceOf empty term) count seen value unused first octet octets next is reads small at e h = absurd is
+bits_reads few (Tagged index term) count seen value unused first octet octets next is reads small at e h = absurd is
+bits_reads few (Application number term) count seen value unused first octet octets next is reads small at e h = absurd is
 
 -- a string
-pub text_reads : (term : Term) (count seen : ℕ) (value : ℤ) (unused octet : ℕ) (octets : List ℕ) (next : Leaf) → AreContents contents.Text term → LeafReads term count value unused octets → octet < 256 → seen ≡ length octets → LeafIs next (any_next count seen) → GoesOn term count octets octet next value unused (pos 0)
-text_reads (Text greatest) count seen value unused octet octets next is reads small at h = record {
+pub text_reads : (most : ℕ) (term : Term) (count seen : ℕ) (value : ℤ) (unused octet : ℕ) (octets : List ℕ) (next : Leaf) → AreContents (contents.Text most) term → LeafReads term count value unused octets → octet < 256 → seen ≡ length octets → LeafIs next (each_next (text_octet most) why.Charset count seen octet) → GoesOn term count octets octet next value unused (pos 0)
+text_reads most (Text greatest) count seen value unused octet octets next is reads small at h = record {
   decides =
       subst (LeafIs next) (sym (leaf_next_right (Text greatest) count octets octet reads.are_octets small reads.open_still))
-      (subst (λ most. LeafIs next (each_next (text_octet most) why.Charset count (length octets) octet)) (sym is)
-      (subst (LeafIs next) (sym (text_next_any count (length octets) octet small)) (subst (λ k. LeafIs next (any_next count k)) at h)));
+      (subst (λ greatest. LeafIs next (each_next (text_octet greatest) why.Charset count (length octets) octet)) is (subst (λ k. LeafIs next (each_next (text_octet most) why.Charset count k octet)) at h));
   keeps = reads.keeps;
   number_is = refl;
 }
-text_reads (Integer low high) count seen value unused octet octets next is reads small at h = absurd is
-text_reads Octets count seen value unused octet octets next is reads small at h = absurd is
-text_reads Time count seen value unused octet octets next is reads small at h = absurd is
-text_reads (Bits least) count seen value unused octet octets next is reads small at h = absurd is
-text_reads (Sequence fields) count seen value unused octet octets next is reads small at h = absurd is
-text_reads (SequenceOf empty term) count seen value unused octet octets next is reads small at h = absurd is
-text_reads (Tagged index term) count seen value unused octet octets next is reads small at h = absurd is
-text_reads (Application number term) count seen value unused octet octets next is reads small at h = absurd is
+text_reads most (Integer low high) count seen value unused octet octets next is reads small at h = absurd is
+text_reads most Octets count seen value unused octet octets next is reads small at h = absurd is
+text_reads most Time count seen value unused octet octets next is reads small at h = absurd is
+text_reads most (Bits least) count seen value unused octet octets next is reads small at h = absurd is
+text_reads most (Sequence fields) count seen value unused octet octets next is reads small at h = absurd is
+text_reads most (SequenceOf empty term) count seen value unused octet octets next is reads small at h = absurd is
+text_reads most (Tagged index term) count seen value unused octet octets next is reads small at h = absurd is
+text_reads most (Application number term) count seen value unused octet octets next is reads small at h = absurd is
 
 -- an OCTET STRING
 pub octets_reads : (term : Term) (count seen : ℕ) (value : ℤ) (unused octet : ℕ) (octets : List ℕ) (next : Leaf) → AreContents contents.Octets term → LeafReads term count value unused octets → octet < 256 → seen ≡ length octets → LeafIs next (any_next count seen) → GoesOn term count octets octet next value unused (pos 0)
@@ -126,32 +125,32 @@ octets_reads (Tagged index term) count seen value unused octet octets next is re
 octets_reads (Application number term) count seen value unused octet octets next is reads small at h = absurd is
 
 -- a container has no octets of its own, and this is what they would decide
-pub items_reads : (term : Term) (first count seen : ℕ) (value : ℤ) (unused octet : ℕ) (octets : List ℕ) (next : Leaf) → AreContents (contents.Items first) term → LeafReads term count value unused octets → octet < 256 → seen ≡ length octets → LeafIs next (any_next count seen) → GoesOn term count octets octet next value unused (pos 0)
-items_reads (Sequence fields) first count seen value unused octet octets next is reads small at h = record {
+pub items_reads : (term : Term) (first : ℕ) (none : Bool) (count seen : ℕ) (value : ℤ) (unused octet : ℕ) (octets : List ℕ) (next : Leaf) → AreContents (contents.Items first none) term → LeafReads term count value unused octets → octet < 256 → seen ≡ length octets → LeafIs next (any_next count seen) → GoesOn term count octets octet next value unused (pos 0)
+items_reads (Sequence fields) first none count seen value unused octet octets next is reads small at h = record {
   decides = subst (LeafIs next) (sym (leaf_next_right (Sequence fields) count octets octet reads.are_octets small reads.open_still)) (subst (λ k. LeafIs next (any_next count k)) at h);
   keeps = reads.keeps;
   number_is = refl;
 }
-items_reads (SequenceOf empty term) first count seen value unused octet octets next is reads small at h = record {
+items_reads (SequenceOf empty term) first none count seen value unused octet octets next is reads small at h = record {
   decides = subst (LeafIs next) (sym (leaf_next_right (SequenceOf empty term) count octets octet reads.are_octets small reads.open_still)) (subst (λ k. LeafIs next (any_next count k)) at h);
   keeps = reads.keeps;
   number_is = refl;
 }
-items_reads (Tagged index term) first count seen value unused octet octets next is reads small at h = record {
+items_reads (Tagged index term) first none count seen value unused octet octets next is reads small at h = record {
   decides = subst (LeafIs next) (sym (leaf_next_right (Tagged index term) count octets octet reads.are_octets small reads.open_still)) (subst (λ k. LeafIs next (any_next count k)) at h);
   keeps = reads.keeps;
   number_is = refl;
 }
-items_reads (Application number term) first count seen value unused octet octets next is reads small at h = record {
+items_reads (Application number term) first none count seen value unused octet octets next is reads small at h = record {
   decides = subst (LeafIs next) (sym (leaf_next_right (Application number term) count octets octet reads.are_octets small reads.open_still)) (subst (λ k. LeafIs next (any_next count k)) at h);
   keeps = reads.keeps;
   number_is = refl;
 }
-items_reads (Integer low high) first count seen value unused octet octets next is reads small at h = absurd is
-items_reads (Text greatest) first count seen value unused octet octets next is reads small at h = absurd is
-items_reads Octets first count seen value unused octet octets next is reads small at h = absurd is
-items_reads Time first count seen value unused octet octets next is reads small at h = absurd is
-items_reads (Bits least) first count seen value unused octet octets next is reads small at h = absurd is
+items_reads (Integer low high) first none count seen value unused octet octets next is reads small at h = absurd is
+items_reads (Text greatest) first none count seen value unused octet octets next is reads small at h = absurd is
+items_reads Octets first none count seen value unused octet octets next is reads small at h = absurd is
+items_reads Time first none count seen value unused octet octets next is reads small at h = absurd is
+items_reads (Bits least) first none count seen value unused octet octets next is reads small at h = absurd is
 
 -- the number of octets of a time
 pub time_size : (term : Term) (count : ℕ) → AreContents contents.Time term → has_size term count ≡ true → count ≡ 15

@@ -1,27 +1,32 @@
 -- The realm of a message is found by its marks.
-use Rattle.std.proofs.Common.{◌≡◌, ℕ, zero, suc, pos, ◌+◌, ◌<◌, ◌≤◌, inl, inr, Bool, true, false, not, ◌&&◌, ◌||◌, List, [], ◌∷◌, ◌++◌, length, get_or, map, take, drop, Option, Some, None, refl, sym, ◌∙◌, ap, subst, arith, append-nil, append_assoc, length-append, drop_at}
+use Rattle.std.proofs.Common.{◌≡◌, ℕ, zero, suc, pos, ◌+◌, ◌^◌, ◌<◌, ◌≤◌, inl, inr, Bool, true, false, not, ◌&&◌, ◌||◌, List, [], ◌∷◌, ◌++◌, length, get_or, map, take, drop, Option, Some, None, refl, sym, ◌∙◌, ap, subst, arith, append-nil, append_assoc, length-append, drop_at}
 use Rattle.std.proofs.lemmas.Bool.{and_parts, not-true, true≢false, cases_Bool}
 use Rattle.std.proofs.lemmas.List.{take_at, drop-drop, length-drop}
 use Rattle.std.specs.List.{flat_map}
-use Rattle.std.specs.Prelude.{if◌then◌else◌, nat_eq}
-use Rattle.krb_der.specs.Octets.{item}
+use Rattle.std.specs.Prelude.{if◌then◌else◌}
+use Rattle.krb_der.specs.declared.profile.Profile.{Profile}
+use Rattle.krb_der.specs.declared.profile.Profile.TheVariants as profiles
+use Rattle.krb_der.specs.Octets.{item, AreOctets}
 use Rattle.krb_msg.specs.Term.{Term, Fields, Integer, Text, Octets, Time, Bits, Sequence, SequenceOf, Tagged, Application, End, Required, Optional, Value, Values, der, der_of_fields, octets_of_option}
 use Rattle.krb_msg.specs.Grammar.{int32}
+use Rattle.krb_msg.specs.Laws.{AreMessage}
+use Rattle.krb_msg.proofs.Judged.{whole_is_message, kind_of_octets, message_der_in, lenient_message}
 use Rattle.krb_msg.specs.Nodes.{nodes, term_in, term_at}
 use Rattle.krb_msg.specs.Realm.{realm_of, AreOfRealm}
 use Rattle.krb_msg.specs.Table.{IsNode}
-use Rattle.krb_msg.specs.Views.{kind_of, kind_term, message_value, message_der, AreOfKind}
+use Rattle.krb_msg.specs.Views.{kind_of, kind_term_in, message_value_in, AreOfKind}
 use Rattle.krb_msg.specs.declared.grammar.TheConstants.{NODES}
 use Rattle.krb_msg.specs.declared.message.Message.{Message}
 use Rattle.krb_msg.specs.declared.message.Message.TheVariants as message
 use Rattle.krb_msg.specs.declared.message.Kind.{Kind}
 use Rattle.krb_msg.specs.declared.message.Kind.TheVariants as kind
-use Rattle.krb_scan.specs.At.{Marks}
+use Rattle.krb_scan.specs.At.{Marks, AreWhole}
 use Rattle.krb_scan.specs.Reading.{Mark, mark_of}
 use Rattle.krb_scan.specs.State.{AreMarks, mark_value}
 use Rattle.krb_scan.specs.ValueMarks.{start_of, list_marks, option_marks, value_marks, fields_marks, message_marks}
-use Rattle.krb_scan.specs.inner.RealmMarks.{is_string_at, is_realm, mark_after}
+use Rattle.krb_scan.specs.inner.RealmMarks.{is_string_at, is_realm, is_row, mark_after}
 use Rattle.krb_scan.specs.declared.mark.Mark.{Mark as Kept}
+use Rattle.krb_scan.specs.declared.realms.TheConstants.{BODY_REALM, AS_REP_CREALM, TGS_REP_CREALM, TICKET_REALM, ERROR_REALM}
 use Rattle.krb_scan.proofs.MarksLeft.{contents_at, all_octets}
 use Rattle.krb_scan.proofs.ValueMarks.{whole_has_marks_of_message}
 
@@ -264,68 +269,103 @@ test_node : (test : ℕ → Bool) (of_term : Term → Bool) → map of_term node
 unfolding term_in
 test_node test of_term e all node h = ap test (omega arith) ∙ test_at test of_term nodes 0 node int32 (e ∙ ap (tests_from test 0) (sym all)) (omega (arith, all, h))
 
-pub node_of_body : (node : ℕ) → IsNode node → nat_eq node 42 ≡ is_string_at 2 (term_at node)
+pub node_of_body : (node : ℕ) → IsNode node → is_row node BODY_REALM ≡ is_string_at 2 (term_at node)
 unfolding nodes
-node_of_body = test_node (λ node. nat_eq node 42) (is_string_at 2) refl refl
+node_of_body = test_node (λ node. is_row node BODY_REALM) (is_string_at 2) refl refl
 
-pub node_of_reply : (node : ℕ) → IsNode node → (nat_eq node 69 || nat_eq node 78) ≡ is_string_at 3 (term_at node)
+pub node_of_reply : (node : ℕ) → IsNode node → (is_row node AS_REP_CREALM || is_row node TGS_REP_CREALM) ≡ is_string_at 3 (term_at node)
 unfolding nodes
-node_of_reply = test_node (λ node. nat_eq node 69 || nat_eq node 78) (is_string_at 3) refl refl
+node_of_reply = test_node (λ node. is_row node AS_REP_CREALM || is_row node TGS_REP_CREALM) (is_string_at 3) refl refl
 
-pub node_of_ticket : (node : ℕ) → IsNode node → nat_eq node 36 ≡ is_string_at 1 (term_at node)
+pub node_of_ticket : (node : ℕ) → IsNode node → is_row node TICKET_REALM ≡ is_string_at 1 (term_at node)
 unfolding nodes
-node_of_ticket = test_node (λ node. nat_eq node 36) (is_string_at 1) refl refl
+node_of_ticket = test_node (λ node. is_row node TICKET_REALM) (is_string_at 1) refl refl
 
-pub node_of_error : (node : ℕ) → IsNode node → nat_eq node 105 ≡ is_string_at 9 (term_at node)
+pub node_of_error : (node : ℕ) → IsNode node → is_row node ERROR_REALM ≡ is_string_at 9 (term_at node)
 unfolding nodes
-node_of_error = test_node (λ node. nat_eq node 105) (is_string_at 9) refl refl
+node_of_error = test_node (λ node. is_row node ERROR_REALM) (is_string_at 9) refl refl
 
 -- ---- the realm of a message
-at_front : (k : Kind) → leads (is_realm k) false (kind_term k) ≡ true → (value : Value (kind_term k)) →
-    Tells (der (kind_term k) value) (mark_after (is_realm k) false (value_marks (kind_term k) 0 value)) (Some (string_in (is_realm k) (kind_term k) value))
-at_front k l value =
-    let b : BeginsAt (der (kind_term k) value) 0 (der (kind_term k) value) = record { rest = []; within = omega arith; here = sym (append-nil (der (kind_term k) value)) } in
-    subst (λ marks. Tells (der (kind_term k) value) (mark_after (is_realm k) false marks) (Some (string_in (is_realm k) (kind_term k) value))) (append-nil (value_marks (kind_term k) 0 value))
-    (finds (is_realm k) (der (kind_term k) value) false (kind_term k) l 0 value [] b)
+-- of the value of a term, the octets of the first string that is one
+at_front : (k : Kind) (term : Term) → leads (is_realm k) false term ≡ true → (value : Value term) →
+    Tells (der term value) (mark_after (is_realm k) false (value_marks term 0 value)) (Some (string_in (is_realm k) term value))
+at_front k term l value =
+    let b : BeginsAt (der term value) 0 (der term value) = record { rest = []; within = omega arith; here = sym (append-nil (der term value)) } in
+    subst (λ marks. Tells (der term value) (mark_after (is_realm k) false marks) (Some (string_in (is_realm k) term value))) (append-nil (value_marks term 0 value))
+    (finds (is_realm k) (der term value) false term l 0 value [] b)
 
--- no field of an AP-REP is one
-none_after : (marks : List Mark) → mark_after (is_realm kind.ApRep) false marks ≡ None
+-- of a message that names no realm, no field is one
+none_after : (marks : List Mark) → mark_after (λ term. false) false marks ≡ None
 none_after [] = refl
 none_after (mark ∷ marks) = none_after marks
 
-realm_told : (m : Message) → Tells (message_der m) (mark_after (is_realm (kind_of m)) false (message_marks m)) (realm_of m)
-realm_told (message.AsReq m) = at_front kind.AsReq refl (message_value (message.AsReq m))
-realm_told (message.AsRep m) = at_front kind.AsRep refl (message_value (message.AsRep m))
-realm_told (message.TgsReq m) = at_front kind.TgsReq refl (message_value (message.TgsReq m))
-realm_told (message.TgsRep m) = at_front kind.TgsRep refl (message_value (message.TgsRep m))
-realm_told (message.ApReq m) = at_front kind.ApReq refl (message_value (message.ApReq m))
-realm_told (message.ApRep m) = subst (λ mark. Tells (message_der (message.ApRep m)) mark None) (sym (none_after (message_marks (message.ApRep m)))) tt
-realm_told (message.KrbError m) = at_front kind.KrbError refl (message_value (message.KrbError m))
+-- what the octets of a message tell, as the DER of its value in a profile
+abbrev RealmIsTold : Profile → Message → Type 0
+RealmIsTold profile m = Tells (der (kind_term_in profile (kind_of m)) (message_value_in profile m)) (mark_after (is_realm (kind_of m)) false (message_marks profile m)) (realm_of m)
 
-module _ (octets : List ℕ) (k : Kind) (marks : List Kept) (w : AreOfKind octets k) (are : AreMarks marks (Marks (length octets) octets)) where
-  of_message : mark_after (is_realm k) false (map mark_value marks) ≡ mark_after (is_realm (kind_of w.message)) false (message_marks w.message)
+none_told : (profile : Profile) (m : Message) → mark_after (is_realm (kind_of m)) false (message_marks profile m) ≡ None → Tells (der (kind_term_in profile (kind_of m)) (message_value_in profile m)) (mark_after (is_realm (kind_of m)) false (message_marks profile m)) None
+none_told profile m e = subst (λ mark. Tells (der (kind_term_in profile (kind_of m)) (message_value_in profile m)) mark None) (sym e) tt
+
+realm_told : (profile : Profile) (m : Message) → RealmIsTold profile m
+realm_told profiles.Lenient (message.AsReq m) = at_front kind.AsReq (kind_term_in profiles.Lenient kind.AsReq) refl (message_value_in profiles.Lenient (message.AsReq m))
+realm_told profiles.Lenient (message.AsRep m) = at_front kind.AsRep (kind_term_in profiles.Lenient kind.AsRep) refl (message_value_in profiles.Lenient (message.AsRep m))
+realm_told profiles.Lenient (message.TgsReq m) = at_front kind.TgsReq (kind_term_in profiles.Lenient kind.TgsReq) refl (message_value_in profiles.Lenient (message.TgsReq m))
+realm_told profiles.Lenient (message.TgsRep m) = at_front kind.TgsRep (kind_term_in profiles.Lenient kind.TgsRep) refl (message_value_in profiles.Lenient (message.TgsRep m))
+realm_told profiles.Lenient (message.ApReq m) = at_front kind.ApReq (kind_term_in profiles.Lenient kind.ApReq) refl (message_value_in profiles.Lenient (message.ApReq m))
+realm_told profiles.Lenient (message.ApRep m) = none_told profiles.Lenient (message.ApRep m) (none_after (message_marks profiles.Lenient (message.ApRep m)))
+realm_told profiles.Lenient (message.KrbSafe m) = none_told profiles.Lenient (message.KrbSafe m) (none_after (message_marks profiles.Lenient (message.KrbSafe m)))
+realm_told profiles.Lenient (message.KrbPriv m) = none_told profiles.Lenient (message.KrbPriv m) (none_after (message_marks profiles.Lenient (message.KrbPriv m)))
+realm_told profiles.Lenient (message.KrbCred m) = none_told profiles.Lenient (message.KrbCred m) (none_after (message_marks profiles.Lenient (message.KrbCred m)))
+realm_told profiles.Lenient (message.KrbError m) = at_front kind.KrbError (kind_term_in profiles.Lenient kind.KrbError) refl (message_value_in profiles.Lenient (message.KrbError m))
+realm_told profiles.Strict (message.AsReq m) = at_front kind.AsReq (kind_term_in profiles.Strict kind.AsReq) refl (message_value_in profiles.Strict (message.AsReq m))
+realm_told profiles.Strict (message.AsRep m) = at_front kind.AsRep (kind_term_in profiles.Strict kind.AsRep) refl (message_value_in profiles.Strict (message.AsRep m))
+realm_told profiles.Strict (message.TgsReq m) = at_front kind.TgsReq (kind_term_in profiles.Strict kind.TgsReq) refl (message_value_in profiles.Strict (message.TgsReq m))
+realm_told profiles.Strict (message.TgsRep m) = at_front kind.TgsRep (kind_term_in profiles.Strict kind.TgsRep) refl (message_value_in profiles.Strict (message.TgsRep m))
+realm_told profiles.Strict (message.ApReq m) = at_front kind.ApReq (kind_term_in profiles.Strict kind.ApReq) refl (message_value_in profiles.Strict (message.ApReq m))
+realm_told profiles.Strict (message.ApRep m) = none_told profiles.Strict (message.ApRep m) (none_after (message_marks profiles.Strict (message.ApRep m)))
+realm_told profiles.Strict (message.KrbSafe m) = none_told profiles.Strict (message.KrbSafe m) (none_after (message_marks profiles.Strict (message.KrbSafe m)))
+realm_told profiles.Strict (message.KrbPriv m) = none_told profiles.Strict (message.KrbPriv m) (none_after (message_marks profiles.Strict (message.KrbPriv m)))
+realm_told profiles.Strict (message.KrbCred m) = none_told profiles.Strict (message.KrbCred m) (none_after (message_marks profiles.Strict (message.KrbCred m)))
+realm_told profiles.Strict (message.KrbError m) = at_front kind.KrbError (kind_term_in profiles.Strict kind.KrbError) refl (message_value_in profiles.Strict (message.KrbError m))
+
+module _ (profile : Profile) (octets : List ℕ) (k : Kind) (marks : List Kept) (w : AreOfKind profile octets k) (are : AreMarks marks (Marks profile (length octets) octets)) where
+  of_message : mark_after (is_realm k) false (map mark_value marks) ≡ mark_after (is_realm (kind_of w.message)) false (message_marks profile w.message)
   of_message =
       ap (λ it. mark_after (is_realm it) false (map mark_value marks)) (sym w.same_kind)
-      ∙ ap (mark_after (is_realm (kind_of w.message)) false) (are.values ∙ ap (λ those. Marks (length those) those) (sym w.form) ∙ whole_has_marks_of_message w.message w.in_profile)
+      ∙ ap (mark_after (is_realm (kind_of w.message)) false) (are.values ∙ ap (λ those. Marks profile (length those) those) (sym w.form) ∙ whole_has_marks_of_message profile w.message w.in_profile)
 
   told : (mark : Option Mark) → mark ≡ mark_after (is_realm k) false (map mark_value marks) → Tells octets mark (realm_of w.message)
-  told mark e = subst (λ it. Tells octets it (realm_of w.message)) (sym (e ∙ of_message)) (subst (λ those. Tells those (mark_after (is_realm (kind_of w.message)) false (message_marks w.message)) (realm_of w.message)) w.form (realm_told w.message))
+  told mark e =
+      subst (λ it. Tells octets it (realm_of w.message)) (sym (e ∙ of_message))
+      (subst (λ those. Tells those (mark_after (is_realm (kind_of w.message)) false (message_marks profile w.message)) (realm_of w.message)) (message_der_in profile w.message ∙ w.form) (realm_told profile w.message))
 
-  of_realm : (realm : Option (List ℕ)) → realm_of w.message ≡ realm → AreOfRealm octets realm
-  of_realm realm e = record { message = w.message; in_profile = w.in_profile; form = w.form; same_realm = e }
+  of_realm : (realm : Option (List ℕ)) → realm_of w.message ≡ realm → AreOfRealm profiles.Lenient octets realm
+  of_realm realm e = record { message = w.message; in_profile = lenient_message profile w.message w.in_profile; form = w.form; same_realm = e }
 
   -- where no mark is found there is no realm
-  pub no_realm : None ≡ mark_after (is_realm k) false (map mark_value marks) → AreOfRealm octets None
+  pub no_realm : None ≡ mark_after (is_realm k) false (map mark_value marks) → AreOfRealm profiles.Lenient octets None
   no_realm e = by (realm_of w.message) refl (told None e)
     where
-      by : (realm : Option (List ℕ)) → realm_of w.message ≡ realm → Tells octets None realm → AreOfRealm octets None
+      by : (realm : Option (List ℕ)) → realm_of w.message ≡ realm → Tells octets None realm → AreOfRealm profiles.Lenient octets None
       by None is t = of_realm None is
       by (Some realm) is t = absurd t
 
   -- and the one that is found is that of the realm
-  pub has_realm : (mark : Mark) → Some mark ≡ mark_after (is_realm k) false (map mark_value marks) → (mark.start + mark.count ≤ length octets) × AreOfRealm octets (Some (take mark.count (drop mark.start octets)))
+  pub has_realm : (mark : Mark) → Some mark ≡ mark_after (is_realm k) false (map mark_value marks) → (mark.start + mark.count ≤ length octets) × AreOfRealm profiles.Lenient octets (Some (take mark.count (drop mark.start octets)))
   has_realm mark e = by (realm_of w.message) refl (told (Some mark) e)
     where
-      by : (realm : Option (List ℕ)) → realm_of w.message ≡ realm → Tells octets (Some mark) realm → (mark.start + mark.count ≤ length octets) × AreOfRealm octets (Some (take mark.count (drop mark.start octets)))
+      by : (realm : Option (List ℕ)) → realm_of w.message ≡ realm → Tells octets (Some mark) realm → (mark.start + mark.count ≤ length octets) × AreOfRealm profiles.Lenient octets (Some (take mark.count (drop mark.start octets)))
       by None is t = absurd t
       by (Some realm) is t = (t.0, of_realm (Some (take mark.count (drop mark.start octets))) (is ∙ ap Some (sym t.1)))
+
+-- whole octets are of the kind that they begin as, in their profile
+pub kind_in : (octets : List ℕ) (k : Kind) (marks : List Kept) (w : AreWhole marks octets) → AreOctets octets → length octets < 2 ^ 31 → AreOfKind profiles.Lenient octets k → AreOfKind w.profile octets k
+kind_in octets k marks w are short lenient = by (whole_is_message w.profile (length octets) octets short are (omega arith) w.whole)
+  where
+    by : AreMessage w.profile (length octets) octets → AreOfKind w.profile octets k
+    by a = record {
+      message = a.message;
+      in_profile = a.in_profile;
+      form = a.form;
+      same_kind = kind_of_octets a.message a.form ∙ sym (kind_of_octets lenient.message lenient.form) ∙ lenient.same_kind;
+    }

@@ -2,6 +2,7 @@
 use Rattle.std.proofs.Common.{◌≡◌, ℕ, ℤ, ◌+◌, ◌-◌, ◌<◌, if◌then◌else◌, min, true, List, ◌++◌, length, take, refl, sym, ap, ◌∙◌, subst, arith}
 use Rattle.std.proofs.lemmas.List.{length-append, length-take}
 use Rattle.std.proofs.Math.Logic.{∥∥₁_map}
+use Rattle.krb_der.specs.declared.profile.Profile.{Profile}
 use Rattle.krb_der.specs.Octets.{AreOctets}
 use Rattle.krb_der.specs.inner.Numbers.{AreOctets-append}
 use Rattle.krb_der.specs.declared.verdict.Verdict.{Verdict}
@@ -41,10 +42,10 @@ keeps_still (Application number term) value unused octets more s h = absurd (cc 
 abbrev pub passed : Path → ℕ → Path
 passed path count = record path { looked = path.looked + count }
 
-pub run_goes : (path : Path) (octets : List ℕ) (place start end : ℕ) (value : ℤ) (unused count : ℕ) (given : List ℕ) → StandsFor path octets → path.tip ≡ tip.Leaf place start end value unused → is_string (item_at place) ≡ true →
-    count ≡ min (length given) (end - 1 - path.looked) → AreOctets (take count given) → StandsFor (passed path count) (octets ++ take count given)
-run_goes path octets place start end value unused count given s e string is are =
-    let leaf : LeafAt path octets place start end value unused = leaf_at path octets place start end value unused s e in
+pub run_goes : {profile : Profile} (path : Path) (octets : List ℕ) (place start end : ℕ) (value : ℤ) (unused count : ℕ) (given : List ℕ) → StandsFor profile path octets → path.tip ≡ tip.Leaf place start end value unused → is_string (item_at place) ≡ true →
+    count ≡ min (length given) (end - 1 - path.looked) → AreOctets (take count given) → StandsFor profile (passed path count) (octets ++ take count given)
+run_goes {profile = profile} path octets place start end value unused count given s e string is are =
+    let leaf : LeafAt profile path octets place start end value unused = leaf_at path octets place start end value unused s e in
     let chunk : List ℕ = take count given in
     let size : length (take count given) ≡ count = omega (arith, length-take count given) in
     let lt : length leaf.present < leaf.count = leaf.at.roomy.1 in
@@ -55,7 +56,7 @@ run_goes path octets place start end value unused count given s e string is are 
       short = s.short;
       looked = omega (arith, s.looked, length-append octets (take count given));
       state = state_of leaf.at.marks leaf.at.stack (InLeaf (item_at place) start leaf.count (leaf.present ++ take count given));
-      reads = chunk_right messages path.size octets (take count given) (item_at place) start leaf.count leaf.present leaf.at.stack leaf.at.marks s.some string (AreOctets-append leaf.present (take count given) leaf.at.are_octets are) short leaf.at.reads;
+      reads = chunk_right (messages profile) path.size octets (take count given) (item_at place) start leaf.count leaf.present leaf.at.stack leaf.at.marks s.some string (AreOctets-append leaf.present (take count given) leaf.at.are_octets are) short leaf.at.reads;
       holds = record {
         tip = subst (λ t. TipIs (path.looked + count) t (InLeaf (item_at place) start leaf.count (leaf.present ++ take count given))) (sym e)
             (leaf.known, refl, refl, leaf.ends, keeps_still (item_at place) value unused leaf.present (leaf.present ++ take count given) string leaf.keeps, omega (arith, leaf.looked, length-append leaf.present (take count given)));
@@ -65,55 +66,55 @@ run_goes path octets place start end value unused count given s e string is are 
     }
 
 -- a path that stands for octets is at them
-pub standing_at : (path : Path) (octets : List ℕ) → StandsFor path octets → IsAt path verdict.Open path.size octets
-standing_at path octets s =
-    let short : length octets < path.size = open_short messages path.size octets s.state s.some s.reads in
+pub standing_at : {profile : Profile} (path : Path) (octets : List ℕ) → StandsFor profile path octets → IsAt profile path verdict.Open path.size octets
+standing_at {profile = profile} path octets s =
+    let short : length octets < path.size = open_short (messages profile) path.size octets s.state s.some s.reads in
     record {
       are_octets = s.are_octets;
       some = s.some;
       short = s.short;
       fits = omega arith;
       size = refl;
-      decides = sym (ap verdict_of (reading_outcome messages path.size octets s.some (omega arith) ∙ ap (outcome_of path.size) s.reads));
+      decides = sym (ap verdict_of (reading_outcome (messages profile) path.size octets s.some (omega arith) ∙ ap (outcome_of path.size) s.reads));
       looked = s.looked;
-      marks = subst (λ given. AreMarks path.marks.items (marks_from given (λ place. reading.reading messages path.size (take place octets)))) (sym s.reads) s.holds.marks;
-      lengths = same_lengths path path.looked s.state s.holds ∙ ap (λ given. lengths_from given (λ place. reading.reading messages path.size (take place octets))) (sym s.reads);
+      marks = subst (λ given. AreMarks path.marks.items (marks_from given (λ place. reading.reading (messages profile) path.size (take place octets)))) (sym s.reads) s.holds.marks;
+      lengths = same_lengths path path.looked s.state s.holds ∙ ap (λ given. lengths_from given (λ place. reading.reading (messages profile) path.size (take place octets))) (sym s.reads);
       keeps = subst (Keeps path) (sym s.reads) (s.holds.containers, s.holds.tip);
     }
 
 -- where something is decided, no string is open
-pub none_left : (path : Path) (decided : Verdict) (n : ℕ) (octets : List ℕ) → IsAt path decided n octets → (decided ≡ verdict.Open → ⊥) → string_left messages n octets ≡ 0
-none_left path decided n octets at not = by_answer (reading.reading messages n octets) refl
+pub none_left : {profile : Profile} (path : Path) (decided : Verdict) (n : ℕ) (octets : List ℕ) → IsAt profile path decided n octets → (decided ≡ verdict.Open → ⊥) → string_left (messages profile) n octets ≡ 0
+none_left {profile = profile} path decided n octets at not = by_answer (reading.reading (messages profile) n octets) refl
   where
-    by_answer : (given : Answer) → reading.reading messages n octets ≡ given → left_of (reading.reading messages n octets) ≡ 0
-    by_answer (Ongoing state) e = absurd (not (at.decides ∙ ap verdict_of (reading_outcome messages n octets at.some at.fits ∙ ap (outcome_of n) e)))
+    by_answer : (given : Answer) → reading.reading (messages profile) n octets ≡ given → left_of (reading.reading (messages profile) n octets) ≡ 0
+    by_answer (Ongoing state) e = absurd (not (at.decides ∙ ap verdict_of (reading_outcome (messages profile) n octets at.some at.fits ∙ ap (outcome_of n) e)))
     by_answer (reading.Refusing place reason) e = ap left_of e
     by_answer (reading.Whole marks) e = ap left_of e
 
-pub run_at : (old new : Path) (decided : Verdict) (n count : ℕ) (before given : List ℕ) → IsAt old decided n before → decided ≡ verdict.Open → new.size ≡ old.size → ((octets : List ℕ) → StandsFor old octets → StandsFor new (octets ++ take count given)) → IsAt new decided n (before ++ take count given)
-run_at old new decided n count before given at still size goes =
-    subst (λ k. IsAt new decided k (before ++ take count given)) (size ∙ at.size)
-    (subst (λ v. IsAt new v new.size (before ++ take count given)) (sym still) (standing_at new (before ++ take count given) (goes before (stands_for old decided n before at still))))
+pub run_at : {profile : Profile} (old new : Path) (decided : Verdict) (n count : ℕ) (before given : List ℕ) → IsAt profile old decided n before → decided ≡ verdict.Open → new.size ≡ old.size → ((octets : List ℕ) → StandsFor profile old octets → StandsFor profile new (octets ++ take count given)) → IsAt profile new decided n (before ++ take count given)
+run_at {profile = profile} old new decided n count before given at still size goes =
+    subst (λ k. IsAt profile new decided k (before ++ take count given)) (size ∙ at.size)
+    (subst (λ v. IsAt profile new v new.size (before ++ take count given)) (sym still) (standing_at new (before ++ take count given) (goes before (stands_for old decided n before at still))))
 
-pub some_run : (old new : Path) (decided : Verdict) (count : ℕ) (given : List ℕ) → SomeAt old decided → decided ≡ verdict.Open → new.size ≡ old.size → ((octets : List ℕ) → StandsFor old octets → StandsFor new (octets ++ take count given)) → SomeAt new decided
+pub some_run : (old new : Path) (decided : Verdict) (count : ℕ) (given : List ℕ) → SomeAt old decided → decided ≡ verdict.Open → new.size ≡ old.size → ((profile : Profile) (octets : List ℕ) → StandsFor profile old octets → StandsFor profile new (octets ++ take count given)) → SomeAt new decided
 some_run old new decided count given r still size goes =
-    ∥∥₁_map r (λ (k : (octets : List ℕ) × IsAt old decided old.size octets). (k.0 ++ take count given, subst (λ n. IsAt new decided n (k.0 ++ take count given)) (sym size) (run_at old new decided old.size count k.0 given k.1 still size goes)))
+    ∥∥₁_map r (λ (k : (octets : List ℕ) × (profile : Profile) × IsAt profile old decided old.size octets). (k.0 ++ take count given, k.1, subst (λ n. IsAt k.1 new decided n (k.0 ++ take count given)) (sym size) (run_at old new decided old.size count k.0 given k.2 still size (goes k.1))))
 
 -- how far an open string reaches
-pub leaf_left : (path : Path) (octets : List ℕ) (place start end : ℕ) (value : ℤ) (unused : ℕ) → StandsFor path octets → path.tip ≡ tip.Leaf place start end value unused → string_left messages path.size octets ≡ (if is_string (item_at place) then end - 1 - path.looked else 0)
-leaf_left path octets place start end value unused s e =
-    let leaf : LeafAt path octets place start end value unused = leaf_at path octets place start end value unused s e in
+pub leaf_left : {profile : Profile} (path : Path) (octets : List ℕ) (place start end : ℕ) (value : ℤ) (unused : ℕ) → StandsFor profile path octets → path.tip ≡ tip.Leaf place start end value unused → string_left (messages profile) path.size octets ≡ (if is_string (item_at place) then end - 1 - path.looked else 0)
+leaf_left {profile = profile} path octets place start end value unused s e =
+    let leaf : LeafAt profile path octets place start end value unused = leaf_at path octets place start end value unused s e in
     let same : leaf.count - 1 - length leaf.present ≡ end - 1 - path.looked = omega (arith, leaf.ends, leaf.looked) in
     ap left_of leaf.at.reads ∙ ap (λ k. if is_string (item_at place) then k else 0) same
 
-pub leaf_some : (path : Path) (octets : List ℕ) (place start end : ℕ) (value : ℤ) (unused : ℕ) → StandsFor path octets → path.tip ≡ tip.Leaf place start end value unused → path.looked < end
-leaf_some path octets place start end value unused s e =
-    let leaf : LeafAt path octets place start end value unused = leaf_at path octets place start end value unused s e in
+pub leaf_some : {profile : Profile} (path : Path) (octets : List ℕ) (place start end : ℕ) (value : ℤ) (unused : ℕ) → StandsFor profile path octets → path.tip ≡ tip.Leaf place start end value unused → path.looked < end
+leaf_some {profile = profile} path octets place start end value unused s e =
+    let leaf : LeafAt profile path octets place start end value unused = leaf_at path octets place start end value unused s e in
     let lt : length leaf.present < leaf.count = leaf.at.roomy.1 in
     omega (arith, leaf.looked, leaf.ends)
 
 -- no string is open where no leaf is
-pub none_open : (path : Path) (octets : List ℕ) → StandsFor path octets → ((place start end : ℕ) (value : ℤ) (unused : ℕ) → path.tip ≡ tip.Leaf place start end value unused → ⊥) → string_left messages path.size octets ≡ 0
+pub none_open : {profile : Profile} (path : Path) (octets : List ℕ) → StandsFor profile path octets → ((place start end : ℕ) (value : ℤ) (unused : ℕ) → path.tip ≡ tip.Leaf place start end value unused → ⊥) → string_left (messages profile) path.size octets ≡ 0
 none_open path octets s not = ap left_of s.reads ∙ by_tips path.tip s.state.tip refl s.holds.tip
   where
     by_tips : (a : Kept) (b : reading.Tip) → path.tip ≡ a → TipIs path.looked a b → left_at b ≡ 0

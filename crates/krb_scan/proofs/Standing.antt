@@ -3,6 +3,7 @@ use Rattle.std.proofs.Common.{◌≡◌, ℕ, suc, ℤ, pos, negsuc, ◌+◌, �
 use Rattle.std.proofs.lemmas.Bool.{ltb-false, leb-true, and_parts}
 use Rattle.std.proofs.lemmas.Int.{ints}
 use Rattle.std.proofs.lemmas.List.{length-append}
+use Rattle.krb_der.specs.declared.profile.Profile.{Profile}
 use Rattle.krb_der.specs.Octets.{AreOctets, number, complement, integer_octets, integer_value}
 use Rattle.krb_msg.specs.Grammar.{messages}
 use Rattle.krb_msg.specs.Term.{Term, Integer, Text, Octets, Time, Bits, Sequence, SequenceOf, Tagged, Application}
@@ -34,10 +35,10 @@ use Rattle.krb_scan.proofs.Room.{AnswerIsRoomy, IsNested, IsRoomyTip, limit_with
 use Rattle.krb_scan.proofs.Stable.{IsPartial}
 
 -- what follows of a path that stands for octets, at this tip
-pub record AtTip (path : Path) (octets : List ℕ) (given : Tip) : Type 0 where
+pub record AtTip (profile : Profile) (path : Path) (octets : List ℕ) (given : Tip) : Type 0 where
   pub stack : List Frame
   pub marks : List Marked
-  pub reads : reading.reading messages path.size octets ≡ Ongoing (reading.state_of marks stack given)
+  pub reads : reading.reading (messages profile) path.size octets ≡ Ongoing (reading.state_of marks stack given)
   pub frames : AreOpen path.inner path.outer.items stack
   pub all_marks : AreMarks path.marks.items (marks_at given marks)
   pub reached : IsReached given stack marks
@@ -50,13 +51,13 @@ pub record AtTip (path : Path) (octets : List ℕ) (given : Tip) : Type 0 where
   pub short : path.size < 2 ^ 31
   pub tip_is : TipIs path.looked path.tip given
 
-pub at_tip : (path : Path) (octets : List ℕ) (s : StandsFor path octets) → AtTip path octets s.state.tip
-at_tip path octets s =
-    let reached : ReachedAnswer (Ongoing s.state) = subst ReachedAnswer s.reads (reading_reached messages path.size octets s.some) in
-    let roomy : AnswerIsRoomy path.size (Ongoing s.state) = subst (AnswerIsRoomy path.size) s.reads (reading_roomy messages path.size octets s.some) in
-    let deep : OpenAtMost 14 (Ongoing s.state) = subst (OpenAtMost 14) s.reads (reading_deep path.size octets) in
-    let partial : KeepsOctets (Ongoing s.state) = subst KeepsOctets s.reads (reading_octets messages path.size octets s.some s.are_octets) in
-    let before : length octets < path.size = open_short messages path.size octets s.state s.some s.reads in
+pub at_tip : {profile : Profile} (path : Path) (octets : List ℕ) (s : StandsFor profile path octets) → AtTip profile path octets s.state.tip
+at_tip {profile = profile} path octets s =
+    let reached : ReachedAnswer (Ongoing s.state) = subst ReachedAnswer s.reads (reading_reached (messages profile) path.size octets s.some) in
+    let roomy : AnswerIsRoomy path.size (Ongoing s.state) = subst (AnswerIsRoomy path.size) s.reads (reading_roomy (messages profile) path.size octets s.some) in
+    let deep : OpenAtMost 14 (Ongoing s.state) = subst (OpenAtMost 14) s.reads (reading_deep profile path.size octets) in
+    let partial : KeepsOctets (Ongoing s.state) = subst KeepsOctets s.reads (reading_octets (messages profile) path.size octets s.some s.are_octets) in
+    let before : length octets < path.size = open_short (messages profile) path.size octets s.state s.some s.reads in
     record {
       stack = s.state.stack;
       marks = s.state.marks;
@@ -75,64 +76,64 @@ at_tip path octets s =
     }
 
 -- one octet more is a step
-pub stepped : (path : Path) (octets : List ℕ) (given : Tip) (a : AtTip path octets given) (octet : ℕ) → reading.reading messages path.size (octets ++ octet ∷ []) ≡ step_at given a.stack a.marks octet
-stepped path octets given a octet = reading_step messages path.size octets octet a.some ∙ ap (λ answer. go_on answer (λ state. step state octet)) a.reads
+pub stepped : {profile : Profile} (path : Path) (octets : List ℕ) (given : Tip) (a : AtTip profile path octets given) (octet : ℕ) → reading.reading (messages profile) path.size (octets ++ octet ∷ []) ≡ step_at given a.stack a.marks octet
+stepped {profile = profile} path octets given a octet = reading_step (messages profile) path.size octets octet a.some ∙ ap (λ answer. go_on answer (λ state. step state octet)) a.reads
 
 -- ---- each tip
 
-pub record BetweenAt (path : Path) (octets : List ℕ) : Type 0 where
-  pub at : AtTip path octets (Between path.looked)
+pub record BetweenAt (profile : Profile) (path : Path) (octets : List ℕ) : Type 0 where
+  pub at : AtTip profile path octets (Between path.looked)
 
-pub record TaggedAt (path : Path) (octets : List ℕ) (place : ℕ) : Type 0 where
+pub record TaggedAt (profile : Profile) (path : Path) (octets : List ℕ) (place : ℕ) : Type 0 where
   pub from : ℕ
   pub tag : ℕ
-  pub at : AtTip path octets (InHead (item_at place) from (tag ∷ []))
+  pub at : AtTip profile path octets (InHead (item_at place) from (tag ∷ []))
   pub known : IsItemPlace place
   pub looked : path.looked ≡ from + 1
 
-pub record LongAt (path : Path) (octets : List ℕ) (place digits seen value : ℕ) : Type 0 where
+pub record LongAt (profile : Profile) (path : Path) (octets : List ℕ) (place digits seen value : ℕ) : Type 0 where
   pub from : ℕ
   pub tag : ℕ
   pub first : ℕ
   pub present : List ℕ
-  pub at : AtTip path octets (InHead (item_at place) from (tag ∷ first ∷ present))
+  pub at : AtTip profile path octets (InHead (item_at place) from (tag ∷ first ∷ present))
   pub known : IsItemPlace place
   pub digits_are : digits ≡ first - 0x80
   pub seen_are : seen ≡ length present
   pub value_is : value ≡ number present
   pub looked : path.looked ≡ from + 2 + seen
 
-pub record LeafAt (path : Path) (octets : List ℕ) (place start end : ℕ) (value : ℤ) (unused : ℕ) : Type 0 where
+pub record LeafAt (profile : Profile) (path : Path) (octets : List ℕ) (place start end : ℕ) (value : ℤ) (unused : ℕ) : Type 0 where
   pub count : ℕ
   pub present : List ℕ
-  pub at : AtTip path octets (InLeaf (item_at place) start count present)
+  pub at : AtTip profile path octets (InLeaf (item_at place) start count present)
   pub known : IsItemPlace place
   pub ends : end ≡ start + count
   pub keeps : KeepsOf (item_at place) value unused present
   pub looked : path.looked ≡ start + length present
 
-pub between_at : (path : Path) (octets : List ℕ) → StandsFor path octets → path.tip ≡ tip.Between → BetweenAt path octets
-between_at path octets s e = by_tip s.state.tip (at_tip path octets s) (subst (λ kept. TipIs path.looked kept s.state.tip) e s.holds.tip)
+pub between_at : {profile : Profile} (path : Path) (octets : List ℕ) → StandsFor profile path octets → path.tip ≡ tip.Between → BetweenAt profile path octets
+between_at {profile = profile} path octets s e = by_tip s.state.tip (at_tip path octets s) (subst (λ kept. TipIs path.looked kept s.state.tip) e s.holds.tip)
   where
-    by_tip : (given : Tip) → AtTip path octets given → TipIs path.looked tip.Between given → BetweenAt path octets
-    by_tip (Between place) a h = record { at = subst (λ k. AtTip path octets (Between k)) (sym h) a }
+    by_tip : (given : Tip) → AtTip profile path octets given → TipIs path.looked tip.Between given → BetweenAt profile path octets
+    by_tip (Between place) a h = record { at = subst (λ k. AtTip profile path octets (Between k)) (sym h) a }
     by_tip (InHead term from present) a h = absurd h
     by_tip (InLeaf term start count present) a h = absurd h
 
-pub tagged_at : (path : Path) (octets : List ℕ) (place : ℕ) → StandsFor path octets → path.tip ≡ tip.Tagged place → TaggedAt path octets place
-tagged_at path octets place s e = by_tip s.state.tip (at_tip path octets s) (subst (λ kept. TipIs path.looked kept s.state.tip) e s.holds.tip)
+pub tagged_at : {profile : Profile} (path : Path) (octets : List ℕ) (place : ℕ) → StandsFor profile path octets → path.tip ≡ tip.Tagged place → TaggedAt profile path octets place
+tagged_at {profile = profile} path octets place s e = by_tip s.state.tip (at_tip path octets s) (subst (λ kept. TipIs path.looked kept s.state.tip) e s.holds.tip)
   where
-    by_tip : (given : Tip) → AtTip path octets given → TipIs path.looked (tip.Tagged place) given → TaggedAt path octets place
+    by_tip : (given : Tip) → AtTip profile path octets given → TipIs path.looked (tip.Tagged place) given → TaggedAt profile path octets place
     by_tip (Between place) a h = absurd h
     by_tip (InHead term from []) a h = absurd h
-    by_tip (InHead term from (tag ∷ [])) a h = record { from = from; tag = tag; at = subst (λ t. AtTip path octets (InHead t from (tag ∷ []))) (sym h.1) a; known = h.0; looked = h.2 }
+    by_tip (InHead term from (tag ∷ [])) a h = record { from = from; tag = tag; at = subst (λ t. AtTip profile path octets (InHead t from (tag ∷ []))) (sym h.1) a; known = h.0; looked = h.2 }
     by_tip (InHead term from (tag ∷ first ∷ present)) a h = absurd h
     by_tip (InLeaf term start count present) a h = absurd h
 
-pub long_at : (path : Path) (octets : List ℕ) (place digits seen value : ℕ) → StandsFor path octets → path.tip ≡ tip.Long place digits seen value → LongAt path octets place digits seen value
-long_at path octets place digits seen value s e = by_tip s.state.tip (at_tip path octets s) (subst (λ kept. TipIs path.looked kept s.state.tip) e s.holds.tip)
+pub long_at : {profile : Profile} (path : Path) (octets : List ℕ) (place digits seen value : ℕ) → StandsFor profile path octets → path.tip ≡ tip.Long place digits seen value → LongAt profile path octets place digits seen value
+long_at {profile = profile} path octets place digits seen value s e = by_tip s.state.tip (at_tip path octets s) (subst (λ kept. TipIs path.looked kept s.state.tip) e s.holds.tip)
   where
-    by_tip : (given : Tip) → AtTip path octets given → TipIs path.looked (tip.Long place digits seen value) given → LongAt path octets place digits seen value
+    by_tip : (given : Tip) → AtTip profile path octets given → TipIs path.looked (tip.Long place digits seen value) given → LongAt profile path octets place digits seen value
     by_tip (Between place) a h = absurd h
     by_tip (InHead term from []) a h = absurd h
     by_tip (InHead term from (tag ∷ [])) a h = absurd h
@@ -141,7 +142,7 @@ long_at path octets place digits seen value s e = by_tip s.state.tip (at_tip pat
       tag = tag;
       first = first;
       present = present;
-      at = subst (λ t. AtTip path octets (InHead t from (tag ∷ first ∷ present))) (sym h.1) a;
+      at = subst (λ t. AtTip profile path octets (InHead t from (tag ∷ first ∷ present))) (sym h.1) a;
       known = h.0;
       digits_are = h.2;
       seen_are = h.3;
@@ -150,16 +151,16 @@ long_at path octets place digits seen value s e = by_tip s.state.tip (at_tip pat
     }
     by_tip (InLeaf term start count present) a h = absurd h
 
-pub leaf_at : (path : Path) (octets : List ℕ) (place start end : ℕ) (value : ℤ) (unused : ℕ) → StandsFor path octets → path.tip ≡ tip.Leaf place start end value unused → LeafAt path octets place start end value unused
-leaf_at path octets place start end value unused s e = by_tip s.state.tip (at_tip path octets s) (subst (λ kept. TipIs path.looked kept s.state.tip) e s.holds.tip)
+pub leaf_at : {profile : Profile} (path : Path) (octets : List ℕ) (place start end : ℕ) (value : ℤ) (unused : ℕ) → StandsFor profile path octets → path.tip ≡ tip.Leaf place start end value unused → LeafAt profile path octets place start end value unused
+leaf_at {profile = profile} path octets place start end value unused s e = by_tip s.state.tip (at_tip path octets s) (subst (λ kept. TipIs path.looked kept s.state.tip) e s.holds.tip)
   where
-    by_tip : (given : Tip) → AtTip path octets given → TipIs path.looked (tip.Leaf place start end value unused) given → LeafAt path octets place start end value unused
+    by_tip : (given : Tip) → AtTip profile path octets given → TipIs path.looked (tip.Leaf place start end value unused) given → LeafAt profile path octets place start end value unused
     by_tip (Between place) a h = absurd h
     by_tip (InHead term from present) a h = absurd h
     by_tip (InLeaf term begin count present) a h = record {
       count = count;
       present = present;
-      at = subst (λ k. AtTip path octets (InLeaf (item_at place) k count present)) (sym h.2) (subst (λ t. AtTip path octets (InLeaf t begin count present)) (sym h.1) a);
+      at = subst (λ k. AtTip profile path octets (InLeaf (item_at place) k count present)) (sym h.2) (subst (λ t. AtTip profile path octets (InLeaf t begin count present)) (sym h.1) a);
       known = h.0;
       ends = h.3 ∙ ap (λ k. k + count) (sym h.2);
       keeps = subst (λ t. KeepsOf t value unused present) (sym h.1) h.4;
@@ -168,7 +169,7 @@ leaf_at path octets place start end value unused s e = by_tip s.state.tip (at_ti
 
 -- ---- length octets
 
-pub head_ends : (path : Path) (octets : List ℕ) (term : Term) (from : ℕ) (present : List ℕ) (a : AtTip path octets (InHead term from present)) (octet : ℕ) → path.looked ≡ from + length present →
+pub head_ends : {profile : Profile} (path : Path) (octets : List ℕ) (term : Term) (from : ℕ) (present : List ℕ) (a : AtTip profile path octets (InHead term from present)) (octet : ℕ) → path.looked ≡ from + length present →
     HeadEnds from (path.looked + 1) (limit a.stack) (head (limit a.stack - from) (present ++ octet ∷ []))
 head_ends path octets term from present a octet at =
     by_head (head (limit a.stack - from) (present ++ octet ∷ []))
@@ -184,7 +185,7 @@ head_ends path octets term from present a octet at =
         let room : from + length present < limit a.stack = a.roomy.0 in
         (omega arith, omega arith)
 
-pub is_short : (path : Path) (octets : List ℕ) (term : Term) (from : ℕ) (present : List ℕ) (a : AtTip path octets (InHead term from present)) (kept : Found) (got : Head) → HeadIs kept got → HeadEnds from (path.looked + 1) (limit a.stack) got → IsShort (path.looked + 1) kept
+pub is_short : {profile : Profile} (path : Path) (octets : List ℕ) (term : Term) (from : ℕ) (present : List ℕ) (a : AtTip profile path octets (InHead term from present)) (kept : Found) (got : Head) → HeadIs kept got → HeadEnds from (path.looked + 1) (limit a.stack) got → IsShort (path.looked + 1) kept
 is_short path octets term from present a found.Partial got is ends = tt {0}
 is_short path octets term from present a (found.Refused why) got is ends = tt {0}
 is_short path octets term from present a (found.Got size) Partial is ends = absurd is
@@ -196,7 +197,7 @@ is_short path octets term from present a (found.Got size) (Got header count) is 
     let short : path.size < 2 ^ 31 = a.short in
     omega arith
 
-pub has_place : (path : Path) (octets : List ℕ) (term : Term) (from : ℕ) (present : List ℕ) → AtTip path octets (InHead term from present) → length path.outer.items < 13
+pub has_place : {profile : Profile} (path : Path) (octets : List ℕ) (term : Term) (from : ℕ) (present : List ℕ) → AtTip profile path octets (InHead term from present) → length path.outer.items < 13
 has_place path octets term from present a =
     let size : length a.stack ≡ suc (length path.outer.items) = open_length path.inner path.outer.items a.stack a.frames in
     let deep : length a.stack + 1 ≤ 14 = a.deep in
@@ -245,11 +246,11 @@ none_small value e = subst IsSmall (sym e) (omega (arith, ints), omega (arith, i
 
 narrow : (given : Contents) (low high : ℤ) → AreContents given (Integer low high) → max (length (integer_octets low)) (length (integer_octets high)) ≤ 5
 narrow (contents.Integer from to widest) low high h = omega (arith, h.2, h.3)
-narrow contents.Text low high h = absurd h
+narrow (contents.Text most) low high h = absurd h
 narrow contents.Octets low high h = absurd h
 narrow contents.Time low high h = absurd h
-narrow contents.Bits low high h = absurd h
-narrow (contents.Items first) low high h = absurd h
+narrow (contents.Bits few) low high h = absurd h
+narrow (contents.Items first none) low high h = absurd h
 
 value_small : (given : Contents) (term : Term) (count : ℕ) (value : ℤ) (unused : ℕ) (present : List ℕ) → AreContents given term → has_size term count ≡ true → KeepsOf term value unused present → AreOctets present → length present < count → IsSmall value
 value_small given (Integer low high) count value unused present is size keeps a lt =
@@ -300,7 +301,7 @@ pub record LeafReady (path : Path) (place start end : ℕ) (value : ℤ) (unused
   pub few : unused < 8
   pub marked : 0 < length path.marks.items
 
-pub leaf_ready : (path : Path) (octets : List ℕ) (place start end : ℕ) (value : ℤ) (unused : ℕ) (given : Contents) → AreContents given (item_at place) → LeafAt path octets place start end value unused → LeafReady path place start end value unused
+pub leaf_ready : {profile : Profile} (path : Path) (octets : List ℕ) (place start end : ℕ) (value : ℤ) (unused : ℕ) (given : Contents) → AreContents given (item_at place) → LeafAt profile path octets place start end value unused → LeafReady path place start end value unused
 leaf_ready path octets place start end value unused given are leaf =
     let room : start + leaf.count ≤ limit leaf.at.stack = leaf.at.roomy.0 in
     let lt : length leaf.present < leaf.count = leaf.at.roomy.1 in
@@ -317,7 +318,7 @@ leaf_ready path octets place start end value unused given are leaf =
       marked = has_mark path.marks.items leaf.at.marks (mark_of (item_at place) start leaf.count (pos 0)) leaf.at.all_marks;
     }
 
-pub leaf_reads : (path : Path) (octets : List ℕ) (place start end : ℕ) (value : ℤ) (unused : ℕ) (leaf : LeafAt path octets place start end value unused) → LeafReads (item_at place) (end - start) value unused leaf.present
+pub leaf_reads : {profile : Profile} (path : Path) (octets : List ℕ) (place start end : ℕ) (value : ℤ) (unused : ℕ) (leaf : LeafAt profile path octets place start end value unused) → LeafReads (item_at place) (end - start) value unused leaf.present
 leaf_reads path octets place start end value unused leaf =
     let same : leaf.count ≡ end - start = omega (arith, leaf.ends) in
     record { are_octets = leaf.at.are_octets; open_still = subst (λ count. leaf_outcome (item_at place) count leaf.present ≡ OpenOutcome) same leaf.at.reached.1; keeps = leaf.keeps }

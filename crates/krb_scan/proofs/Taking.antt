@@ -3,6 +3,7 @@ use Rattle.std.proofs.Common.{◌≡◌, ℕ, ℤ, ◌^◌, ◌+◌, ◌-◌, �
 use Rattle.std.specs.Coded.{le_prop, Unit-prop}
 use Rattle.krb_der.specs.Octets.{AreOctets, number}
 use Rattle.krb_der.specs.declared.memory.Memory.{Memory}
+use Rattle.krb_der.specs.declared.profile.Profile.{Profile}
 use Rattle.krb_der.specs.declared.verdict.Verdict.{Verdict}
 use Rattle.krb_msg.specs.Grammar.{messages}
 use Rattle.krb_msg.specs.Judgement.{Head, Partial, head}
@@ -23,9 +24,9 @@ use Rattle.krb_scan.proofs.Numbers.{length_push, number_push, first_head_right, 
 use Rattle.krb_scan.proofs.Stable.{IsPartial}
 use Rattle.krb_scan.proofs.Standing.{BetweenAt, TaggedAt, LongAt, LeafAt, stepped, head_ends, is_short, leaf_reads, small_number}
 
-pub between_taken : (old new : Path) (octets : List ℕ) (octet : ℕ) (decided : Verdict) → BetweenAt old octets →
+pub between_taken : {profile : Profile} (old new : Path) (octets : List ℕ) (octet : ℕ) (decided : Verdict) → BetweenAt profile old octets →
     ((stack : List Frame) (marks : List Marked) → AreOpen old.inner old.outer.items stack → AreMarks old.marks.items marks → IsTaken old new (Ok decided) (step_between stack marks old.looked octet)) →
-    IsTaken old new (Ok decided) (reading.reading messages old.size (octets ++ octet ∷ []))
+    IsTaken old new (Ok decided) (reading.reading (messages profile) old.size (octets ++ octet ∷ []))
 between_taken old new octets octet decided s goes =
     subst (IsTaken old new (Ok decided)) (sym (stepped old octets (reading.Between old.looked) s.at octet)) (goes s.at.stack s.at.marks s.at.frames s.at.all_marks)
 
@@ -35,20 +36,20 @@ HeadGoes old new result kept partial place =
     (stack : List Frame) (marks : List Marked) (got : Head) (from : ℕ) (octets : List ℕ) → AreOpen old.inner old.outer.items stack → AreMarks old.marks.items marks → HeadIs kept got → HeadEnds from (old.looked + 1) (limit stack) got →
     (got ≡ Partial → TipIs (old.looked + 1) partial (InHead (item_at place) from octets)) → IsTaken old new result (headed got (item_at place) stack marks from octets)
 
-pub tagged_is : (path : Path) (octets : List ℕ) (place octet room : ℕ) (t : TaggedAt path octets place) (kept : Found) → room ≡ limit t.at.stack - path.looked + 1 → HeadIs kept (first_head room octet) → HeadIs kept (head (limit t.at.stack - t.from) (t.tag ∷ octet ∷ []))
+pub tagged_is : {profile : Profile} (path : Path) (octets : List ℕ) (place octet room : ℕ) (t : TaggedAt profile path octets place) (kept : Found) → room ≡ limit t.at.stack - path.looked + 1 → HeadIs kept (first_head room octet) → HeadIs kept (head (limit t.at.stack - t.from) (t.tag ∷ octet ∷ []))
 tagged_is path octets place octet room t kept e h =
     let lt : t.from + 1 < limit t.at.stack = t.at.roomy.0 in
     let same : room ≡ limit t.at.stack - t.from = omega (arith, t.looked) in
     subst (HeadIs kept) (ap (λ r. first_head r octet) same ∙ sym (first_head_right (limit t.at.stack - t.from) t.tag octet)) h
 
-pub tagged_taken : (old new : Path) (octets : List ℕ) (place octet digits : ℕ) (result : Result Verdict Memory) (kept : Found) (t : TaggedAt old octets place) → HeadIs kept (head (limit t.at.stack - t.from) (t.tag ∷ octet ∷ [])) → digits ≡ octet - 0x80 →
-    HeadGoes old new result kept (tip.Long place digits 0 0) place → IsTaken old new result (reading.reading messages old.size (octets ++ octet ∷ []))
+pub tagged_taken : {profile : Profile} (old new : Path) (octets : List ℕ) (place octet digits : ℕ) (result : Result Verdict Memory) (kept : Found) (t : TaggedAt profile old octets place) → HeadIs kept (head (limit t.at.stack - t.from) (t.tag ∷ octet ∷ [])) → digits ≡ octet - 0x80 →
+    HeadGoes old new result kept (tip.Long place digits 0 0) place → IsTaken old new result (reading.reading (messages profile) old.size (octets ++ octet ∷ []))
 tagged_taken old new octets place octet digits result kept t is e goes =
     subst (IsTaken old new result) (sym (stepped old octets (InHead (item_at place) t.from (t.tag ∷ [])) t.at octet))
     (goes t.at.stack t.at.marks (head (limit t.at.stack - t.from) (t.tag ∷ octet ∷ [])) t.from (t.tag ∷ octet ∷ []) t.at.frames t.at.all_marks is
     (head_ends old octets (item_at place) t.from (t.tag ∷ []) t.at octet t.looked) (λ partial. (t.known, refl, e, refl, refl, omega (arith, t.looked))))
 
-pub long_is : (path : Path) (octets : List ℕ) (place digits seen value octet room : ℕ) (t : LongAt path octets place digits seen value) (kept : Found) → room ≡ limit t.at.stack - path.looked + (2 + seen) → HeadIs kept (next_head room digits seen value octet) →
+pub long_is : {profile : Profile} (path : Path) (octets : List ℕ) (place digits seen value octet room : ℕ) (t : LongAt profile path octets place digits seen value) (kept : Found) → room ≡ limit t.at.stack - path.looked + (2 + seen) → HeadIs kept (next_head room digits seen value octet) →
     HeadIs kept (head (limit t.at.stack - t.from) (t.tag ∷ t.first ∷ t.present ++ octet ∷ []))
 long_is path octets place digits seen value octet room t kept e h =
     let lt : t.from + length (t.tag ∷ t.first ∷ t.present) < limit t.at.stack = t.at.roomy.0 in
@@ -58,8 +59,8 @@ long_is path octets place digits seen value octet room t kept e h =
     ∙ ap (λ k. next_head (limit t.at.stack - t.from) (t.first - 0x80) k value octet) t.seen_are ∙ ap (λ v. next_head (limit t.at.stack - t.from) (t.first - 0x80) (length t.present) v octet) t.value_is
     ∙ sym (next_head_right (limit t.at.stack - t.from) t.tag t.first t.present octet (subst IsPartial (sym t.at.reached) (tt {0})))) h
 
-pub long_taken : (old new : Path) (octets : List ℕ) (place digits seen value octet seen_next value_next : ℕ) (result : Result Verdict Memory) (kept : Found) (t : LongAt old octets place digits seen value) → HeadIs kept (head (limit t.at.stack - t.from) (t.tag ∷ t.first ∷ t.present ++ octet ∷ [])) →
-    seen_next ≡ seen + 1 → value_next ≡ value * 256 + octet → HeadGoes old new result kept (tip.Long place digits seen_next value_next) place → IsTaken old new result (reading.reading messages old.size (octets ++ octet ∷ []))
+pub long_taken : {profile : Profile} (old new : Path) (octets : List ℕ) (place digits seen value octet seen_next value_next : ℕ) (result : Result Verdict Memory) (kept : Found) (t : LongAt profile old octets place digits seen value) → HeadIs kept (head (limit t.at.stack - t.from) (t.tag ∷ t.first ∷ t.present ++ octet ∷ [])) →
+    seen_next ≡ seen + 1 → value_next ≡ value * 256 + octet → HeadGoes old new result kept (tip.Long place digits seen_next value_next) place → IsTaken old new result (reading.reading (messages profile) old.size (octets ++ octet ∷ []))
 long_taken old new octets place digits seen value octet seen_next value_next result kept t is e f goes =
     let present : List ℕ = t.tag ∷ t.first ∷ t.present in
     subst (IsTaken old new result) (sym (stepped old octets (InHead (item_at place) t.from present) t.at octet))
@@ -67,10 +68,10 @@ long_taken old new octets place digits seen value octet seen_next value_next res
     (head_ends old octets (item_at place) t.from present t.at octet (omega (arith, t.looked, t.seen_are)))
     (λ partial. (t.known, refl, t.digits_are, omega (arith, t.seen_are, length_push t.present octet), f ∙ ap (λ v. v * 256 + octet) t.value_is ∙ sym (number_push 0 t.present octet), omega (arith, t.looked))))
 
-pub leaf_taken : (old new : Path) (octets : List ℕ) (place start end : ℕ) (value : ℤ) (unused octet : ℕ) (decided : Verdict) (leaf : LeafAt old octets place start end value unused) →
+pub leaf_taken : {profile : Profile} (old new : Path) (octets : List ℕ) (place start end : ℕ) (value : ℤ) (unused octet : ℕ) (decided : Verdict) (leaf : LeafAt profile old octets place start end value unused) →
     ((stack : List Frame) (marks : List Marked) (present : List ℕ) → AreOpen old.inner old.outer.items stack → AreMarks old.marks.items (with_mark marks (item_at place) start (end - start)) → LeafReads (item_at place) (end - start) value unused present → old.looked ≡ start + length present →
     IsTaken old new (Ok decided) (in_leaf (item_at place) start (end - start) stack marks (present ++ octet ∷ []))) →
-    IsTaken old new (Ok decided) (reading.reading messages old.size (octets ++ octet ∷ []))
+    IsTaken old new (Ok decided) (reading.reading (messages profile) old.size (octets ++ octet ∷ []))
 leaf_taken old new octets place start end value unused octet decided leaf goes =
     let same : leaf.count ≡ end - start = omega (arith, leaf.ends) in
     subst (IsTaken old new (Ok decided)) (sym (stepped old octets (reading.InLeaf (item_at place) start leaf.count leaf.present) leaf.at octet))
@@ -85,7 +86,7 @@ pub record LongReady (path : Path) (digits seen value limited : ℕ) : Type 0 wh
   pub spelled : value < 2 ^ 24
   pub within : path.looked ≤ limited
 
-pub long_ready : (path : Path) (octets : List ℕ) (place digits seen value limited : ℕ) (t : LongAt path octets place digits seen value) → ((stack : List Frame) → AreOpen path.inner path.outer.items stack → limited ≡ limit stack) → LongReady path digits seen value limited
+pub long_ready : {profile : Profile} (path : Path) (octets : List ℕ) (place digits seen value limited : ℕ) (t : LongAt profile path octets place digits seen value) → ((stack : List Frame) → AreOpen path.inner path.outer.items stack → limited ≡ limit stack) → LongReady path digits seen value limited
 long_ready path octets place digits seen value limited t is =
     let long : (length t.present < t.first - 0x80) × (t.first ≤ 0x84) × (2 + (t.first - 0x80) ≤ limit t.at.stack - t.from) = partial_long (limit t.at.stack - t.from) t.tag t.first t.present (subst IsPartial (sym t.at.reached) (tt {0})) in
     let few : t.first ≤ 0x84 = long.1 in
@@ -101,16 +102,16 @@ long_ready path octets place digits seen value limited t is =
       within = omega (arith, t.looked, t.seen_are);
     }
 
-pub tagged_within : (path : Path) (octets : List ℕ) (place limited : ℕ) (t : TaggedAt path octets place) → ((stack : List Frame) → AreOpen path.inner path.outer.items stack → limited ≡ limit stack) → path.looked ≤ limited
+pub tagged_within : {profile : Profile} (path : Path) (octets : List ℕ) (place limited : ℕ) (t : TaggedAt profile path octets place) → ((stack : List Frame) → AreOpen path.inner path.outer.items stack → limited ≡ limit stack) → path.looked ≤ limited
 tagged_within path octets place limited t is =
     let room : t.from + 1 < limit t.at.stack = t.at.roomy.0 in
     let e : limited ≡ limit t.at.stack = is t.at.stack t.at.frames in
     omega (arith, t.looked)
 
-pub tagged_short : (path : Path) (octets : List ℕ) (place octet : ℕ) (t : TaggedAt path octets place) (kept : Found) → HeadIs kept (head (limit t.at.stack - t.from) (t.tag ∷ octet ∷ [])) → IsShort (path.looked + 1) kept
+pub tagged_short : {profile : Profile} (path : Path) (octets : List ℕ) (place octet : ℕ) (t : TaggedAt profile path octets place) (kept : Found) → HeadIs kept (head (limit t.at.stack - t.from) (t.tag ∷ octet ∷ [])) → IsShort (path.looked + 1) kept
 tagged_short path octets place octet t kept is = is_short path octets (item_at place) t.from (t.tag ∷ []) t.at kept _ is (head_ends path octets (item_at place) t.from (t.tag ∷ []) t.at octet t.looked)
 
-pub long_short : (path : Path) (octets : List ℕ) (place digits seen value octet : ℕ) (t : LongAt path octets place digits seen value) (kept : Found) → HeadIs kept (head (limit t.at.stack - t.from) (t.tag ∷ t.first ∷ t.present ++ octet ∷ [])) → IsShort (path.looked + 1) kept
+pub long_short : {profile : Profile} (path : Path) (octets : List ℕ) (place digits seen value octet : ℕ) (t : LongAt profile path octets place digits seen value) (kept : Found) → HeadIs kept (head (limit t.at.stack - t.from) (t.tag ∷ t.first ∷ t.present ++ octet ∷ [])) → IsShort (path.looked + 1) kept
 long_short path octets place digits seen value octet t kept is =
     is_short path octets (item_at place) t.from (t.tag ∷ t.first ∷ t.present) t.at kept _ is (head_ends path octets (item_at place) t.from (t.tag ∷ t.first ∷ t.present) t.at octet (omega (arith, t.looked, t.seen_are)))
 

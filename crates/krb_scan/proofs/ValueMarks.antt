@@ -1,5 +1,5 @@
 -- The reading of the DER of a value is whole, and its marks are those of the value.
-use Rattle.std.proofs.Common.{◌≡◌, ℕ, zero, suc, ℤ, pos, ◌+◌, ◌-◌, ◌^◌, ◌<◌, ◌≤◌, inl, inr, Bool, true, false, not, ◌&&◌, eqb, nat_lt, List, [], ◌∷◌, ◌++◌, length, take, drop, Option, Some, None, refl, sym, ◌∙◌, ap, arith, append-nil, append_assoc, length-append, eq-eqb, ne_eqb, le-ltb, drop_at, one-add}
+use Rattle.std.proofs.Common.{◌≡◌, ℕ, zero, suc, ℤ, pos, ◌+◌, ◌-◌, ◌^◌, ◌<◌, ◌≤◌, inl, inr, Bool, true, false, not, ◌&&◌, eqb, nat_lt, List, [], ◌∷◌, ◌++◌, length, take, drop, Option, Some, None, refl, sym, ◌∙◌, ap, arith, append-nil, append_assoc, length-append, eq-eqb, ne_eqb, le-ltb, drop_at, one-add, subst}
 use Rattle.std.proofs.lemmas.Bool.{and_parts, not-true, true≢false, false_from_ne_true, eqb-true}
 use Rattle.std.proofs.lemmas.List.{take_at}
 use Rattle.std.specs.List.{flat_map, AllByRecursion}
@@ -16,12 +16,12 @@ use Rattle.krb_msg.proofs.Heads.{head-length_octets}
 use Rattle.krb_msg.proofs.Items.{ItemDone, item_done}
 use Rattle.krb_msg.proofs.LeavesDone.{done_from_after}
 use Rattle.krb_msg.proofs.Grammars.{unambiguous_message}
-use Rattle.krb_msg.proofs.Judged.{messages_are_grammar, kind_is_one_of}
+use Rattle.krb_msg.proofs.Judged.{messages_are_grammar, kind_is_one_of, message_der_in}
 use Rattle.krb_msg.proofs.Messages.{IsChosen, chosen_one_of}
 use Rattle.krb_msg.specs.Grammar.{messages}
-use Rattle.krb_msg.specs.Views.{kind_of, kind_term, message_value, message_der}
-use Rattle.krb_scan.specs.Reading.{Mark, Due, Listed, Each, OneOf, Frame, Seen, Fault, Past, then_seen, limit, sole_in, frame_of, mark_of, with_mark, leaf_outcome, leaf_value, of_leaf, leaf_seen, of_head_seen, head_seen, begun, required_seen, optional_seen, ended_seen, only_seen, each_seen, contents_seen, fields_seen, one_of_seen, message_seen, answer, reading}
-use Rattle.krb_scan.specs.ValueMarks.{start_of, list_marks, option_marks, value_marks, fields_marks}
+use Rattle.krb_msg.specs.Views.{kind_of, kind_term_in, message_value_in, message_der}
+use Rattle.krb_scan.specs.Reading.{Mark, Due, Listed, Each, OneOf, Frame, Seen, Fault, Past, Whole, then_seen, limit, sole_in, frame_of, mark_of, with_mark, leaf_outcome, leaf_value, of_leaf, leaf_seen, of_head_seen, head_seen, begun, required_seen, optional_seen, ended_seen, only_seen, each_seen, contents_seen, fields_seen, one_of_seen, message_seen, answer, reading}
+use Rattle.krb_scan.specs.ValueMarks.{start_of, list_marks, option_marks, value_marks, fields_marks, message_marks}
 use Rattle.krb_scan.specs.At as at
 use Rattle.krb_scan.specs.Laws.{WholeHasMarksOfValue, WholeHasMarksOfMessage}
 use Rattle.krb_scan.proofs.Progress.{Next}
@@ -373,9 +373,10 @@ whole_has_marks_of_value messages grammar term o value f small =
     ∙ ap answer (chosen_past messages term (chosen_one_of messages term grammar.own_tags o) (unambiguous_message messages grammar term o) value f (omega arith) [])
 
 pub whole_has_marks_of_message : WholeHasMarksOfMessage
-whole_has_marks_of_message m p =
-    ap (λ given. at.marks_from given (λ place. reading messages n (take place (message_der m))))
-    (whole_has_marks_of_value messages messages_are_grammar (kind_term (kind_of m)) (kind_is_one_of (kind_of m)) (message_value m) p.fits p.short)
+whole_has_marks_of_message profile m p =
+    ap (λ given. at.marks_from given (λ place. reading (messages profile) (length (message_der m)) (take place (message_der m))))
+    (subst (λ octets. reading (messages profile) (length octets) octets ≡ Whole (message_marks profile m)) form
+    (whole_has_marks_of_value (messages profile) (messages_are_grammar profile) (kind_term_in profile (kind_of m)) (kind_is_one_of profile (kind_of m)) (message_value_in profile m) p.fits (omega (arith, p.short, ap length form))))
   where
-    n : ℕ
-    n = length (message_der m)
+    form : der (kind_term_in profile (kind_of m)) (message_value_in profile m) ≡ message_der m
+    form = message_der_in profile m

@@ -71,7 +71,7 @@ enter_opened Octets due start count stack marks i = absurd i
 enter_opened Time due start count stack marks i = absurd i
 enter_opened (Bits least) due start count stack marks i = absurd i
 enter_opened (Sequence fields) due start count stack marks i = ap (λ it. opened (Sequence fields) it start count stack marks) (sym i)
-enter_opened (SequenceOf empty term) due start count stack marks i = ap (λ it. opened (SequenceOf empty term) it start count stack marks) (sym i.0)
+enter_opened (SequenceOf empty term) due start count stack marks i = ap (λ it. opened (SequenceOf empty term) it start count stack marks) (sym i)
 enter_opened (Tagged index term) due start count stack marks i = ap (λ it. opened (Tagged index term) it start count stack marks) (sym i)
 enter_opened (Application number term) due start count stack marks i = ap (λ it. opened (Application number term) it start count stack marks) (sym i)
 

@@ -1,11 +1,14 @@
 -- What it is for a scanner to stand for octets of a message.
 use Rattle.std.specs.Prelude.{ℕ, ◌≡◌, ◌<◌, ◌≤◌, ◌^◌, List, [], length, take}
 use Rattle.krb_der.specs.Octets.{AreOctets}
+use Rattle.krb_der.specs.declared.profile.Profile.{Profile}
 use Rattle.krb_der.specs.declared.verdict.Verdict.{Verdict}
+use Rattle.krb_der.specs.declared.verdict.Verdict.TheVariants as verdict
 use Rattle.krb_msg.specs.Grammar.{messages}
 use Rattle.krb_msg.specs.Judgement.{judgement}
 use Rattle.krb_scan.specs.Reading.{Mark, Answer, Ongoing, Refusing, Whole, reading, marks_of, open_lengths}
 use Rattle.krb_scan.specs.State.{AreMarks, AreOpen, TipIs, open_lengths_of}
+use Rattle.krb_scan.specs.declared.mark.Mark.{Mark as Kept}
 use Rattle.krb_scan.specs.declared.path.Path.{Path}
 
 -- What was read when an octet was refused: the octets before it.
@@ -18,9 +21,9 @@ marks_from (Ongoing state) before = marks_of state
 marks_from (Whole marks) before = marks
 marks_from (Refusing place reason) before = marks_before (before place)
 
--- a mark for each length of the octets that is whole, in the order of the lengths
-abbrev pub Marks : ℕ → List ℕ → List Mark
-Marks n octets = marks_from (reading messages n octets) (λ place. reading messages n (take place octets))
+-- a mark for each length of the octets that is whole, in the order of the lengths, by a profile
+abbrev pub Marks : Profile → ℕ → List ℕ → List Mark
+Marks profile n octets = marks_from (reading (messages profile) n octets) (λ place. reading (messages profile) n (take place octets))
 
 abbrev pub lengths_before : Answer → ℕ
 lengths_before (Ongoing state) = open_lengths state
@@ -32,23 +35,29 @@ lengths_from (Whole marks) before = 0
 lengths_from (Refusing place reason) before = lengths_before (before place)
 
 -- how many lengths of the octets are whole whose contents are not complete
-abbrev pub open_count : ℕ → List ℕ → ℕ
-open_count n octets = lengths_from (reading messages n octets) (λ place. reading messages n (take place octets))
+abbrev pub open_count : Profile → ℕ → List ℕ → ℕ
+open_count profile n octets = lengths_from (reading (messages profile) n octets) (λ place. reading (messages profile) n (take place octets))
 
 -- while more octets are due, a path has the containers that are open and what is partly read
 abbrev pub Keeps : Path → Answer → Type 0
 Keeps path (Ongoing state) = AreOpen path.inner path.outer.items state.stack × TipIs path.looked path.tip state.tip
 Keeps path other = Unit {0}
 
--- a path and a verdict are those of octets of a message of n octets
-pub record IsAt (path : Path) (decided : Verdict) (n : ℕ) (octets : List ℕ) : Type 0 where
+-- a path and a verdict are those of octets of a message of n octets, by a profile
+pub record IsAt (profile : Profile) (path : Path) (decided : Verdict) (n : ℕ) (octets : List ℕ) : Type 0 where
   pub are_octets : AreOctets octets
   pub some : 0 < n
   pub short : n < 2 ^ 31
   pub fits : length octets ≤ n
   pub size : path.size ≡ n
-  pub decides : decided ≡ judgement n octets
+  pub decides : decided ≡ judgement profile n octets
   pub looked : path.looked ≡ length octets
-  pub marks : AreMarks path.marks.items (Marks n octets)
-  pub lengths : open_lengths_of path ≡ open_count n octets
-  pub keeps : Keeps path (reading messages n octets)
+  pub marks : AreMarks path.marks.items (Marks profile n octets)
+  pub lengths : open_lengths_of path ≡ open_count profile n octets
+  pub keeps : Keeps path (reading (messages profile) n octets)
+
+-- marks are those of octets that are a whole message of some profile
+pub record AreWhole (marks : List Kept) (octets : List ℕ) : Type 0 where
+  pub profile : Profile
+  pub whole : judgement profile (length octets) octets ≡ verdict.Whole
+  pub are_marks : AreMarks marks (Marks profile (length octets) octets)

@@ -1,6 +1,7 @@
 -- The worked examples, computed by the definitions.
 use Rattle.std.specs.Prelude.{ℕ, pos, ◌≡◌, List, [], ◌∷◌, length, take, codes, refl}
 use Rattle.krb_der.specs.Hex.{hex}
+use Rattle.krb_der.specs.declared.profile.Profile.TheVariants.{Lenient}
 use Rattle.krb_msg.specs.Term.{Tagged}
 use Rattle.krb_msg.specs.Grammar.{wide32, ap_rep, messages}
 use Rattle.krb_msg.specs.Reading.{value_read}
@@ -19,21 +20,21 @@ shown (Ongoing state) = (length (marks_of state), open_lengths state, taken stat
 shown (Refusing place reason) = (0, 0, place)
 shown (Whole marks) = (length marks, 0, 0)
 
-ap_rep_marks : shown (reading messages 31 ap_rep_octets) ≡ (12, 0, 0)
+ap_rep_marks : shown (reading (messages Lenient) 31 ap_rep_octets) ≡ (12, 0, 0)
 ap_rep_marks = refl
 
-ap_rep_none : shown (reading messages 31 (take 0 ap_rep_octets)) ≡ (0, 0, 0)
+ap_rep_none : shown (reading (messages Lenient) 31 (take 0 ap_rep_octets)) ≡ (0, 0, 0)
 ap_rep_none = refl
 
-tgs_req_deepest : shown (reading messages 109 (take 93 tgs_req_octets)) ≡ (33, 13, 93)
+tgs_req_deepest : shown (reading (messages Lenient) 109 (take 93 tgs_req_octets)) ≡ (33, 13, 93)
 tgs_req_deepest = refl
 
-tgs_req_after : shown (reading messages 109 (take 94 tgs_req_octets)) ≡ (33, 8, 94)
+tgs_req_after : shown (reading (messages Lenient) 109 (take 94 tgs_req_octets)) ≡ (33, 8, 94)
 tgs_req_after = refl
 
 -- a field of five octets, A1 03 02 01 07, the first of them at 20: its contents are the INTEGER
 kvno_marks : value_marks (Tagged 1 wide32) 20 (pos 7) ≡ mark_of (Tagged 1 wide32) 22 3 (pos 0) ∷ mark_of wide32 24 1 (pos 7) ∷ []
 kvno_marks = refl
 
-ap_rep_value_marks : reading messages 31 ap_rep_octets ≡ Whole (value_marks ap_rep 0 (value_read ap_rep ap_rep_octets))
+ap_rep_value_marks : reading (messages Lenient) 31 ap_rep_octets ≡ Whole (value_marks ap_rep 0 (value_read ap_rep ap_rep_octets))
 ap_rep_value_marks = refl

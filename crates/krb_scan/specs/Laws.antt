@@ -1,5 +1,6 @@
 -- The laws of the reading, by any messages, by any grammar and by the messages of krb_msg.
-use Rattle.std.specs.Prelude.{ℕ, ◌≡◌, ◌^◌, ◌≤◌, ◌<◌, List, length}
+use Rattle.std.specs.Prelude.{ℕ, ◌≡◌, ◌*◌, ◌^◌, ◌≤◌, ◌<◌, List, length}
+use Rattle.krb_der.specs.declared.profile.Profile.{Profile}
 use Rattle.krb_der.specs.declared.verdict.Verdict.{Verdict}
 use Rattle.krb_der.specs.declared.verdict.Verdict.TheVariants as verdict
 use Rattle.krb_msg.specs.Term.{Term, Value, der, Fits}
@@ -24,6 +25,10 @@ ReadingJudges = (terms : List Term) (n : ℕ) (octets : List ℕ) → 0 < n → 
 abbrev pub WholeHasMarksOfValue : Type 0
 WholeHasMarksOfValue = (messages : List Term) → IsGrammar messages → (term : Term) → IsOneOf term messages → (value : Value term) → Fits term value → length (der term value) < 2 ^ 31 → reading messages (length (der term value)) (der term value) ≡ Whole (value_marks term 0 value)
 
--- The marks of the DER of a message are those of the message.
+-- The marks of the DER of a message of a profile are those of the message.
 abbrev pub WholeHasMarksOfMessage : Type 0
-WholeHasMarksOfMessage = (m : Message) → IsInProfile m → Marks (length (message_der m)) (message_der m) ≡ message_marks m
+WholeHasMarksOfMessage = (profile : Profile) (m : Message) → IsInProfile profile m → Marks profile (length (message_der m)) (message_der m) ≡ message_marks profile m
+
+-- Twice the marks is at most the octets, since an item has a tag octet and a length octet. So room for half as many marks as a message has octets is enough.
+abbrev pub MarksAreFew : Type 0
+MarksAreFew = (profile : Profile) (n : ℕ) (octets : List ℕ) → 0 < n → 2 * length (Marks profile n octets) ≤ length octets

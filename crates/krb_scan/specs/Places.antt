@@ -1,7 +1,11 @@
 -- What is due at each place of the table of places, by the grammar.
-use Rattle.std.specs.Prelude.{ℕ, ◌<◌, List, [], ◌∷◌, ◌++◌, map, get_or, Option, Some, None}
+use Rattle.std.specs.Prelude.{ℕ, true, false, ◌<◌, List, [], ◌∷◌, ◌++◌, map, get_or, Option, Some, None}
+use Rattle.std.specs.List.{flat_map}
+use Rattle.krb_der.specs.declared.profile.Profile.{Profile}
+use Rattle.krb_der.specs.declared.profile.Profile.TheVariants.{Lenient, Strict}
+use Rattle.krb_msg.specs.Profiles.{profile_term}
 use Rattle.krb_msg.specs.Term.{Term, Fields, Octets, Sequence, Application, End, Required, Optional}
-use Rattle.krb_msg.specs.Grammar.{exactly, int32, wide32, microseconds, kerberos_string, octet_string, kerberos_time, kerberos_flags, sequence_of, principal_name, host_address, pa_data, encrypted_data, version, ticket, kdc_req_body, as_req, tgs_req, as_rep, tgs_rep, ap_req, ap_rep, krb_error, method_data, messages}
+use Rattle.krb_msg.specs.Grammar.{exactly, int32, wide32, microseconds, kerberos_string, octet_string, kerberos_time, kerberos_flags, sequence_of, principal_name, host_address, pa_data, encrypted_data, checksum, version, ticket, kdc_req_body, as_req, tgs_req, as_rep, tgs_rep, ap_req, ap_rep, krb_safe_body, krb_safe, krb_priv, krb_cred, krb_error, method_data, messages}
 use Rattle.krb_scan.specs.Reading.{Due, Listed, Each, OneOf}
 use Rattle.krb_scan.specs.declared.places.TheConstants.{PLACES}
 
@@ -30,21 +34,28 @@ abbrev pub one_of_each : List Term → List Due
 one_of_each [] = []
 one_of_each (term ∷ terms) = OneOf (term ∷ terms) ∷ one_of_each terms
 
--- what is due at each place
-unfoldable pub dues : List Due
-dues =
-    map only
+-- what is due at each place of a profile. The lists of addresses, of Tickets and of PA-DATA stand in fields that are OPTIONAL, but for the Tickets of a KRB-CRED
+abbrev pub profile_dues : Profile → List Due
+profile_dues profile =
+    map (λ term. only (profile_term profile false term))
     (int32 ∷ wide32 ∷ microseconds ∷ kerberos_string ∷ octet_string ∷ kerberos_time ∷ kerberos_flags
-    ∷ version ∷ exactly 10 ∷ exactly 11 ∷ exactly 12 ∷ exactly 13 ∷ exactly 14 ∷ exactly 15 ∷ exactly 30
-    ∷ sequence_of kerberos_string ∷ sequence_of int32 ∷ sequence_of host_address ∷ sequence_of ticket ∷ method_data
-    ∷ principal_name ∷ encrypted_data ∷ kdc_req_body ∷ ticket
-    ∷ map in_tag (ticket ∷ as_req ∷ as_rep ∷ tgs_req ∷ tgs_rep ∷ ap_req ∷ ap_rep ∷ krb_error ∷ []))
-    ++ map Each (kerberos_string ∷ int32 ∷ host_address ∷ ticket ∷ pa_data ∷ [])
-    ++ fields_in principal_name ++ fields_in host_address ++ fields_in pa_data ++ fields_in encrypted_data ++ fields_in ticket
-    ++ fields_in kdc_req_body ++ fields_in as_req ++ fields_in tgs_req ++ fields_in as_rep ++ fields_in tgs_rep
-    ++ fields_in ap_req ++ fields_in ap_rep ++ fields_in krb_error
-    ++ one_of_each messages
+    ∷ version ∷ exactly 10 ∷ exactly 11 ∷ exactly 12 ∷ exactly 13 ∷ exactly 14 ∷ exactly 15 ∷ exactly 20 ∷ exactly 21 ∷ exactly 22 ∷ exactly 30
+    ∷ sequence_of kerberos_string ∷ sequence_of int32 ∷ sequence_of ticket ∷ [])
+    ++ map (λ term. only (profile_term profile true term)) (sequence_of host_address ∷ sequence_of ticket ∷ method_data ∷ [])
+    ++ map (λ term. only (profile_term profile false term))
+    (principal_name ∷ host_address ∷ encrypted_data ∷ checksum ∷ kdc_req_body ∷ krb_safe_body ∷ ticket ∷ [])
+    ++ map (λ term. only (in_tag (profile_term profile false term)))
+    (ticket ∷ as_req ∷ as_rep ∷ tgs_req ∷ tgs_rep ∷ ap_req ∷ ap_rep ∷ krb_safe ∷ krb_priv ∷ krb_cred ∷ krb_error ∷ [])
+    ++ map (λ term. Each (profile_term profile false term)) (kerberos_string ∷ int32 ∷ host_address ∷ ticket ∷ pa_data ∷ [])
+    ++ flat_map (λ term. fields_in (profile_term profile false term))
+    (principal_name ∷ host_address ∷ pa_data ∷ encrypted_data ∷ checksum ∷ ticket ∷ kdc_req_body ∷ as_req ∷ tgs_req ∷ as_rep ∷ tgs_rep
+    ∷ ap_req ∷ ap_rep ∷ krb_safe_body ∷ krb_safe ∷ krb_priv ∷ krb_cred ∷ krb_error ∷ [])
+    ++ one_of_each (messages profile)
     ++ Listed End ∷ OneOf [] ∷ []
+
+-- those of the lenient profile, and then those of the strict one
+unfoldable pub dues : List Due
+dues = profile_dues Lenient ++ profile_dues Strict
 
 -- the number of a place
 abbrev pub IsPlace : ℕ → Type 0

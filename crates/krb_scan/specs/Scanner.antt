@@ -1,5 +1,6 @@
 -- What contracts see of a scanner.
 use Rattle.std.specs.Prelude.{ℕ, List, vec_capacity}
+use Rattle.krb_der.specs.declared.profile.Profile.{Profile}
 use Rattle.krb_der.specs.declared.verdict.Verdict.{Verdict}
 use Rattle.krb_scan.specs.At.{IsAt}
 use Rattle.krb_scan.specs.declared.mark.Mark.{Mark}
@@ -24,6 +25,10 @@ room_of scanner = vec_capacity scanner.path.marks
 abbrev pub marks_of : Scanner → List Mark
 marks_of scanner = scanner.path.marks.items
 
--- a scanner stands for octets of a message of n octets
-abbrev pub At : Scanner → ℕ → List ℕ → Type 0
-At scanner n octets = IsAt scanner.path scanner.verdict n octets
+-- the profile that it judges by
+abbrev pub profile_of : Scanner → Profile
+profile_of scanner = scanner.profile
+
+-- a scanner stands for octets of a message of n octets, by a profile
+abbrev pub At : Profile → Scanner → ℕ → List ℕ → Type 0
+At profile scanner n octets = IsAt profile scanner.path scanner.verdict n octets

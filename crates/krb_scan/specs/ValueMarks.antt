@@ -3,7 +3,8 @@ use Rattle.std.specs.Prelude.{ℕ, ℤ, pos, ◌+◌, List, [], ◌∷◌, ◌++
 use Rattle.std.specs.List.{flat_map}
 use Rattle.krb_der.specs.Octets.{integer_octets, length_octets}
 use Rattle.krb_msg.specs.Term.{Term, Fields, Integer, Text, Octets, Time, Bits, Sequence, SequenceOf, Tagged, Application, End, Required, Optional, Value, Values, der, der_of_fields, octets_of_option}
-use Rattle.krb_msg.specs.Views.{kind_of, kind_term, message_value}
+use Rattle.krb_msg.specs.Views.{kind_of, kind_term_in, message_value_in}
+use Rattle.krb_der.specs.declared.profile.Profile.{Profile}
 use Rattle.krb_msg.specs.declared.message.Message.{Message}
 use Rattle.krb_scan.specs.Reading.{Mark, mark_of}
 
@@ -49,6 +50,6 @@ abbrev mutual
   fields_marks (Optional term fields) place values =
       option_marks (value_marks term) place values.0 ++ fields_marks fields (place + length (octets_of_option (der term) values.0)) values.1
 
--- the marks of a message
-abbrev pub message_marks : Message → List Mark
-message_marks m = value_marks (kind_term (kind_of m)) 0 (message_value m)
+-- the marks of a message of a profile
+abbrev pub message_marks : Profile → Message → List Mark
+message_marks profile m = value_marks (kind_term_in profile (kind_of m)) 0 (message_value_in profile m)

@@ -2,6 +2,7 @@
 //! odd is left as it is, to be taken octet by octet.
 
 ghost use Rattle.std.specs.Prelude.{◌≡◌, ◌+◌, ◌<◌, ◌≤◌, ◌^◌, List, ℕ, Some, None, IfSome, true, take, length, vec_len, vec_capacity};
+ghost use Rattle.krb_der.specs.declared.profile.Profile.{Profile};
 ghost use Rattle.krb_scan.specs.Reading.{Frame, Mark as Marked, is_sole};
 ghost use Rattle.krb_scan.specs.Places.{IsPlace, due_at, item_at};
 ghost use Rattle.krb_scan.specs.State.{AreOpen};
@@ -119,7 +120,7 @@ impl Path {
         requires row { IsPlaceOf row.now (due_at found.place) }
         requires narrow { IsNarrow row.now.contents }
         requires contents { AreContents row.now.contents (item_at found.place) }
-        ensures some { IfSome result (λ it. (before : List ℕ) → StandsFor self.old before → IsAccepted self.old self.new before octets.now it) }
+        ensures some { IfSome result (λ it. (profile : Profile) (before : List ℕ) → StandsFor profile self.old before → IsAccepted profile self.old self.new before octets.now it) }
         ensures none { result ≡ None → self.new ≡ self.old }
         ensures tip { self.new.tip ≡ self.old.tip }
         ensures room { vec_capacity self.new.marks ≡ vec_capacity self.old.marks }
@@ -157,7 +158,7 @@ impl Path {
         requires some { 0 < found.size }
         requires first { IsPlace first }
         requires begins { BeginsWith (item_at found.place) (due_at first) }
-        ensures accepted { (before : List ℕ) → StandsFor self.old before → IsAccepted self.old self.new before _octets.now result }
+        ensures accepted { (profile : Profile) (before : List ℕ) → StandsFor profile self.old before → IsAccepted profile self.old self.new before _octets.now result }
         ensures room { vec_capacity self.new.marks ≡ vec_capacity self.old.marks }
         ensures marks { vec_len self.new.marks ≡ vec_len self.old.marks + 1 }
         ensures tip { self.new.tip ≡ self.old.tip }
@@ -207,7 +208,7 @@ impl Path {
         requires begins { BeginsWith (item_at found.place) (due_at first) }
         requires next { IsPlace next }
         requires goes_on { BeginsWith (item_at first) (due_at next) }
-        ensures some { IfSome result (λ it. (before : List ℕ) → StandsFor self.old before → IsAccepted self.old self.new before octets.now it) }
+        ensures some { IfSome result (λ it. (profile : Profile) (before : List ℕ) → StandsFor profile self.old before → IsAccepted profile self.old self.new before octets.now it) }
         ensures none { result ≡ None → self.new ≡ self.old }
         ensures tip { self.new.tip ≡ self.old.tip }
         ensures room { vec_capacity self.new.marks ≡ vec_capacity self.old.marks }
@@ -252,7 +253,7 @@ impl Path {
         requires row { IsPlaceOf row.now (due_at first) }
         requires narrow { IsNarrow row.now.contents }
         requires contents { AreContents row.now.contents (item_at first) }
-        ensures some { IfSome result (λ it. (before : List ℕ) → StandsFor self.old before → IsAccepted self.old self.new before octets.now it) }
+        ensures some { IfSome result (λ it. (profile : Profile) (before : List ℕ) → StandsFor profile self.old before → IsAccepted profile self.old self.new before octets.now it) }
         ensures none { result ≡ None → self.new ≡ self.old }
         ensures tip { self.new.tip ≡ self.old.tip }
         ensures room { vec_capacity self.new.marks ≡ vec_capacity self.old.marks }
@@ -292,7 +293,7 @@ impl Path {
     fn take_item(&mut self, octets: &[u8]) -> Option<Accepted>
         requires reached { IsReached self.old }
         requires between { self.old.tip ≡ Tip.Between }
-        ensures some { IfSome result (λ it. (before : List ℕ) → StandsFor self.old before → IsAccepted self.old self.new before octets.now it) }
+        ensures some { IfSome result (λ it. (profile : Profile) (before : List ℕ) → StandsFor profile self.old before → IsAccepted profile self.old self.new before octets.now it) }
         ensures none { result ≡ None → self.new ≡ self.old }
         ensures tip { self.new.tip ≡ self.old.tip }
         ensures room { vec_capacity self.new.marks ≡ vec_capacity self.old.marks }
@@ -301,7 +302,7 @@ impl Path {
             return None;
         }
         let (found, row) = find_item(self.inner, self.looked, octets)?;
-        let Contents::Items { first } = row.contents else {
+        let Contents::Items { first, .. } = row.contents else {
             return self.take_leaf(found, row, octets);
         };
         let due = place_at(first);
@@ -313,7 +314,7 @@ impl Path {
             };
         }
         match due.contents {
-            Contents::Items { first: next } => {
+            Contents::Items { first: next, .. } => {
                 self.take_heads(found, row, first, due, next, octets)
             }
             _ => self.take_tag(found, row, first, due, octets),
@@ -325,7 +326,7 @@ impl Path {
     #[inline(never)]
     pub(crate) fn take_items(&mut self, octets: &[u8]) -> Option<Accepted>
         requires { IsReached self.old }
-        ensures some { IfSome result (λ it. (before : List ℕ) → StandsFor self.old before → IsAccepted self.old self.new before octets.now it) }
+        ensures some { IfSome result (λ it. (profile : Profile) (before : List ℕ) → StandsFor profile self.old before → IsAccepted profile self.old self.new before octets.now it) }
         ensures none { result ≡ None → self.new ≡ self.old }
         ensures room { vec_capacity self.new.marks ≡ vec_capacity self.old.marks }
     {

@@ -1,11 +1,8 @@
 //! Messages from their marks.
 
 ghost use Rattle.std.specs.Prelude.{◌≡◌, ◌<◌, ◌^◌, length, IfOk};
-ghost use Rattle.krb_der.specs.declared.verdict.Verdict.TheVariants.{Whole};
-ghost use Rattle.krb_msg.specs.Judgement.{judgement};
 ghost use Rattle.krb_msg.specs.Views.{message_der};
-ghost use Rattle.krb_scan.specs.At.{Marks};
-ghost use Rattle.krb_scan.specs.State.{AreMarks};
+ghost use Rattle.krb_scan.specs.At.{AreWhole};
 
 use crate::mark::Mark;
 use crate::marked::Marked;
@@ -17,8 +14,7 @@ use std::alloc::Global;
 /// judged again: numbers come from the marks, and each string of octets is copied once.
 pub fn build(alloc: Global, marks: &[Mark], octets: &[u8]) -> Result<Message, Memory>
     requires short { length octets.now < 2 ^ 31 }
-    requires whole { judgement (length octets.now) octets.now ≡ Whole }
-    requires marks { AreMarks marks.now (Marks (length octets.now) octets.now) }
+    requires whole { AreWhole marks.now octets.now }
     ensures { IfOk result (λ m. message_der m ≡ octets.now) }
 {
     build_in(alloc, &mut Room::new(), marks, octets)
@@ -33,8 +29,7 @@ pub fn build_in(
     octets: &[u8],
 ) -> Result<Message, Memory>
     requires short { length octets.now < 2 ^ 31 }
-    requires whole { judgement (length octets.now) octets.now ≡ Whole }
-    requires marks { AreMarks marks.now (Marks (length octets.now) octets.now) }
+    requires whole { AreWhole marks.now octets.now }
     ensures { IfOk result (λ m. message_der m ≡ octets.now) }
 {
     let kind = whole_kind(octets);

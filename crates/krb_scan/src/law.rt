@@ -1,5 +1,5 @@
 //! Laws of the reading of a message's octets. Each is the contract of a function that does nothing.
-ghost use Rattle.krb_scan.specs.Laws.{ReadingJudges, WholeHasMarksOfMessage, WholeHasMarksOfValue};
+ghost use Rattle.krb_scan.specs.Laws.{MarksAreFew, ReadingJudges, WholeHasMarksOfMessage, WholeHasMarksOfValue};
 
 /// By any messages, what a reading says of the octets is their judgement.
 pub fn reading_judges()
@@ -15,4 +15,9 @@ pub fn whole_has_marks_of_value()
 /// The marks of the DER of a message are those of the message.
 pub fn whole_has_marks_of_message()
     ensures { WholeHasMarksOfMessage }
+{}
+
+/// Twice the marks is at most the octets.
+pub fn marks_are_few()
+    ensures { MarksAreFew }
 {}

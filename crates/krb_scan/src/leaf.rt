@@ -3,7 +3,7 @@
 ghost use Rattle.std.specs.Prelude.{◌≡◌, ◌<◌, ◌≤ℤ◌, ◌<ℤ◌, ◌==◌, ◌&&◌, if◌then◌else◌, pos, negsuc, ℕ, ℤ};
 ghost use Rattle.krb_scan.specs.inner.Numbers.{extended, pads, in_range, integer_with, each_next, bits_next as bits_decides, any_next as any_decides};
 ghost use Rattle.krb_der.specs.declared.why.Why.TheVariants as why;
-ghost use Rattle.krb_msg.specs.Judgement.{time_octet};
+ghost use Rattle.krb_msg.specs.Judgement.{text_octet, time_octet};
 ghost use Rattle.krb_scan.specs.inner.Stands.{LeafIs};
 
 use crate::places::Contents;
@@ -107,14 +107,15 @@ pub(crate) fn first_octet(seen: u32, unused: u8, octet: u8) -> u8
     if seen == 0 { octet } else { unused }
 }
 
-/// A BIT STRING's next octet, after `seen` of its `size`; the first of them is `unused`.
-pub(crate) fn bits_next(size: u32, seen: u32, unused: u8, octet: u8) -> Leaf
+/// The next octet of a BIT STRING of `least` bits or more, after `seen` of its `size`; the first of
+/// them is `unused`.
+pub(crate) fn bits_next(least: u8, size: u32, seen: u32, unused: u8, octet: u8) -> Leaf
     requires some { seen < size }
     requires few { unused < 8 }
-    ensures { LeafIs result (bits_decides 0 size seen unused octet) }
+    ensures { LeafIs result (bits_decides least size seen unused octet) }
 {
     if seen == 0 {
-        if octet > 7 || size == 1 && octet > 0 {
+        if octet > 7 || 8 * u64::from(size - 1) < u64::from(least) + u64::from(octet) {
             Leaf::Bad(Why::Bits)
         } else if size > 1 {
             Leaf::Open
@@ -127,6 +128,20 @@ pub(crate) fn bits_next(size: u32, seen: u32, unused: u8, octet: u8) -> Leaf
         Leaf::Done
     } else {
         Leaf::Bad(Why::Bits)
+    }
+}
+
+/// The next octet of a string of octets up to the `greatest`.
+pub(crate) fn text_next(greatest: u8, size: u32, seen: u32, octet: u8) -> Leaf
+    requires { seen < size }
+    ensures { LeafIs result (each_next (text_octet greatest) why.Charset size seen octet) }
+{
+    if octet > greatest {
+        Leaf::Bad(Why::Charset)
+    } else if seen + 1 < size {
+        Leaf::Open
+    } else {
+        Leaf::Done
     }
 }
 

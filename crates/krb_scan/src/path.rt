@@ -2,6 +2,7 @@
 
 ghost use Rattle.std.specs.Prelude.{pos, negsuc, ◌≤ℤ◌, ◌<ℤ◌, ◌≡◌, ◌<◌, ◌≤◌, ◌+◌, ◌-◌, ◌^◌, ℕ, [], ◌∷◌, ◌++◌, true, List, Ok, OnOk, OnErr, length, min, take, vec_len, vec_capacity};
 ghost use Rattle.arrayvec.specs.ArrayVec.{array_vec_len};
+ghost use Rattle.krb_der.specs.declared.profile.Profile.{Profile};
 ghost use Rattle.krb_msg.specs.Term.{Term};
 ghost use Rattle.krb_msg.specs.Grammar.{messages};
 ghost use Rattle.krb_msg.specs.Judgement.{Head as HeadOf, Outcome, Partial, Open as OpenOutcome, has_size};
@@ -19,14 +20,15 @@ ghost use Rattle.krb_scan.specs.inner.Paths.{IsTaken, IsReached, IsUnchanged, St
 use crate::closing::{Closed, closing};
 use crate::head::{Head, first_head, next_head};
 use crate::leaf::{
-    Leaf, any_next, bits_next, extend, first_octet, integer_next, is_within, time_next,
+    Leaf, any_next, bits_next, extend, first_octet, integer_next, is_within, text_next, time_next,
 };
 use crate::mark::Mark;
 use crate::open::Open;
-use crate::places::{Contents, MESSAGE, Place, pick, place_at};
+use crate::places::{Contents, Place, message_place, pick, place_at};
 use crate::tip::Tip;
 use arrayvec::ArrayVec;
-use krb_der::{Memory, Refusal, Verdict, Why};
+use krb_der::{Memory, Profile, Refusal, Verdict, Why};
+use krb_msg::has_bits;
 
 /// The items that are not complete, and the marks of all items.
 #[derive(Drop)]
@@ -68,9 +70,17 @@ fn sized_contents(place: u16, len: u32) -> Sized
             Sized::Wrong
         },
         Contents::Time => if len == 15 { Sized::Leaf } else { Sized::Wrong },
-        Contents::Bits => if 0 < len { Sized::Leaf } else { Sized::Wrong },
-        Contents::Text | Contents::Octets => Sized::Leaf,
-        Contents::Items { first } => Sized::Items { first },
+        Contents::Bits { least } => if has_bits(least, len) {
+            Sized::Leaf
+        } else {
+            Sized::Wrong
+        },
+        Contents::Text { .. } | Contents::Octets => Sized::Leaf,
+        Contents::Items { first, empty } => if empty || 0 < len {
+            Sized::Items { first }
+        } else {
+            Sized::Wrong
+        },
     }
 }
 
@@ -389,7 +399,7 @@ impl Path {
                 self.leafed(next, partial, with)
             }
             Contents::Time => self.leafed(time_next(seen, octet), partial, 0),
-            Contents::Bits => {
+            Contents::Bits { least } => {
                 let first = first_octet(seen, unused, octet);
                 let partial = Tip::Leaf {
                     place,
@@ -398,9 +408,11 @@ impl Path {
                     value,
                     unused: first,
                 };
-                self.leafed(bits_next(size, seen, unused, octet), partial, 0)
+                self.leafed(bits_next(least, size, seen, unused, octet), partial, 0)
             }
-            Contents::Text => self.leafed(any_next(size, seen), partial, 0),
+            Contents::Text { greatest } => {
+                self.leafed(text_next(greatest, size, seen, octet), partial, 0)
+            }
             Contents::Octets => self.leafed(any_next(size, seen), partial, 0),
             Contents::Items { .. } => self.leafed(any_next(size, seen), partial, 0),
         }
@@ -410,7 +422,7 @@ impl Path {
     #[inline(always)]
     pub(crate) fn take(&mut self, octet: u8) -> Result<Verdict, Memory>
         requires { IsReached self.old }
-        ensures taken { (octets : List ℕ) → StandsFor self.old octets → IsTaken self.old self.new result (reading messages self.old.size (octets ++ octet ∷ [])) }
+        ensures taken { (profile : Profile) (octets : List ℕ) → StandsFor profile self.old octets → IsTaken self.old self.new result (reading (messages profile) self.old.size (octets ++ octet ∷ [])) }
         ensures full { OnErr result (vec_capacity self.old.marks ≤ vec_len self.old.marks) }
         ensures room { vec_capacity self.old.marks ≤ vec_capacity self.new.marks }
         ensures memory { OnErr result (IsUnchanged self.old self.new) }
@@ -456,17 +468,17 @@ impl Path {
         }
     }
 
-    /// As of a message of `size` octets of which none is taken. The room for marks stays.
-    pub(crate) fn clear(&mut self, size: u32)
+    /// As of a message of a profile of `size` octets of which none is taken. The room for marks stays.
+    pub(crate) fn clear(&mut self, profile: Profile, size: u32)
         ensures kept { (self.new.size ≡ size) × (self.new.looked ≡ 0) × (self.new.tip ≡ Tip.Between) }
-        ensures message { (self.new.inner.end ≡ size) × IsPlace self.new.inner.due × (due_at self.new.inner.due ≡ OneOf messages) }
+        ensures message { (self.new.inner.end ≡ size) × IsPlace self.new.inner.due × (due_at self.new.inner.due ≡ OneOf (messages profile)) }
         ensures none { (self.new.outer.items ≡ []) × (self.new.marks.items ≡ []) }
         ensures room { vec_capacity self.old.marks ≤ vec_capacity self.new.marks }
     {
         self.size = size;
         self.looked = 0;
         self.tip = Tip::Between;
-        self.inner = message(size);
+        self.inner = message(profile, size);
         self.outer.clear();
         self.marks.clear();
     }
@@ -485,12 +497,12 @@ impl Path {
         Ok(())
     }
 
-    /// Takes the longest front of octets that lies inside an open string and stops short of its last
-    /// octet. None of them is looked at, since a string may have any octets.
+    /// Takes the longest front of octets that lies inside an open string that may have any octets, and
+    /// stops short of its last octet. So none of them is looked at.
     pub(crate) fn run(&mut self, octets: &[u8]) -> u32
         requires { IsReached self.old }
-        ensures goes { (before : List ℕ) → StandsFor self.old before → StandsFor self.new (before ++ take result octets.now) }
-        ensures longest { (before : List ℕ) → StandsFor self.old before → result ≡ min (length octets.now) (string_left messages self.old.size before) }
+        ensures goes { (profile : Profile) (before : List ℕ) → StandsFor profile self.old before → StandsFor profile self.new (before ++ take result octets.now) }
+        ensures longest { (profile : Profile) (before : List ℕ) → StandsFor profile self.old before → result ≡ min (length octets.now) (string_left (messages profile) self.old.size before) }
         ensures marks { self.new.marks ≡ self.old.marks }
         ensures size { self.new.size ≡ self.old.size }
     {
@@ -505,15 +517,15 @@ impl Path {
     }
 }
 
-/// A message of `size` octets, of which none is taken.
-pub(crate) fn message(size: u32) -> Open
+/// A message of a profile of `size` octets, of which none is taken.
+pub(crate) fn message(profile: Profile, size: u32) -> Open
     ensures end { result.end ≡ size }
     ensures known { IsPlace result.due }
-    ensures due { due_at result.due ≡ OneOf messages }
+    ensures due { due_at result.due ≡ OneOf (messages profile) }
 {
     Open {
         end: size,
-        due: MESSAGE,
+        due: message_place(profile),
     }
 }
 
@@ -528,13 +540,14 @@ fn shorter(octets: &[u8], most: u32) -> u32
     }
 }
 
-/// Whether the item of a place is an OCTET STRING or a GeneralString.
+/// Whether the item of a place is an OCTET STRING, or a GeneralString that may have any octets.
 fn is_string(place: u16) -> bool
     requires { IsItemPlace place }
     ensures { result ≡ string_term (item_at place) }
 {
     match place_at(place).contents {
-        Contents::Text | Contents::Octets => true,
+        Contents::Text { greatest } => 0xFF <= greatest,
+        Contents::Octets => true,
         _ => false,
     }
 }

@@ -6,12 +6,15 @@
 //! looks at one row. `specs/inner/Places` says what is due at each place by the grammar.
 
 ghost use Rattle.std.specs.Prelude.{◌≡◌, None, IfSome, IfNone};
+ghost use Rattle.krb_msg.specs.Grammar.{messages};
+ghost use Rattle.krb_scan.specs.Reading.{OneOf};
 ghost use Rattle.krb_scan.specs.inner.Machine.{pick};
 ghost use Rattle.krb_scan.specs.inner.Places.{IsPlace, IsPlaceOf, IsPicked, ArePlaces, IsChoice, dues, due_at};
 
-use krb_msg::grammar::Row;
+use krb_der::Profile;
+use krb_msg::grammar::{ROWS, Row};
 
-/// The places, in the order of their rows. A field of a SEQUENCE has the name of its row in
+/// The places of a profile, in the order of their rows. A field of a SEQUENCE has the name of its row in
 /// `krb_msg`'s table.
 pub(crate) enum PlaceName {
     // the one item of a tag
@@ -29,15 +32,22 @@ pub(crate) enum PlaceName {
     OnlyTgsRepType,
     OnlyApReqType,
     OnlyApRepType,
+    OnlyKrbSafeType,
+    OnlyKrbPrivType,
+    OnlyKrbCredType,
     OnlyKrbErrorType,
     OnlyKerberosStrings,
     OnlyInt32s,
+    OnlyCredTickets,
     OnlyHostAddresses,
     OnlyTickets,
     OnlyMethodData,
     OnlyPrincipalName,
+    OnlyHostAddress,
     OnlyEncryptedData,
+    OnlyChecksum,
     OnlyKdcReqBody,
+    OnlyKrbSafeBody,
     OnlyTicket,
     OnlyTicketFields,
     OnlyAsReqFields,
@@ -46,6 +56,9 @@ pub(crate) enum PlaceName {
     OnlyTgsRepFields,
     OnlyApReqFields,
     OnlyApRepFields,
+    OnlyKrbSafeFields,
+    OnlyKrbPrivFields,
+    OnlyKrbCredFields,
     OnlyKrbErrorFields,
     // the items of a list
     EachKerberosString,
@@ -66,6 +79,9 @@ pub(crate) enum PlaceName {
     EncryptedDataEtype,
     EncryptedDataKvno,
     EncryptedDataCipher,
+    // Checksum
+    ChecksumCksumtype,
+    ChecksumChecksum,
     // Ticket
     TicketTktVno,
     TicketRealm,
@@ -120,6 +136,27 @@ pub(crate) enum PlaceName {
     ApRepPvno,
     ApRepMsgType,
     ApRepEncPart,
+    // KRB-SAFE-BODY
+    KrbSafeBodyUserData,
+    KrbSafeBodyTimestamp,
+    KrbSafeBodyUsec,
+    KrbSafeBodySeqNumber,
+    KrbSafeBodySAddress,
+    KrbSafeBodyRAddress,
+    // KRB-SAFE
+    KrbSafePvno,
+    KrbSafeMsgType,
+    KrbSafeSafeBody,
+    KrbSafeCksum,
+    // KRB-PRIV
+    KrbPrivPvno,
+    KrbPrivMsgType,
+    KrbPrivEncPart,
+    // KRB-CRED
+    KrbCredPvno,
+    KrbCredMsgType,
+    KrbCredTickets,
+    KrbCredEncPart,
     // KRB-ERROR
     KrbErrorPvno,
     KrbErrorMsgType,
@@ -141,6 +178,9 @@ pub(crate) enum PlaceName {
     TgsRep,
     ApReq,
     ApRep,
+    KrbSafe,
+    KrbPriv,
+    KrbCred,
     KrbError,
     // after the last item
     End,
@@ -152,16 +192,16 @@ pub(crate) enum PlaceName {
 pub(crate) enum Contents {
     /// An INTEGER from `low` to `high`, which has at most `widest` octets.
     Integer { low: i64, high: i64, widest: u32 },
-    /// A KerberosString.
-    Text,
+    /// A KerberosString of octets up to the `greatest`.
+    Text { greatest: u8 },
     /// An OCTET STRING.
     Octets,
     /// A KerberosTime.
     Time,
-    /// A BIT STRING.
-    Bits,
-    /// Items, the first of which is due at a place.
-    Items { first: u16 },
+    /// A BIT STRING of `least` bits or more.
+    Bits { least: u8 },
+    /// Items, the first of which is due at a place; also none if they may be `empty`.
+    Items { first: u16, empty: bool },
 }
 
 /// The item that may come at a place.
@@ -188,63 +228,63 @@ pub(crate) struct Place {
 /// No tag octet.
 pub(crate) const NO_TAG: u16 = 256;
 
-/// The place of the message.
-pub(crate) const MESSAGE: u16 = PlaceName::AsReq as u16;
+/// How many places a profile has.
+pub(crate) const PROFILE_PLACES: usize = 146;
 
 /// How many places there are.
-pub(crate) const PLACES: usize = 114;
+pub(crate) const PLACES: usize = 292;
+
+/// The place of a message of the lenient profile.
+pub(crate) const MESSAGE: u16 = PlaceName::AsReq as u16;
+
+/// The place of a message of the strict profile.
+const STRICT_MESSAGE: u16 = PlaceName::AsReq as u16 + PROFILE_PLACES as u16;
+
+// what a profile has: the lenient one, or else the strict one
+macro_rules! by_profile {
+    (Lenient, $lenient:expr, $strict:expr) => { $lenient };
+    (Strict, $lenient:expr, $strict:expr) => { $strict };
+}
+
+macro_rules! row {
+    ($profile:ident, $row:ident) => {
+        by_profile!($profile, Row::$row as u16, Row::$row as u16 + ROWS as u16)
+    };
+}
+
+macro_rules! due {
+    ($profile:ident, $place:ident) => {
+        by_profile!($profile, PlaceName::$place as u16, PlaceName::$place as u16 + PROFILE_PLACES as u16)
+    };
+}
 
 macro_rules! contents {
-    (Integer($low:expr, $high:expr, $widest:expr)) => {
+    ($profile:ident, Integer($low:expr, $high:expr, $widest:expr)) => {
         Contents::Integer { low: $low, high: $high, widest: $widest }
     };
-    (Text) => { Contents::Text };
-    (Octets) => { Contents::Octets };
-    (Time) => { Contents::Time };
-    (Bits) => { Contents::Bits };
-    (Items($first:ident)) => { Contents::Items { first: PlaceName::$first as u16 } };
-}
-
-// the one item of a tag
-macro_rules! only {
-    ($tag:expr, $row:ident, $form:ident $(($($part:tt)*))?) => {
-        Place {
-            tag: $tag,
-            node: Row::$row as u16,
-            contents: contents!($form $(($($part)*))?),
-            next: PlaceName::TagEnd as u16,
-            otherwise: PlaceName::TagEnd as u16,
-            optional: true,
-            lacks: true,
-            sole: true,
-        }
+    ($profile:ident, Unsigned) => {
+        Contents::Integer { low: by_profile!($profile, -2147483648, 0), high: 4294967295, widest: 5 }
     };
-}
-
-// an item of a list, after which another may come
-macro_rules! each {
-    ($tag:expr, $row:ident, $form:ident $(($($part:tt)*))?, $same:ident) => {
-        Place {
-            tag: $tag,
-            node: Row::$row as u16,
-            contents: contents!($form $(($($part)*))?),
-            next: PlaceName::$same as u16,
-            otherwise: PlaceName::$same as u16,
-            optional: false,
-            lacks: false,
-            sole: false,
-        }
+    ($profile:ident, Text) => { Contents::Text { greatest: by_profile!($profile, 0xFF, 0x7F) } };
+    ($profile:ident, Octets) => { Contents::Octets };
+    ($profile:ident, Time) => { Contents::Time };
+    ($profile:ident, Bits) => { Contents::Bits { least: by_profile!($profile, 0, 32) } };
+    ($profile:ident, Items($first:ident)) => {
+        Contents::Items { first: due!($profile, $first), empty: true }
+    };
+    ($profile:ident, OptionalItems($first:ident)) => {
+        Contents::Items { first: due!($profile, $first), empty: by_profile!($profile, true, false) }
     };
 }
 
 macro_rules! field {
-    ($index:expr, $row:ident, $only:ident, $next:ident, $optional:expr, $lacks:expr) => {
+    ($profile:ident, $index:expr, $row:ident, $only:ident, $next:ident, $optional:expr, $lacks:expr) => {
         Place {
             tag: 0xA0 + $index,
-            node: Row::$row as u16,
-            contents: contents!(Items($only)),
-            next: PlaceName::$next as u16,
-            otherwise: PlaceName::$next as u16,
+            node: row!($profile, $row),
+            contents: contents!($profile, Items($only)),
+            next: due!($profile, $next),
+            otherwise: due!($profile, $next),
             optional: $optional,
             lacks: $lacks,
             sole: false,
@@ -252,52 +292,66 @@ macro_rules! field {
     };
 }
 
-// a field that must be there
-macro_rules! required {
-    ($index:expr, $row:ident, $only:ident, $next:ident) => {
-        field!($index, $row, $only, $next, false, true)
-    };
-}
-
-// an optional field that a required one comes after
-macro_rules! optional {
-    ($index:expr, $row:ident, $only:ident, $next:ident) => {
-        field!($index, $row, $only, $next, true, true)
-    };
-}
-
-// an optional field that none comes after
-macro_rules! trailing {
-    ($index:expr, $row:ident, $only:ident, $next:ident) => {
-        field!($index, $row, $only, $next, true, false)
-    };
-}
-
-// a message, or else another
-macro_rules! message {
-    ($number:expr, $row:ident, $only:ident, $other:ident) => {
+macro_rules! place {
+    // the one item of a tag
+    ($profile:ident, only, $tag:expr, $row:ident, $form:ident $(($($part:tt)*))?) => {
         Place {
-            tag: 0x60 + $number,
-            node: Row::$row as u16,
-            contents: contents!(Items($only)),
-            next: PlaceName::TagEnd as u16,
-            otherwise: PlaceName::$other as u16,
+            tag: $tag,
+            node: row!($profile, $row),
+            contents: contents!($profile, $form $(($($part)*))?),
+            next: due!($profile, TagEnd),
+            otherwise: due!($profile, TagEnd),
             optional: true,
             lacks: true,
             sole: true,
         }
     };
-}
-
-// no item
-macro_rules! none {
-    ($same:ident, $sole:expr) => {
+    // an item of a list, after which another may come
+    ($profile:ident, each, $tag:expr, $row:ident, $form:ident $(($($part:tt)*))?, $same:ident) => {
+        Place {
+            tag: $tag,
+            node: row!($profile, $row),
+            contents: contents!($profile, $form $(($($part)*))?),
+            next: due!($profile, $same),
+            otherwise: due!($profile, $same),
+            optional: false,
+            lacks: false,
+            sole: false,
+        }
+    };
+    // a field that must be there
+    ($profile:ident, required, $index:expr, $row:ident, $only:ident, $next:ident) => {
+        field!($profile, $index, $row, $only, $next, false, true)
+    };
+    // an optional field that a required one comes after
+    ($profile:ident, optional, $index:expr, $row:ident, $only:ident, $next:ident) => {
+        field!($profile, $index, $row, $only, $next, true, true)
+    };
+    // an optional field that none comes after
+    ($profile:ident, trailing, $index:expr, $row:ident, $only:ident, $next:ident) => {
+        field!($profile, $index, $row, $only, $next, true, false)
+    };
+    // a message, or else another
+    ($profile:ident, message, $number:expr, $row:ident, $only:ident, $other:ident) => {
+        Place {
+            tag: 0x60 + $number,
+            node: row!($profile, $row),
+            contents: contents!($profile, Items($only)),
+            next: due!($profile, TagEnd),
+            otherwise: due!($profile, $other),
+            optional: true,
+            lacks: true,
+            sole: true,
+        }
+    };
+    // no item
+    ($profile:ident, none, $same:ident, $sole:expr) => {
         Place {
             tag: NO_TAG,
-            node: Row::OctetString as u16,
+            node: row!($profile, OctetString),
             contents: Contents::Octets,
-            next: PlaceName::$same as u16,
-            otherwise: PlaceName::$same as u16,
+            next: due!($profile, $same),
+            otherwise: due!($profile, $same),
             optional: false,
             lacks: false,
             sole: $sole,
@@ -305,155 +359,196 @@ macro_rules! none {
     };
 }
 
-/// A row for each place, in the order of [`PlaceName`]. That they are, [`place_at`] says.
-static TABLE: [Place; PLACES] = [
+// the places of the lenient profile, and then those of the strict one
+macro_rules! both {
+    ($(($($place:tt)*)),* $(,)?) => {
+        [$(place!(Lenient, $($place)*)),*, $(place!(Strict, $($place)*)),*]
+    };
+}
+
+/// A row for each place: those of the lenient profile in the order of [`PlaceName`], and then those
+/// of the strict one in the same order. That they are, [`place_at`] says.
+static TABLE: [Place; PLACES] = both![
     // the one item of a tag
-    only!(0x02, Int32, Integer(-2147483648, 2147483647, 4)),
-    only!(0x02, Wide32, Integer(-2147483648, 4294967295, 5)),
-    only!(0x02, Microseconds, Integer(0, 999999, 3)),
-    only!(0x1B, KerberosString, Text),
-    only!(0x04, OctetString, Octets),
-    only!(0x18, KerberosTime, Time),
-    only!(0x03, KerberosFlags, Bits),
-    only!(0x02, Version, Integer(5, 5, 1)),
-    only!(0x02, AsReqType, Integer(10, 10, 1)),
-    only!(0x02, AsRepType, Integer(11, 11, 1)),
-    only!(0x02, TgsReqType, Integer(12, 12, 1)),
-    only!(0x02, TgsRepType, Integer(13, 13, 1)),
-    only!(0x02, ApReqType, Integer(14, 14, 1)),
-    only!(0x02, ApRepType, Integer(15, 15, 1)),
-    only!(0x02, KrbErrorType, Integer(30, 30, 1)),
-    only!(0x30, KerberosStrings, Items(EachKerberosString)),
-    only!(0x30, Int32s, Items(EachInt32)),
-    only!(0x30, HostAddresses, Items(EachHostAddress)),
-    only!(0x30, Tickets, Items(EachTicket)),
-    only!(0x30, MethodData, Items(EachPaData)),
-    only!(0x30, PrincipalName, Items(PrincipalNameNameType)),
-    only!(0x30, EncryptedData, Items(EncryptedDataEtype)),
-    only!(0x30, KdcReqBody, Items(KdcReqBodyKdcOptions)),
-    only!(0x61, Ticket, Items(OnlyTicketFields)),
-    only!(0x30, TicketFields, Items(TicketTktVno)),
-    only!(0x30, AsReqFields, Items(AsReqPvno)),
-    only!(0x30, AsRepFields, Items(AsRepPvno)),
-    only!(0x30, TgsReqFields, Items(TgsReqPvno)),
-    only!(0x30, TgsRepFields, Items(TgsRepPvno)),
-    only!(0x30, ApReqFields, Items(ApReqPvno)),
-    only!(0x30, ApRepFields, Items(ApRepPvno)),
-    only!(0x30, KrbErrorFields, Items(KrbErrorPvno)),
+    (only, 0x02, Int32, Integer(-2147483648, 2147483647, 4)),
+    (only, 0x02, Wide32, Unsigned),
+    (only, 0x02, Microseconds, Integer(0, 999999, 3)),
+    (only, 0x1B, KerberosString, Text),
+    (only, 0x04, OctetString, Octets),
+    (only, 0x18, KerberosTime, Time),
+    (only, 0x03, KerberosFlags, Bits),
+    (only, 0x02, Version, Integer(5, 5, 1)),
+    (only, 0x02, AsReqType, Integer(10, 10, 1)),
+    (only, 0x02, AsRepType, Integer(11, 11, 1)),
+    (only, 0x02, TgsReqType, Integer(12, 12, 1)),
+    (only, 0x02, TgsRepType, Integer(13, 13, 1)),
+    (only, 0x02, ApReqType, Integer(14, 14, 1)),
+    (only, 0x02, ApRepType, Integer(15, 15, 1)),
+    (only, 0x02, KrbSafeType, Integer(20, 20, 1)),
+    (only, 0x02, KrbPrivType, Integer(21, 21, 1)),
+    (only, 0x02, KrbCredType, Integer(22, 22, 1)),
+    (only, 0x02, KrbErrorType, Integer(30, 30, 1)),
+    (only, 0x30, KerberosStrings, Items(EachKerberosString)),
+    (only, 0x30, Int32s, Items(EachInt32)),
+    (only, 0x30, CredTickets, Items(EachTicket)),
+    (only, 0x30, HostAddresses, OptionalItems(EachHostAddress)),
+    (only, 0x30, Tickets, OptionalItems(EachTicket)),
+    (only, 0x30, MethodData, OptionalItems(EachPaData)),
+    (only, 0x30, PrincipalName, Items(PrincipalNameNameType)),
+    (only, 0x30, HostAddress, Items(HostAddressAddrType)),
+    (only, 0x30, EncryptedData, Items(EncryptedDataEtype)),
+    (only, 0x30, Checksum, Items(ChecksumCksumtype)),
+    (only, 0x30, KdcReqBody, Items(KdcReqBodyKdcOptions)),
+    (only, 0x30, KrbSafeBody, Items(KrbSafeBodyUserData)),
+    (only, 0x61, Ticket, Items(OnlyTicketFields)),
+    (only, 0x30, TicketFields, Items(TicketTktVno)),
+    (only, 0x30, AsReqFields, Items(AsReqPvno)),
+    (only, 0x30, AsRepFields, Items(AsRepPvno)),
+    (only, 0x30, TgsReqFields, Items(TgsReqPvno)),
+    (only, 0x30, TgsRepFields, Items(TgsRepPvno)),
+    (only, 0x30, ApReqFields, Items(ApReqPvno)),
+    (only, 0x30, ApRepFields, Items(ApRepPvno)),
+    (only, 0x30, KrbSafeFields, Items(KrbSafePvno)),
+    (only, 0x30, KrbPrivFields, Items(KrbPrivPvno)),
+    (only, 0x30, KrbCredFields, Items(KrbCredPvno)),
+    (only, 0x30, KrbErrorFields, Items(KrbErrorPvno)),
     // the items of a list
-    each!(0x1B, KerberosString, Text, EachKerberosString),
-    each!(0x02, Int32, Integer(-2147483648, 2147483647, 4), EachInt32),
-    each!(
-        0x30,
-        HostAddress,
-        Items(HostAddressAddrType),
-        EachHostAddress
-    ),
-    each!(0x61, Ticket, Items(OnlyTicketFields), EachTicket),
-    each!(0x30, PaData, Items(PaDataPadataType), EachPaData),
+    (each, 0x1B, KerberosString, Text, EachKerberosString),
+    (each, 0x02, Int32, Integer(-2147483648, 2147483647, 4), EachInt32),
+    (each, 0x30, HostAddress, Items(HostAddressAddrType), EachHostAddress),
+    (each, 0x61, Ticket, Items(OnlyTicketFields), EachTicket),
+    (each, 0x30, PaData, Items(PaDataPadataType), EachPaData),
     // PrincipalName
-    required!(0, PrincipalNameNameType, OnlyInt32, PrincipalNameNameString),
-    required!(1, PrincipalNameNameString, OnlyKerberosStrings, End),
+    (required, 0, PrincipalNameNameType, OnlyInt32, PrincipalNameNameString),
+    (required, 1, PrincipalNameNameString, OnlyKerberosStrings, End),
     // HostAddress
-    required!(0, HostAddressAddrType, OnlyInt32, HostAddressAddress),
-    required!(1, HostAddressAddress, OnlyOctetString, End),
+    (required, 0, HostAddressAddrType, OnlyInt32, HostAddressAddress),
+    (required, 1, HostAddressAddress, OnlyOctetString, End),
     // PA-DATA
-    required!(1, PaDataPadataType, OnlyInt32, PaDataPadataValue),
-    required!(2, PaDataPadataValue, OnlyOctetString, End),
+    (required, 1, PaDataPadataType, OnlyInt32, PaDataPadataValue),
+    (required, 2, PaDataPadataValue, OnlyOctetString, End),
     // EncryptedData
-    required!(0, EncryptedDataEtype, OnlyInt32, EncryptedDataKvno),
-    optional!(1, EncryptedDataKvno, OnlyWide32, EncryptedDataCipher),
-    required!(2, EncryptedDataCipher, OnlyOctetString, End),
+    (required, 0, EncryptedDataEtype, OnlyInt32, EncryptedDataKvno),
+    (optional, 1, EncryptedDataKvno, OnlyWide32, EncryptedDataCipher),
+    (required, 2, EncryptedDataCipher, OnlyOctetString, End),
+    // Checksum
+    (required, 0, ChecksumCksumtype, OnlyInt32, ChecksumChecksum),
+    (required, 1, ChecksumChecksum, OnlyOctetString, End),
     // Ticket
-    required!(0, TicketTktVno, OnlyVersion, TicketRealm),
-    required!(1, TicketRealm, OnlyKerberosString, TicketSname),
-    required!(2, TicketSname, OnlyPrincipalName, TicketEncPart),
-    required!(3, TicketEncPart, OnlyEncryptedData, End),
+    (required, 0, TicketTktVno, OnlyVersion, TicketRealm),
+    (required, 1, TicketRealm, OnlyKerberosString, TicketSname),
+    (required, 2, TicketSname, OnlyPrincipalName, TicketEncPart),
+    (required, 3, TicketEncPart, OnlyEncryptedData, End),
     // KDC-REQ-BODY
-    required!(0, KdcReqBodyKdcOptions, OnlyKerberosFlags, KdcReqBodyCname),
-    optional!(1, KdcReqBodyCname, OnlyPrincipalName, KdcReqBodyRealm),
-    required!(2, KdcReqBodyRealm, OnlyKerberosString, KdcReqBodySname),
-    optional!(3, KdcReqBodySname, OnlyPrincipalName, KdcReqBodyFrom),
-    optional!(4, KdcReqBodyFrom, OnlyKerberosTime, KdcReqBodyTill),
-    required!(5, KdcReqBodyTill, OnlyKerberosTime, KdcReqBodyRtime),
-    optional!(6, KdcReqBodyRtime, OnlyKerberosTime, KdcReqBodyNonce),
-    required!(7, KdcReqBodyNonce, OnlyWide32, KdcReqBodyEtype),
-    required!(8, KdcReqBodyEtype, OnlyInt32s, KdcReqBodyAddresses),
-    trailing!(
-        9,
-        KdcReqBodyAddresses,
-        OnlyHostAddresses,
-        KdcReqBodyEncAuthorizationData
-    ),
-    trailing!(
-        10,
-        KdcReqBodyEncAuthorizationData,
-        OnlyEncryptedData,
-        KdcReqBodyAdditionalTickets
-    ),
-    trailing!(11, KdcReqBodyAdditionalTickets, OnlyTickets, End),
+    (required, 0, KdcReqBodyKdcOptions, OnlyKerberosFlags, KdcReqBodyCname),
+    (optional, 1, KdcReqBodyCname, OnlyPrincipalName, KdcReqBodyRealm),
+    (required, 2, KdcReqBodyRealm, OnlyKerberosString, KdcReqBodySname),
+    (optional, 3, KdcReqBodySname, OnlyPrincipalName, KdcReqBodyFrom),
+    (optional, 4, KdcReqBodyFrom, OnlyKerberosTime, KdcReqBodyTill),
+    (required, 5, KdcReqBodyTill, OnlyKerberosTime, KdcReqBodyRtime),
+    (optional, 6, KdcReqBodyRtime, OnlyKerberosTime, KdcReqBodyNonce),
+    (required, 7, KdcReqBodyNonce, OnlyWide32, KdcReqBodyEtype),
+    (required, 8, KdcReqBodyEtype, OnlyInt32s, KdcReqBodyAddresses),
+    (trailing, 9, KdcReqBodyAddresses, OnlyHostAddresses, KdcReqBodyEncAuthorizationData),
+    (trailing, 10, KdcReqBodyEncAuthorizationData, OnlyEncryptedData, KdcReqBodyAdditionalTickets),
+    (trailing, 11, KdcReqBodyAdditionalTickets, OnlyTickets, End),
     // AS-REQ
-    required!(1, AsReqPvno, OnlyVersion, AsReqMsgType),
-    required!(2, AsReqMsgType, OnlyAsReqType, AsReqPadata),
-    optional!(3, AsReqPadata, OnlyMethodData, AsReqReqBody),
-    required!(4, AsReqReqBody, OnlyKdcReqBody, End),
+    (required, 1, AsReqPvno, OnlyVersion, AsReqMsgType),
+    (required, 2, AsReqMsgType, OnlyAsReqType, AsReqPadata),
+    (optional, 3, AsReqPadata, OnlyMethodData, AsReqReqBody),
+    (required, 4, AsReqReqBody, OnlyKdcReqBody, End),
     // TGS-REQ
-    required!(1, TgsReqPvno, OnlyVersion, TgsReqMsgType),
-    required!(2, TgsReqMsgType, OnlyTgsReqType, TgsReqPadata),
-    optional!(3, TgsReqPadata, OnlyMethodData, TgsReqReqBody),
-    required!(4, TgsReqReqBody, OnlyKdcReqBody, End),
+    (required, 1, TgsReqPvno, OnlyVersion, TgsReqMsgType),
+    (required, 2, TgsReqMsgType, OnlyTgsReqType, TgsReqPadata),
+    (optional, 3, TgsReqPadata, OnlyMethodData, TgsReqReqBody),
+    (required, 4, TgsReqReqBody, OnlyKdcReqBody, End),
     // AS-REP
-    required!(0, AsRepPvno, OnlyVersion, AsRepMsgType),
-    required!(1, AsRepMsgType, OnlyAsRepType, AsRepPadata),
-    optional!(2, AsRepPadata, OnlyMethodData, AsRepCrealm),
-    required!(3, AsRepCrealm, OnlyKerberosString, AsRepCname),
-    required!(4, AsRepCname, OnlyPrincipalName, AsRepTicket),
-    required!(5, AsRepTicket, OnlyTicket, AsRepEncPart),
-    required!(6, AsRepEncPart, OnlyEncryptedData, End),
+    (required, 0, AsRepPvno, OnlyVersion, AsRepMsgType),
+    (required, 1, AsRepMsgType, OnlyAsRepType, AsRepPadata),
+    (optional, 2, AsRepPadata, OnlyMethodData, AsRepCrealm),
+    (required, 3, AsRepCrealm, OnlyKerberosString, AsRepCname),
+    (required, 4, AsRepCname, OnlyPrincipalName, AsRepTicket),
+    (required, 5, AsRepTicket, OnlyTicket, AsRepEncPart),
+    (required, 6, AsRepEncPart, OnlyEncryptedData, End),
     // TGS-REP
-    required!(0, TgsRepPvno, OnlyVersion, TgsRepMsgType),
-    required!(1, TgsRepMsgType, OnlyTgsRepType, TgsRepPadata),
-    optional!(2, TgsRepPadata, OnlyMethodData, TgsRepCrealm),
-    required!(3, TgsRepCrealm, OnlyKerberosString, TgsRepCname),
-    required!(4, TgsRepCname, OnlyPrincipalName, TgsRepTicket),
-    required!(5, TgsRepTicket, OnlyTicket, TgsRepEncPart),
-    required!(6, TgsRepEncPart, OnlyEncryptedData, End),
+    (required, 0, TgsRepPvno, OnlyVersion, TgsRepMsgType),
+    (required, 1, TgsRepMsgType, OnlyTgsRepType, TgsRepPadata),
+    (optional, 2, TgsRepPadata, OnlyMethodData, TgsRepCrealm),
+    (required, 3, TgsRepCrealm, OnlyKerberosString, TgsRepCname),
+    (required, 4, TgsRepCname, OnlyPrincipalName, TgsRepTicket),
+    (required, 5, TgsRepTicket, OnlyTicket, TgsRepEncPart),
+    (required, 6, TgsRepEncPart, OnlyEncryptedData, End),
     // AP-REQ
-    required!(0, ApReqPvno, OnlyVersion, ApReqMsgType),
-    required!(1, ApReqMsgType, OnlyApReqType, ApReqApOptions),
-    required!(2, ApReqApOptions, OnlyKerberosFlags, ApReqTicket),
-    required!(3, ApReqTicket, OnlyTicket, ApReqAuthenticator),
-    required!(4, ApReqAuthenticator, OnlyEncryptedData, End),
+    (required, 0, ApReqPvno, OnlyVersion, ApReqMsgType),
+    (required, 1, ApReqMsgType, OnlyApReqType, ApReqApOptions),
+    (required, 2, ApReqApOptions, OnlyKerberosFlags, ApReqTicket),
+    (required, 3, ApReqTicket, OnlyTicket, ApReqAuthenticator),
+    (required, 4, ApReqAuthenticator, OnlyEncryptedData, End),
     // AP-REP
-    required!(0, ApRepPvno, OnlyVersion, ApRepMsgType),
-    required!(1, ApRepMsgType, OnlyApRepType, ApRepEncPart),
-    required!(2, ApRepEncPart, OnlyEncryptedData, End),
+    (required, 0, ApRepPvno, OnlyVersion, ApRepMsgType),
+    (required, 1, ApRepMsgType, OnlyApRepType, ApRepEncPart),
+    (required, 2, ApRepEncPart, OnlyEncryptedData, End),
+    // KRB-SAFE-BODY
+    (required, 0, KrbSafeBodyUserData, OnlyOctetString, KrbSafeBodyTimestamp),
+    (optional, 1, KrbSafeBodyTimestamp, OnlyKerberosTime, KrbSafeBodyUsec),
+    (optional, 2, KrbSafeBodyUsec, OnlyMicroseconds, KrbSafeBodySeqNumber),
+    (optional, 3, KrbSafeBodySeqNumber, OnlyWide32, KrbSafeBodySAddress),
+    (required, 4, KrbSafeBodySAddress, OnlyHostAddress, KrbSafeBodyRAddress),
+    (trailing, 5, KrbSafeBodyRAddress, OnlyHostAddress, End),
+    // KRB-SAFE
+    (required, 0, KrbSafePvno, OnlyVersion, KrbSafeMsgType),
+    (required, 1, KrbSafeMsgType, OnlyKrbSafeType, KrbSafeSafeBody),
+    (required, 2, KrbSafeSafeBody, OnlyKrbSafeBody, KrbSafeCksum),
+    (required, 3, KrbSafeCksum, OnlyChecksum, End),
+    // KRB-PRIV
+    (required, 0, KrbPrivPvno, OnlyVersion, KrbPrivMsgType),
+    (required, 1, KrbPrivMsgType, OnlyKrbPrivType, KrbPrivEncPart),
+    (required, 3, KrbPrivEncPart, OnlyEncryptedData, End),
+    // KRB-CRED
+    (required, 0, KrbCredPvno, OnlyVersion, KrbCredMsgType),
+    (required, 1, KrbCredMsgType, OnlyKrbCredType, KrbCredTickets),
+    (required, 2, KrbCredTickets, OnlyCredTickets, KrbCredEncPart),
+    (required, 3, KrbCredEncPart, OnlyEncryptedData, End),
     // KRB-ERROR
-    required!(0, KrbErrorPvno, OnlyVersion, KrbErrorMsgType),
-    required!(1, KrbErrorMsgType, OnlyKrbErrorType, KrbErrorCtime),
-    optional!(2, KrbErrorCtime, OnlyKerberosTime, KrbErrorCusec),
-    optional!(3, KrbErrorCusec, OnlyMicroseconds, KrbErrorStime),
-    required!(4, KrbErrorStime, OnlyKerberosTime, KrbErrorSusec),
-    required!(5, KrbErrorSusec, OnlyMicroseconds, KrbErrorErrorCode),
-    required!(6, KrbErrorErrorCode, OnlyInt32, KrbErrorCrealm),
-    optional!(7, KrbErrorCrealm, OnlyKerberosString, KrbErrorCname),
-    optional!(8, KrbErrorCname, OnlyPrincipalName, KrbErrorRealm),
-    required!(9, KrbErrorRealm, OnlyKerberosString, KrbErrorSname),
-    required!(10, KrbErrorSname, OnlyPrincipalName, KrbErrorEText),
-    trailing!(11, KrbErrorEText, OnlyKerberosString, KrbErrorEData),
-    trailing!(12, KrbErrorEData, OnlyOctetString, End),
+    (required, 0, KrbErrorPvno, OnlyVersion, KrbErrorMsgType),
+    (required, 1, KrbErrorMsgType, OnlyKrbErrorType, KrbErrorCtime),
+    (optional, 2, KrbErrorCtime, OnlyKerberosTime, KrbErrorCusec),
+    (optional, 3, KrbErrorCusec, OnlyMicroseconds, KrbErrorStime),
+    (required, 4, KrbErrorStime, OnlyKerberosTime, KrbErrorSusec),
+    (required, 5, KrbErrorSusec, OnlyMicroseconds, KrbErrorErrorCode),
+    (required, 6, KrbErrorErrorCode, OnlyInt32, KrbErrorCrealm),
+    (optional, 7, KrbErrorCrealm, OnlyKerberosString, KrbErrorCname),
+    (optional, 8, KrbErrorCname, OnlyPrincipalName, KrbErrorRealm),
+    (required, 9, KrbErrorRealm, OnlyKerberosString, KrbErrorSname),
+    (required, 10, KrbErrorSname, OnlyPrincipalName, KrbErrorEText),
+    (trailing, 11, KrbErrorEText, OnlyKerberosString, KrbErrorEData),
+    (trailing, 12, KrbErrorEData, OnlyOctetString, End),
     // the messages
-    message!(10, AsReq, OnlyAsReqFields, AsRep),
-    message!(11, AsRep, OnlyAsRepFields, TgsReq),
-    message!(12, TgsReq, OnlyTgsReqFields, TgsRep),
-    message!(13, TgsRep, OnlyTgsRepFields, ApReq),
-    message!(14, ApReq, OnlyApReqFields, ApRep),
-    message!(15, ApRep, OnlyApRepFields, KrbError),
-    message!(30, KrbError, OnlyKrbErrorFields, TagEnd),
+    (message, 10, AsReq, OnlyAsReqFields, AsRep),
+    (message, 11, AsRep, OnlyAsRepFields, TgsReq),
+    (message, 12, TgsReq, OnlyTgsReqFields, TgsRep),
+    (message, 13, TgsRep, OnlyTgsRepFields, ApReq),
+    (message, 14, ApReq, OnlyApReqFields, ApRep),
+    (message, 15, ApRep, OnlyApRepFields, KrbSafe),
+    (message, 20, KrbSafe, OnlyKrbSafeFields, KrbPriv),
+    (message, 21, KrbPriv, OnlyKrbPrivFields, KrbCred),
+    (message, 22, KrbCred, OnlyKrbCredFields, KrbError),
+    (message, 30, KrbError, OnlyKrbErrorFields, TagEnd),
     // after the last item
-    none!(End, false),
-    none!(TagEnd, true),
+    (none, End, false),
+    (none, TagEnd, true),
 ];
+
+/// The place of a message of a profile.
+pub(crate) fn message_place(profile: Profile) -> u16
+    ensures known { IsPlace result }
+    ensures due { due_at result ≡ OneOf (messages profile) }
+{
+    match profile {
+        Profile::Lenient => MESSAGE,
+        Profile::Strict => STRICT_MESSAGE,
+    }
+}
 
 /// The row of a place, in rows that are those of what is due.
 #[inline(always)]

@@ -1,6 +1,7 @@
 //! The scanner.
 
 ghost use Rattle.std.specs.Prelude.{ℕ, List};
+ghost use Rattle.krb_der.specs.declared.profile.Profile.{Profile};
 ghost use Rattle.krb_scan.specs.At.{IsAt};
 
 use crate::at_once::Accepted;
@@ -10,39 +11,52 @@ use crate::path::{Path, message};
 use crate::taken::Taken;
 use crate::tip::Tip;
 use arrayvec::ArrayVec;
-use krb_der::{Memory, Verdict};
+use krb_der::{Memory, Profile, Verdict};
 use std::alloc::Global;
 
 /// It takes the octets of one message, one after another, and looks at each once. It holds none of
 /// them: only which containers are open, what is partly read, and a mark for each item.
 #[derive(Drop)]
 pub struct Scanner {
+    profile: Profile,
     path: Path,
     verdict: Verdict,
     ledger: Ledger,
-    ghost reached: { ∥ ((octets : List ℕ) × IsAt path verdict path.size octets) ∥₁ },
+    ghost reached: { ∥ ((octets : List ℕ) × (profile : Profile) × IsAt profile path verdict path.size octets) ∥₁ },
 }
 
 impl Scanner {
-    ghost use Rattle.std.specs.Prelude.{◌≡◌, ◌<◌, ◌≤◌, ◌*◌, ◌+◌, ◌^◌, [], ◌∷◌, ◌++◌, length, min, take, Ok, None, OnOk, OnErr, IfOk, IfSome};
+    ghost use Rattle.std.specs.Prelude.{◌≡◌, ◌<◌, ◌≤◌, ◌*◌, ◌+◌, ◌/◌, ◌^◌, [], ◌∷◌, ◌++◌, length, min, take, Ok, None, IsOk, OnOk, OnErr, IfOk, IfSome};
     ghost use Rattle.krb_msg.specs.Grammar.{messages};
     ghost use Rattle.krb_msg.specs.Judgement.{judgement};
     ghost use Rattle.krb_scan.specs.At.{Marks, open_count};
     ghost use Rattle.krb_scan.specs.Runs.{string_left};
-    ghost use Rattle.krb_scan.specs.Scanner.{At, verdict_of, ledger_of, looked_of, marks_of, room_of};
+    ghost use Rattle.krb_scan.specs.Scanner.{At, profile_of, verdict_of, ledger_of, looked_of, marks_of, room_of};
 
-    /// A scanner of a message of `n` octets, of which none is taken.
+    /// A scanner of a message of `n` octets, of which none is taken, by the lenient profile.
     pub fn new(alloc: Global, n: u32) -> Scanner
         requires some { 0 < n }
         requires short { n < 2 ^ 31 }
-        ensures { At result n [] }
+        ensures at { At Profile.Lenient result n [] }
+        ensures profile { profile_of result ≡ Profile.Lenient }
+    {
+        Scanner::with_profile(alloc, Profile::Lenient, n)
+    }
+
+    /// A scanner of a message of `n` octets, of which none is taken, by a profile. It takes no memory.
+    pub fn with_profile(alloc: Global, profile: Profile, n: u32) -> Scanner
+        requires some { 0 < n }
+        requires short { n < 2 ^ 31 }
+        ensures at { At profile result n [] }
+        ensures profile { profile_of result ≡ profile }
     {
         Scanner {
+            profile,
             path: Path {
                 size: n,
                 looked: 0,
                 tip: Tip::Between,
-                inner: message(n),
+                inner: message(profile, n),
                 outer: ArrayVec::new(),
                 marks: Vec::new(alloc),
             },
@@ -59,16 +73,19 @@ impl Scanner {
     }
 
     /// Takes an octet. Where memory is refused, it stays as it was and the octet may be taken again.
+    /// None is taken where there is room for half as many marks as the message has octets.
     #[inline(always)]
     pub fn step(&mut self, octet: u8) -> Result<Verdict, Memory>
         requires { verdict_of self.old ≡ Verdict.Open }
-        ensures at { (n : ℕ) (octets : List ℕ) → At self.old n octets → OnOk result (At self.new n (octets ++ octet ∷ [])) }
+        ensures at { (profile : Profile) (n : ℕ) (octets : List ℕ) → At profile self.old n octets → OnOk result (At profile self.new n (octets ++ octet ∷ [])) }
         ensures answer { IfOk result (λ decided. decided ≡ verdict_of self.new) }
         ensures ledger { OnOk result (ledger_of self.new ≡ ledger_of self.old + 1) }
-        ensures memory { (n : ℕ) (octets : List ℕ) → At self.old n octets → OnErr result (At self.new n octets) }
+        ensures memory { (profile : Profile) (n : ℕ) (octets : List ℕ) → At profile self.old n octets → OnErr result (At profile self.new n octets) }
         ensures full { OnErr result (room_of self.old ≤ length (marks_of self.old)) }
-        ensures ends { (n : ℕ) (octets : List ℕ) → At self.old n octets → OnErr result (length (Marks n (octets ++ octet ∷ [])) ≡ length (Marks n octets) + 1) }
+        ensures ends { (profile : Profile) (n : ℕ) (octets : List ℕ) → At profile self.old n octets → OnErr result (length (Marks profile n (octets ++ octet ∷ [])) ≡ length (Marks profile n octets) + 1) }
+        ensures enough { (profile : Profile) (n : ℕ) (octets : List ℕ) → At profile self.old n octets → n / 2 ≤ room_of self.old → IsOk result }
         ensures room { room_of self.old ≤ room_of self.new }
+        ensures profile { profile_of self.new ≡ profile_of self.old }
         ensures same { OnErr result ((ledger_of self.new ≡ ledger_of self.old) × (verdict_of self.new ≡ verdict_of self.old) × (marks_of self.new ≡ marks_of self.old)) }
     {
         let decided = self.path.take(octet)?;
@@ -82,16 +99,18 @@ impl Scanner {
     /// is left. Where memory is refused, it stays as it was before the octet that was not taken.
     pub fn take(&mut self, octets: &[u8]) -> Taken
         requires { verdict_of self.old ≡ Verdict.Open }
-        ensures at { (n : ℕ) (before : List ℕ) → At self.old n before → At self.new n (before ++ take result.used octets.now) }
+        ensures at { (profile : Profile) (n : ℕ) (before : List ℕ) → At profile self.old n before → At profile self.new n (before ++ take result.used octets.now) }
         ensures within { result.used ≤ length octets.now }
         ensures answer { IfOk result.verdict (λ decided. decided ≡ verdict_of self.new) }
         ensures all { result.verdict ≡ Ok Verdict.Open → result.used ≡ length octets.now }
-        ensures sooner { (n : ℕ) (before : List ℕ) (k : ℕ) → At self.old n before → k < result.used → judgement n (before ++ take k octets.now) ≡ Verdict.Open }
+        ensures sooner { (profile : Profile) (n : ℕ) (before : List ℕ) (k : ℕ) → At profile self.old n before → k < result.used → judgement profile n (before ++ take k octets.now) ≡ Verdict.Open }
         ensures ledger { ledger_of self.new ≡ ledger_of self.old + result.used }
         ensures memory { OnErr result.verdict (verdict_of self.new ≡ Verdict.Open) }
         ensures full { OnErr result.verdict (room_of self.old ≤ length (marks_of self.new)) }
-        ensures ends { (n : ℕ) (before : List ℕ) → At self.old n before → OnErr result.verdict (length (Marks n (before ++ take (result.used + 1) octets.now)) ≡ length (Marks n (before ++ take result.used octets.now)) + 1) }
+        ensures ends { (profile : Profile) (n : ℕ) (before : List ℕ) → At profile self.old n before → OnErr result.verdict (length (Marks profile n (before ++ take (result.used + 1) octets.now)) ≡ length (Marks profile n (before ++ take result.used octets.now)) + 1) }
+        ensures enough { (profile : Profile) (n : ℕ) (before : List ℕ) → At profile self.old n before → n / 2 ≤ room_of self.old → IsOk result.verdict }
         ensures room { room_of self.old ≤ room_of self.new }
+        ensures profile { profile_of self.new ≡ profile_of self.old }
     {
         let mut used = 0;
         'octets: while used < octets.len() {
@@ -115,16 +134,17 @@ impl Scanner {
     fn take_some(&mut self, octets: &[u8]) -> Taken
         requires open { verdict_of self.old ≡ Verdict.Open }
         requires some { 0 < length octets.now }
-        ensures at { (n : ℕ) (before : List ℕ) → At self.old n before → At self.new n (before ++ take result.used octets.now) }
+        ensures at { (profile : Profile) (n : ℕ) (before : List ℕ) → At profile self.old n before → At profile self.new n (before ++ take result.used octets.now) }
         ensures within { result.used ≤ length octets.now }
         ensures answer { IfOk result.verdict (λ decided. decided ≡ verdict_of self.new) }
         ensures some { result.verdict ≡ Ok Verdict.Open → 0 < result.used }
-        ensures sooner { (n : ℕ) (before : List ℕ) (k : ℕ) → At self.old n before → k < result.used → judgement n (before ++ take k octets.now) ≡ Verdict.Open }
+        ensures sooner { (profile : Profile) (n : ℕ) (before : List ℕ) (k : ℕ) → At profile self.old n before → k < result.used → judgement profile n (before ++ take k octets.now) ≡ Verdict.Open }
         ensures ledger { ledger_of self.new ≡ ledger_of self.old + result.used }
         ensures memory { OnErr result.verdict (verdict_of self.new ≡ Verdict.Open) }
         ensures full { OnErr result.verdict (room_of self.old ≤ length (marks_of self.new)) }
-        ensures ends { (n : ℕ) (before : List ℕ) → At self.old n before → OnErr result.verdict (length (Marks n (before ++ take (result.used + 1) octets.now)) ≡ length (Marks n (before ++ take result.used octets.now)) + 1) }
+        ensures ends { (profile : Profile) (n : ℕ) (before : List ℕ) → At profile self.old n before → OnErr result.verdict (length (Marks profile n (before ++ take (result.used + 1) octets.now)) ≡ length (Marks profile n (before ++ take result.used octets.now)) + 1) }
         ensures room { room_of self.old ≤ room_of self.new }
+        ensures profile { profile_of self.new ≡ profile_of self.old }
     {
         if let Some(items) = self.take_items(octets) {
             return Taken {
@@ -156,14 +176,15 @@ impl Scanner {
     #[inline(always)]
     fn take_items(&mut self, octets: &[u8]) -> Option<Accepted>
         requires { verdict_of self.old ≡ Verdict.Open }
-        ensures at { IfSome result (λ it. (n : ℕ) (before : List ℕ) → At self.old n before → At self.new n (before ++ take it.count octets.now)) }
+        ensures at { IfSome result (λ it. (profile : Profile) (n : ℕ) (before : List ℕ) → At profile self.old n before → At profile self.new n (before ++ take it.count octets.now)) }
         ensures within { IfSome result (λ it. it.count ≤ length octets.now) }
         ensures some { IfSome result (λ it. 0 < it.count) }
         ensures answer { IfSome result (λ it. it.verdict ≡ verdict_of self.new) }
-        ensures sooner { IfSome result (λ it. (n : ℕ) (before : List ℕ) (k : ℕ) → At self.old n before → k < it.count → judgement n (before ++ take k octets.now) ≡ Verdict.Open) }
+        ensures sooner { IfSome result (λ it. (profile : Profile) (n : ℕ) (before : List ℕ) (k : ℕ) → At profile self.old n before → k < it.count → judgement profile n (before ++ take k octets.now) ≡ Verdict.Open) }
         ensures ledger { IfSome result (λ it. ledger_of self.new ≡ ledger_of self.old + it.count) }
         ensures none { result ≡ None → self.new ≡ self.old }
         ensures room { room_of self.new ≡ room_of self.old }
+        ensures profile { profile_of self.new ≡ profile_of self.old }
     {
         let items = self.path.take_items(octets)?;
         self.verdict = items.verdict;
@@ -173,14 +194,14 @@ impl Scanner {
 
     /// The number of octets taken.
     pub fn looked(&self) -> u32
-        ensures { (n : ℕ) (octets : List ℕ) → At self.now n octets → result ≡ length octets }
+        ensures { (profile : Profile) (n : ℕ) (octets : List ℕ) → At profile self.now n octets → result ≡ length octets }
     {
         self.path.looked
     }
 
     /// The number of lengths that are whole and whose contents are not complete.
     pub fn open_lengths(&self) -> usize
-        ensures count { (n : ℕ) (octets : List ℕ) → At self.now n octets → result ≡ open_count n octets }
+        ensures count { (profile : Profile) (n : ℕ) (octets : List ℕ) → At profile self.now n octets → result ≡ open_count profile n octets }
         ensures few { result ≤ 13 }
     {
         match self.path.tip {
@@ -197,15 +218,23 @@ impl Scanner {
         self.path.marks.as_slice()
     }
 
+    /// For how many marks there is room, those that are there with them.
+    pub fn room(&self) -> usize
+        ensures { result ≡ room_of self.now }
+    {
+        self.path.marks.capacity()
+    }
+
     /// As a new scanner of a message of `n` octets; but the room for marks stays, and the ledger.
     pub fn clear(&mut self, n: u32)
         requires some { 0 < n }
         requires short { n < 2 ^ 31 }
-        ensures at { At self.new n [] }
+        ensures at { At (profile_of self.old) self.new n [] }
+        ensures profile { profile_of self.new ≡ profile_of self.old }
         ensures ledger { ledger_of self.new ≡ ledger_of self.old }
         ensures room { room_of self.old ≤ room_of self.new }
     {
-        self.path.clear(n);
+        self.path.clear(self.profile, n);
         self.verdict = Verdict::Open;
     }
 
@@ -213,11 +242,12 @@ impl Scanner {
     pub fn restart(&mut self, alloc: Global, n: u32)
         requires some { 0 < n }
         requires short { n < 2 ^ 31 }
-        ensures at { At self.new n [] }
+        ensures at { At (profile_of self.old) self.new n [] }
+        ensures profile { profile_of self.new ≡ profile_of self.old }
         ensures ledger { ledger_of self.new ≡ ledger_of self.old }
     {
         let path = &mut self.path;
-        path.clear(n);
+        path.clear(self.profile, n);
         path.marks = Vec::new(alloc);
         self.verdict = Verdict::Open;
     }
@@ -225,22 +255,24 @@ impl Scanner {
     /// Takes room for a number of marks in all.
     pub fn reserve(&mut self, marks: usize) -> Result<(), Memory>
         ensures ok { OnOk result (marks ≤ room_of self.new) }
-        ensures at { (n : ℕ) (octets : List ℕ) → At self.old n octets → At self.new n octets }
+        ensures at { (profile : Profile) (n : ℕ) (octets : List ℕ) → At profile self.old n octets → At profile self.new n octets }
         ensures same { (verdict_of self.new ≡ verdict_of self.old) × (ledger_of self.new ≡ ledger_of self.old) × (marks_of self.new ≡ marks_of self.old) }
         ensures room { room_of self.old ≤ room_of self.new }
+        ensures profile { profile_of self.new ≡ profile_of self.old }
     {
         self.path.reserve(marks)
     }
 
-    /// Takes the longest front of octets that lies inside an open OCTET STRING or GeneralString and
-    /// stops short of its last octet, and says how many these are. The verdict stays.
+    /// Takes the longest front of octets that lies inside an open OCTET STRING, or a GeneralString that
+    /// may have any octets, and stops short of its last octet, and says how many these are. The verdict stays.
     pub fn run(&mut self, octets: &[u8]) -> usize
-        ensures at { (n : ℕ) (before : List ℕ) → At self.old n before → At self.new n (before ++ take result octets.now) }
-        ensures longest { (n : ℕ) (before : List ℕ) → At self.old n before → result ≡ min (length octets.now) (string_left messages n before) }
+        ensures at { (profile : Profile) (n : ℕ) (before : List ℕ) → At profile self.old n before → At profile self.new n (before ++ take result octets.now) }
+        ensures longest { (profile : Profile) (n : ℕ) (before : List ℕ) → At profile self.old n before → result ≡ min (length octets.now) (string_left (messages profile) n before) }
         ensures verdict { verdict_of self.new ≡ verdict_of self.old }
         ensures ledger { ledger_of self.new ≡ ledger_of self.old + result }
         ensures marks { marks_of self.new ≡ marks_of self.old }
         ensures room { room_of self.new ≡ room_of self.old }
+        ensures profile { profile_of self.new ≡ profile_of self.old }
     {
         let Verdict::Open = self.verdict else {
             return 0;

@@ -1,10 +1,11 @@
 //! Items that are there whole: an item's tag and length octets, and the contents of an item without
 //! items, which are accepted at once or left to be judged octet by octet.
 
-ghost use Rattle.std.specs.Prelude.{◌≡◌, ◌≤◌, ◌<◌, ◌+◌, ◌∷◌, List, ℕ, IfSome, length, true};
+ghost use Rattle.std.specs.Prelude.{◌≡◌, ◌≤◌, ◌<◌, ◌+◌, ◌∷◌, List, ℕ, IfSome, length, true, nat_le};
 ghost use Rattle.krb_der.specs.declared.why.Why.TheVariants as why;
-ghost use Rattle.krb_msg.specs.Term.{Term};
-ghost use Rattle.krb_msg.specs.Judgement.{Done, time_octet, each_contents, bits_contents};
+ghost use Rattle.std.specs.List.{list_all};
+ghost use Rattle.krb_msg.specs.Term.{Term, Bits};
+ghost use Rattle.krb_msg.specs.Judgement.{Done, has_size, time_octet, each_contents, bits_contents};
 ghost use Rattle.krb_scan.specs.inner.Places.{AreContents};
 ghost use Rattle.krb_scan.specs.inner.Wholes.{IsNarrow, IsHead, IsLeafOf, IsIntegerIn};
 
@@ -85,9 +86,11 @@ pub(crate) fn whole_leaf(contents: &Contents, octets: &[u8]) -> Option<i64>
 {
     match contents {
         Contents::Integer { low, high, widest } => integer(*low, *high, *widest, octets),
-        Contents::Text | Contents::Octets => Some(0),
+        Contents::Octets => Some(0),
+        Contents::Text { greatest } if *greatest == 0xFF => Some(0),
+        Contents::Text { greatest } if is_text(*greatest, octets) => Some(0),
         Contents::Time if is_time(octets) => Some(0),
-        Contents::Bits if are_bits(octets) => Some(0),
+        Contents::Bits { least } if are_bits(*least, octets) => Some(0),
         _ => None,
     }
 }
@@ -134,16 +137,25 @@ fn is_time(octets: &[u8]) -> bool
     true
 }
 
-/// Whether contents are a BIT STRING: the count of the unused bits, which are clear, and the octets
-/// (X.690, 8.6 and 11.2).
+/// Whether contents have octets up to the `greatest` only.
 #[inline(always)]
-fn are_bits(octets: &[u8]) -> bool
-    ensures { (result ≡ true) → (0 < length octets.now) × (bits_contents 0 (length octets.now) octets.now ≡ Done (length octets.now)) }
+fn is_text(greatest: u8, octets: &[u8]) -> bool
+    ensures { result ≡ list_all (λ octet. nat_le octet greatest) octets.now }
+{
+    octets.iter().all(|octet| *octet <= greatest)
+}
+
+/// Whether contents are a BIT STRING of `least` bits or more: the count of the unused bits, which
+/// are clear, and the octets (X.690, 8.6 and 11.2).
+#[inline(always)]
+fn are_bits(least: u8, octets: &[u8]) -> bool
+    ensures { (result ≡ true) → (has_size (Bits least) (length octets.now) ≡ true) × (bits_contents least (length octets.now) octets.now ≡ Done (length octets.now)) }
 {
     let [unused, rest @ ..] = octets else {
         return false;
     };
-    if *unused > 7 || rest.is_empty() && *unused > 0 {
+    let fewest = usize::from(least) + usize::from(*unused);
+    if *unused > 7 || rest.len().saturating_mul(8) < fewest {
         return false;
     }
     last_or_zero(rest) % (1 << *unused) == 0

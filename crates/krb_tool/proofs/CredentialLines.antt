@@ -1,12 +1,13 @@
 -- The lines of a cache, one credential after another.
 use Rattle.std.proofs.Common.{◌≡◌, ℕ, suc, ◌++◌, List, length, Option, Some, None, Result, Ok, Err, IfOk, refl, sym, ◌∙◌, ap, ap₂, subst}
-use Rattle.krb_der.specs.Fields.{Source, Fault}
-use Rattle.krb_der.specs.FieldReaders.{Held}
-use Rattle.krb_der.specs.declared.files.fault.FileFault.{FileFault}
-use Rattle.krb_der.specs.declared.files.fault.FileFault.TheVariants as faults
+use Rattle.krb_file.specs.Fields.{Source, Fault}
+use Rattle.krb_file.specs.FieldReaders.{Held}
+use Rattle.krb_file.specs.declared.fault.FileFault.{FileFault}
+use Rattle.krb_file.specs.declared.fault.FileFault.TheVariants as faults
 use Rattle.krb_ccache.specs.declared.value.Credential.{Credential}
 use Rattle.krb_ccache.specs.declared.credentials.State.{State}
-use Rattle.krb_ccache.specs.Reading.{Start, Items}
+use Rattle.krb_ccache.specs.declared.reading.Start.{Start}
+use Rattle.krb_ccache.specs.Reading.{Items}
 use Rattle.krb_ccache.specs.Streaming.{Reads, FailsStart, GivesNext, credentials}
 use Rattle.krb_list.specs.Text.{line_feed}
 use Rattle.krb_list.specs.Ccaches.{cache_text, credential_line, cache_end_text}

@@ -1,8 +1,8 @@
 -- The lines of a keytab, one record after another.
 use Rattle.std.proofs.Common.{ℕ, suc, ◌++◌, List, length, Option, Some, None, Result, Ok, Err, IfOk, refl, ap, ap₂}
-use Rattle.krb_der.specs.FieldReaders.{Held}
-use Rattle.krb_der.specs.declared.files.fault.FileFault.{FileFault}
-use Rattle.krb_der.specs.declared.files.fault.FileFault.TheVariants as faults
+use Rattle.krb_file.specs.FieldReaders.{Held}
+use Rattle.krb_file.specs.declared.fault.FileFault.{FileFault}
+use Rattle.krb_file.specs.declared.fault.FileFault.TheVariants as faults
 use Rattle.krb_keytab.specs.declared.value.Record.{Record}
 use Rattle.krb_keytab.specs.declared.value.Stop.{Stop}
 use Rattle.krb_keytab.specs.declared.reading.Next.{Next}

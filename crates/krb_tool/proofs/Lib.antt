@@ -1,9 +1,10 @@
 pub mod Listings
 pub mod Transfers
 pub mod Runs
+pub mod Failing
 pub mod Files
 pub mod Messages
-pub mod Matched
 pub mod Records
 pub mod KeytabLines
 pub mod CredentialLines
+pub mod Upgrades

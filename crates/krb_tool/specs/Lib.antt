@@ -1,5 +1,5 @@
 pub mod Listing
 pub mod Files
 pub mod Messages
-pub mod Words
 pub mod inner
+pub mod Laws

@@ -2,6 +2,7 @@
 use Rattle.std.specs.Prelude.{ℕ, ◌≡◌, ◌≤◌, List, ◌++◌, length, map, Option, Result, Ok, Err}
 use Rattle.std.specs.List.{flat_map}
 use Rattle.std.specs.Io.KnownBytes.{Consumes, Appends, IsAtEnd}
+use Rattle.krb_der.specs.declared.profile.Profile.{Profile}
 use Rattle.krb_msg.specs.declared.message.Message.{Message}
 use Rattle.krb_msg.specs.Grammar.{messages}
 use Rattle.krb_msg.specs.Views.{message_der}
@@ -11,16 +12,18 @@ use Rattle.krb_list.specs.Streams.{end_line}
 use Rattle.krb_tool.specs.declared.run.RunEnd.{RunEnd}
 use Rattle.krb_tool.specs.declared.run.RunEnd.TheVariants as run
 use Rattle.krb_tool.specs.declared.run.RunFault.{RunFault}
+use Rattle.krb_tool.specs.declared.run.RunFault.TheVariants as fault
+use Rattle.krb_tool.specs.Files.{AddsFront}
 
--- the end of a stream, with frames of at most n octets
-abbrev pub end_of : ℕ → List ℕ → End
-end_of limit stream = (frames messages limit stream).end
+-- the end of a stream by a profile, with frames of at most n octets
+abbrev pub end_of : Profile → ℕ → List ℕ → End
+end_of profile limit stream = (frames (messages profile) limit stream).end
 
 -- The text is the listing of the stream: the line of each message whose DER fills a frame, in order, and then the line of the end.
-pub record IsListing (limit : ℕ) (stream text : List ℕ) : Type 0 where
+pub record IsListing (profile : Profile) (limit : ℕ) (stream text : List ℕ) : Type 0 where
   pub found : List Message
-  pub in_frames : map message_der found ≡ (frames messages limit stream).contents
-  pub lines : text ≡ flat_map message_line found ++ end_line (length found) (end_of limit stream)
+  pub in_frames : map message_der found ≡ (frames (messages profile) limit stream).contents
+  pub lines : text ≡ flat_map message_line found ++ end_line (length found) (end_of profile limit stream)
 
 -- a run is clean where the stream ends between frames
 abbrev pub run_end : End → RunEnd
@@ -40,23 +43,44 @@ IsNotRefused (Within present) = Unit {0}
 IsNotRefused (Refused place reason) = ⊥
 
 -- no more was read than octets that are not refused, and then one piece
-pub record StopsInPiece (limit : ℕ) (read : List ℕ) : Type 0 where
+pub record StopsInPiece (profile : Profile) (limit : ℕ) (read : List ℕ) : Type 0 where
   pub front : List ℕ
   pub piece : List ℕ
   pub parts : read ≡ front ++ piece
-  pub goes_on : IsNotRefused (end_of limit front)
+  pub goes_on : IsNotRefused (end_of profile limit front)
   pub short : length piece ≤ 65536
 
 -- A run took octets from what its reader had and left the rest, and added their listing to what its writer held.
-pub record Lists (limit : ℕ) (had left held holds : Option (List ℕ)) (ended : RunEnd) : Type 0 where
+pub record Lists (profile : Profile) (limit : ℕ) (had left held holds : Option (List ℕ)) (ended : RunEnd) : Type 0 where
   pub read : List ℕ
   pub written : List ℕ
   pub taken : Consumes had left read
   pub added : Appends held holds written
-  pub listed : IsListing limit read written
-  pub ended_so : ended ≡ run_end (end_of limit read)
-  pub all_read : AllIsRead (end_of limit read) left
-  pub stops : StopsInPiece limit read
+  pub listed : IsListing profile limit read written
+  pub ended_so : ended ≡ run_end (end_of profile limit read)
+  pub all_read : AllIsRead (end_of profile limit read) left
+  pub stops : StopsInPiece profile limit read
+
+-- The text is the lines of messages whose DER fill the first frames of the stream, in order.
+pub record AreLines (profile : Profile) (limit : ℕ) (stream text : List ℕ) : Type 0 where
+  pub found : List Message
+  pub others : List (List ℕ)
+  pub in_frames : (frames (messages profile) limit stream).contents ≡ map message_der found ++ others
+  pub lines : text ≡ flat_map message_line found
+
+-- A run took octets from what its reader had, and added a front of a text of theirs to what its writer held.
+pub record WritesFront (IsText : List ℕ → List ℕ → Type 0) (had left held holds : Option (List ℕ)) : Type 0 where
+  pub read : List ℕ
+  pub text : List ℕ
+  pub taken : Consumes had left read
+  pub is_text : IsText read text
+  pub added : AddsFront held holds text
+
+-- Where a run fails by a write, a front of the listing of what was read is written; and where a read fails or memory runs out, a front of the lines of messages, and no last line.
+abbrev pub Fails : Profile → ℕ → Option (List ℕ) → Option (List ℕ) → Option (List ℕ) → Option (List ℕ) → RunFault → Type 0
+Fails profile limit had left held holds fault.Write = WritesFront (IsListing profile limit) had left held holds
+Fails profile limit had left held holds fault.Read = WritesFront (AreLines profile limit) had left held holds
+Fails profile limit had left held holds fault.Memory = WritesFront (AreLines profile limit) had left held holds
 
 -- the status of a process whose run gave this
 abbrev pub status_of : Result RunEnd RunFault → ℕ

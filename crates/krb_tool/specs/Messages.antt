@@ -3,6 +3,7 @@ use Rattle.std.specs.Prelude.{ℕ, ◌≡◌, Bool, not, ◌||◌, ◌==◌, nat
 use Rattle.std.specs.List.{filter}
 use Rattle.hex.specs.Hex.{decode_of}
 use Rattle.hex.specs.declared.error.FromHexError.{FromHexError}
+use Rattle.krb_der.specs.declared.profile.Profile.{Profile}
 use Rattle.krb_der.specs.declared.verdict.Refusal.{Refusal}
 use Rattle.krb_msg.specs.Reading.{message_read}
 use Rattle.krb_judge.specs.Parses.{refusal_of}
@@ -23,8 +24,8 @@ parsed_listing None octets = clean_with (message_line (message_read octets))
 parsed_listing (Some refusal) octets = refused_with (message_refused_line refusal)
 
 -- of octets
-unfoldable pub octets_listing : List ℕ → FileListing
-octets_listing octets = parsed_listing (refusal_of octets) octets
+unfoldable pub octets_listing : Profile → List ℕ → FileListing
+octets_listing profile octets = parsed_listing (refusal_of profile octets) octets
 
 -- a space, a tab, CR or LF
 abbrev pub is_blank : ℕ → Bool
@@ -34,15 +35,15 @@ is_blank octet = octet == 32 || octet == 9 || octet == 13 || octet == 10
 abbrev pub without_blanks : List ℕ → List ℕ
 without_blanks text = filter (λ octet. not (is_blank octet)) text
 
-abbrev pub decoded_listing : Result (List ℕ) FromHexError → FileListing
-decoded_listing (Ok octets) = octets_listing octets
-decoded_listing (Err fault) = refused_with (codes "refused hex\n")
+abbrev pub decoded_listing : Profile → Result (List ℕ) FromHexError → FileListing
+decoded_listing profile (Ok octets) = octets_listing profile octets
+decoded_listing profile (Err fault) = refused_with (codes "refused hex\n")
 
 -- Of a text: its length decides first, then whether it is hexadecimal, and then its octets.
-unfoldable pub hex_listing : List ℕ → FileListing
-hex_listing text =
+unfoldable pub hex_listing : Profile → List ℕ → FileListing
+hex_listing profile text =
     if nat_lt 16777216 (length text) then refused_with (codes "refused length\n")
-    else decoded_listing (decode_of (without_blanks text))
+    else decoded_listing profile (decode_of (without_blanks text))
 
-abbrev pub IsHexListing : List ℕ → FileListing → Type 0
-IsHexListing text listing = listing ≡ hex_listing text
+abbrev pub IsHexListing : Profile → List ℕ → FileListing → Type 0
+IsHexListing profile text listing = listing ≡ hex_listing profile text

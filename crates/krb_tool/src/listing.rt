@@ -1,13 +1,14 @@
 //! The listing of a stream, as it grows.
 
-ghost use Rattle.std.specs.Prelude.{◌≡◌, ◌≢◌, ◌+◌, ◌<◌, ◌^◌, length, IfOk, OnOk, IsSome, string_bytes};
+ghost use Rattle.std.specs.Prelude.{◌≡◌, ◌≢◌, ◌+◌, ◌<◌, ◌^◌, length, IfErr, IfOk, OnOk, IsSome, string_bytes};
 ghost use Rattle.krb_msg.specs.Grammar.{messages};
 ghost use Rattle.krb_frame.specs.Decoding.{status_of, borrowed};
 ghost use Rattle.krb_frame.specs.declared.decoder.Status.TheVariants as status;
+ghost use Rattle.krb_tool.specs.declared.run.RunFault.TheVariants as fault;
 ghost use Rattle.krb_tool.specs.inner.Listers.{IsNewLister, ListsReady, Feeds, IsWrittenOut, Finishes};
 
 use crate::run::{RunEnd, RunFault};
-use krb_der::{GiveBack, Room};
+use krb_der::{GiveBack, Profile, Room};
 use krb_frame::{Decoder, Limit, Status};
 use krb_list::{put_message, put_stream_end, put_stream_refusal};
 use std::alloc::{AllocError, Global};
@@ -24,13 +25,13 @@ pub(crate) struct Lister {
 }
 
 impl Lister {
-    /// A lister of a stream of which nothing came yet.
-    pub(crate) fn new(alloc: Global, limit: Limit) -> Lister
-        ensures { IsNewLister limit result }
+    /// A lister of a stream of a profile of which nothing came yet.
+    pub(crate) fn new(alloc: Global, profile: Profile, limit: Limit) -> Lister
+        ensures { IsNewLister profile limit result }
     {
         Lister {
             alloc,
-            decoder: Decoder::new(alloc, limit),
+            decoder: Decoder::with_profile(alloc, limit, profile),
             text: String::new(alloc),
             messages: 0,
             room: Room::new(),
@@ -40,9 +41,10 @@ impl Lister {
     /// Takes the next piece of the stream, adds the line of each frame that is whole now, and
     /// answers whether the stream goes on, which it does not where it is refused.
     pub(crate) fn feed(&mut self, piece: &[u8]) -> Result<bool, RunFault>
-        requires waits { status_of messages self.old.decoder ≡ status.More }
+        requires waits { status_of (messages self.old.decoder.profile) self.old.decoder ≡ status.More }
         requires few { self.old.messages + length piece.now < 2 ^ 64 }
-        ensures { IfOk result (Feeds self.old piece.now self.new) }
+        ensures fed { IfOk result (Feeds self.old.decoder.profile self.old piece.now self.new) }
+        ensures fault { IfErr result (λ e. e ≡ fault.Memory) }
     {
         let mut rest = piece;
         'frames: loop {
@@ -60,8 +62,9 @@ impl Lister {
     /// Adds the line of the frame that is ready, and clears it.
     fn list_ready(&mut self) -> Result<(), RunFault>
         requires few { self.old.messages + 1 < 2 ^ 64 }
-        requires ready { IsSome (borrowed messages self.old.decoder) }
-        ensures { OnOk result (ListsReady self.old self.new) }
+        requires ready { IsSome (borrowed (messages self.old.decoder.profile) self.old.decoder) }
+        ensures listed { OnOk result (ListsReady self.old.decoder.profile self.old self.new) }
+        ensures fault { IfErr result (λ e. e ≡ fault.Memory) }
     {
         let Some(framed) = self.decoder.ready() else {
             return Ok(());
@@ -90,7 +93,7 @@ impl Lister {
 
     /// Adds the last line, of what was refused or of a stream that has ended here.
     pub(crate) fn finish(&mut self) -> Result<RunEnd, AllocError>
-        ensures { IfOk result (Finishes self.old self.new) }
+        ensures { IfOk result (Finishes self.old.decoder.profile self.old self.new) }
     {
         match self.decoder.finish() {
             Ok(()) => {

@@ -11,8 +11,8 @@ use crate::file_run::{FileFormat, FileText, run_file};
 use crate::run::{RunEnd, RunFault};
 use crate::transfer::Asked;
 use hex::FromHexError;
-use krb_der::Refusal;
-use krb_judge::{ParseFault, parse};
+use krb_der::{Profile, Refusal};
+use krb_judge::{ParseFault, parse_in};
 use krb_list::{put_message, put_message_refusal};
 use krb_msg::Message;
 use std::alloc::{AllocError, Global};
@@ -73,24 +73,26 @@ fn list_refusal(alloc: Global, refusal: Refusal) -> Result<FileText, RunFault>
     Ok(FileText { text, end })
 }
 
-/// The line of the message that octets are, or the line of their refusal.
-fn list_octets(alloc: Global, octets: &[u8]) -> Result<FileText, RunFault>
-    ensures listed { IfOk result (λ made. shown made ≡ octets_listing octets.now) }
+/// The line of the message of a profile that octets are, or the line of their refusal.
+fn list_octets(alloc: Global, profile: Profile, octets: &[u8]) -> Result<FileText, RunFault>
+    ensures listed { IfOk result (λ made. shown made ≡ octets_listing profile octets.now) }
     ensures fault { IfErr result (λ e. e ≡ RunFault.Memory) }
 {
-    match parse(alloc, octets) {
+    match parse_in(alloc, profile, octets) {
         Ok(message) => list_message(alloc, &message),
         Err(ParseFault::Refused(refusal)) => list_refusal(alloc, refusal),
         Err(ParseFault::Memory) => Err(RunFault::Memory),
     }
 }
 
-/// A message in hexadecimal.
+/// A message of a profile in hexadecimal.
 #[derive(Drop)]
-struct HexFormat;
+struct HexFormat {
+    profile: Profile,
+}
 
 impl FileFormat for HexFormat {
-    ghost Lists = { λ _ text listing. IsHexListing text listing };
+    ghost Lists = { λ format text listing. IsHexListing format.profile text listing };
 
     fn most(&self) -> Option<usize> {
         Some(MOST_TEXT + 1)
@@ -103,25 +105,39 @@ impl FileFormat for HexFormat {
         }
         let digits = without_blanks(alloc, text)?;
         match hex::decode(alloc, digits.as_slice()) {
-            Ok(octets) => list_octets(alloc, octets.as_slice()),
+            Ok(octets) => list_octets(alloc, self.profile, octets.as_slice()),
             Err(FromHexError::OutOfMemory) => Err(RunFault::Memory),
             Err(_) => refused_with(alloc, "refused hex\n"),
         }
     }
 }
 
-/// Lists one message that is given in hexadecimal, of either case and with blanks anywhere: its line,
-/// or the line of its refusal, or `refused hex` of what is no hexadecimal, or `refused length` of
-/// more than 16777216 octets of text, of which no more than one octet more is kept. All that the
-/// reader holds is read first, by at most 2^40 asks for 64 KiB each.
+/// Lists one message that is given in hexadecimal, by the lenient profile, as [`run_message_in`]
+/// does.
 pub fn run_message<R: Read, W: Write>(
     alloc: Global,
     reader: &mut R,
     writer: &mut W,
 ) -> Result<RunEnd, RunFault>
-    ensures listed { IfOk result (ListsFile IsHexListing (R.remaining reader.old) (R.remaining reader.new) (W.contents writer.old) (W.contents writer.new)) }
-    ensures fault { IfErr result (FailsFile IsHexListing (R.remaining reader.old) (R.remaining reader.new) (W.contents writer.old) (W.contents writer.new)) }
+    ensures listed { IfOk result (ListsFile (IsHexListing Profile.Lenient) (R.remaining reader.old) (R.remaining reader.new) (W.contents writer.old) (W.contents writer.new)) }
+    ensures fault { IfErr result (FailsFile (IsHexListing Profile.Lenient) (R.remaining reader.old) (R.remaining reader.new) (W.contents writer.old) (W.contents writer.new)) }
+{
+    run_message_in(alloc, Profile::Lenient, reader, writer)
+}
+
+/// Lists one message of a profile that is given in hexadecimal, of either case and with blanks
+/// anywhere: its line, or the line of its refusal, or `refused hex` if the text is not hexadecimal,
+/// or `refused length` if it is more than 16777216 octets, of which at most one more is kept. All
+/// that the reader holds is read first, by at most 2^40 reads of 64 KiB each.
+pub fn run_message_in<R: Read, W: Write>(
+    alloc: Global,
+    profile: Profile,
+    reader: &mut R,
+    writer: &mut W,
+) -> Result<RunEnd, RunFault>
+    ensures listed { IfOk result (ListsFile (IsHexListing profile) (R.remaining reader.old) (R.remaining reader.new) (W.contents writer.old) (W.contents writer.new)) }
+    ensures fault { IfErr result (FailsFile (IsHexListing profile) (R.remaining reader.old) (R.remaining reader.new) (W.contents writer.old) (W.contents writer.new)) }
 {
     let mut asked = Asked::new(reader);
-    run_file(alloc, &mut asked, writer, &HexFormat)
+    run_file(alloc, &mut asked, writer, &HexFormat { profile })
 }

@@ -12,7 +12,7 @@ ghost use Rattle.krb_tool.specs.inner.RecordRuns.{Adds, AddsRefusal, AddsLine, M
 use crate::run::{PIECE_OCTETS, RunEnd, RunFault};
 use crate::transfer::{MOST_ASKS, write_all};
 use krb_ccache::{Credential, Credentials, FilePrincipal, Header};
-use krb_der::{FieldLimit, FileFault};
+use krb_file::{FieldLimit, FileFault};
 use krb_keytab::{Next, Record, Records, Stop};
 use krb_list::{Shown, put_cache, put_cache_end, put_credential, put_file_refusal, put_keytab_end};
 use std::alloc::Global;
@@ -195,7 +195,7 @@ struct CredentialLines<R: Read> {
 }
 
 impl<R: Read + Drop> RecordLines for CredentialLines<R> {
-    ghost IsLeft = { λ lines. AreCredentialsLeft lines.credentials.reader (record { header = lines.credentials.header; principal = lines.credentials.principal }) lines.credentials.state lines.now };
+    ghost IsLeft = { λ lines. AreCredentialsLeft lines.credentials.reader lines.credentials.start lines.credentials.state lines.now };
 
     fn put_next(
         &mut self,
@@ -276,9 +276,9 @@ pub fn run_keytab<R: Read, W: Write>(
     )
 }
 
-/// Lists a credential cache of version 4: a line for the cache, one for each credential, and the line
-/// of the end, or that of the refusal. Where a now is given, in seconds since 1970, each line of a
-/// credential says whether it has ended. It reads and writes as [`run_keytab`] does.
+/// Lists a credential cache of version 3 or 4: a line for the cache, one for each credential, and the
+/// line of the end, or that of the refusal. If `now` is given, in seconds since 1970, each line of a
+/// credential says whether it has expired by then. It reads and writes as [`run_keytab`] does.
 pub fn run_ccache<R: Read, W: Write>(
     alloc: Global,
     reader: &mut R,

@@ -1,13 +1,13 @@
 //! Runs over a reader and a writer.
 
-ghost use Rattle.std.specs.Prelude.{◌≡◌, ◌^◌, ◌≤◌, IfOk};
-ghost use Rattle.krb_tool.specs.Listing.{Lists, status_of};
+ghost use Rattle.std.specs.Prelude.{◌≡◌, ◌^◌, ◌≤◌, IfErr, IfOk};
+ghost use Rattle.krb_tool.specs.Listing.{Lists, Fails, status_of};
 ghost use Rattle.krb_tool.specs.declared.run.RunFault.TheVariants as fault;
 ghost use Rattle.krb_tool.specs.declared.transfer.ReaderState.TheVariants as reader;
 
 use crate::listing::Lister;
 use crate::transfer::{Asked, write_all};
-use krb_der::Memory;
+use krb_der::{Memory, Profile};
 use krb_frame::Limit;
 use std::alloc::{AllocError, AllocFailed, Global};
 use std::io::{Read, Write};
@@ -75,25 +75,43 @@ impl<T: Drop> From<AllocFailed<T>> for RunFault {
     }
 }
 
-/// Lists a stream of framed messages (RFC 4120, 7.2.2): a line for each message, then the line of
-/// the end, or of the first refusal, after which nothing is looked at. Frames of more than
-/// `limit` octets are refused. The reader is asked at most 2^40 times, for 64 KiB each, and the
-/// lines of what came are written before it is asked again. It is not asked again after an error,
-/// its end or a refusal.
+/// Lists a stream of framed messages (RFC 4120, 7.2.2) by the lenient profile, as [`run_stream_in`]
+/// does.
 pub fn run_stream<R: Read, W: Write>(
     alloc: Global,
     reader: &mut R,
     writer: &mut W,
     limit: Limit,
 ) -> Result<RunEnd, RunFault>
-    ensures { IfOk result (Lists limit (R.remaining reader.old) (R.remaining reader.new) (W.contents writer.old) (W.contents writer.new)) }
+    ensures listed { IfOk result (Lists Profile.Lenient limit (R.remaining reader.old) (R.remaining reader.new) (W.contents writer.old) (W.contents writer.new)) }
+    ensures fault { IfErr result (Fails Profile.Lenient limit (R.remaining reader.old) (R.remaining reader.new) (W.contents writer.old) (W.contents writer.new)) }
+{
+    run_stream_in(alloc, Profile::Lenient, reader, writer, limit)
+}
+
+/// Lists a stream of framed messages (RFC 4120, 7.2.2) of a profile: a line for each message, then
+/// the line of the end, or of the first refusal, after which nothing is looked at. Frames of more
+/// than `limit` octets are refused. The reader is asked at most 2^40 times, for 64 KiB each, and the
+/// lines of what came are written before it is asked again. It is not asked again after an error,
+/// its end or a refusal. If a read fails or memory runs out, the lines of the messages before that
+/// are written, all or the first of them, and no last line.
+pub fn run_stream_in<R: Read, W: Write>(
+    alloc: Global,
+    profile: Profile,
+    reader: &mut R,
+    writer: &mut W,
+    limit: Limit,
+) -> Result<RunEnd, RunFault>
+    ensures listed { IfOk result (Lists profile limit (R.remaining reader.old) (R.remaining reader.new) (W.contents writer.old) (W.contents writer.new)) }
+    ensures fault { IfErr result (Fails profile limit (R.remaining reader.old) (R.remaining reader.new) (W.contents writer.old) (W.contents writer.new)) }
 {
     let mut asked = Asked::new(reader);
-    list_all(alloc, &mut asked, writer, limit)
+    list_all(alloc, profile, &mut asked, writer, limit)
 }
 
 fn list_all<R: Read, W: Write>(
     alloc: Global,
+    profile: Profile,
     asked: &mut Asked<'_, R>,
     writer: &mut W,
     limit: Limit,
@@ -101,11 +119,12 @@ fn list_all<R: Read, W: Write>(
     requires none { asked.old.made ≡ 0 }
     requires open { asked.old.state ≡ reader.Open }
     ensures same_reader { asked.new.reader.ghost_name ≡ asked.old.reader.ghost_name }
-    ensures listed { IfOk result (Lists limit (R.remaining asked.old.reader.now) (R.remaining asked.new.reader.now) (W.contents writer.old) (W.contents writer.new)) }
+    ensures listed { IfOk result (Lists profile limit (R.remaining asked.old.reader.now) (R.remaining asked.new.reader.now) (W.contents writer.old) (W.contents writer.new)) }
+    ensures fault { IfErr result (Fails profile limit (R.remaining asked.old.reader.now) (R.remaining asked.new.reader.now) (W.contents writer.old) (W.contents writer.new)) }
     ensures asks { asked.new.made ≤ 2 ^ 40 }
 {
     let mut buffer = vec![in alloc; 0u8; PIECE_OCTETS]?;
-    let mut lister = Lister::new(alloc, limit);
+    let mut lister = Lister::new(alloc, profile, limit);
     'pieces: loop {
         let count = asked.ask(buffer.as_mut_slice())?;
         if count == 0 {

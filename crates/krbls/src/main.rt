@@ -12,10 +12,8 @@ ghost use Rattle.std.specs.Prelude.{◌≡◌};
 ghost use Rattle.std.specs.Process.{exit_status};
 ghost use Rattle.krb_tool.specs.Listing.{status_of};
 
-use krb_tool::{
-    Job, Order, RunEnd, RunFault, WordsFault, read_words, run_ccache, run_keytab, run_message,
-    run_stream, status,
-};
+use krb_tool::{RunEnd, RunFault, run_ccache, run_keytab, run_message_in, run_stream_in, status};
+use krb_words::{Job, Order, WordsFault, read_words};
 use std::io::Read;
 use std::process::ExitCode;
 use std::{env, fs, io};
@@ -57,8 +55,14 @@ fn carry_out(rt: &HostRuntime, order: &Order) -> ExitCode {
 fn list<R: Read>(rt: &HostRuntime, job: &Job, reader: &mut R) -> ExitCode {
     let mut writer = rt.stdout();
     match job {
-        Job::Stream(limit) => report(rt, &run_stream(rt.alloc(), reader, &mut writer, *limit)),
-        Job::Message => report(rt, &run_message(rt.alloc(), reader, &mut writer)),
+        Job::Stream(limit, profile) => report(
+            rt,
+            &run_stream_in(rt.alloc(), *profile, reader, &mut writer, *limit),
+        ),
+        Job::Message(profile) => report(
+            rt,
+            &run_message_in(rt.alloc(), *profile, reader, &mut writer),
+        ),
         Job::Keytab => report(rt, &run_keytab(rt.alloc(), reader, &mut writer)),
         Job::Ccache(now) => report(rt, &run_ccache(rt.alloc(), reader, &mut writer, *now)),
         Job::Help(text) => help(rt, text.as_str()),

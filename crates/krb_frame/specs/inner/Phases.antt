@@ -2,6 +2,7 @@
 use Rattle.std.specs.Prelude.{ℕ, zero, suc, ◌≡◌, ◌≢◌, ◌+◌, ◌-◌, ◌<◌, ◌≤◌, ◌^◌, ◌⊎◌, List, [], ◌++◌, length, take, min, Result, Ok, Err}
 use Rattle.krb_der.specs.Octets.{number}
 use Rattle.krb_der.specs.declared.memory.Memory.{Memory}
+use Rattle.krb_der.specs.declared.profile.Profile.{Profile}
 use Rattle.krb_der.specs.declared.verdict.Refusal.{Refusal}
 use Rattle.krb_der.specs.declared.verdict.Verdict.{Verdict}
 use Rattle.krb_der.specs.declared.verdict.Verdict.TheVariants as verdict
@@ -10,7 +11,7 @@ use Rattle.krb_msg.specs.Judgement.{judgement_by}
 use Rattle.krb_msg.specs.Stream.{End, Boundary, Within, Refused, ends, frames}
 use Rattle.krb_scan.specs.Scanner.{At}
 use Rattle.krb_scan.specs.declared.scanner.Scanner.{Scanner}
-use Rattle.krb_frame.specs.Decoding.{Decoding, status_of, kept_contents, IsOfOneFrame}
+use Rattle.krb_frame.specs.Decoding.{Decoding, Room, length_present, status_of, kept_contents, IsOfOneFrame}
 use Rattle.krb_frame.specs.declared.decoder.Fed.{Fed}
 use Rattle.krb_frame.specs.declared.decoder.Status.{Status}
 use Rattle.krb_frame.specs.declared.decoder.Status.TheVariants as status
@@ -63,19 +64,10 @@ end_after zero = Boundary
 end_after (suc present) = Within (suc present)
 
 -- ---- the fields of a decoder
--- the number of octets of a length that are present
-abbrev pub length_present : Phase → ℕ
-length_present (phase.Length count) = count
-length_present (phase.Contents size) = 4
-length_present phase.Ready = 4
-length_present (phase.Refused refusal) = 4
-
-abbrev pub octets_of : Phase → List ℕ → List ℕ → List ℕ
-octets_of phase announced contents = take (length_present phase) announced ++ contents
-
--- what they stand for, with the octets that were looked at
-abbrev pub decoding_of : ℕ → ℕ → List ℕ → List ℕ → Phase → Decoding
-decoding_of limit looks announced contents phase = record { limit = limit; octets = octets_of phase announced contents; looks = looks }
+-- no room is lost
+pub record KeepsRoom (old new : Room) : Type 0 where
+  pub octets : old.octets ≤ new.octets
+  pub marks : old.marks ≤ new.marks
 
 -- a length that may be followed by contents
 pub record IsAccepted (limit : ℕ) (announced : List ℕ) (size : ℕ) : Type 0 where
@@ -117,11 +109,11 @@ IsAt messages limit announced contents phase.Ready = HasFrame messages limit ann
 IsAt messages limit announced contents (phase.Refused refusal) = HasRefused messages limit announced contents refusal
 
 -- where there are contents, the scanner stands for them
-abbrev pub IsScanned : Scanner → List ℕ → List ℕ → Phase → Type 0
-IsScanned scanner announced contents (phase.Length count) = Unit {0}
-IsScanned scanner announced contents (phase.Contents size) = At scanner size contents
-IsScanned scanner announced contents phase.Ready = At scanner (length contents) contents
-IsScanned scanner announced contents (phase.Refused refusal) = (contents ≡ []) ⊎ At scanner (number announced) contents
+abbrev pub IsScanned : Profile → Scanner → List ℕ → List ℕ → Phase → Type 0
+IsScanned profile scanner announced contents (phase.Length count) = Unit {0}
+IsScanned profile scanner announced contents (phase.Contents size) = At profile scanner size contents
+IsScanned profile scanner announced contents phase.Ready = At profile scanner (length contents) contents
+IsScanned profile scanner announced contents (phase.Refused refusal) = (contents ≡ []) ⊎ At profile scanner (number announced) contents
 
 -- what is judged with the last octet of a length
 pub record IsLengthJudged (messages : List Term) (limit : ℕ) (announced : List ℕ) (phase : Phase) : Type 0 where
@@ -137,11 +129,13 @@ pub record IsPut (before : List ℕ) (present : ℕ) (piece after : List ℕ) (c
 -- octets of a length, if any is missing, were used
 pub record FeedsLength (messages : List Term) (old : Decoding) (piece : List ℕ) (new : Decoding) (used : ℕ) : Type 0 where
   pub within : used ≤ length piece
+  pub same_profile : new.profile ≡ old.profile
   pub same_limit : new.limit ≡ old.limit
   pub octets : new.octets ≡ old.octets ++ take used piece
   pub looks : new.looks ≡ old.looks
   pub contents : length (kept_contents new) ≡ length (kept_contents old)
   pub again : status_of messages old ≢ status.More → used ≡ 0
+  pub room : KeepsRoom old.room new.room
   pub on : (used ≡ length piece) ⊎ (4 ≤ length new.octets)
   pub one : IsOfOneFrame messages new
 

@@ -1,7 +1,7 @@
 //! The contents of the items that hold no others, after their tag and length octets.
 
 ghost use Rattle.std.specs.Prelude.{◌≡◌, ◌+◌, ◌^◌, ◌<◌, ◌≤◌, length, ℤ, ◌&&◌};
-ghost use Rattle.krb_msg.specs.Judgement.{after, any_contents, integer_contents, each_contents, time_octet, bits_contents, int_le};
+ghost use Rattle.krb_msg.specs.Judgement.{after, any_contents, integer_contents, each_contents, text_octet, time_octet, bits_contents, int_le};
 ghost use Rattle.krb_judge.specs.inner.Outcomes.{outcome_of};
 ghost use Rattle.krb_der.specs.declared.why.Why.TheVariants as why;
 
@@ -9,12 +9,37 @@ use crate::judging::outcome::Outcome;
 use krb_der::{Why, integer_value, last_or_zero};
 use krb_msg::{is_padded, is_time_octet};
 
-/// A KerberosString or an OCTET STRING: any octets (X.690, 8.7 and 8.23).
+/// An OCTET STRING, or a KerberosString that may have any octets (X.690, 8.7 and 8.23).
 pub(crate) fn string(before: u32, size: u32, octets: &[u8]) -> Outcome
     requires { before + size < 2 ^ 31 }
     ensures { outcome_of result ≡ after before (any_contents size octets.now) }
 {
     if octets.len() < size as usize {
+        Outcome::Open
+    } else {
+        Outcome::Done {
+            count: before + size,
+        }
+    }
+}
+
+/// A KerberosString of octets up to the `greatest`.
+pub(crate) fn text(greatest: u8, before: u32, size: u32, octets: &[u8]) -> Outcome
+    requires short { before + size < 2 ^ 31 }
+    requires present { length octets.now ≤ size }
+    ensures { outcome_of result ≡ after before (each_contents (text_octet greatest) why.Charset size 0 octets.now) }
+{
+    let mut place = 0;
+    for octet in octets {
+        if *octet > greatest {
+            return Outcome::Bad {
+                offset: before + place,
+                why: Why::Charset,
+            };
+        }
+        place += 1;
+    }
+    if place < size {
         Outcome::Open
     } else {
         Outcome::Done {
@@ -80,17 +105,17 @@ pub(crate) fn time(before: u32, octets: &[u8]) -> Outcome
     }
 }
 
-/// A BIT STRING: the count of the unused bits, which are clear, and the octets (X.690, 8.6 and
-/// 11.2).
-pub(crate) fn bits(before: u32, size: u32, octets: &[u8]) -> Outcome
+/// A BIT STRING of `least` bits or more: the count of the unused bits, which are clear, and the
+/// octets (X.690, 8.6 and 11.2).
+pub(crate) fn bits(least: u8, before: u32, size: u32, octets: &[u8]) -> Outcome
     requires some { 0 < size }
     requires short { before + size < 2 ^ 31 }
-    ensures { outcome_of result ≡ after before (bits_contents 0 size octets.now) }
+    ensures { outcome_of result ≡ after before (bits_contents least size octets.now) }
 {
     let [unused, rest @ ..] = octets else {
         return Outcome::Open;
     };
-    if *unused > 7 || size == 1 && *unused > 0 {
+    if *unused > 7 || 8 * u64::from(size - 1) < u64::from(least) + u64::from(*unused) {
         Outcome::Bad {
             offset: before,
             why: Why::Bits,

@@ -10,7 +10,7 @@ use Rattle.krb_msg.specs.declared.message.Kind.TheVariants as kind
 use Rattle.krb_msg.specs.Term.{Value, tag_of, der}
 use Rattle.krb_msg.specs.Shape.{is_unambiguous}
 use Rattle.krb_msg.specs.inner.Values.{der_begins, der-append, same_from_der}
-use Rattle.krb_msg.specs.inner.RoundTrips.{padata-back, kdc_req_body-back, krb_error-back}
+use Rattle.krb_msg.specs.inner.RoundTrips.{padata-back, kdc_req_body-back, krb_safe-back, krb_cred-back, krb_error-back}
 use Rattle.krb_msg.specs.Views.{kdc_req_value, kdc_req_of, kdc_rep_value, kdc_rep_of, kind_of, kind_term, kind_of_tag, message_value, message_of, message_der}
 
 -- ---- kinds
@@ -21,6 +21,9 @@ kind_of_tag-tag kind.TgsReq = refl
 kind_of_tag-tag kind.TgsRep = refl
 kind_of_tag-tag kind.ApReq = refl
 kind_of_tag-tag kind.ApRep = refl
+kind_of_tag-tag kind.KrbSafe = refl
+kind_of_tag-tag kind.KrbPriv = refl
+kind_of_tag-tag kind.KrbCred = refl
 kind_of_tag-tag kind.KrbError = refl
 
 kind_unambiguous : (k : Kind) → is_unambiguous (kind_term k) ≡ true
@@ -30,6 +33,9 @@ kind_unambiguous kind.TgsReq = refl
 kind_unambiguous kind.TgsRep = refl
 kind_unambiguous kind.ApReq = refl
 kind_unambiguous kind.ApRep = refl
+kind_unambiguous kind.KrbSafe = refl
+kind_unambiguous kind.KrbPriv = refl
+kind_unambiguous kind.KrbCred = refl
 kind_unambiguous kind.KrbError = refl
 
 same_kind : (k l : Kind) → tag_of (kind_term k) ≡ tag_of (kind_term l) → k ≡ l
@@ -49,6 +55,9 @@ message_round_trips (message.TgsReq m) = ap message.TgsReq (kdc_req-back 12 m)
 message_round_trips (message.TgsRep m) = ap message.TgsRep (kdc_rep-back 13 m)
 message_round_trips (message.ApReq m) = refl
 message_round_trips (message.ApRep m) = refl
+message_round_trips (message.KrbSafe m) = ap message.KrbSafe (krb_safe-back m)
+message_round_trips (message.KrbPriv m) = refl
+message_round_trips (message.KrbCred m) = ap message.KrbCred (krb_cred-back m)
 message_round_trips (message.KrbError m) = ap message.KrbError (krb_error-back m)
 
 -- ---- what octets tell

@@ -3,6 +3,7 @@ use Rattle.std.specs.Prelude.{ℕ, ℤ, ◌+◌, ◌≡◌, ◌<◌, ◌^◌, Re
 use Rattle.krb_der.specs.Octets.{AreOctets}
 use Rattle.krb_msg.specs.Grammar.{messages}
 use Rattle.krb_der.specs.declared.memory.Memory.{Memory}
+use Rattle.krb_der.specs.declared.profile.Profile.{Profile}
 use Rattle.krb_der.specs.declared.verdict.Verdict.{Verdict}
 use Rattle.krb_der.specs.declared.verdict.Verdict.TheVariants as verdict
 use Rattle.krb_scan.specs.Reading as reading
@@ -56,16 +57,16 @@ Takes old new (Err memory) answer = IsUnchanged old new × AddsMark (length old.
 pub record IsTaken (old new : Path) (result : Result Verdict Memory) (answer : reading.Answer) : Type 0 where
   pub takes : Takes old new result answer
 
--- a path stands for octets of a message, of which more are due
-pub record StandsFor (path : Path) (octets : List ℕ) : Type 0 where
+-- a path stands for octets of a message of a profile, of which more are due
+pub record StandsFor (profile : Profile) (path : Path) (octets : List ℕ) : Type 0 where
   pub are_octets : AreOctets octets
   pub some : 0 < path.size
   pub short : path.size < 2 ^ 31
   pub looked : path.looked ≡ length octets
   pub state : reading.State
-  pub reads : reading.reading messages path.size octets ≡ reading.Ongoing state
+  pub reads : reading.reading (messages profile) path.size octets ≡ reading.Ongoing state
   pub holds : Holds path path.looked state
 
 -- a path stands for some octets
 abbrev pub IsReached : Path → Type 0
-IsReached path = ∥ ((octets : List ℕ) × StandsFor path octets) ∥₁
+IsReached path = ∥ ((octets : List ℕ) × (profile : Profile) × StandsFor profile path octets) ∥₁

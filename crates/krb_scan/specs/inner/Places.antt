@@ -22,14 +22,14 @@ instead due = None
 -- what the contents of a term are; of a container, at which place they begin
 abbrev pub AreContents : Contents → Term → Type 0
 AreContents (contents.Integer low high widest) (Integer from to) = (low ≡ from) × (high ≡ to) × (widest ≡ max (length (integer_octets from)) (length (integer_octets to))) × (widest ≤ 5) × (0 < widest)
-AreContents contents.Text (Text greatest) = greatest ≡ 255
+AreContents (contents.Text most) (Text greatest) = most ≡ greatest
 AreContents contents.Octets Octets = Unit {0}
 AreContents contents.Time Time = Unit {0}
-AreContents contents.Bits (Bits least) = least ≡ 0
-AreContents (contents.Items first) (Sequence fields) = IsPlace first × (due_at first ≡ Listed fields)
-AreContents (contents.Items first) (SequenceOf empty term) = IsPlace first × (due_at first ≡ Each term) × (empty ≡ true)
-AreContents (contents.Items first) (Tagged index term) = IsPlace first × (due_at first ≡ only term)
-AreContents (contents.Items first) (Application number term) = IsPlace first × (due_at first ≡ only term)
+AreContents (contents.Bits fewest) (Bits least) = fewest ≡ least
+AreContents (contents.Items first none) (Sequence fields) = IsPlace first × (due_at first ≡ Listed fields) × (none ≡ true)
+AreContents (contents.Items first none) (SequenceOf empty term) = IsPlace first × (due_at first ≡ Each term) × (none ≡ empty)
+AreContents (contents.Items first none) (Tagged index term) = IsPlace first × (due_at first ≡ only term) × (none ≡ true)
+AreContents (contents.Items first none) (Application number term) = IsPlace first × (due_at first ≡ only term) × (none ≡ true)
 AreContents other term = ⊥
 
 -- a row is that of an item, and of what is due after it

@@ -1,6 +1,7 @@
 -- How the realm of a message is found by its marks.
-use Rattle.std.specs.Prelude.{ℕ, Bool, true, false, ◌==◌, List, [], ◌∷◌, Option, Some, None}
+use Rattle.std.specs.Prelude.{ℕ, ◌+◌, Bool, true, false, ◌==◌, ◌||◌, List, [], ◌∷◌, Option, Some, None}
 use Rattle.krb_msg.specs.Term.{Term, Text, Tagged}
+use Rattle.krb_msg.specs.declared.grammar.TheConstants.{ROWS}
 use Rattle.krb_msg.specs.declared.message.Kind.{Kind}
 use Rattle.krb_msg.specs.declared.message.Kind.TheVariants as kind
 use Rattle.krb_scan.specs.Reading.{Mark}
@@ -18,7 +19,14 @@ is_realm kind.TgsReq term = is_string_at 2 term
 is_realm kind.TgsRep term = is_string_at 3 term
 is_realm kind.ApReq term = is_string_at 1 term
 is_realm kind.ApRep term = false
+is_realm kind.KrbSafe term = false
+is_realm kind.KrbPriv term = false
+is_realm kind.KrbCred term = false
 is_realm kind.KrbError term = is_string_at 9 term
+
+-- a node is that of a row, in one profile or the other
+abbrev pub is_row : ℕ → ℕ → Bool
+is_row node row = (node == row) || (node == row + ROWS)
 
 -- of the marks after one that was such a field or was not, the one after the first such field
 abbrev pub mark_after : (Term → Bool) → Bool → List Mark → Option Mark

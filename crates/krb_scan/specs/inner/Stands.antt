@@ -73,7 +73,7 @@ IsLeaf other = ⊥
 -- a term with items, and what is due in it first
 abbrev pub BeginsWith : Term → reading.Due → Type 0
 BeginsWith (Sequence fields) due = due ≡ reading.Listed fields
-BeginsWith (SequenceOf empty term) due = (due ≡ reading.Each term) × (empty ≡ true)
+BeginsWith (SequenceOf empty term) due = due ≡ reading.Each term
 BeginsWith (Tagged index term) due = due ≡ only term
 BeginsWith (Application number term) due = due ≡ only term
 BeginsWith other due = ⊥
@@ -82,7 +82,7 @@ BeginsWith other due = ⊥
 abbrev pub IsSized : Term → ℕ → Sized → Type 0
 IsSized term count sized.Wrong = has_size term count ≡ false
 IsSized term count sized.Leaf = (has_size term count ≡ true) × IsLeaf term
-IsSized term count (sized.Items first) = IsPlace first × BeginsWith term (due_at first)
+IsSized term count (sized.Items first) = (has_size term count ≡ true) × IsPlace first × BeginsWith term (due_at first)
 
 -- the octets present of a leaf's contents: they are octets, more are due, and this is kept of them
 pub record LeafReads (term : Term) (count : ℕ) (value : ℤ) (unused : ℕ) (octets : List ℕ) : Type 0 where

@@ -1,6 +1,7 @@
 -- What is told of items that are there whole.
 use Rattle.std.specs.Prelude.{ℕ, ℤ, ◌+◌, ◌≡◌, ◌<◌, ◌≤◌, true, List, [], ◌∷◌, ◌++◌, length, take, Option, Some, None}
 use Rattle.krb_der.specs.Octets.{integer_value}
+use Rattle.krb_der.specs.declared.profile.Profile.{Profile}
 use Rattle.krb_der.specs.declared.verdict.Verdict.{Verdict}
 use Rattle.krb_der.specs.declared.verdict.Verdict.TheVariants as verdict
 use Rattle.krb_msg.specs.Grammar.{messages}
@@ -75,18 +76,18 @@ IsFoundIn container from octets None = Unit {0}
 IsFoundIn container from octets (Some it) = IsFound container from octets it
 
 -- what taking a number of octets makes of a path
-abbrev pub Decides : Path → List ℕ → Verdict → Type 0
-Decides new octets verdict.Open = StandsFor new octets
-Decides new octets verdict.Whole = (marks : List reading.Mark) × (reading.reading messages new.size octets ≡ reading.Whole marks) × IsWhole new marks
-Decides new octets (verdict.Refused refusal) = ⊥
+abbrev pub Decides : Profile → Path → List ℕ → Verdict → Type 0
+Decides profile new octets verdict.Open = StandsFor profile new octets
+Decides profile new octets verdict.Whole = (marks : List reading.Mark) × (reading.reading (messages profile) new.size octets ≡ reading.Whole marks) × IsWhole new marks
+Decides profile new octets (verdict.Refused refusal) = ⊥
 
-pub record IsAccepted (old new : Path) (before octets : List ℕ) (it : Accepted) : Type 0 where
+pub record IsAccepted (profile : Profile) (old new : Path) (before octets : List ℕ) (it : Accepted) : Type 0 where
   pub some : 0 < it.count
   pub there : it.count ≤ length octets
   pub size : new.size ≡ old.size
   pub looked : new.looked ≡ old.looked + it.count
   pub fits : new.looked ≤ new.size
-  pub decides : Decides new (before ++ take it.count octets) it.verdict
+  pub decides : Decides profile new (before ++ take it.count octets) it.verdict
 
 -- containers close as a settling says, the innermost first
 abbrev pub ClosesTo : Path → List reading.Mark → ℕ → reading.Answer → Option Verdict → Type 0

@@ -2,14 +2,15 @@
 use Rattle.std.specs.Prelude.{ℕ, ◌≡◌, List, [], ◌++◌, length, drop, Option, Some, None, Result, Ok, Err}
 use Rattle.std.specs.List.{flat_map}
 use Rattle.std.specs.Io.KnownBytes.{Appends}
-use Rattle.krb_der.specs.FieldReaders.{Held}
-use Rattle.krb_der.specs.declared.files.fault.FileFault.{FileFault}
-use Rattle.krb_der.specs.declared.files.fault.FileFault.TheVariants as faults
+use Rattle.krb_file.specs.FieldReaders.{Held}
+use Rattle.krb_file.specs.declared.fault.FileFault.{FileFault}
+use Rattle.krb_file.specs.declared.fault.FileFault.TheVariants as faults
 use Rattle.krb_keytab.specs.Reading.{Items as Records, items as keytab_records}
 use Rattle.krb_keytab.specs.Streaming.{Reads as ReadsRecords}
 use Rattle.krb_keytab.specs.declared.records.State.{State as RecordsState}
 use Rattle.krb_ccache.specs.declared.value.Credential.{Credential}
-use Rattle.krb_ccache.specs.Reading.{Start, Items}
+use Rattle.krb_ccache.specs.declared.reading.Start.{Start}
+use Rattle.krb_ccache.specs.Reading.{Items}
 use Rattle.krb_ccache.specs.Streaming.{Reads as ReadsCredentials, credentials}
 use Rattle.krb_ccache.specs.declared.credentials.State.{State as CredentialsState}
 use Rattle.krb_list.specs.Text.{line_feed}

@@ -1,16 +1,24 @@
-use Rattle.std.proofs.Common.{ℕ, ◌-◌, List, false, true, arith, refl, sym, ◌∙◌}
+use Rattle.std.proofs.Common.{ℕ, ◌-◌, List, false, true, arith, refl, subst, sym, ◌∙◌}
 use Rattle.krb_der.specs.inner.Numbers.{AreOctets-slice}
 use Rattle.krb_msg.specs.Judgement.{Outcome, item_outcome}
-use Rattle.krb_msg.specs.Nodes.{term_at}
-use Rattle.krb_judge.proofs.Within.{refused, taken, string_of, items_of, only_of, next_of, left_next, items_next}
+use Rattle.krb_msg.specs.Nodes.{nodes, term_at}
+use Rattle.krb_msg.specs.Table.{IsFormOf}
+use Rattle.krb_judge.proofs.Within.{refused, taken, any_text_of, text_of, octets_of, items_of, some_or_empty, only_of, next_of, left_next, items_next}
 use Rattle.krb_judge.proofs.judging.+judge.Goals as goal
+
+pub contents-returns-in-Octets : goal.contents-returns-in-Octets
+contents-returns-in-Octets t c = c.string.ensures ∙ sym (octets_of (term_at c.args.node) (subst (λ it. IsFormOf nodes it (term_at c.args.node)) c.in-Octets.is c.form_of.ensures) c.args.before c.args.size c.args.octets.now)
 
 pub contents-returns-in-Text : goal.contents-returns-in-Text
 contents-returns-in-Text t c =
-    c.string.ensures ∙ sym (string_of c.form_of.result (term_at c.args.node) c.in-Text.is c.form_of.ensures c.args.before c.args.size c.args.octets.now (AreOctets-slice c.args.octets.now c.type_inv.octets))
+    c.string-in-Text.ensures ∙ sym (any_text_of c.in-Text.greatest (term_at c.args.node) (subst (λ it. IsFormOf nodes it (term_at c.args.node)) c.in-Text.is c.form_of.ensures) c.if-greatest.true c.args.before c.args.size c.args.octets.now (AreOctets-slice c.args.octets.now c.type_inv.octets))
+
+pub contents-returns-in-Text-2 : goal.contents-returns-in-Text-2
+contents-returns-in-Text-2 t c = c.text.ensures ∙ sym (text_of c.in-Text.greatest (term_at c.args.node) (subst (λ it. IsFormOf nodes it (term_at c.args.node)) c.in-Text.is c.form_of.ensures) c.args.before c.args.size c.args.octets.now)
 
 pub contents-returns-in-Items : goal.contents-returns-in-Items
-contents-returns-in-Items t c = c.items.ensures ∙ sym (items_of c.in-Items.node (term_at c.args.node) c.in-Items.ensures c.args.before c.args.size c.args.octets.now)
+contents-returns-in-Items t c =
+    c.items.ensures ∙ sym (items_of c.in-Items.node c.in-Items.empty (term_at c.args.node) c.in-Items.ensures c.args.before c.args.size c.args.octets.now (some_or_empty c.in-Items.empty c.args.size c.if-size-gt0-2.either))
 
 pub contents-returns-in-Item : goal.contents-returns-in-Item
 contents-returns-in-Item t c = c.only.ensures ∙ sym (only_of c.in-Item.node (term_at c.args.node) c.in-Item.ensures c.args.before c.args.size c.args.octets.now)

@@ -1,5 +1,6 @@
 use Rattle.std.proofs.Common.{◌≡◌, ◌∙◌, sym, Some, None}
 use Rattle.krb_der.specs.inner.Numbers.{AreOctets-slice}
+use Rattle.krb_der.specs.declared.profile.Profile.TheVariants.{Lenient}
 use Rattle.krb_msg.specs.Grammar.{ticket}
 use Rattle.krb_judge.specs.Parses.{ticket_refusal}
 use Rattle.krb_judge.specs.declared.parsing.TheConstants.{TICKET}
@@ -13,7 +14,7 @@ view_ticket-requires-clause-form c =
 
 pub returns-in-Some-clause-refused : goal.returns-in-Some-clause-refused
 returns-in-Some-clause-refused c =
-    let refused : ticket_refusal c.args.octets.now ≡ Some c.in-Some.refusal = sym (refused_as ticket c.args.octets.now TICKET ticket_node) ∙ sym c.refusal_of.ensures ∙ c.in-Some.is in
+    let refused : ticket_refusal Lenient c.args.octets.now ≡ Some c.in-Some.refusal = sym (refused_as ticket c.args.octets.now TICKET ticket_node) ∙ sym c.refusal_of.ensures ∙ c.in-Some.is in
     λ r. (λ e. cc, λ e. cc)
 
 pub returns-in-None-clause-ticket : goal.returns-in-None-clause-ticket
@@ -22,5 +23,5 @@ returns-in-None-clause-ticket c =
 
 pub returns-in-None-clause-refused : goal.returns-in-None-clause-refused
 returns-in-None-clause-refused c =
-    let none : ticket_refusal c.args.octets.now ≡ None = sym (refused_as ticket c.args.octets.now TICKET ticket_node) ∙ sym c.refusal_of.ensures ∙ c.in-None.is in
+    let none : ticket_refusal Lenient c.args.octets.now ≡ None = sym (refused_as ticket c.args.octets.now TICKET ticket_node) ∙ sym c.refusal_of.ensures ∙ c.in-None.is in
     λ r. (λ e. absurd cc, λ e. let some = sym none ∙ e in absurd cc)

@@ -1,5 +1,5 @@
 use Rattle.std.proofs.Common.{◌≡◌, None, length}
-use Rattle.krb_der.specs.FieldReaders.{source_at}
+use Rattle.krb_file.specs.FieldReaders.{source_at}
 use Rattle.krb_keytab.specs.Reading.{items_after}
 use Rattle.krb_keytab.proofs.Loops.{before}
 use Rattle.krb_keytab.proofs.reading.keytab.Given as goal

@@ -1,5 +1,5 @@
 use Rattle.std.proofs.Common.{◌∷◌, [], arith, append_assoc}
-use Rattle.krb_der.specs.Fields.{zeros}
+use Rattle.krb_file.specs.Fields.{zeros}
 use Rattle.krb_keytab.proofs.Sizes.{zeros-more}
 use Rattle.krb_keytab.proofs.writing.put_zeros.Goals as goal
 

@@ -1,6 +1,6 @@
 use Rattle.std.proofs.Common.{◌≡◌, ◌+◌, ◌++◌}
 use Rattle.std.specs.Vec.{vec_len, vec_capacity}
-use Rattle.krb_der.specs.Fields.{zeros}
+use Rattle.krb_file.specs.Fields.{zeros}
 use Rattle.krb_keytab.proofs.writing.put_zeros.Given as goal
 
 abbrev pub invariant-loop : goal.invariant-loop

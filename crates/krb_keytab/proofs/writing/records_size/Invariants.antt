@@ -1,6 +1,6 @@
 use Rattle.std.proofs.Common.{◌≡◌, ◌+◌, None, length, take, min}
 use Rattle.std.specs.List.{flat_map, AllByRecursion}
-use Rattle.krb_der.specs.Parts.{greatest}
+use Rattle.krb_file.specs.Parts.{greatest}
 use Rattle.krb_keytab.specs.Writing.{records_fault, written_record, CanWrite}
 use Rattle.krb_keytab.proofs.writing.records_size.Given as goal
 

@@ -19,5 +19,14 @@ returns-in-ApReq c = message_sized c.in-ApReq.is (record { octets = c.size-in-Ap
 pub returns-in-ApRep : goal.returns-in-ApRep
 returns-in-ApRep c = message_sized c.in-ApRep.is (record { octets = c.size-in-ApRep.ensures.octets; fits = c.size-in-ApRep.ensures.fits })
 
+pub returns-in-KrbSafe : goal.returns-in-KrbSafe
+returns-in-KrbSafe c = message_sized c.in-KrbSafe.is (record { octets = c.size-in-KrbSafe.ensures.octets; fits = c.size-in-KrbSafe.ensures.fits })
+
+pub returns-in-KrbPriv : goal.returns-in-KrbPriv
+returns-in-KrbPriv c = message_sized c.in-KrbPriv.is (record { octets = c.size-in-KrbPriv.ensures.octets; fits = c.size-in-KrbPriv.ensures.fits })
+
+pub returns-in-KrbCred : goal.returns-in-KrbCred
+returns-in-KrbCred c = message_sized c.in-KrbCred.is (record { octets = c.size-in-KrbCred.ensures.octets; fits = c.size-in-KrbCred.ensures.fits })
+
 pub returns-in-KrbError : goal.returns-in-KrbError
 returns-in-KrbError c = message_sized c.in-KrbError.is (record { octets = c.size-in-KrbError.ensures.octets; fits = c.size-in-KrbError.ensures.fits })

@@ -55,6 +55,33 @@ put-requires-in-ApRep-clause-room c = message_room c.args.out.now c.in-ApRep.is 
 pub returns-in-ApRep : goal.returns-in-ApRep
 returns-in-ApRep c = message_put c.in-ApRep.is c.put-in-ApRep.ensures
 
+pub put-requires-in-KrbSafe-clause-short : goal.put-requires-in-KrbSafe-clause-short
+put-requires-in-KrbSafe-clause-short c = message_short c.in-KrbSafe.is c.requires.short
+
+pub put-requires-in-KrbSafe-clause-room : goal.put-requires-in-KrbSafe-clause-room
+put-requires-in-KrbSafe-clause-room c = message_room c.args.out.now c.in-KrbSafe.is c.requires.room
+
+pub returns-in-KrbSafe : goal.returns-in-KrbSafe
+returns-in-KrbSafe c = message_put c.in-KrbSafe.is c.put-in-KrbSafe.ensures
+
+pub put-requires-in-KrbPriv-clause-short : goal.put-requires-in-KrbPriv-clause-short
+put-requires-in-KrbPriv-clause-short c = message_short c.in-KrbPriv.is c.requires.short
+
+pub put-requires-in-KrbPriv-clause-room : goal.put-requires-in-KrbPriv-clause-room
+put-requires-in-KrbPriv-clause-room c = message_room c.args.out.now c.in-KrbPriv.is c.requires.room
+
+pub returns-in-KrbPriv : goal.returns-in-KrbPriv
+returns-in-KrbPriv c = message_put c.in-KrbPriv.is c.put-in-KrbPriv.ensures
+
+pub put-requires-in-KrbCred-clause-short : goal.put-requires-in-KrbCred-clause-short
+put-requires-in-KrbCred-clause-short c = message_short c.in-KrbCred.is c.requires.short
+
+pub put-requires-in-KrbCred-clause-room : goal.put-requires-in-KrbCred-clause-room
+put-requires-in-KrbCred-clause-room c = message_room c.args.out.now c.in-KrbCred.is c.requires.room
+
+pub returns-in-KrbCred : goal.returns-in-KrbCred
+returns-in-KrbCred c = message_put c.in-KrbCred.is c.put-in-KrbCred.ensures
+
 pub put-requires-in-KrbError-clause-short : goal.put-requires-in-KrbError-clause-short
 put-requires-in-KrbError-clause-short c = message_short c.in-KrbError.is c.requires.short
 

@@ -1,5 +1,5 @@
-use Rattle.std.proofs.Common.{refl}
+use Rattle.krb_msg.proofs.Judged.{messages_nest}
 use Rattle.krb_msg.proofs.law.messages_nest.Goals as goal
 
 pub returns : goal.returns
-returns c = refl
+returns c = messages_nest

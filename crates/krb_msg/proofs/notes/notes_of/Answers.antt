@@ -18,5 +18,14 @@ returns-in-ApReq c = rw c.in-ApReq.is c.notes-in-ApReq.ensures
 pub returns-in-ApRep : goal.returns-in-ApRep
 returns-in-ApRep c = rw c.in-ApRep.is c.notes-in-ApRep.ensures
 
+pub returns-in-KrbSafe : goal.returns-in-KrbSafe
+returns-in-KrbSafe c = rw c.in-KrbSafe.is c.notes-in-KrbSafe.ensures
+
+pub returns-in-KrbPriv : goal.returns-in-KrbPriv
+returns-in-KrbPriv c = rw c.in-KrbPriv.is c.notes-in-KrbPriv.ensures
+
+pub returns-in-KrbCred : goal.returns-in-KrbCred
+returns-in-KrbCred c = rw c.in-KrbCred.is c.notes-in-KrbCred.ensures
+
 pub returns-in-KrbError : goal.returns-in-KrbError
 returns-in-KrbError c = rw c.in-KrbError.is c.notes-in-KrbError.ensures

@@ -8,4 +8,4 @@ returns-in-Ok-clause-listed c =
 
 pub returns-in-Err-Refused-clause-listed : goal.returns-in-Err-Refused-clause-listed
 returns-in-Err-Refused-clause-listed c =
-    rw (refusal-listed c.args.octets.now c.in-Err-Refused.refusal ((c.in-Err-Refused.ensures.refused c.in-Err-Refused.refusal).0 (ap Err c.in-Err-Refused.field-0-is))) c.list_refusal.ensures.listed
+    rw (refusal-listed c.args.profile c.args.octets.now c.in-Err-Refused.refusal ((c.in-Err-Refused.ensures.refused c.in-Err-Refused.refusal).0 (ap Err c.in-Err-Refused.field-0-is))) c.list_refusal.ensures.listed

@@ -1,6 +1,5 @@
 use Rattle.std.proofs.Common.{◌≡◌, ◌++◌, ℕ, List, ◌∙◌, ap, ap₂, subst, string_bytes}
 use Rattle.std.proofs.lemmas.Result.{err_from_is_err_and}
-use Rattle.krb_ccache.specs.Reading.{Start}
 use Rattle.krb_ccache.specs.Streaming.{credentials}
 use Rattle.krb_list.specs.Text.{line_feed}
 use Rattle.krb_list.specs.Ccaches.{cache_text}
@@ -13,14 +12,13 @@ pub returns-in-Ok : goal.returns-in-Ok
 returns-in-Ok g c = record {
   listed = λ file known.
       let made = c.in-Ok.credentials in
-      let start : Start = record { header = made.header; principal = made.principal } in
       let reads = rw c.field_limit.ensures at (c.in-Ok.ensures.begins file (c.in_ok-reader.ensures.same file known)) in
       let listing = credentials_listing c.args.now (credentials field_limit file) in
-      let text : string_bytes c.put_first.new.text ≡ cache_text made.header made.principal ++ line_feed =
+      let text : string_bytes c.put_first.new.text ≡ cache_text made.start.header made.start.principal ++ line_feed =
       c.in_ok-put_first-in-Ok.ensures.line
       ∙ ap₂ (λ (text cache : List ℕ). text ++ (cache ++ line_feed)) c.new-text.ensures.bytes (ap₂ cache_text c.header.ensures c.principal.ensures) in
-      let whole = ap (λ (t : List ℕ). after_line t listing) text ∙ first_line c.args.now file made.reader start made.state reads in
-      subst (λ (l : RecordListing). ListsRecords l (g.W.Write.contents c.args.writer.now) (g.W.Write.contents c.list_records.new.writer) c.list_records.result) whole (c.list_records.ensures listing (all_left c.args.now file made.reader start made.state reads));
+      let whole = ap (λ (t : List ℕ). after_line t listing) text ∙ first_line c.args.now file made.reader made.start made.state reads in
+      subst (λ (l : RecordListing). ListsRecords l (g.W.Write.contents c.args.writer.now) (g.W.Write.contents c.list_records.new.writer) c.list_records.result) whole (c.list_records.ensures listing (all_left c.args.now file made.reader made.start made.state reads));
 }
 
 pub returns : goal.returns

@@ -4,7 +4,7 @@ use Rattle.krb_tool.proofs.Runs.{Waits}
 use Rattle.krb_tool.proofs.run.list_all.Given as goal
 
 abbrev pub invariant-pieces : goal.invariant-pieces
-invariant-pieces g l = (vec_len l.buffer ≡ 65536) × (l.asked.state ≡ reader.Open) × (l.asked.reader.ghost_name ≡ l.initial.asked.reader.ghost_name) × Waits l.fn.limit (g.R.Read.remaining l.initial.asked.reader.now) (g.R.Read.remaining l.asked.reader.now) (g.W.Write.contents l.initial.writer) (g.W.Write.contents l.writer) l.asked.made l.lister
+invariant-pieces g l = (vec_len l.buffer ≡ 65536) × (l.asked.state ≡ reader.Open) × (l.asked.reader.ghost_name ≡ l.initial.asked.reader.ghost_name) × Waits l.fn.profile l.fn.limit (g.R.Read.remaining l.initial.asked.reader.now) (g.R.Read.remaining l.asked.reader.now) (g.W.Write.contents l.initial.writer) (g.W.Write.contents l.writer) l.asked.made l.lister
 
 abbrev pub decreases-pieces : goal.decreases-pieces
 decreases-pieces g l = 2 ^ 40 - l.asked.made

@@ -1,9 +1,13 @@
 use Rattle.std.proofs.Common.{Some}
-use Rattle.krb_ccache.specs.Reading.{Start}
-use Rattle.krb_ccache.proofs.Streams.{starts}
+use Rattle.std.proofs.lemmas.Result.{err_from_is_err_and}
+use Rattle.krb_ccache.proofs.Streams.{starts, start_stands_in}
 use Rattle.krb_ccache.proofs.credentials.Credentials.start.Goals as goal
 
 pub returns-clause-begins : goal.returns-clause-begins
 returns-clause-begins g c =
-    let start : Start = record { header = c.in_ok-header.field-0.header; principal = c.in_ok-header.field-0.principal } in
-    λ file known. starts (Some c.args.limit) file (g.R.Read.remaining c.args.reader) start c.beginning.new.reader known (rw c.new-reader.ensures at c.in_ok-header.ensures)
+    λ file known. starts (Some c.args.limit) file (g.R.Read.remaining c.args.reader) c.in_ok-start.start c.beginning.new.reader known (rw c.new-reader.ensures at c.in_ok-start.ensures.read)
+
+pub returns-in_err-start-clause-refused : goal.returns-in_err-start-clause-refused
+returns-in_err-start-clause-refused g c =
+    let p = err_from_is_err_and c.from_residual.result c.from_residual.ensures.1 in
+    rw (p.1, p.2) (λ file known. start_stands_in (Some c.args.limit) file (g.R.Read.remaining c.args.reader) c.in_err-start.field-0.0 known (rw c.new-reader.ensures at c.in_err-start.ensures.read))

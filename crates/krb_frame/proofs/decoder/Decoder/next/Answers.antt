@@ -1,7 +1,9 @@
 use Rattle.krb_msg.specs.Grammar.{messages}
-use Rattle.krb_scan.specs.Scanner.{ledger_of}
+use Rattle.krb_scan.specs.Scanner.{ledger_of, profile_of, room_of}
+use Rattle.std.specs.Prelude.{vec_capacity}
 use Rattle.std.proofs.Common.{◌≡◌, sym, ◌∙◌, ap, subst}
-use Rattle.krb_frame.specs.inner.Phases.{IsAt, decoding_of}
+use Rattle.krb_frame.specs.Decoding.{IsAmple, decoding_of, room_for}
+use Rattle.krb_frame.specs.inner.Phases.{IsAt}
 use Rattle.krb_frame.specs.declared.decoder.Phase.TheVariants as phase
 use Rattle.krb_frame.proofs.Founds.{borrowed-none}
 use Rattle.krb_frame.proofs.Standing.{Clears-none, Clears-frame}
@@ -10,12 +12,17 @@ use Rattle.krb_frame.proofs.decoder.Decoder.next.Goals as goal
 pub returns-in_default : goal.returns-in_default
 returns-in_default c =
     let d = c.self.inside in
-    rw (← c.self.view_is) (Clears-none messages (decoding_of d.limit (ledger_of d.scanner) d.length d.contents.items d.phase) (borrowed-none messages d.limit (ledger_of d.scanner) d.length d.contents.items d.phase c.self.invariant.0 c.in_default.not-Ready))
+    rw (← c.self.view_is) (Clears-none (messages (profile_of d.scanner)) (profile_of d.scanner) (decoding_of (profile_of d.scanner) d.limit (ledger_of d.scanner) (room_for (vec_capacity d.contents) (room_of d.scanner)) d.length d.contents.items d.phase) (borrowed-none (messages (profile_of d.scanner)) (profile_of d.scanner) d.limit (ledger_of d.scanner) (room_for (vec_capacity d.contents) (room_of d.scanner)) d.length d.contents.items d.phase c.self.invariant.0 c.in_default.not-Ready))
 
 pub returns : goal.returns
 returns c =
     let d = c.self.inside in
-    let h = subst (IsAt messages d.limit d.length d.contents.items) c.in-Ready.is c.self.invariant.0 in
-    let f = Clears-frame messages d.limit (ledger_of d.scanner) (ledger_of c.clear_marks.new.scanner) d.length d.contents.items c.clear_contents.new.contents.items h c.clear_contents.ensures c.clear_marks.ensures in
-    let old : decoding_of d.limit (ledger_of d.scanner) d.length d.contents.items phase.Ready ≡ c.args.self.now = ap (λ p. decoding_of d.limit (ledger_of d.scanner) d.length d.contents.items p) (sym c.in-Ready.is) ∙ c.self.view_is in
-    rw (← old) f
+    let h = subst (IsAt (messages (profile_of d.scanner)) d.limit d.length d.contents.items) c.in-Ready.is c.self.invariant.0 in
+    let made = room_for (vec_capacity c.clear_contents.new.contents) (room_of c.clear_marks.new.scanner) in
+    let f = Clears-frame (messages (profile_of d.scanner)) (profile_of d.scanner) d.limit (ledger_of d.scanner) (ledger_of c.clear_marks.new.scanner) (room_for (vec_capacity d.contents) (room_of d.scanner)) made d.length d.contents.items c.clear_contents.new.contents.items h c.clear_contents.ensures.none c.clear_marks.ensures.looks
+    (λ octets marks.
+    let ample : IsAmple (decoding_of (profile_of d.scanner) d.limit (ledger_of d.scanner) (room_for (vec_capacity d.contents) (room_of d.scanner)) d.length d.contents.items d.phase) = record { octets = octets; marks = marks } in
+    let stays = c.is_ample-stays.ensures.1 (subst IsAmple c.self.view_is ample) in
+    record { octets = c.clear_contents.ensures.room stays; marks = c.clear_marks.ensures.room stays }) in
+    let old : decoding_of (profile_of d.scanner) d.limit (ledger_of d.scanner) (room_for (vec_capacity d.contents) (room_of d.scanner)) d.length d.contents.items phase.Ready ≡ c.args.self.now = ap (λ p. decoding_of (profile_of d.scanner) d.limit (ledger_of d.scanner) (room_for (vec_capacity d.contents) (room_of d.scanner)) d.length d.contents.items p) (sym c.in-Ready.is) ∙ c.self.view_is in
+    rw (c.clear_marks.ensures.profile, ← old) f

@@ -1,7 +1,8 @@
-use Rattle.std.proofs.Common.{Some, subst}
+use Rattle.std.proofs.Common.{Some, Err, subst}
 use Rattle.krb_keytab.specs.Streaming.{Reads}
 use Rattle.krb_keytab.specs.declared.records.State.{State}
-use Rattle.krb_keytab.proofs.Streams.{not_done, not_failed}
+use Rattle.krb_keytab.specs.declared.records.State.TheVariants as states
+use Rattle.krb_keytab.proofs.Streams.{opens, version_refused, not_done, not_failed, stands_in}
 use Rattle.krb_keytab.proofs.records.Records.next_record.Goals as goal
 
 pub returns-in-Done-clause-next : goal.returns-in-Done-clause-next
@@ -11,3 +12,20 @@ returns-in-Done-clause-next g c = λ file limit count reads.
 pub returns-in-Failed-clause-next : goal.returns-in-Failed-clause-next
 returns-in-Failed-clause-next g c = λ file limit count reads.
     absurd (not_failed (Some limit) file count c.in-Failed.fault c.args.self.now.reader (subst (λ (s : State). Reads (Some limit) c.args.self.now.reader s file count) c.in-Failed.is reads))
+
+pub returns-in-Failed-clause-refused : goal.returns-in-Failed-clause-refused
+returns-in-Failed-clause-refused g c = λ file limit count reads.
+    absurd (not_failed (Some limit) file count c.in-Failed.fault c.args.self.now.reader (subst (λ (s : State). Reads (Some limit) c.args.self.now.reader s file count) c.in-Failed.is reads))
+
+pub returns-in-Ok-clause-refused : goal.returns-in-Ok-clause-refused
+returns-in-Ok-clause-refused g c = λ file limit count reads.
+    c.next_open.ensures.refused file limit count (opens (Some limit) file count c.in-Ok.field-0 c.args.self.now.reader c.version.new.self (subst (λ (s : State). Reads (Some limit) c.args.self.now.reader s file count) c.in-Start.is reads) c.in-Ok.ensures.read)
+
+pub returns-in-Err-clause-refused : goal.returns-in-Err-clause-refused
+returns-in-Err-clause-refused g c = λ file limit count reads.
+    stands_in (Some limit) file count (Err c.in-Err.fault) c.version.new.self (states.Failed c.in-Err.fault)
+    (version_refused (Some limit) file count c.in-Err.fault (Unit {0}) (states.Failed c.in-Err.fault) c.args.self.now.reader c.version.new.self (subst (λ (s : State). Reads (Some limit) c.args.self.now.reader s file count) c.in-Start.is reads) c.in-Err.ensures.read)
+
+pub returns-in-Open-clause-refused : goal.returns-in-Open-clause-refused
+returns-in-Open-clause-refused g c = λ file limit count reads.
+    c.next_open-in-Open.ensures.refused file limit count (subst (λ (s : State). Reads (Some limit) c.args.self.now.reader s file count) c.in-Open.is reads)

@@ -19,7 +19,7 @@ returns-in-Time-clause-taken c = λ stack marks octets frames m reads at.
 pub returns-in-Bits-clause-taken : goal.returns-in-Bits-clause-taken
 returns-in-Bits-clause-taken c = λ stack marks octets frames m reads at.
     let on : GoesOn (item_at c.args.place) (c.args.end - c.args.start) octets c.args.octet c.bits_next.result c.args.value c.first_octet-first.result (pos 0) =
-    bits_reads (item_at c.args.place) (c.args.end - c.args.start) (c.args.self.now.looked - c.args.start) c.args.value c.args.unused c.first_octet-first.result c.args.octet octets c.bits_next.result (subst (λ k. AreContents k (item_at c.args.place)) c.in-Bits.is (item_row c.args.row.now c.args.place c.requires.known c.requires.row).1.contents) reads (omega arith) (omega arith) c.first_octet-first.ensures c.bits_next.ensures in
+    bits_reads c.in-Bits.least (item_at c.args.place) (c.args.end - c.args.start) (c.args.self.now.looked - c.args.start) c.args.value c.args.unused c.first_octet-first.result c.args.octet octets c.bits_next.result (subst (λ k. AreContents k (item_at c.args.place)) c.in-Bits.is (item_row c.args.row.now c.args.place c.requires.known c.requires.row).1.contents) reads (omega arith) (omega arith) c.first_octet-first.ensures c.bits_next.ensures in
     c.leafed-in-Bits.ensures.taken stack marks _ (item_at c.args.place) c.args.start (c.args.end - c.args.start) _ frames m on.decides
     (reads_end (item_at c.args.place) c.args.start (c.args.end - c.args.start) (c.args.self.now.looked + 1) octets (pos 0) c.requires.fits reads.open_still c.args.octet (omega arith) on.number_is)
     (λ still. tip_on c.args.place c.args.start c.args.end (c.args.self.now.looked + 1) c.args.value _ c.first_octet-first.result octets c.args.octet (to_z-of_z w64 c.args.value c.ranges.value) c.requires.known (omega arith) (omega arith) on.keeps)
@@ -42,16 +42,16 @@ returns-in-Integer-clause-taken c = λ stack marks octets frames m reads at.
 
 pub returns-in-Text-clause-taken : goal.returns-in-Text-clause-taken
 returns-in-Text-clause-taken c = λ stack marks octets frames m reads at.
-    let on : GoesOn (item_at c.args.place) (c.args.end - c.args.start) octets c.args.octet c.any_next.result c.args.value c.args.unused (pos 0) =
-    text_reads (item_at c.args.place) (c.args.end - c.args.start) (c.args.self.now.looked - c.args.start) c.args.value c.args.unused c.args.octet octets c.any_next.result (subst (λ k. AreContents k (item_at c.args.place)) c.in-Text.is (item_row c.args.row.now c.args.place c.requires.known c.requires.row).1.contents) reads (omega arith) (omega arith) c.any_next.ensures in
+    let on : GoesOn (item_at c.args.place) (c.args.end - c.args.start) octets c.args.octet c.text_next.result c.args.value c.args.unused (pos 0) =
+    text_reads c.in-Text.greatest (item_at c.args.place) (c.args.end - c.args.start) (c.args.self.now.looked - c.args.start) c.args.value c.args.unused c.args.octet octets c.text_next.result (subst (λ k. AreContents k (item_at c.args.place)) c.in-Text.is (item_row c.args.row.now c.args.place c.requires.known c.requires.row).1.contents) reads (omega arith) (omega arith) c.text_next.ensures in
     c.leafed-in-Text.ensures.taken stack marks _ (item_at c.args.place) c.args.start (c.args.end - c.args.start) _ frames m on.decides
     (reads_end (item_at c.args.place) c.args.start (c.args.end - c.args.start) (c.args.self.now.looked + 1) octets (pos 0) c.requires.fits reads.open_still c.args.octet (omega arith) on.number_is)
     (λ still. tip_on c.args.place c.args.start c.args.end (c.args.self.now.looked + 1) c.args.value _ c.args.unused octets c.args.octet (to_z-of_z w64 c.args.value c.ranges.value) c.requires.known (omega arith) (omega arith) on.keeps)
 
 pub returns-in-Octets-clause-taken : goal.returns-in-Octets-clause-taken
 returns-in-Octets-clause-taken c = λ stack marks octets frames m reads at.
-    let on : GoesOn (item_at c.args.place) (c.args.end - c.args.start) octets c.args.octet c.any_next-in-Octets.result c.args.value c.args.unused (pos 0) =
-    octets_reads (item_at c.args.place) (c.args.end - c.args.start) (c.args.self.now.looked - c.args.start) c.args.value c.args.unused c.args.octet octets c.any_next-in-Octets.result (subst (λ k. AreContents k (item_at c.args.place)) c.in-Octets.is (item_row c.args.row.now c.args.place c.requires.known c.requires.row).1.contents) reads (omega arith) (omega arith) c.any_next-in-Octets.ensures in
+    let on : GoesOn (item_at c.args.place) (c.args.end - c.args.start) octets c.args.octet c.any_next.result c.args.value c.args.unused (pos 0) =
+    octets_reads (item_at c.args.place) (c.args.end - c.args.start) (c.args.self.now.looked - c.args.start) c.args.value c.args.unused c.args.octet octets c.any_next.result (subst (λ k. AreContents k (item_at c.args.place)) c.in-Octets.is (item_row c.args.row.now c.args.place c.requires.known c.requires.row).1.contents) reads (omega arith) (omega arith) c.any_next.ensures in
     c.leafed-in-Octets.ensures.taken stack marks _ (item_at c.args.place) c.args.start (c.args.end - c.args.start) _ frames m on.decides
     (reads_end (item_at c.args.place) c.args.start (c.args.end - c.args.start) (c.args.self.now.looked + 1) octets (pos 0) c.requires.fits reads.open_still c.args.octet (omega arith) on.number_is)
     (λ still. tip_on c.args.place c.args.start c.args.end (c.args.self.now.looked + 1) c.args.value _ c.args.unused octets c.args.octet (to_z-of_z w64 c.args.value c.ranges.value) c.requires.known (omega arith) (omega arith) on.keeps)
@@ -59,7 +59,7 @@ returns-in-Octets-clause-taken c = λ stack marks octets frames m reads at.
 pub returns-in-Items-clause-taken : goal.returns-in-Items-clause-taken
 returns-in-Items-clause-taken c = λ stack marks octets frames m reads at.
     let on : GoesOn (item_at c.args.place) (c.args.end - c.args.start) octets c.args.octet c.any_next-in-Items.result c.args.value c.args.unused (pos 0) =
-    items_reads (item_at c.args.place) c.in-Items.first (c.args.end - c.args.start) (c.args.self.now.looked - c.args.start) c.args.value c.args.unused c.args.octet octets c.any_next-in-Items.result (subst (λ k. AreContents k (item_at c.args.place)) c.in-Items.is (item_row c.args.row.now c.args.place c.requires.known c.requires.row).1.contents) reads (omega arith) (omega arith) c.any_next-in-Items.ensures in
+    items_reads (item_at c.args.place) c.in-Items.first c.in-Items.empty (c.args.end - c.args.start) (c.args.self.now.looked - c.args.start) c.args.value c.args.unused c.args.octet octets c.any_next-in-Items.result (subst (λ k. AreContents k (item_at c.args.place)) c.in-Items.is (item_row c.args.row.now c.args.place c.requires.known c.requires.row).1.contents) reads (omega arith) (omega arith) c.any_next-in-Items.ensures in
     c.leafed-in-Items.ensures.taken stack marks _ (item_at c.args.place) c.args.start (c.args.end - c.args.start) _ frames m on.decides
     (reads_end (item_at c.args.place) c.args.start (c.args.end - c.args.start) (c.args.self.now.looked + 1) octets (pos 0) c.requires.fits reads.open_still c.args.octet (omega arith) on.number_is)
     (λ still. tip_on c.args.place c.args.start c.args.end (c.args.self.now.looked + 1) c.args.value _ c.args.unused octets c.args.octet (to_z-of_z w64 c.args.value c.ranges.value) c.requires.known (omega arith) (omega arith) on.keeps)

@@ -18,6 +18,6 @@ take_head-inner-requires-clause-reached c =
     accepted_reached c.args.self.now c.take_head-outer.new.self c.args.octets.now c.take_head-outer.result c.requires.reached (ap (λ (it : Accepted). it.verdict) c.take_head-outer.ensures.count) c.take_head-outer.ensures.accepted
 
 pub returns-clause-some : goal.returns-clause-some
-returns-clause-some c = λ before s.
+returns-clause-some c = λ profile before s.
     accepted_then c.args.self.now c.take_head-outer.new.self c.take_head-inner.new.self before c.args.octets.now _ c.take_head-outer.result c.take_head-inner.result
-    (c.take_head-outer.ensures.accepted before s) (ap (λ (it : Accepted). it.verdict) c.take_head-outer.ensures.count) (all_after c.args.found.header c.args.octets.now ∙ ap (λ (it : Accepted). drop it.count c.args.octets.now) (sym c.take_head-outer.ensures.count)) c.take_head-inner.ensures.accepted
+    (c.take_head-outer.ensures.accepted profile before s) (ap (λ (it : Accepted). it.verdict) c.take_head-outer.ensures.count) (all_after c.args.found.header c.args.octets.now ∙ ap (λ (it : Accepted). drop it.count c.args.octets.now) (sym c.take_head-outer.ensures.count)) c.take_head-inner.ensures.accepted

@@ -14,9 +14,9 @@ pub take_item-requires-clause-reached : goal.take_item-requires-clause-reached
 take_item-requires-clause-reached c = so_far_reached c.args.self.now c.items.self c.args.octets.now c.items.all c.requires c.in-Open.is c.items.invariant.0
 
 pub returns-then-all-gt0-clause-some : goal.returns-then-all-gt0-clause-some
-returns-then-all-gt0-clause-some c = λ before s.
-    subst (λ path. IsAccepted c.args.self.now path before c.args.octets.now c.items.all) (sym (c.in_default-take_item.ensures.none refl))
-    (so_far_some c.args.self.now c.items.self c.args.octets.now c.items.all c.if-all-gt0.true c.items.invariant.0 before s)
+returns-then-all-gt0-clause-some c = λ profile before s.
+    subst (λ path. IsAccepted profile c.args.self.now path before c.args.octets.now c.items.all) (sym (c.in_default-take_item.ensures.none refl))
+    (so_far_some c.args.self.now c.items.self c.args.octets.now c.items.all c.if-all-gt0.true c.items.invariant.0 profile before s)
 
 pub returns-else-all-gt0-clause-none : goal.returns-else-all-gt0-clause-none
 returns-else-all-gt0-clause-none c = λ e. c.in_default-take_item.ensures.none refl ∙ so_far_none c.args.self.now c.items.self c.args.octets.now c.items.all c.requires (omega (arith, c.if-all-gt0.false)) c.items.invariant.0

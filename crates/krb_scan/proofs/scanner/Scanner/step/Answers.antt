@@ -1,5 +1,5 @@
-use Rattle.std.proofs.Common.{refl, arith}
-use Rattle.krb_scan.proofs.Reaching.{ends_length, stands_for, unchanged_at, taken_at, some_stand, some_unchanged, some_taken, looked_small, err_holds}
+use Rattle.std.proofs.Common.{[], ◌∷◌, ◌++◌, refl, arith, length-append}
+use Rattle.krb_scan.proofs.Reaching.{ends_length, enough, stands_for, unchanged_at, taken_at, some_stand, some_unchanged, some_taken, looked_small, err_holds}
 use Rattle.krb_scan.proofs.scanner.Scanner.step.Goals as goal
 
 pub take-requires : goal.take-requires
@@ -9,7 +9,7 @@ pub invariant_of-self : goal.invariant_of-self
 invariant_of-self c = record { reached = some_unchanged c.args.self.now.path c.take.new.self c.args.self.now.verdict c.args.self.now.reached c.in_err-decided.ensures.memory c.take.ensures.same.0 c.take.ensures.same.1 }
 
 pub returns-in_err-decided-clause-memory : goal.returns-in_err-decided-clause-memory
-returns-in_err-decided-clause-memory c = λ n octets at.
+returns-in_err-decided-clause-memory c = λ profile n octets at.
     err_holds c.from_residual.result (unchanged_at c.args.self.now.path c.take.new.self c.args.self.now.verdict n octets at c.in_err-decided.ensures.memory c.take.ensures.same.0 c.take.ensures.same.1)
 
 pub returns-in_err-decided-clause-same : goal.returns-in_err-decided-clause-same
@@ -22,11 +22,17 @@ pub invariant_of-self-2 : goal.invariant_of-self-2
 invariant_of-self-2 c = record { reached = some_taken c.args.self.now.path c.take.new.self c.in_ok-decided.decided c.args.self.now.verdict c.args.octet c.args.self.now.reached c.requires (omega arith) c.take.ensures.same.0 c.take.ensures.same.1 c.in_ok-decided.ensures.taken }
 
 pub returns-clause-at : goal.returns-clause-at
-returns-clause-at c = λ n octets at.
+returns-clause-at c = λ profile n octets at.
     taken_at c.args.self.now.path c.take.new.self c.in_ok-decided.decided c.args.self.now.verdict n octets c.args.octet at c.requires (omega arith) c.take.ensures.same.0 c.take.ensures.same.1
-    (c.in_ok-decided.ensures.taken octets (stands_for c.args.self.now.path c.args.self.now.verdict n octets at c.requires))
+    (c.in_ok-decided.ensures.taken profile octets (stands_for c.args.self.now.path c.args.self.now.verdict n octets at c.requires))
 
 pub returns-in_err-decided-clause-ends : goal.returns-in_err-decided-clause-ends
-returns-in_err-decided-clause-ends c = λ n octets at.
+returns-in_err-decided-clause-ends c = λ profile n octets at.
     err_holds c.from_residual.result (ends_length c.args.self.now.path c.take.new.self c.args.self.now.verdict n octets c.args.octet _ at
-    (c.in_err-decided.ensures.taken octets (stands_for c.args.self.now.path c.args.self.now.verdict n octets at c.requires)))
+    (c.in_err-decided.ensures.taken profile octets (stands_for c.args.self.now.path c.args.self.now.verdict n octets at c.requires)))
+
+pub returns-in_err-decided-clause-enough : goal.returns-in_err-decided-clause-enough
+returns-in_err-decided-clause-enough c = λ profile n octets at much.
+    let ends = ends_length c.args.self.now.path c.take.new.self c.args.self.now.verdict n octets c.args.octet _ at
+    (c.in_err-decided.ensures.taken profile octets (stands_for c.args.self.now.path c.args.self.now.verdict n octets at c.requires)) in
+    enough c.from_residual.result c.args.self.now.path c.args.self.now.verdict n octets (octets ++ c.args.octet ∷ []) _ at (err_holds c.from_residual.result c.requires) (omega (arith, length-append octets (c.args.octet ∷ []))) (err_holds c.from_residual.result ends) (err_holds c.from_residual.result (omega (arith, c.in_err-decided.ensures.full))) much

@@ -7,9 +7,10 @@ use Rattle.krb_tool.proofs.listing.Lister.new.Goals as goal
 pub returns : goal.returns
 returns c =
     record {
-      same_limit = ap (λ d. d.limit) c.new.ensures.nothing;
-      waits = ap (status_of messages) c.new.ensures.nothing ∙ more-nothing messages c.args.limit _;
+      same_profile = ap (λ d. d.profile) c.with_profile.ensures.nothing;
+      same_limit = ap (λ d. d.limit) c.with_profile.ensures.nothing;
+      waits = ap (status_of (messages c.args.profile)) c.with_profile.ensures.nothing ∙ more-nothing (messages c.args.profile) c.args.profile c.args.limit _ _;
       none = refl;
-      no_text = c.new-2.ensures.bytes;
-      listed = record { messages = []; stands = c.new.ensures.stands; lines = c.new-2.ensures.bytes; counted = refl };
+      no_text = c.new.ensures.bytes;
+      listed = record { messages = []; stands = c.with_profile.ensures.stands; lines = c.new.ensures.bytes; counted = refl };
     }

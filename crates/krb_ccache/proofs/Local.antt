@@ -1,0 +1,129 @@
+-- What is read, under a limit, decides nothing of where it stands and of what follows it: the same octets are read so again in any other file.
+use Rattle.std.proofs.Common.{◌≡◌, ℕ, zero, suc, ◌+◌, ltb, Option, None, Result, Ok, List, [], ◌∷◌, ◌++◌, length, drop, refl, sym, ◌∙◌, ap, subst, arith, append_assoc, length-append, length-take, le-ltb, take-append-drop, drop_at, false}
+use Rattle.std.proofs.lemmas.List.{take_at, append_cancel_right}
+use Rattle.std.specs.Int.{Width, w8, w16, w32, byte_len, from_be_bytes, cast_signed}
+use Rattle.krb_der.specs.Octets.{AreOctets}
+use Rattle.krb_file.specs.Fields.{Source, Fault, limited, Reader, onward, ◌>>=◌, gives, passes, next_octets_at, octets_at, number_at, signed_at, counted_at, times, names_at}
+use Rattle.krb_file.proofs.Fields.{at, done, ok_is, onward-ok, piece-ok, Reads}
+use Rattle.krb_ccache.specs.declared.value.FilePrincipal.{FilePrincipal}
+use Rattle.krb_ccache.specs.Reading.{principal_at, typed_at, typed_list_at, credential_from}
+use Rattle.krb_ccache.proofs.Headers.{inside_file}
+
+-- the octets that were taken, which are read so wherever they stand
+pub record Again {A : Type 0} (reader : Reader A) (limit : Option ℕ) (s t : Source) (v : A) : Type 0 where
+  pub taken : List ℕ
+  pub parts : s.octets ≡ taken ++ t.octets
+  pub again : (place : ℕ) (rest : List ℕ) → reader (limited limit) (at place (taken ++ rest)) ≡ Ok (v, at (place + length taken) rest)
+
+pub record Local {A : Type 0} (reader : Reader A) : Type 0 where
+  pub local : (limit : Option ℕ) (s t : Source) (v : A) → reader (limited limit) s ≡ Ok (v, t) → Again reader limit s t v
+
+pub Local-then : {A B : Type 0} (reader : Reader A) (next : A → Reader B) → Local reader → ((value : A) → Local (next value)) → Local (reader >>= next)
+Local-then {A} {B} reader next first others = record {
+  local = λ limit s t v e.
+      let a = onward-ok (reader (limited limit) s) (λ p. next p.0 (limited limit) p.1) (v, t) e in
+      let f = first.local limit s a.0.1 a.0.0 a.1 in
+      let o = (others a.0.0).local limit a.0.1 t v a.2 in
+      record {
+        taken = f.taken ++ o.taken;
+        parts = f.parts ∙ ap (λ (x : List ℕ). f.taken ++ x) o.parts ∙ sym (append_assoc f.taken o.taken t.octets);
+        again = λ place rest.
+            ap (λ (x : List ℕ). (reader >>= next) (limited limit) (at place x)) (append_assoc f.taken o.taken rest)
+            ∙ ap (λ (r : Result (A × Source) Fault). onward r (λ p. next p.0 (limited limit) p.1)) (f.again place (o.taken ++ rest))
+            ∙ o.again (place + length f.taken) rest
+            ∙ ap (λ (k : ℕ). done (v, at k rest)) (omega (arith, length-append f.taken o.taken));
+      };
+}
+
+pub Local-gives : {A : Type 0} (value : A) → Local (gives value)
+Local-gives {A} value = record {
+  local = λ limit s t v e.
+      let same = ok_is (value, s) (v, t) e in
+      let whose : value ≡ v = ap (λ (p : A × Source). p.0) same in
+      let rest : s ≡ t = ap (λ (p : A × Source). p.1) same in
+      record {
+        taken = [];
+        parts = ap (λ (x : Source). x.octets) rest;
+        again = λ place more. ap (λ (x : A). done (x, at place more)) whose ∙ ap (λ (k : ℕ). done (v, at k more)) (omega arith);
+      };
+}
+
+piece-local : (most : Option ℕ) (size : ℕ) (limit : Option ℕ) (s t : Source) (v : List ℕ) → next_octets_at most size (limited limit) s ≡ Ok (v, t) → Again (λ bounds source. next_octets_at most size bounds source) limit s t v
+piece-local most size limit s t v e =
+    let p = piece-ok most size (limited limit) s t v e in
+    let len : length v ≡ size = ap length p.octets ∙ omega (arith, length-take size s.octets, p.long) in
+    record {
+      taken = v;
+      parts = sym (take-append-drop size s.octets) ∙ ap (λ (x : List ℕ). x ++ drop size s.octets) (sym p.octets) ∙ ap (λ (x : Source). v ++ x.octets) (sym p.source);
+      again = λ place rest. subst (λ (k : ℕ). next_octets_at most k (limited limit) (at place (v ++ rest)) ≡ Ok (v, at (place + length v) rest)) len (read place rest (subst (λ (k : ℕ). passes k most ≡ false) (sym len) p.under));
+    }
+  where
+    read : (place : ℕ) (rest : List ℕ) → passes (length v) most ≡ false → next_octets_at most (length v) (limited limit) (at place (v ++ rest)) ≡ Ok (v, at (place + length v) rest)
+    read place rest under =
+        let long : ltb (length (v ++ rest)) (length v) ≡ false = le-ltb _ _ (omega (arith, length-append v rest)) in
+        rw (under, long, take_at v rest (length v) refl, drop_at v rest (length v) refl)
+
+Local-piece : (size : ℕ) → Local (next_octets_at None size)
+Local-piece size = record { local = λ limit s t v e. piece-local None size limit s t v e }
+
+Local-octets : (size : ℕ) → Local (octets_at size)
+Local-octets size = record {
+  local = λ limit s t v e.
+      let a = piece-local limit size limit s t v e in
+      record { taken = a.taken; parts = a.parts; again = a.again };
+}
+
+-- ---- what is made of these
+pub Local-number : (w : Width) → Local (number_at w)
+Local-number w = Local-then (next_octets_at None (byte_len w)) _ (Local-piece (byte_len w)) (λ octets. Local-gives (from_be_bytes w octets))
+
+Local-signed : (w : Width) → Local (signed_at w)
+Local-signed w = Local-then (number_at w) _ (Local-number w) (λ n. Local-gives (cast_signed w n))
+
+Local-counted : (w : Width) → Local (counted_at w)
+Local-counted w = Local-then (number_at w) octets_at (Local-number w) Local-octets
+
+Local-times : {A : Type 0} (item_at : Reader A) → Local item_at → (n : ℕ) → Local (times n item_at)
+Local-times item_at one zero = Local-gives []
+Local-times item_at one (suc n) = Local-then item_at _ one (λ first. Local-then (times n item_at) _ (Local-times item_at one n) (λ others. Local-gives (first ∷ others)))
+
+Local-names : (w : Width) → Local (names_at w)
+Local-names w =
+    Local-then (number_at w) _ (Local-number w) (λ count.
+    Local-then (counted_at w) _ (Local-counted w) (λ realm.
+    Local-then (times count (counted_at w)) _ (Local-times (counted_at w) (Local-counted w) count) (λ components. Local-gives (record { realm = realm; components = components }))))
+
+pub Local-principal : Local principal_at
+Local-principal = Local-then (signed_at w32) _ (Local-signed w32) (λ name_type. Local-then (names_at w32) _ (Local-names w32) (λ names. Local-gives (record { name_type = name_type; realm = names.realm; components = names.components })))
+
+Local-typed : Local typed_at
+Local-typed = Local-then (number_at w16) _ (Local-number w16) (λ kind. Local-then (counted_at w32) _ (Local-counted w32) (λ octets. Local-gives (record { kind = kind; octets = octets })))
+
+Local-typed_list : Local typed_list_at
+Local-typed_list = Local-then (number_at w32) _ (Local-number w32) (λ count. Local-times typed_at Local-typed count)
+
+pub Local-from_key : (client server : FilePrincipal) (enctype : ℕ) → Local (credential_from client server enctype)
+Local-from_key client server enctype =
+    Local-then (counted_at w32) _ (Local-counted w32) (λ key.
+    Local-then (number_at w32) _ (Local-number w32) (λ authtime.
+    Local-then (number_at w32) _ (Local-number w32) (λ starttime.
+    Local-then (number_at w32) _ (Local-number w32) (λ endtime.
+    Local-then (number_at w32) _ (Local-number w32) (λ renew_till.
+    Local-then (number_at w8) _ (Local-number w8) (λ is_skey.
+    Local-then (number_at w32) _ (Local-number w32) (λ flags.
+    Local-then typed_list_at _ Local-typed_list (λ addresses.
+    Local-then typed_list_at _ Local-typed_list (λ authdata.
+    Local-then (counted_at w32) _ (Local-counted w32) (λ ticket.
+    Local-then (counted_at w32) _ (Local-counted w32) (λ second_ticket.
+    Local-gives (record { client = client; server = server; enctype = enctype; key = key; authtime = authtime; starttime = starttime; endtime = endtime; renew_till = renew_till; is_skey = is_skey; flags = flags; addresses = addresses; authdata = authdata; ticket = ticket; second_ticket = second_ticket }))))))))))))
+
+-- ---- what was read once is read again of its spelling
+abbrev pub IsReadAgain : {A : Type 0} → Reader A → (A → List ℕ) → Option ℕ → A → Type 0
+IsReadAgain reader spell limit v = (place : ℕ) (rest : List ℕ) → reader (limited limit) (at place (spell v ++ rest)) ≡ Ok (v, at (place + length (spell v)) rest)
+
+pub read-again : {A : Type 0} (reader : Reader A) (spell : A → List ℕ) (Fits : A → Type 0) → Reads reader spell Fits → Local reader → (limit : Option ℕ) (s t : Source) (v : A) → AreOctets s.octets → reader (limited limit) s ≡ Ok (v, t) → IsReadAgain reader spell limit v
+read-again reader spell Fits laws local limit s t v fits e =
+    let a = local.local limit s t v e in
+    let p = laws.sound (limited limit) s t v fits (inside_file limit s.place) e in
+    let same : a.taken ≡ spell v = append_cancel_right a.taken (spell v) t.octets (sym a.parts ∙ p.0.parts) in
+    subst (λ (x : List ℕ). (place : ℕ) (rest : List ℕ) → reader (limited limit) (at place (x ++ rest)) ≡ Ok (v, at (place + length x) rest)) same a.again

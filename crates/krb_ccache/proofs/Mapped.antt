@@ -1,0 +1,54 @@
+-- Readers that read the same and keep another part of it.
+use Rattle.std.proofs.Common.{◌≡◌, ℕ, zero, suc, Option, Result, Ok, Err, List, [], ◌∷◌, length, map, refl, ◌∙◌, ap}
+use Rattle.std.specs.Int.{w16}
+use Rattle.krb_file.specs.Fields.{Source, Fault, Bounds, limited, Reader, onward, ◌>>=◌, gives, number_at}
+use Rattle.krb_file.proofs.Fields.{at}
+use Rattle.krb_ccache.specs.declared.value.Credential.{Credential}
+use Rattle.krb_ccache.specs.declared.value.Credential3.{Credential3}
+use Rattle.krb_ccache.specs.Reading.{principal_at, credential_from, again_at, credential_at, once, twice, Items, item_and, items_within, items_after}
+
+module _ {A B : Type 0} (part : A → B) where
+  abbrev of_read : Result (A × Source) Fault → Result (B × Source) Fault
+  of_read (Ok p) = Ok (part p.0, p.1)
+  of_read (Err f) = Err f
+
+  abbrev pub Mapped : Reader A → Reader B → Type 0
+  Mapped reader other = (bounds : Bounds) (s : Source) → of_read (reader bounds s) ≡ other bounds s
+
+  onward-mapped : {X : Type 0} (r : Result (X × Source) Fault) (next : X → Reader A) (others : X → Reader B) (bounds : Bounds) → ((x : X) → Mapped (next x) (others x)) → of_read (onward r (λ p. next p.0 bounds p.1)) ≡ onward r (λ p. others p.0 bounds p.1)
+  onward-mapped (Ok p) next others bounds same = same p.0 bounds p.1
+  onward-mapped (Err f) next others bounds same = refl
+
+  Mapped-then : {X : Type 0} (reader : Reader X) (next : X → Reader A) (others : X → Reader B) → ((x : X) → Mapped (next x) (others x)) → Mapped (reader >>= next) (reader >>= others)
+  Mapped-then reader next others same bounds s = onward-mapped (reader bounds s) next others bounds same
+
+  abbrev of_items : Items A → Items B
+  of_items found = record { items = map part found.items; end = found.end }
+
+  and-mapped : (r : Result (A × Source) Fault) (next : Source → Items A) (others : Source → Items B) → ((t : Source) → of_items (next t) ≡ others t) → of_items (item_and r next) ≡ item_and (of_read r) others
+  and-mapped (Err f) next others same = refl
+  and-mapped (Ok p) next others same = ap (λ (i : Items B). let it : Items B = record { items = part p.0 ∷ i.items; end = i.end } in it) (same p.1)
+
+  module _ (item_at : Reader A) (other_at : Reader B) (mapped : Mapped item_at other_at) (limit : Option ℕ) where
+    within-mapped : (bound place : ℕ) (octets : List ℕ) → of_items (items_within bound item_at limit (at place octets)) ≡ items_within bound other_at limit (at place octets)
+    within-mapped zero place octets = refl
+    within-mapped (suc bound) place [] = refl
+    within-mapped (suc bound) place (octet ∷ octets) =
+        let s = at place (octet ∷ octets) in
+        and-mapped (item_at (limited limit) s) (items_within bound item_at limit) (items_within bound other_at limit) (λ t. within-mapped bound t.place t.octets)
+        ∙ ap (λ (r : Result (B × Source) Fault). item_and r (items_within bound other_at limit)) (mapped (limited limit) s)
+
+    pub items-mapped : (s : Source) → of_items (items_after item_at limit s) ≡ items_after other_at limit s
+    items-mapped s = within-mapped (length s.octets) s.place s.octets
+
+-- a credential of version 3, and the credential alone
+abbrev pub credential_part : Credential3 → Credential
+credential_part c = c.credential
+
+pub Mapped-once : (version : ℕ) → Mapped credential_part (credential_at twice version) (credential_at once version)
+Mapped-once version =
+    Mapped-then credential_part principal_at _ _ (λ client.
+    Mapped-then credential_part principal_at _ _ (λ server.
+    Mapped-then credential_part (number_at w16) _ _ (λ enctype.
+    Mapped-then credential_part (again_at version enctype) _ _ (λ again.
+    Mapped-then credential_part (credential_from client server enctype) (λ credential. gives (twice credential again)) (λ credential. gives (once credential again)) (λ credential bounds s. refl)))))

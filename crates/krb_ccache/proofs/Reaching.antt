@@ -1,0 +1,63 @@
+-- A credential reaches its end: nothing that was taken for it stays ahead.
+use Rattle.std.proofs.Common.{ℕ, ◌+◌, Option, Some, arith}
+use Rattle.std.specs.Int.{w8, w16, w32}
+use Rattle.krb_file.specs.Fields.{gives, number_at, signed_at, counted_at, times, names_at}
+use Rattle.krb_file.specs.FieldReaders.{Held, Stays, LooksTo, HasRead, bounded}
+use Rattle.krb_file.proofs.Steps.{Steps-gives, Steps-counted, Steps-times}
+use Rattle.krb_file.proofs.Reaching.{AtLeast, AtLeast-then, AtLeast-none, AtLeast-number, AtLeast-signed, AtLeast-counted, goes_on, item_stays}
+use Rattle.krb_ccache.specs.declared.value.Credential.{Credential}
+use Rattle.krb_ccache.specs.declared.value.FilePrincipal.{FilePrincipal}
+use Rattle.krb_ccache.specs.Reading.{principal_at, typed_at, typed_list_at, credential_from, again_at, credential_at}
+use Rattle.krb_ccache.proofs.Faults.{Steps-typed, Steps-again}
+
+-- ---- a header, whose fields have an end of their own
+pub Stays-bounded : (size : ℕ) (held : Held) → Stays held (bounded (Some (held.place + size)) held)
+Stays-bounded size held = record { on = omega arith; within = λ ahead. omega arith }
+
+pub ends_inside : (outer : Option ℕ) (old new : Held) → Stays old new → Stays old (bounded outer new)
+ends_inside outer old new stays = record { on = stays.on; within = stays.within }
+
+-- ---- how many octets there are at least
+nothing : {A : Type 0} (value : A) → AtLeast 0 (gives value)
+nothing value = AtLeast-none (gives value) (Steps-gives value)
+
+AtLeast-names : AtLeast 8 (names_at w32)
+AtLeast-names =
+    AtLeast-then 4 4 (number_at w32) _ (AtLeast-number w32) (λ count.
+    AtLeast-then 4 0 (counted_at w32) _ (AtLeast-counted w32) (λ realm.
+    AtLeast-then 0 0 (times count (counted_at w32)) _ (AtLeast-none (times count (counted_at w32)) (Steps-times (counted_at w32) (Steps-counted w32) count)) (λ components. nothing (record { realm = realm; components = components }))))
+
+AtLeast-principal : AtLeast 12 principal_at
+AtLeast-principal =
+    AtLeast-then 4 8 (signed_at w32) _ (AtLeast-signed w32) (λ name_type.
+    AtLeast-then 8 0 (names_at w32) _ AtLeast-names (λ names. nothing (record { name_type = name_type; realm = names.realm; components = names.components })))
+
+pub AtLeast-typed_list : AtLeast 4 typed_list_at
+AtLeast-typed_list = AtLeast-then 4 0 (number_at w32) _ (AtLeast-number w32) (λ count. AtLeast-none (times count typed_at) (Steps-times typed_at Steps-typed count))
+
+AtLeast-from_key : (client server : FilePrincipal) (enctype : ℕ) → AtLeast 41 (credential_from client server enctype)
+AtLeast-from_key client server enctype =
+    AtLeast-then 4 37 (counted_at w32) _ (AtLeast-counted w32) (λ key.
+    AtLeast-then 4 33 (number_at w32) _ (AtLeast-number w32) (λ authtime.
+    AtLeast-then 4 29 (number_at w32) _ (AtLeast-number w32) (λ starttime.
+    AtLeast-then 4 25 (number_at w32) _ (AtLeast-number w32) (λ endtime.
+    AtLeast-then 4 21 (number_at w32) _ (AtLeast-number w32) (λ renew_till.
+    AtLeast-then 1 20 (number_at w8) _ (AtLeast-number w8) (λ is_skey.
+    AtLeast-then 4 16 (number_at w32) _ (AtLeast-number w32) (λ flags.
+    AtLeast-then 4 12 typed_list_at _ AtLeast-typed_list (λ addresses.
+    AtLeast-then 4 8 typed_list_at _ AtLeast-typed_list (λ authdata.
+    AtLeast-then 4 4 (counted_at w32) _ (AtLeast-counted w32) (λ ticket.
+    AtLeast-then 4 0 (counted_at w32) _ (AtLeast-counted w32) (λ second_ticket.
+    nothing (record { client = client; server = server; enctype = enctype; key = key; authtime = authtime; starttime = starttime; endtime = endtime; renew_till = renew_till; is_skey = is_skey; flags = flags; addresses = addresses; authdata = authdata; ticket = ticket; second_ticket = second_ticket }))))))))))))
+
+AtLeast-credential : {A : Type 0} (kept : Credential → ℕ → A) (version : ℕ) → AtLeast 67 (credential_at kept version)
+AtLeast-credential kept version =
+    AtLeast-then 12 55 principal_at _ AtLeast-principal (λ client.
+    AtLeast-then 12 43 principal_at _ AtLeast-principal (λ server.
+    AtLeast-then 2 41 (number_at w16) _ (AtLeast-number w16) (λ enctype.
+    AtLeast-then 0 41 (again_at version enctype) _ (AtLeast-none (again_at version enctype) (Steps-again version enctype)) (λ again.
+    AtLeast-then 41 0 (credential_from client server enctype) _ (AtLeast-from_key client server enctype) (λ credential. nothing (kept credential again))))))
+
+pub credential_stays : {A : Type 0} (kept : Credential → ℕ → A) (version : ℕ) (item : A) (old mid some new : Held) → LooksTo 67 old mid → LooksTo 1 mid some → HasRead (credential_at kept version) item some new → Stays some new → Stays old new
+credential_stays kept version item old mid some new looks more read stays =
+    item_stays 67 old mid some new (omega arith) looks more stays (goes_on 67 (credential_at kept version) item some new (AtLeast-credential kept version) read)

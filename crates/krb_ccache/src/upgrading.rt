@@ -1,0 +1,41 @@
+//! Caches of version 3, as caches of version 4.
+
+ghost use Rattle.std.specs.Prelude.{◌≡◌, ◌≤◌, [], length, map, IfOk, IfErr};
+ghost use Rattle.std.specs.Vec.{vec_capacity};
+ghost use Rattle.krb_ccache.specs.Spelling.{upgraded};
+
+use crate::value::{Cache3, Ccache, Credential, Credential3, Header};
+use krb_der::Many;
+use std::alloc::Global;
+
+/// The cache in version 4: a header of no fields, the same principal and the same credentials in the
+/// same order. What is dropped is the encryption type as it is written again. Where memory runs out
+/// the cache is handed back.
+pub fn upgrade(alloc: Global, cache: Cache3) -> Result<Ccache, Cache3>
+    ensures upgraded { IfOk result (λ made. made ≡ upgraded cache) }
+    ensures unchanged { IfErr result (λ same. same ≡ cache) }
+{
+    let count = cache.credentials.as_slice().len();
+    let Ok(mut credentials) = Vec::with_capacity(alloc, count) else {
+        return Err(cache);
+    };
+    move_credentials(cache.credentials.into_vec(), &mut credentials);
+    Ok(Ccache {
+        header: Header {
+            fields: Many::new(Vec::new(alloc)),
+        },
+        principal: cache.principal,
+        credentials: Many::new(credentials),
+    })
+}
+
+/// Moves credentials into room that is there.
+fn move_credentials(from: Vec<Credential3>, to: &mut Vec<Credential>)
+    requires none { to.old.items ≡ [] }
+    requires room { length from.items ≤ vec_capacity to.old }
+    ensures { to.new.items ≡ map (λ c. c.credential) from.items }
+{
+    for item in from {
+        to.push_reserved(item.credential);
+    }
+}

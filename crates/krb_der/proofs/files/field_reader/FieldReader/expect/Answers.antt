@@ -1,9 +1,0 @@
-use Rattle.std.proofs.Common.{rules}
-use Rattle.krb_der.proofs.FieldReaders.{some_rest}
-use Rattle.krb_der.proofs.files.field_reader.FieldReader.expect.Goals as goal
-
-pub returns-else-is_one_of : goal.returns-else-is_one_of
-returns-else-is_one_of g c =
-    let now = some_rest (g.Self.FieldReader.held c.number8.new.self) in
-    let a = c.in_ok-octet.ensures.from now.rest now.there in
-    record { octets = a.0; there = a.1; refused = rw (a.2, c.place-place.ensures.value) (search rules) }

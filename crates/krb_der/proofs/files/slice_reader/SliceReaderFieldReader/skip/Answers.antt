@@ -1,6 +1,0 @@
-use Rattle.krb_der.specs.FieldReaders.{of_slice}
-use Rattle.krb_der.proofs.FieldReaders.{skipped}
-use Rattle.krb_der.proofs.files.slice_reader.SliceReaderFieldReader.skip.Goals as goal
-
-pub returns : goal.returns
-returns c = skipped c.args.size c.in_ok-taken.taken.now c.are_zero.result (of_slice c.args.self.now) (of_slice c.take.new.self) c.are_zero.ensures c.in_ok-taken.ensures.read

@@ -1,0 +1,124 @@
+-- What readers of fields read one after another.
+use Rattle.std.proofs.Common.{◌≡◌, ℕ, zero, suc, ◌+◌, ◌<◌, ◌≤◌, Bool, Option, Some, None, Result, Ok, Err, List, [], ◌∷◌, ◌++◌, refl, sym, ◌∙◌, ap, subst, arith}
+use Rattle.krb_file.specs.Fields.{Source, Fault, Bounds, ended, Fails, Reader, onward, ◌>>=◌, gives, next_octets_at, are_zero, times}
+use Rattle.krb_file.specs.FieldReaders.{Held, GoesOn, MayHave, source_at, reach, Stays, HasRead, FailsBy, skipped_at, Slice, of_slice}
+use Rattle.krb_file.specs.declared.fault.FileFault.{FileFault}
+use Rattle.krb_file.specs.declared.fault.FileFault.TheVariants as faults
+use Rattle.krb_file.proofs.Fields.{done, ok_is, onward-ok}
+
+-- something may always be left
+pub record SomeRest (held : Held) : Type 0 where
+  pub rest : List ℕ
+  pub there : MayHave held rest
+
+some_end : (front : List ℕ) (left : Option (List ℕ)) → (rest : List ℕ) × GoesOn front left rest
+some_end front None = (front ++ [], ([], refl))
+some_end front (Some known) = (front ++ known, refl)
+
+pub some_rest : (held : Held) → SomeRest held
+some_rest held = let a = some_end held.ahead held.left in record { rest = a.0; there = a.1 }
+
+-- ---- how many octets were taken
+pub Stays-same : {old new : Held} → new ≡ old → Stays old new
+Stays-same {old} {new} same = rw same (record { on = omega arith; within = λ more. omega arith })
+
+pub Stays-then : {old mid new : Held} → Stays old mid → Stays mid new → Stays old new
+Stays-then {old} {mid} {new} p q = record {
+  on = omega (arith, p.on, q.on);
+  within = λ more. let first : reach new ≤ reach mid = q.within more in let second : reach mid ≤ reach old = p.within (omega (arith, q.on)) in omega (arith, first, second);
+}
+
+-- ---- what is made of a value that was read
+pub made_of : {A B : Type 0} (reader : Reader A) (make : A → B) (v : A) (s t : Held) → HasRead reader v s t → HasRead (reader >>= λ x. gives (make x)) (make v) s t
+made_of {A} {B} reader make v s t read = record {
+  same_bounds = read.same_bounds;
+  from = λ rest there.
+      let a = read.from rest there in
+      (a.0, a.1, ap (λ (r : Result (A × Source) Fault). onward r (λ p. done (make p.0, p.1))) a.2);
+}
+
+pub skipped : (size : ℕ) (octets : List ℕ) (zeros : Bool) (s t : Held) → zeros ≡ are_zero octets → HasRead (next_octets_at None size) octets s t → HasRead (skipped_at size) zeros s t
+skipped size octets zeros s t is read = subst (λ (b : Bool). HasRead (skipped_at size) b s t) (sym is) (made_of (next_octets_at None size) are_zero octets s t read)
+
+less : (m n : ℕ) → suc m < suc n → m < n
+less m n lt = omega arith
+
+-- ---- items of a number, as a loop reads them
+module _ {A : Type 0} (item_at : Reader A) (b : Bounds) where
+  abbrev read_all : List A → Source → Result (List A × Source) Fault
+  read_all xs s = Ok (xs, s)
+
+  pub times-more : (n : ℕ) (s t u : Source) (xs : List A) (x : A) → times n item_at b s ≡ Ok (xs, t) → item_at b t ≡ Ok (x, u) → times (suc n) item_at b s ≡ Ok (xs ++ x ∷ [], u)
+  times-more zero s t u xs x e f =
+      let same : ([], s) ≡ (xs, t) = ok_is ([], s) (xs, t) e in
+      let nothing : [] ≡ xs = ap (λ (p : List A × Source). p.0) same in
+      let here : item_at b s ≡ Ok (x, u) = ap (λ (p : List A × Source). item_at b p.1) same ∙ f in
+      ap (λ (r : Result (A × Source) Fault). onward r (λ p. read_all (p.0 ∷ []) p.1)) here ∙ ap (λ (l : List A). read_all (l ++ x ∷ []) u) nothing
+  times-more (suc n) s t u xs x e f =
+      let first = onward-ok (item_at b s) (λ p. onward (times n item_at b p.1) (λ q. read_all (p.0 ∷ q.0) q.1)) (xs, t) e in
+      let others = onward-ok (times n item_at b first.0.1) (λ q. read_all (first.0.0 ∷ q.0) q.1) (xs, t) first.2 in
+      let same : (first.0.0 ∷ others.0.0, others.0.1) ≡ (xs, t) = ok_is (first.0.0 ∷ others.0.0, others.0.1) (xs, t) others.2 in
+      let after : item_at b others.0.1 ≡ Ok (x, u) = ap (λ (p : List A × Source). item_at b p.1) same ∙ f in
+      let more = times-more n first.0.1 others.0.1 u others.0.0 x others.1 after in
+      ap (λ (r : Result (A × Source) Fault). onward r (λ p. onward (times (suc n) item_at b p.1) (λ q. read_all (p.0 ∷ q.0) q.1))) first.1
+      ∙ ap (λ (r : Result (List A × Source) Fault). onward r (λ q. read_all (first.0.0 ∷ q.0) q.1)) more
+      ∙ ap (λ (p : List A × Source). read_all (p.0 ++ x ∷ []) u) same
+
+  pub times-fails : (n count : ℕ) (s t : Source) (xs : List A) (fault : Fault) → n < count → times n item_at b s ≡ Ok (xs, t) → item_at b t ≡ Err fault → times count item_at b s ≡ Err fault
+  times-fails n zero s t xs fault lt e f = absurd (omega arith)
+  times-fails zero (suc count) s t xs fault lt e f =
+      let same : ([], s) ≡ (xs, t) = ok_is ([], s) (xs, t) e in
+      let here : item_at b s ≡ Err fault = ap (λ (p : List A × Source). item_at b p.1) same ∙ f in
+      ap (λ (r : Result (A × Source) Fault). onward r (λ p. onward (times count item_at b p.1) (λ q. read_all (p.0 ∷ q.0) q.1))) here
+  times-fails (suc n) (suc count) s t xs fault lt e f =
+      let first = onward-ok (item_at b s) (λ p. onward (times n item_at b p.1) (λ q. read_all (p.0 ∷ q.0) q.1)) (xs, t) e in
+      let others = onward-ok (times n item_at b first.0.1) (λ q. read_all (first.0.0 ∷ q.0) q.1) (xs, t) first.2 in
+      let same : (first.0.0 ∷ others.0.0, others.0.1) ≡ (xs, t) = ok_is (first.0.0 ∷ others.0.0, others.0.1) (xs, t) others.2 in
+      let after : item_at b others.0.1 ≡ Err fault = ap (λ (p : List A × Source). item_at b p.1) same ∙ f in
+      let more : times count item_at b first.0.1 ≡ Err fault = times-fails n count first.0.1 others.0.1 others.0.0 fault (less n count lt) others.1 after in
+      ap (λ (r : Result (A × Source) Fault). onward r (λ p. onward (times count item_at b p.1) (λ q. read_all (p.0 ∷ q.0) q.1))) first.1
+      ∙ ap (λ (r : Result (List A × Source) Fault). onward r (λ q. read_all (first.0.0 ∷ q.0) q.1)) more
+
+module _ {A : Type 0} (item_at : Reader A) where
+  pub none_read : (h : Held) → HasRead (times 0 item_at) [] h h
+  none_read h = record { same_bounds = refl; from = λ rest there. (rest, there, refl) }
+
+  pub one_more : (n : ℕ) (s t u : Held) (xs : List A) (x : A) → HasRead (times n item_at) xs s t → HasRead item_at x t u → HasRead (times (n + 1) item_at) (xs ++ x ∷ []) s u
+  one_more n s t u xs x before item = subst (λ (k : ℕ). HasRead (times k item_at) (xs ++ x ∷ []) s u) next (record {
+    same_bounds = item.same_bounds ∙ before.same_bounds;
+    from = λ rest there.
+        let b = item.from rest there in
+        let a = before.from b.0 b.1 in
+        (a.0, a.1, times-more item_at s.bounds n (source_at s.place a.0) (source_at t.place b.0) (source_at u.place rest) xs x a.2 (subst (λ (k : Bounds). item_at k (source_at t.place b.0) ≡ Ok (x, source_at u.place rest)) before.same_bounds b.2));
+  })
+    where
+      next : suc n ≡ n + 1
+      next = omega arith
+
+  pub one_fails : (n count : ℕ) (s t : Held) (xs : List A) (e : FileFault) (MayFail : Type 0) → n < count → HasRead (times n item_at) xs s t → FailsBy e item_at MayFail t → FailsBy e (times count item_at) MayFail s
+  one_fails n count s t xs faults.Memory MayFail lt before fails = tt
+  one_fails n count s t xs faults.Read MayFail lt before fails = fails
+  one_fails n count s t xs (faults.Refused place why) MayFail lt before fails =
+      let a = before.from fails.octets fails.there in
+      let fault : Fault = record { place = place; why = why } in
+      record {
+        octets = a.0;
+        there = a.1;
+        refused = times-fails item_at s.bounds n count (source_at s.place a.0) (source_at t.place fails.octets) xs fault lt a.2 (subst (λ (k : Bounds). item_at k (source_at t.place fails.octets) ≡ Err fault) before.same_bounds fails.refused);
+      }
+
+-- ---- of a slice, what is left is known
+pub known : {A : Type 0} (reader : Reader A) (v : A) (s t : Slice) → HasRead reader v (of_slice s) (of_slice t) → reader (ended s.end) (source_at s.place s.octets) ≡ Ok (v, source_at t.place t.octets)
+known {A} reader v s t read =
+    let a = read.from t.octets refl in
+    subst (λ (o : List ℕ). reader (ended s.end) (source_at s.place o) ≡ Ok (v, source_at t.place t.octets)) a.1 a.2
+
+pub known_end : {A : Type 0} (reader : Reader A) (v : A) (s t : Slice) → HasRead reader v (of_slice s) (of_slice t) → t.end ≡ s.end
+known_end reader v s t read = ap (λ (b : Bounds). b.end) read.same_bounds
+
+pub known_fault : {A : Type 0} (reader : Reader A) (e : FileFault) (s : Slice) → FailsBy e reader ⊥ (of_slice s) → Fails e (reader (ended s.end) (source_at s.place s.octets))
+known_fault reader faults.Memory s fails = tt
+known_fault reader faults.Read s fails = fails
+known_fault reader (faults.Refused place why) s fails =
+    let fault : Fault = record { place = place; why = why } in
+    subst (λ (o : List ℕ). reader (ended s.end) (source_at s.place o) ≡ Err fault) fails.there fails.refused

@@ -1,0 +1,144 @@
+-- How far readers go: over a number of octets at least, or up to the end of what a field stands in.
+use Rattle.std.proofs.Common.{◌≡◌, ℕ, ◌+◌, ◌-◌, ◌<◌, ◌≤◌, Bool, true, false, Option, Some, None, Ok, List, [], ◌∷◌, length, refl, ap, subst, arith}
+use Rattle.std.specs.Int.{Width, byte_len, from_be_bytes, cast_signed}
+use Rattle.krb_file.specs.Fields.{Source, Bounds, Reader, ◌>>=◌, gives, is_empty, next_octets_at, octets_at, room, rest_at, number_at, signed_at, counted_at, within}
+use Rattle.krb_file.specs.FieldReaders.{Held, GoesOn, source_at, reach, Stays, LooksTo, HasRead, ended_at}
+use Rattle.krb_file.proofs.Fields.{ok_is, onward-ok, piece-ok}
+use Rattle.krb_file.proofs.FieldReaders.{some_rest, Stays-same, Stays-then}
+use Rattle.krb_file.proofs.Steps.{Steps, Steps-gives, Steps-octets}
+
+-- it goes on over n octets at least
+pub record AtLeast {A : Type 0} (n : ℕ) (reader : Reader A) : Type 0 where
+  pub goes : (bounds : Bounds) (s : Source) (v : A) (t : Source) → reader bounds s ≡ Ok (v, t) → s.place + n ≤ t.place
+
+pub AtLeast-none : {A : Type 0} (reader : Reader A) → Steps reader → AtLeast 0 reader
+AtLeast-none reader steps = record { goes = λ bounds s v t e. let m = steps.moves bounds s v t e in omega (arith, m.on) }
+
+pub AtLeast-then : {A B : Type 0} (m n : ℕ) (reader : Reader A) (next : A → Reader B) → AtLeast m reader → ((value : A) → AtLeast n (next value)) → AtLeast (m + n) (reader >>= next)
+AtLeast-then m n reader next first others = record {
+  goes = λ bounds s v t e.
+      let a = onward-ok (reader bounds s) (λ p. next p.0 bounds p.1) (v, t) e in
+      let one = first.goes bounds s a.0.0 a.0.1 a.1 in
+      let two = (others a.0.0).goes bounds a.0.1 v t a.2 in
+      omega (arith, one, two);
+}
+
+pub AtLeast-piece : (size : ℕ) → AtLeast size (next_octets_at None size)
+AtLeast-piece size = record {
+  goes = λ bounds s v t e. let p = piece-ok None size bounds s t v e in rw p.source (omega arith);
+}
+
+pub AtLeast-number : (w : Width) → AtLeast (byte_len w) (number_at w)
+AtLeast-number w = record {
+  goes = λ bounds s v t e.
+      let a = onward-ok (next_octets_at None (byte_len w) bounds s) (λ p. Ok (from_be_bytes w p.0, p.1)) (v, t) e in
+      let one = (AtLeast-piece (byte_len w)).goes bounds s a.0.0 a.0.1 a.1 in
+      let same : a.0.1 ≡ t = ap (λ (x : ℕ × Source). x.1) (ok_is (from_be_bytes w a.0.0, a.0.1) (v, t) a.2) in
+      subst (λ (x : Source). s.place + byte_len w ≤ x.place) same one;
+}
+
+pub AtLeast-fewer : {A : Type 0} (m n : ℕ) (reader : Reader A) → m ≤ n → AtLeast n reader → AtLeast m reader
+AtLeast-fewer m n reader few long = record { goes = λ bounds s v t e. let m = long.goes bounds s v t e in omega (arith, m, few) }
+
+pub AtLeast-signed : (w : Width) → AtLeast (byte_len w) (signed_at w)
+AtLeast-signed w = AtLeast-fewer (byte_len w) (byte_len w + 0) (signed_at w) (omega arith) (AtLeast-then (byte_len w) 0 (number_at w) _ (AtLeast-number w) (λ n. AtLeast-none (gives (cast_signed w n)) (Steps-gives (cast_signed w n))))
+
+pub AtLeast-counted : (w : Width) → AtLeast (byte_len w) (counted_at w)
+AtLeast-counted w = AtLeast-fewer (byte_len w) (byte_len w + 0) (counted_at w) (omega arith) (AtLeast-then (byte_len w) 0 (number_at w) octets_at (AtLeast-number w) (λ size. AtLeast-none (octets_at size) (Steps-octets size)))
+
+-- ---- up to the end
+pub record ToEnd {A : Type 0} (reader : Reader A) : Type 0 where
+  pub goes : (end : ℕ) (bounds : Bounds) (s : Source) (v : A) (t : Source) → bounds.end ≡ Some end → reader bounds s ≡ Ok (v, t) → end ≤ t.place
+
+pub ToEnd-rest : ToEnd rest_at
+ToEnd-rest = record {
+  goes = λ end bounds s v t is e.
+      let p = piece-ok bounds.limit (room bounds.end s.place) bounds s t v e in
+      let long : room bounds.end s.place ≡ end - s.place = rw is refl in
+      rw p.source (omega (arith, long));
+}
+
+pub ToEnd-then : {A B : Type 0} (reader : Reader A) (next : A → Reader B) → ((value : A) → ToEnd (next value)) → ToEnd (reader >>= next)
+ToEnd-then reader next others = record {
+  goes = λ end bounds s v t is e.
+      let a = onward-ok (reader bounds s) (λ p. next p.0 bounds p.1) (v, t) e in
+      (others a.0.0).goes end bounds a.0.1 v t is a.2;
+}
+
+pub ToEnd-made : {A B : Type 0} (reader : Reader A) (make : A → B) → ToEnd reader → ToEnd (reader >>= λ x. gives (make x))
+ToEnd-made {A} {B} reader make first = record {
+  goes = λ end bounds s v t is e.
+      let a = onward-ok (reader bounds s) (λ p. gives (make p.0) bounds p.1) (v, t) e in
+      let same : a.0.1 ≡ t = ap (λ (x : B × Source). x.1) (ok_is (make a.0.0, a.0.1) (v, t) a.2) in
+      subst (λ (x : Source). end ≤ x.place) same (first.goes end bounds s a.0.0 a.0.1 is a.1);
+}
+
+pub AtLeast-within : {A : Type 0} (size : ℕ) (inner : Reader A) → ToEnd inner → AtLeast size (within size inner)
+AtLeast-within size inner whole = record {
+  goes = λ bounds s v t e. whole.goes (s.place + size) (record { end = Some (s.place + size); limit = bounds.limit }) s v t refl e;
+}
+
+-- ---- of what a reader of fields still has
+pub goes_on : {A : Type 0} (n : ℕ) (reader : Reader A) (v : A) (old new : Held) → AtLeast n reader → HasRead reader v old new → old.place + n ≤ new.place
+goes_on n reader v old new long read =
+    let now = some_rest new in
+    let a = read.from now.rest now.there in
+    long.goes old.bounds (source_at old.place a.0) v (source_at new.place now.rest) a.2
+
+no_front : (front : List ℕ) (left : Option (List ℕ)) (octets : List ℕ) → GoesOn front left octets → is_empty octets ≡ true → front ≡ []
+no_front [] left octets there none = refl
+no_front (x ∷ front) None octets there none = let some : is_empty octets ≡ false = rw there.1 refl in absurd cc
+no_front (x ∷ front) (Some known) octets there none = let some : is_empty octets ≡ false = rw there refl in absurd cc
+
+-- where none is left, none is ahead
+pub none_left : (old new : Held) → HasRead ended_at true old new → new.ahead ≡ []
+none_left old new read =
+    let now = some_rest new in
+    let a = read.from now.rest now.there in
+    let same : (is_empty a.0, source_at old.place a.0) ≡ (true, source_at new.place now.rest) = ok_is (is_empty a.0, source_at old.place a.0) (true, source_at new.place now.rest) a.2 in
+    let rest : a.0 ≡ now.rest = ap (λ (p : Bool × Source). p.1.octets) same in
+    let none : is_empty a.0 ≡ true = ap (λ (p : Bool × Source). p.0) same in
+    no_front new.ahead new.left now.rest now.there (subst (λ (o : List ℕ). is_empty o ≡ true) rest none)
+
+nothing_more : (ahead : List ℕ) (place most : ℕ) → (place < place + length ahead → place + length ahead ≤ most) → most ≤ place → ahead ≡ []
+nothing_more [] place most within le = refl
+nothing_more (x ∷ ahead) place most within le = absurd (omega (arith, within (omega arith)))
+
+-- where nothing was ahead, nothing is
+pub none_ahead : (old new : Held) → Stays old new → old.ahead ≡ [] → new.ahead ≡ []
+none_ahead old new stays none = let at : length old.ahead ≡ 0 = ap length none in nothing_more new.ahead new.place (reach old) stays.within (omega (arith, at, stays.on))
+
+-- fields that were looked at first stay, if they have as many octets at least
+pub looked : (size : ℕ) (old mid new : Held) → LooksTo size old mid → Stays mid new → mid.place + size ≤ new.place → Stays old new
+looked size old mid new looks stays far = record {
+  on = omega (arith, looks.same, stays.on);
+  within = λ more.
+      let first : reach new ≤ reach mid = stays.within more in
+      let second : reach mid ≤ reach old = looks.within (omega (arith, looks.same, far, first)) in
+      omega (arith, first, second);
+}
+
+-- an item of so many octets at least that were looked at first, after which it was asked whether any is left
+pub item_stays : (size : ℕ) (old mid some new : Held) → 0 < size → LooksTo size old mid → LooksTo 1 mid some → Stays some new → some.place + size ≤ new.place → Stays old new
+item_stays size old mid some new one looks more stays far = looked size old mid new looks (looked 1 mid some new more stays (omega (arith, far, one))) (omega (arith, more.same, far))
+
+-- no item, where none is left
+pub end_stays : (size : ℕ) (none : Bool) (old mid new : Held) → none ≡ true → LooksTo size old mid → LooksTo 1 mid new → HasRead ended_at none mid new → Stays old new
+end_stays size none old mid new is looks more read =
+    let nothing : length new.ahead ≡ 0 = ap length (none_left mid new (subst (λ (b : Bool). HasRead ended_at b mid new) is read)) in
+    record { on = omega (arith, looks.same, more.same); within = λ ahead. omega (arith, nothing) }
+
+-- ---- fields one after another, that have so many octets at least
+pub record Goes (n : ℕ) (old new : Held) : Type 0 where
+  pub on : old.place + n ≤ new.place
+  pub stays : Stays old new
+
+pub goes : {A : Type 0} {v : A} {old new : Held} (n : ℕ) (reader : Reader A) → AtLeast n reader → HasRead reader v old new → Stays old new → Goes n old new
+goes {A} {v} {old} {new} n reader long read stays = record { on = goes_on n reader v old new long read; stays = stays }
+
+pub same_goes : {old new : Held} → new ≡ old → Goes 0 old new
+same_goes {old} {new} same = record { on = omega (arith, ap (λ (held : Held). held.place) same); stays = Stays-same same }
+
+infixr 10 ◌then◌
+pub ◌then◌ : {m n : ℕ} {old mid new : Held} → Goes m old mid → Goes n mid new → Goes (m + n) old new
+◌then◌ {m} {n} {old} {mid} {new} first second = record { on = omega (arith, first.on, second.on); stays = Stays-then first.stays second.stays }

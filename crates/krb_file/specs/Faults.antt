@@ -1,0 +1,26 @@
+-- The numbers and the names of the reasons why a file is refused, and what a fault of a file prints.
+use Rattle.std.specs.Prelude.{ℕ, List, ◌++◌, codes}
+use Rattle.std.specs.Fmt.{decimal}
+use Rattle.krb_file.specs.declared.fault.FileFault.{FileFault}
+use Rattle.krb_file.specs.declared.fault.FileFault.TheVariants.{Refused, Read, Memory}
+use Rattle.krb_file.specs.declared.fault.FileWhy.{FileWhy}
+use Rattle.krb_file.specs.declared.fault.FileWhy.TheVariants.{Magic, Version, Truncated, Overrun, TooLong}
+
+abbrev pub file_reason_number : FileWhy → ℕ
+file_reason_number Magic = 1
+file_reason_number Version = 2
+file_reason_number Truncated = 3
+file_reason_number Overrun = 4
+file_reason_number TooLong = 5
+
+abbrev pub file_reason_name : FileWhy → List ℕ
+file_reason_name Magic = codes "Magic"
+file_reason_name Version = codes "Version"
+file_reason_name Truncated = codes "Truncated"
+file_reason_name Overrun = codes "Overrun"
+file_reason_name TooLong = codes "TooLong"
+
+abbrev pub file_fault_text : FileFault → List ℕ
+file_fault_text (Refused place why) = codes "refused at " ++ decimal place ++ codes ": " ++ file_reason_name why
+file_fault_text Read = codes "a read failed"
+file_fault_text Memory = codes "out of memory"

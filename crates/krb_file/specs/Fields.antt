@@ -1,0 +1,196 @@
+-- The fields of files: how they are spelled, and how they are read from left to right, up to the first fault.
+use Rattle.std.specs.Prelude.{ℕ, zero, suc, ℤ, ◌+◌, ◌-◌, ◌*◌, ◌^◌, ◌<◌, ◌≤◌, ◌≡◌, Bool, true, false, ◌==◌, nat_lt, nat_le, Option, Some, None, Result, Ok, Err, List, [], ◌∷◌, ◌++◌, length, take, drop}
+use Rattle.std.specs.List.{flat_map, list_all, list_any, AllByRecursion}
+use Rattle.std.specs.Int.{Width, w8, byte_len, from_be_bytes, to_be_bytes, cast_signed, cast_unsigned}
+use Rattle.krb_der.specs.Octets.{when, AreOctets}
+use Rattle.krb_file.specs.declared.fault.FileWhy.{FileWhy}
+use Rattle.krb_file.specs.declared.fault.FileWhy.TheVariants as why
+use Rattle.krb_file.specs.declared.fault.FileFault.{FileFault}
+use Rattle.krb_file.specs.declared.fault.FileFault.TheVariants as faults
+
+-- ---- Spelling. Numbers have their highest octet first.
+
+abbrev pub signed : Width → ℤ → List ℕ
+signed width z = to_be_bytes width (cast_unsigned width z)
+
+-- octets after their number
+abbrev pub counted : Width → List ℕ → List ℕ
+counted width octets = to_be_bytes width (length octets) ++ octets
+
+-- A realm and components, after the number of the components.
+pub record Names : Type 0 where
+  pub realm : List ℕ
+  pub components : List (List ℕ)
+
+abbrev pub names : Width → Names → List ℕ
+names width n = to_be_bytes width (length n.components) ++ counted width n.realm ++ flat_map (counted width) n.components
+
+abbrev pub zeros : ℕ → List ℕ
+zeros zero = []
+zeros (suc n) = 0 ∷ zeros n
+
+abbrev pub are_zero : List ℕ → Bool
+are_zero octets = list_all (λ octet. octet == 0) octets
+
+-- ---- what has a spelling
+
+abbrev pub bound_of : Width → ℕ
+bound_of width = 2 ^ (8 * byte_len width)
+
+pub record IsCounted (width : Width) (octets : List ℕ) : Type 0 where
+  pub short : length octets < bound_of width
+  pub are_octets : AreOctets octets
+
+pub record AreNames (width : Width) (n : Names) : Type 0 where
+  pub few : length n.components < bound_of width
+  pub realm : IsCounted width n.realm
+  pub components : AllByRecursion (IsCounted width) n.components
+
+-- ---- Reading. The octets of a file that are left, and the place of the first of them.
+
+pub record Source : Type 0 where
+  pub place : ℕ
+  pub octets : List ℕ
+
+abbrev pub is_empty : List ℕ → Bool
+is_empty [] = true
+is_empty (octet ∷ octets) = false
+
+-- the whole file
+abbrev pub source_of : List ℕ → Source
+source_of file = record { place = 0; octets = file }
+
+-- the first octet of the field at fault, and the reason
+pub record Fault : Type 0 where
+  pub place : ℕ
+  pub why : FileWhy
+
+-- What bounds a field: the place where the entry or the header that it stands in ends, and how many octets a field of octets may have.
+pub record Bounds : Type 0 where
+  pub end : Option ℕ
+  pub limit : Option ℕ
+
+abbrev pub limited : Option ℕ → Bounds
+limited limit = record { end = None; limit = limit }
+
+abbrev pub ended : Option ℕ → Bounds
+ended end = record { end = end; limit = None }
+
+abbrev pub Reader : Type 0 → Type 0
+Reader A = Bounds → Source → Result (A × Source) Fault
+
+abbrev pub onward : {A B : Type 0} → Result A Fault → (A → Result B Fault) → Result B Fault
+onward (Ok value) next = next value
+onward (Err fault) next = Err fault
+
+infixl 10 ◌>>=◌
+abbrev pub ◌>>=◌ : {A B : Type 0} → Reader A → (A → Reader B) → Reader B
+first >>= next = λ bounds source. onward (first bounds source) (λ read. next read.0 bounds read.1)
+
+abbrev pub gives : {A : Type 0} → A → Reader A
+gives value = λ bounds source. Ok (value, source)
+
+abbrev pub refused : {A : Type 0} → Source → FileWhy → Result A Fault
+refused source reason = Err (record { place = source.place; why = reason })
+
+abbrev pub passes : ℕ → Option ℕ → Bool
+passes n None = false
+passes n (Some most) = nat_lt most n
+
+-- the next n octets, under a limit
+abbrev pub next_octets_at : Option ℕ → ℕ → Reader (List ℕ)
+next_octets_at limit size = λ bounds source.
+    when (passes (source.place + size) bounds.end) (λ _. refused source why.Overrun) (λ _.
+    when (passes size limit) (λ _. refused source why.TooLong) (λ _.
+    when (nat_lt (length source.octets) size) (λ _. refused source why.Truncated) (λ _.
+    Ok (take size source.octets, record { place = source.place + size; octets = drop size source.octets }))))
+
+-- a field of octets, which alone has the field limit
+abbrev pub octets_at : ℕ → Reader (List ℕ)
+octets_at size = λ bounds source. next_octets_at bounds.limit size bounds source
+
+abbrev pub number_at : Width → Reader ℕ
+number_at width = do
+  octets ← next_octets_at None (byte_len width)
+  gives (from_be_bytes width octets)
+
+abbrev pub signed_at : Width → Reader ℤ
+signed_at width = do
+  n ← number_at width
+  gives (cast_signed width n)
+
+abbrev pub counted_at : Width → Reader (List ℕ)
+counted_at width = do
+  size ← number_at width
+  octets_at size
+
+abbrev pub times : {A : Type 0} → ℕ → Reader A → Reader (List A)
+times zero item_at = gives []
+times (suc n) item_at = do
+  first ← item_at
+  others ← times n item_at
+  gives (first ∷ others)
+
+abbrev pub names_at : Width → Reader Names
+names_at width = do
+  count ← number_at width
+  realm ← counted_at width
+  components ← times count (counted_at width)
+  gives (record { realm = realm; components = components })
+
+-- what is left up to the end of the entry or the header
+abbrev pub room : Option ℕ → ℕ → ℕ
+room None place = 0
+room (Some end) place = end - place
+
+abbrev pub rest_at : Reader (List ℕ)
+rest_at = λ bounds source. octets_at (room bounds.end source.place) bounds source
+
+-- in an entry or a header of n octets from here on
+abbrev pub within : {A : Type 0} → ℕ → Reader A → Reader A
+within size inner = λ bounds source. inner (record { end = Some (source.place + size); limit = bounds.limit }) source
+
+-- the entry or the header is read whole
+abbrev pub reaches : ℕ → Option ℕ → Bool
+reaches place None = false
+reaches place (Some end) = nat_le end place
+
+abbrev pub is_at_end : Bounds → Source → Bool
+is_at_end bounds source = reaches source.place bounds.end
+
+abbrev pub is_one_of : ℕ → List ℕ → Bool
+is_one_of octet wanted = list_any (λ other. octet == other) wanted
+
+-- an octet that is one of these
+abbrev pub expect : List ℕ → FileWhy → Reader ℕ
+expect wanted reason = λ bounds source.
+    onward (number_at w8 bounds source) (λ read. when (is_one_of read.0 wanted) (λ _. Ok read) (λ _. refused source reason))
+
+-- the first two octets of a file: 5, and a version
+abbrev pub version_at : List ℕ → Reader ℕ
+version_at versions = do
+  five ← expect (5 ∷ []) why.Magic
+  expect versions why.Version
+
+-- ---- What the code gives. A function's result, seen by view, is what reading gives, unless memory ran out.
+
+abbrev pub Fails : {B : Type 0} → FileFault → Result B Fault → Type 0
+Fails (faults.Refused place why) read = read ≡ Err (record { place = place; why = why })
+Fails faults.Read read = ⊥
+Fails faults.Memory read = Unit {0}
+
+abbrev pub Gives : {A B : Type 0} → (A → B) → Result A FileFault → Result B Fault → Type 0
+Gives view (Ok x) read = read ≡ Ok (view x)
+Gives view (Err e) read = Fails e read
+
+-- What the reader of a whole file answers where it gives none: a refusal in the file or at its end, which no limit brings, or out of memory.
+abbrev pub IsFaultIn : List ℕ → FileFault → Type 0
+IsFaultIn file (faults.Refused place reason) = (place ≤ length file) × (reason ≡ why.TooLong → ⊥)
+IsFaultIn file faults.Read = ⊥
+IsFaultIn file faults.Memory = Unit {0}
+
+-- A fault of a file that is read as it comes: a refusal in the file or at its end, a failed read, or out of memory.
+abbrev pub StandsIn : List ℕ → FileFault → Type 0
+StandsIn file (faults.Refused place reason) = place ≤ length file
+StandsIn file faults.Read = Unit {0}
+StandsIn file faults.Memory = Unit {0}

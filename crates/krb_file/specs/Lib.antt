@@ -1,0 +1,5 @@
+pub mod Faults
+pub mod Fields
+pub mod FieldReaders
+pub mod Parts
+pub mod inner

@@ -1,0 +1,110 @@
+//! Octets of a file that were taken before their fields are read.
+
+use crate::fault::FileFault;
+use crate::stream_reader::ask;
+use std::alloc::AllocError;
+use std::io::Read;
+use std::marker::Model;
+
+/// How many octets there are at most.
+const MOST: usize = 512;
+
+/// Octets that are still to be read. Contracts see them as their list.
+#[derive(Drop)]
+pub(crate) struct Ahead {
+    octets: [u8; MOST],
+    /// How many of them were read.
+    passed: usize,
+    /// How many of them were filled in.
+    filled: usize,
+}
+
+impl Model for Ahead {
+    ghost use Rattle.std.specs.Prelude.{◌≤◌, List, ℕ};
+    ghost use Rattle.std.specs.List.{between};
+
+    ghost Value = { List ℕ };
+
+    ghost view = { λ ahead. between ahead.passed ahead.filled ahead.octets };
+
+    ghost invariant = { λ ahead. (ahead.passed ≤ ahead.filled) × (ahead.filled ≤ 512) };
+}
+
+ghost use Rattle.std.specs.Prelude.{◌≡◌, ◌+◌, ◌++◌, ◌^◌, ◌<◌, ◌≤◌, [], length, IfOk, IfErr, OnErr, OnOk};
+ghost use Rattle.std.specs.Io.KnownBytes.{Consumes, IsAtEnd};
+
+impl Ahead {
+    /// None.
+    pub(crate) fn new() -> Ahead
+        ensures { result ≡ [] }
+    {
+        Ahead {
+            octets: [0; MOST],
+            passed: 0,
+            filled: 0,
+        }
+    }
+
+    /// How many there are.
+    #[inline(always)]
+    pub(crate) fn count(&self) -> usize
+        ensures count { result ≡ length self.now }
+        ensures few { result ≤ 512 }
+    {
+        self.filled - self.passed
+    }
+
+    /// Reads as many as there is room for, which is no more than there are.
+    #[inline(always)]
+    pub(crate) fn fill(&mut self, octets: &mut [u8])
+        requires { length octets.old ≤ length self.old }
+        ensures { self.old ≡ octets.new ++ self.new }
+    {
+        let end = self.passed + octets.len();
+        octets.copy_from_slice(&self.octets[self.passed..end]);
+        self.passed = end;
+    }
+
+    /// Reads `count` of them, which take the place of those in `copied` and the room of these.
+    #[inline(always)]
+    pub(crate) fn copy(&mut self, count: usize, copied: &mut Vec<u8>) -> Result<(), AllocError>
+        requires { count ≤ length self.old }
+        ensures given { OnOk result (self.old ≡ copied.new.items ++ self.new) }
+        ensures count { OnOk result (length copied.new.items ≡ count) }
+        ensures kept { OnErr result (self.new ≡ self.old) }
+    {
+        let end = self.passed + count;
+        copied.clear();
+        copied.reserve_exact(count)?;
+        copied.extend_from_slice(&self.octets[self.passed..end])?;
+        self.passed = end;
+        Ok(())
+    }
+
+    /// Takes octets of a reader where none is left: as many as come at once, at most `most`. There
+    /// are none at its end.
+    pub(crate) fn refill<R: Read>(
+        &mut self,
+        reader: &mut R,
+        asks: &mut u64,
+        most: u64,
+    ) -> Result<(), FileFault>
+        requires room { 0 < most }
+        requires few { asks.old ≤ 2 ^ 40 }
+        ensures taken { OnOk result (Consumes (R.remaining reader.old) (R.remaining reader.new) self.new) }
+        ensures end { OnOk result (self.new ≡ [] → IsAtEnd (R.remaining reader.new)) }
+        ensures few { length self.new ≤ 512 }
+        ensures most { length self.new ≤ most }
+        ensures none { OnErr result (self.new ≡ []) }
+        ensures fault { IfErr result (λ e. e ≡ FileFault.Read) }
+        ensures counted { OnOk result (asks.new ≡ asks.old + 1) }
+        ensures asked { asks.old ≤ asks.new }
+        ensures still_few { asks.new ≤ 2 ^ 40 }
+    {
+        let room = most.min(MOST as u64) as usize;
+        self.passed = 0;
+        self.filled = 0;
+        self.filled = ask(reader, asks, &mut self.octets[..room])?;
+        Ok(())
+    }
+}

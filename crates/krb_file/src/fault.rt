@@ -1,0 +1,108 @@
+//! The reasons why a file is refused.
+
+ghost use Rattle.std.specs.Prelude.{◌≡◌, Some};
+ghost use Rattle.krb_file.specs.Faults.{file_reason_number, file_reason_name, file_fault_text};
+ghost use Rattle.krb_file.specs.declared.fault.FileFault.TheVariants.{Memory};
+
+use std::alloc::{AllocError, AllocFailed};
+use std::error::Error;
+use std::fmt;
+
+/// Why a keytab or a credential cache is refused. Each reason has a number and a name of its own,
+/// by [`file_why_number`] and [`file_why_text`].
+#[derive(Clone, Copy, PartialEq, Eq, Debug)]
+pub enum FileWhy {
+    /// The first octet is not 05.
+    Magic,
+    /// The second octet is no version of the format.
+    Version,
+    /// A field passes the end of the file.
+    Truncated,
+    /// A field passes the end of the entry or of the header that it stands in.
+    Overrun,
+    /// A field of octets is longer than the limit.
+    TooLong,
+}
+
+/// Why a file could not be read.
+#[derive(Clone, Copy, PartialEq, Eq, Debug)]
+pub enum FileFault {
+    /// The file is refused: the first octet of the first field at fault, counted from 0, and what
+    /// is wrong with that field. The place is in the file or, where octets are missing, at its end.
+    Refused {
+        /// The first octet of the field.
+        place: u64,
+        /// What is wrong with it.
+        why: FileWhy,
+    },
+    /// Octets could not be had from where the file comes.
+    Read,
+    /// Out of memory.
+    Memory,
+}
+
+impl From<AllocError> for FileFault {
+    ghost from_gives = { λ _ e. e ≡ Memory };
+
+    fn from(_error: AllocError) -> FileFault {
+        FileFault::Memory
+    }
+}
+
+impl<T: Drop> From<AllocFailed<T>> for FileFault {
+    ghost from_gives = { λ _ e. e ≡ Memory };
+
+    fn from(_error: AllocFailed<T>) -> FileFault {
+        FileFault::Memory
+    }
+}
+
+/// The number of a reason, from 1 (`Magic`) to 5 (`TooLong`), in the order of the enum.
+pub fn file_why_number(why: FileWhy) -> u8
+    ensures { result ≡ file_reason_number why }
+{
+    match why {
+        FileWhy::Magic => 1,
+        FileWhy::Version => 2,
+        FileWhy::Truncated => 3,
+        FileWhy::Overrun => 4,
+        FileWhy::TooLong => 5,
+    }
+}
+
+/// The name of a reason, as the enum spells it.
+pub fn file_why_text(why: FileWhy) -> &'static str
+    ensures { result.now ≡ file_reason_name why }
+{
+    match why {
+        FileWhy::Magic => "Magic",
+        FileWhy::Version => "Version",
+        FileWhy::Truncated => "Truncated",
+        FileWhy::Overrun => "Overrun",
+        FileWhy::TooLong => "TooLong",
+    }
+}
+
+/// Its name.
+impl fmt::Display for FileWhy {
+    ghost output = { λ why. Some (file_reason_name why) };
+
+    fn fmt<W: fmt::Write>(&self, f: &mut fmt::Formatter<W>) -> fmt::Result {
+        f.write_str(file_why_text(*self))
+    }
+}
+
+/// `refused at 12: Truncated`, `a read failed` or `out of memory`.
+impl fmt::Display for FileFault {
+    ghost output = { λ fault. Some (file_fault_text fault) };
+
+    fn fmt<W: fmt::Write>(&self, f: &mut fmt::Formatter<W>) -> fmt::Result {
+        match self {
+            FileFault::Refused { place, why } => write!(f, "refused at {place}: {why}"),
+            FileFault::Read => f.write_str("a read failed"),
+            FileFault::Memory => f.write_str("out of memory"),
+        }
+    }
+}
+
+impl Error for FileFault {}

@@ -1,0 +1,132 @@
+//! The fields of a file that is all there.
+
+use crate::fault::{FileFault, FileWhy};
+use crate::field_reader::FieldReader;
+use krb_der::KString;
+use std::alloc::Global;
+use std::marker::Model;
+
+/// What is left of a slice of octets: no limit applies to its fields. Contracts see what is left,
+/// the place of the first octet of it, and where the entry or the header ends that it stands in.
+#[derive(Drop)]
+pub struct SliceReader<'a> {
+    place: u64,
+    end: Option<u64>,
+    octets: &'a [u8],
+}
+
+impl<'a> Model for SliceReader<'a> {
+    ghost use Rattle.std.specs.Prelude.{◌+◌, ◌^◌, ◌<◌, length};
+    ghost use Rattle.krb_file.specs.FieldReaders.{Slice};
+
+    ghost Value = { Slice };
+
+    ghost view = { λ reader. record { place = reader.place; end = reader.end; octets = reader.octets.now } };
+
+    ghost invariant = { λ reader. reader.place + length reader.octets.now < 2 ^ 63 };
+}
+
+ghost use Rattle.std.specs.Prelude.{◌≡◌, None, length, IfOk, OnOk};
+ghost use Rattle.krb_file.specs.Fields.{next_octets_at, are_zero};
+ghost use Rattle.krb_file.specs.FieldReaders.{Follows, Stays, of_slice};
+
+impl<'a> SliceReader<'a> {
+    /// A whole file.
+    pub fn new(octets: &'a [u8]) -> SliceReader<'a>
+        ensures { result ≡ record { place = 0; end = None; octets = octets.now } }
+    {
+        SliceReader {
+            place: 0,
+            end: None,
+            octets,
+        }
+    }
+
+    /// The next octets, borrowed.
+    fn take(&mut self, size: u64) -> Result<&'a [u8], FileFault>
+        ensures size { IfOk result (λ taken. length taken.now ≡ size) }
+        ensures read { Follows (λ taken. taken.now) result (next_octets_at None size) ⊥ (of_slice self.old) (of_slice self.new) }
+        ensures stays { OnOk result (Stays (of_slice self.old) (of_slice self.new)) }
+    {
+        let place = self.place;
+        if self
+            .end
+            .is_some_and(|end| end < place || end - place < size)
+        {
+            return Err(FileFault::Refused {
+                place,
+                why: FileWhy::Overrun,
+            });
+        }
+        if (self.octets.len() as u64) < size {
+            return Err(FileFault::Refused {
+                place,
+                why: FileWhy::Truncated,
+            });
+        }
+        let (taken, left) = self.octets.split_at(size as usize);
+        self.octets = left;
+        self.place = place + size;
+        Ok(taken)
+    }
+}
+
+impl<'a> FieldReader for SliceReader<'a> {
+    ghost held = { λ reader. of_slice reader };
+
+    ghost MayFail = { ⊥ };
+
+    fn place(&self) -> u64 {
+        self.place
+    }
+
+    fn end(&self) -> Option<u64> {
+        self.end
+    }
+
+    fn set_end(&mut self, end: Option<u64>) {
+        self.end = end;
+    }
+
+    fn is_empty(&mut self) -> Result<bool, FileFault> {
+        Ok(self.octets.is_empty())
+    }
+
+    fn look_ahead(&mut self, _size: u64) -> Result<(), FileFault> {
+        Ok(())
+    }
+
+    fn fill(&mut self, octets: &mut [u8]) -> Result<(), FileFault> {
+        let taken = self.take(octets.len() as u64)?;
+        octets.copy_from_slice(taken);
+        Ok(())
+    }
+
+    fn room(&mut self, alloc: Global) -> Vec<u8> {
+        Vec::new(alloc)
+    }
+
+    fn list(&mut self, alloc: Global) -> Vec<KString> {
+        Vec::new(alloc)
+    }
+
+    fn octets(&mut self, _alloc: Global, size: u64, octets: &mut Vec<u8>) -> Result<(), FileFault> {
+        let taken = self.take(size)?;
+        octets.clear();
+        octets.reserve_exact(taken.len())?;
+        octets.extend_from_slice(taken)?;
+        Ok(())
+    }
+
+    fn skip(&mut self, size: u64) -> Result<bool, FileFault> {
+        let taken = self.take(size)?;
+        Ok(are_zero(taken))
+    }
+}
+
+/// Whether all of the octets are 00.
+pub(crate) fn are_zero(octets: &[u8]) -> bool
+    ensures { result ≡ are_zero octets.now }
+{
+    octets.iter().all(|octet| *octet == 0)
+}

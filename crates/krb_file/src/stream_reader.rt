@@ -1,0 +1,409 @@
+//! The fields of a file that is read as it comes.
+
+use crate::ahead::Ahead;
+use crate::fault::{FileFault, FileWhy};
+use crate::field_limit::FieldLimit;
+use crate::field_reader::FieldReader;
+use crate::slice_reader::are_zero;
+use krb_der::{GiveBack, KString, Room};
+use std::alloc::Global;
+use std::io::Read;
+use std::marker::Model;
+
+/// How often a reader is asked at most.
+const MOST_ASKS: u64 = 1 << 40;
+
+/// How many octets there is room for before any of a field came. Then there is room for as many as
+/// came.
+const LEAST_PIECE: u64 = 4096;
+
+/// How many octets a reader is asked for at once at most.
+const GREATEST_PIECE: u64 = 1 << 22;
+
+/// A reader of the fields of what a [`Read`] gives. It asks for octets where a field of them is
+/// read, where it is asked whether any is left, and where it is told how many belong to what is
+/// read, and for none after these. A reader is asked at most 2^40 times, and not after it told its
+/// end.
+#[derive(Drop)]
+pub struct StreamReader<R: Read> {
+    reader: R,
+    limit: FieldLimit,
+    place: u64,
+    end: Option<u64>,
+    /// Octets that were taken and are still to be read.
+    ahead: Ahead,
+    /// A field of fewer octets than this is ahead, inside the end and under the limit.
+    near: usize,
+    /// Whether the reader told its end.
+    ended: bool,
+    asks: u64,
+    /// Room for fields of octets.
+    spare: Room,
+}
+
+impl<R: Read> Model for StreamReader<R> {
+    ghost use Rattle.std.specs.Prelude.{◌+◌, ◌*◌, ◌^◌, ◌≤◌, Some, length};
+    ghost use Rattle.krb_file.specs.FieldReaders.{Held};
+    ghost use Rattle.krb_file.specs.inner.Takes.{left_of, AreNear};
+
+    ghost Value = { Held };
+
+    ghost view = { λ s. record { ahead = s.ahead; left = left_of s.ended (R.remaining s.reader); place = s.place; bounds = record { end = s.end; limit = Some s.limit } } };
+
+    ghost invariant = { λ s. (s.place + length s.ahead ≤ s.asks * 2 ^ 22) × (s.asks ≤ 2 ^ 40) × AreNear s.near (length s.ahead) s.place s.end s.limit };
+}
+
+ghost use Rattle.std.specs.Prelude.{◌≡◌, ◌+◌, ◌^◌, ◌<◌, ◌≤◌, false, [], length, take, None, Some, IfOk, IfErr, OnOk};
+ghost use Rattle.std.specs.Io.KnownBytes.{Consumes, IsAtEnd};
+ghost use Rattle.krb_file.specs.Fields.{passes, next_octets_at, octets_at};
+ghost use Rattle.krb_file.specs.FieldReaders.{MayHave, FailsBy, Follows, Stays, LooksTo};
+ghost use Rattle.krb_file.specs.inner.Takes.{Takes, FailsTaking, AreNear};
+
+/// Asks a reader for octets, and answers how many came: 0 at its end.
+pub(crate) fn ask<R: Read>(
+    reader: &mut R,
+    asks: &mut u64,
+    octets: &mut [u8],
+) -> Result<usize, FileFault>
+    requires room { 0 < length octets.old }
+    requires few { asks.old ≤ 2 ^ 40 }
+    ensures count { IfOk result (λ count. count ≤ length octets.new) }
+    ensures taken { IfOk result (λ count. Consumes (R.remaining reader.old) (R.remaining reader.new) (take count octets.new)) }
+    ensures end { IfOk result (λ count. count ≡ 0 → IsAtEnd (R.remaining reader.new)) }
+    ensures fault { IfErr result (λ e. e ≡ FileFault.Read) }
+    ensures counted { OnOk result (asks.new ≡ asks.old + 1) }
+    ensures asked { asks.old ≤ asks.new }
+    ensures still_few { asks.new ≤ 2 ^ 40 }
+{
+    if *asks == MOST_ASKS {
+        return Err(FileFault::Read);
+    }
+    *asks += 1;
+    match reader.read(octets) {
+        Ok(count) => Ok(count),
+        Err(_) => Err(FileFault::Read),
+    }
+}
+
+impl<R: Read> StreamReader<R> {
+    /// What a reader gives, from place 0 on, where no field of octets may be longer than a limit.
+    pub fn new(reader: R, limit: FieldLimit) -> StreamReader<R>
+        ensures { result ≡ record { ahead = []; left = R.remaining reader; place = 0; bounds = record { end = None; limit = Some limit } } }
+    {
+        StreamReader {
+            reader,
+            limit,
+            place: 0,
+            end: None,
+            ahead: Ahead::new(),
+            near: 0,
+            ended: false,
+            asks: 0,
+            spare: Room::new(),
+        }
+    }
+
+    /// Gives back a value that was read, whose room the next fields of octets take.
+    pub fn give_back<T: GiveBack>(&mut self, value: T)
+        ensures { self.new ≡ self.old }
+    {
+        value.give_back(&mut self.spare);
+    }
+
+    /// Takes octets that are still to be read, unless some are ahead: as many as come at once, at most
+    /// `most`.
+    fn see(&mut self, most: u64) -> Result<(), FileFault>
+        requires { 0 < most }
+        ensures same { OnOk result (Takes self.old self.new []) }
+        ensures looks { OnOk result (LooksTo most self.old self.new) }
+        ensures end { OnOk result (self.new.ahead ≡ [] → self.new.left ≡ Some []) }
+        ensures fault { IfErr result (λ e. e ≡ FileFault.Read) }
+    {
+        if self.ahead.count() == 0 && !self.ended {
+            self.near = 0;
+            self.ahead.refill(&mut self.reader, &mut self.asks, most)?;
+            let count = self.ahead.count();
+            self.ended = count == 0;
+            self.near = near(count, self.place, self.end, self.limit);
+        }
+        Ok(())
+    }
+
+    /// Takes octets, as many as come at once, and answers how many: 0 where none is left.
+    fn take(&mut self, octets: &mut [u8]) -> Result<usize, FileFault>
+        requires room { 0 < length octets.old }
+        requires few { length octets.old ≤ 2 ^ 22 }
+        ensures count { IfOk result (λ count. count ≤ length octets.new) }
+        ensures taken { IfOk result (λ count. Takes self.old self.new (take count octets.new)) }
+        ensures stays { OnOk result (Stays self.old self.new) }
+        ensures end { IfOk result (λ count. count ≡ 0 → MayHave self.new []) }
+        ensures fault { IfErr result (λ e. e ≡ FileFault.Read) }
+    {
+        let count = octets.len().min(self.ahead.count());
+        if count > 0 {
+            self.fill_ahead(&mut octets[..count]);
+            return Ok(count);
+        }
+        if self.ended {
+            return Ok(0);
+        }
+        self.near = 0;
+        let count = ask(&mut self.reader, &mut self.asks, octets)?;
+        self.place += count as u64;
+        self.ended = count == 0;
+        Ok(count)
+    }
+
+    /// Takes octets that are ahead till there is no more room. What is near is forgotten.
+    fn fill_ahead(&mut self, octets: &mut [u8])
+        requires { length octets.old ≤ length self.old.ahead }
+        ensures taken { Takes self.old self.new octets.new }
+        ensures stays { Stays self.old self.new }
+    {
+        self.near = 0;
+        self.ahead.fill(octets);
+        self.place += octets.len() as u64;
+    }
+
+    /// Takes octets till there is no more room. Where there are too few left, the field that begins
+    /// at `start` is Truncated.
+    #[inline(never)]
+    fn take_all(&mut self, start: u64, octets: &mut [u8]) -> Result<(), FileFault>
+        requires { length octets.old ≤ 2 ^ 22 }
+        ensures taken { OnOk result (Takes self.old self.new octets.new) }
+        ensures stays { OnOk result (Stays self.old self.new) }
+        ensures fault { IfErr result (λ e. FailsTaking e start self.old self.new (length octets.old)) }
+    {
+        let mut filled = 0;
+        'pieces: while filled < octets.len() {
+            let count = self.take(&mut octets[filled..])?;
+            if count == 0 {
+                return Err(FileFault::Refused {
+                    place: start,
+                    why: FileWhy::Truncated,
+                });
+            }
+            filled += count;
+        }
+        Ok(())
+    }
+
+    /// Takes `room` octets, as [`take_all`](StreamReader::take_all) does, which take the place of those
+    /// in `piece`.
+    fn take_piece(&mut self, start: u64, room: usize, piece: &mut Vec<u8>) -> Result<(), FileFault>
+        requires { room ≤ 2 ^ 22 }
+        ensures taken { OnOk result (Takes self.old self.new piece.new.items) }
+        ensures stays { OnOk result (Stays self.old self.new) }
+        ensures room { OnOk result (length piece.new.items ≡ room) }
+        ensures fault { IfErr result (λ e. FailsTaking e start self.old self.new room) }
+    {
+        piece.clear();
+        piece.reserve_exact(room)?;
+        piece.resize(room, 0)?;
+        self.take_all(start, piece.as_mut_slice())
+    }
+
+    /// Takes a field of octets, which come in pieces.
+    fn take_octets(
+        &mut self,
+        alloc: Global,
+        size: u64,
+        octets: &mut Vec<u8>,
+    ) -> Result<(), FileFault>
+        requires inside { passes (self.old.place + size) self.old.bounds.end ≡ false }
+        requires under { passes size self.old.bounds.limit ≡ false }
+        ensures read { Follows (λ _. octets.new.items) result (octets_at size) (Unit {0}) self.old self.new }
+        ensures stays { OnOk result (Stays self.old self.new) }
+    {
+        let place = self.place;
+        self.take_piece(place, size.min(LEAST_PIECE) as usize, octets)?;
+        let mut piece = Vec::new(alloc);
+        'pieces: while (octets.len() as u64) < size {
+            let came = octets.len() as u64;
+            let room = (size - came).min(came).min(GREATEST_PIECE);
+            self.take_piece(place, room as usize, &mut piece)?;
+            octets.extend_from_slice(piece.as_slice())?;
+        }
+        Ok(())
+    }
+
+    /// The place of the next octet.
+    fn at(&self) -> u64
+        ensures { result ≡ self.now.place }
+    {
+        self.place
+    }
+
+    /// Whether `size` octets pass the end of the entry or of the header that they stand in.
+    fn passes_end(&self, size: u64) -> bool
+        ensures { result ≡ passes (self.now.place + size) self.now.bounds.end }
+    {
+        match self.end {
+            Some(end) => end < self.place || end - self.place < size,
+            None => false,
+        }
+    }
+
+    /// Refuses a field that passes the end of what it stands in, or is longer than it may be.
+    fn check(&self, size: u64, most: Option<u64>) -> Result<(), FileFault>
+        ensures inside { OnOk result (passes (self.now.place + size) self.now.bounds.end ≡ false) }
+        ensures under { OnOk result (passes size most ≡ false) }
+        ensures fault { IfErr result (λ e. FailsBy e (next_octets_at most size) (Unit {0}) self.now) }
+    {
+        let place = self.at();
+        if self.passes_end(size) {
+            return Err(FileFault::Refused {
+                place,
+                why: FileWhy::Overrun,
+            });
+        }
+        if is_longer(size, most) {
+            return Err(FileFault::Refused {
+                place,
+                why: FileWhy::TooLong,
+            });
+        }
+        Ok(())
+    }
+
+    /// Refuses a field of octets that passes the end of what it stands in, or is too long.
+    fn check_octets(&self, size: u64) -> Result<(), FileFault>
+        ensures inside { OnOk result (passes (self.now.place + size) self.now.bounds.end ≡ false) }
+        ensures under { OnOk result (passes size self.now.bounds.limit ≡ false) }
+        ensures fault { IfErr result (λ e. FailsBy e (octets_at size) (Unit {0}) self.now) }
+    {
+        let most = self.limit.get() as u64;
+        self.check(size, Some(most))
+    }
+
+    /// The next octets of a field that is no field of octets, whatever is ahead.
+    #[inline(never)]
+    fn fill_slowly(&mut self, octets: &mut [u8]) -> Result<(), FileFault>
+        requires { length octets.old ≤ 2 ^ 16 }
+        ensures read { Follows (λ _. octets.new) result (next_octets_at None (length octets.old)) (Unit {0}) self.old self.new }
+        ensures stays { OnOk result (Stays self.old self.new) }
+    {
+        let place = self.place;
+        self.check(octets.len() as u64, None)?;
+        self.take_all(place, octets)
+    }
+
+    /// Reads a field of octets, whatever is ahead.
+    #[inline(never)]
+    fn octets_slowly(
+        &mut self,
+        alloc: Global,
+        size: u64,
+        octets: &mut Vec<u8>,
+    ) -> Result<(), FileFault>
+        ensures read { Follows (λ _. octets.new.items) result (octets_at size) (Unit {0}) self.old self.new }
+        ensures stays { OnOk result (Stays self.old self.new) }
+    {
+        self.check_octets(size)?;
+        self.take_octets(alloc, size, octets)
+    }
+}
+
+impl<R: Read> FieldReader for StreamReader<R> {
+    ghost held = { λ reader. reader };
+
+    ghost MayFail = { Unit {0} };
+
+    fn place(&self) -> u64 {
+        self.place
+    }
+
+    fn end(&self) -> Option<u64> {
+        self.end
+    }
+
+    fn set_end(&mut self, end: Option<u64>) {
+        self.end = end;
+        self.near = near(self.ahead.count(), self.place, end, self.limit);
+    }
+
+    fn is_empty(&mut self) -> Result<bool, FileFault> {
+        self.see(1)?;
+        Ok(self.ahead.count() == 0)
+    }
+
+    fn look_ahead(&mut self, size: u64) -> Result<(), FileFault> {
+        if size > 0 {
+            self.see(size)?;
+        }
+        Ok(())
+    }
+
+    #[inline(always)]
+    fn fill(&mut self, octets: &mut [u8]) -> Result<(), FileFault> {
+        if octets.len() >= self.near {
+            return self.fill_slowly(octets);
+        }
+        self.near -= octets.len();
+        self.ahead.fill(octets);
+        self.place += octets.len() as u64;
+        Ok(())
+    }
+
+    #[inline(always)]
+    fn room(&mut self, alloc: Global) -> Vec<u8> {
+        self.spare.take(alloc)
+    }
+
+    fn list(&mut self, alloc: Global) -> Vec<KString> {
+        self.spare.take_list(alloc)
+    }
+
+    #[inline(always)]
+    fn octets(&mut self, alloc: Global, size: u64, octets: &mut Vec<u8>) -> Result<(), FileFault> {
+        if size >= self.near as u64 {
+            return self.octets_slowly(alloc, size, octets);
+        }
+        self.ahead.copy(size as usize, octets)?;
+        self.near -= size as usize;
+        self.place += size;
+        Ok(())
+    }
+
+    fn skip(&mut self, size: u64) -> Result<bool, FileFault> {
+        let place = self.place;
+        self.check(size, None)?;
+        let mut buffer = [0; LEAST_PIECE as usize];
+        let mut zeros = true;
+        let mut left = size;
+        'pieces: while left > 0 {
+            let room = left.min(LEAST_PIECE);
+            let piece = &mut buffer[..room as usize];
+            self.take_all(place, piece)?;
+            let more = are_zero(piece);
+            zeros = zeros & more;
+            left -= room;
+        }
+        Ok(zeros)
+    }
+}
+
+/// The least number of octets of a field, at a place, that is not ahead, or passes an end or a limit,
+/// where `ahead` octets are ahead.
+fn near(ahead: usize, place: u64, end: Option<u64>, limit: FieldLimit) -> usize
+    requires { ahead ≤ 512 }
+    ensures { AreNear result ahead place end limit }
+{
+    let most = (ahead as u64).min(limit.get() as u64);
+    let room = match end {
+        Some(end) if end < place => return 0,
+        Some(end) => most.min(end - place),
+        None => most,
+    };
+    room as usize + 1
+}
+
+/// Whether a number of octets is above the greatest that there may be, where there is one.
+fn is_longer(size: u64, most: Option<u64>) -> bool
+    ensures { result ≡ passes size most }
+{
+    match most {
+        Some(most) => most < size,
+        None => false,
+    }
+}

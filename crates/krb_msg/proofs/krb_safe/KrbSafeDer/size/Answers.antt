@@ -1,0 +1,9 @@
+use Rattle.krb_msg.specs.Grammar.{krb_safe}
+use Rattle.krb_msg.proofs.Puts.{sized}
+use Rattle.krb_msg.proofs.krb_safe.KrbSafeDer.size.Goals as goal
+
+pub returns-clause-octets : goal.returns-clause-octets
+returns-clause-octets c = (sized krb_safe c.layout.ensures c.size.ensures).octets
+
+pub returns-clause-fits : goal.returns-clause-fits
+returns-clause-fits c = (sized krb_safe c.layout.ensures c.size.ensures).fits

@@ -1,0 +1,80 @@
+//! Checksum.
+
+ghost use Rattle.std.specs.Prelude.{◌≡◌, refl};
+ghost use Rattle.krb_msg.specs.Term.{der, Fits};
+ghost use Rattle.krb_msg.specs.Grammar.{checksum as checksum_term};
+ghost use Rattle.krb_msg.specs.Views.{checksum_value, checksum_of};
+ghost use Rattle.krb_msg.specs.inner.Told.{begins, told};
+
+use crate::fields::{Borrowed, Encode, End, Held, Owned, Required, Sequence};
+use crate::item::{Decode, Item};
+use crate::source::Source;
+use krb_der::{Der, Int32, Octets};
+use std::alloc::{AllocError, Global};
+
+/// A checksum (RFC 4120, 5.2.9). It is not verified.
+#[derive(PartialEq, Eq, Debug, Drop)]
+pub struct Checksum {
+    /// How it is made.
+    pub cksumtype: Int32,
+    /// Its octets.
+    pub checksum: Octets,
+}
+
+/// Its fields.
+type Layout<H> = Sequence<Required<0, Held<H, Int32>, Required<1, Held<H, Octets>, End>>>;
+
+impl Checksum {
+    /// The fields, borrowed.
+    fn layout(&self) -> Layout<Borrowed<'_>>
+        ensures { ⟦<Layout<Borrowed<'static>> as Encode>⟧.value result ≡ checksum_value self.now }
+    {
+        Sequence(Required(&self.cksumtype, Required(&self.checksum, End)))
+    }
+
+    /// The value of its fields.
+    fn from_layout(layout: Layout<Owned>) -> Checksum
+        ensures { checksum_value result ≡ ⟦<Layout<Owned> as Decode>⟧.value layout }
+    {
+        let Sequence(Required(cksumtype, Required(checksum, End))) = layout;
+        Checksum {
+            cksumtype,
+            checksum,
+        }
+    }
+}
+
+impl Der for Checksum {
+    ghost der = { λ it. der checksum_term (checksum_value it) };
+
+    ghost Fits = { λ it. Fits checksum_term (checksum_value it) };
+
+    fn size(&self) -> u64 {
+        self.layout().size()
+    }
+
+    fn put(&self, out: &mut Vec<u8>) {
+        self.layout().put(out);
+    }
+
+    ghost begins = { begins checksum_term checksum_value };
+
+    ghost prefix_free = { told checksum_term refl checksum_value checksum_of (λ it. refl) };
+}
+
+impl Decode for Checksum {
+    ghost term = { checksum_term };
+
+    ghost value = { checksum_value };
+
+    fn decode<S: Source>(alloc: Global, front: S) -> Result<(Checksum, S), AllocError> {
+        let (layout, rest) = Layout::<Owned>::decode(alloc, front)?;
+        Ok((Checksum::from_layout(layout), rest))
+    }
+}
+
+impl Item for Checksum {
+    ghost form = { λ it. refl };
+
+    ghost fits = { λ it fits. fits };
+}

@@ -1,0 +1,5 @@
+use Rattle.krb_scan.proofs.Reaching.{marks_are_few}
+use Rattle.krb_scan.proofs.law.marks_are_few.Goals as goal
+
+pub returns : goal.returns
+returns c = marks_are_few

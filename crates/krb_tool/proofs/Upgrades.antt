@@ -1,0 +1,48 @@
+-- The listing of a cache of version 3 is that of its upgrade.
+use Rattle.std.proofs.Common.{◌≡◌, ℕ, Option, Result, Ok, Err, List, ◌++◌, refl, sym, ◌∙◌, ap, ap₂}
+use Rattle.krb_der.specs.Octets.{AreOctets}
+use Rattle.krb_file.specs.Fields.{Source, Fault}
+use Rattle.krb_ccache.specs.declared.reading.Start.{Start}
+use Rattle.krb_ccache.specs.declared.value.Cache3.{Cache3}
+use Rattle.krb_ccache.specs.declared.value.Ccache.{Ccache}
+use Rattle.krb_ccache.specs.declared.value.Credential.{Credential}
+use Rattle.krb_ccache.specs.declared.value.FilePrincipal.{FilePrincipal}
+use Rattle.krb_ccache.specs.declared.value.Header.{Header}
+use Rattle.krb_ccache.specs.Laws.{UpgradeHoldsTheSame}
+use Rattle.krb_ccache.specs.Reading.{Items}
+use Rattle.krb_ccache.specs.Spelling.{ccache, CcacheSpells, Spells3, upgraded}
+use Rattle.krb_ccache.specs.Streaming.{begun, credentials, Holds}
+use Rattle.krb_list.specs.Ccaches.{cache_text}
+use Rattle.krb_list.specs.Text.{line_feed}
+use Rattle.krb_tool.specs.declared.run.RunEnd.TheVariants as run
+use Rattle.krb_tool.specs.Files.{RecordListing, field_limit, after_line, end_of, cache_listing, credentials_listing, ccache_listing}
+
+-- a listing without a refusal has an end
+ended : (e : Result ℕ Fault) → end_of e ≡ run.Clean → (size : ℕ) × (e ≡ Ok size)
+ended (Ok size) clean = (size, refl)
+ended (Err f) clean = absurd cc
+
+clean-ends : (now : Option ℕ) (r : Result (Start × Source) Fault) (found : Items Credential) → (cache_listing now r found).end ≡ run.Clean → (size : ℕ) × (found.end ≡ Ok size)
+clean-ends now (Err f) found clean = absurd cc
+clean-ends now (Ok start) found clean = ended found.end clean
+
+file-ends : (now : Option ℕ) (file : List ℕ) → (ccache_listing now file).end ≡ run.Clean → (size : ℕ) × ((credentials field_limit file).end ≡ Ok size)
+unfolding ccache_listing
+file-ends now file clean = clean-ends now (begun field_limit file) (credentials field_limit file) clean
+
+-- what holds a cache is listed by the cache alone
+abbrev listed : Option ℕ → Ccache → RecordListing
+listed now cache = after_line (cache_text cache.header cache.principal ++ line_feed) (credentials_listing now (record { items = cache.credentials; end = Ok 0 }))
+
+holds-listed : (now : Option ℕ) (file : List ℕ) (cache : Ccache) → Holds field_limit file cache → ccache_listing now file ≡ listed now cache
+unfolding ccache_listing
+holds-listed now file cache h =
+    ap (λ (r : Result (Start × Source) Fault). cache_listing now r (credentials field_limit file)) h.begins
+    ∙ ap (λ (found : Items Credential). cache_listing now (Ok (h.start, h.after)) found) h.all
+    ∙ ap₂ (λ (header : Header) (principal : FilePrincipal). after_line (cache_text header principal ++ line_feed) (credentials_listing now (record { items = cache.credentials; end = Ok 0 }))) h.header h.principal
+
+pub listed-alike : UpgradeHoldsTheSame → (now : Option ℕ) (v : Cache3) (file other : List ℕ) → AreOctets file → Spells3 v file → CcacheSpells (upgraded v) other → (ccache_listing now file).end ≡ run.Clean → ccache_listing now other ≡ ccache_listing now file
+listed-alike same now v file other fits spelled written clean =
+    let e = file-ends now file clean in
+    let h = same field_limit v file e.0 fits spelled e.1 in
+    ap (ccache_listing now) written.octets ∙ holds-listed now (ccache (upgraded v)) (upgraded v) h.1 ∙ sym (holds-listed now file (upgraded v) h.0)

@@ -1,0 +1,55 @@
+-- What `clap` says of the command, and of what it found.
+use Rattle.std.proofs.Common.{◌≡◌, ℕ, inl, inr, true, false, List, [], ◌∷◌, Option, Some, None, Result, Ok, refl, sym, ◌∙◌, ap, ap₂, subst}
+use Rattle.clap.specs.Words.{App, AddsSubcommand, HasKind, HasMatchesOf, IsAmong, Kinds, Text, TriesOne, app_of, fault_of, is_simple_and_free, kind_of, subcommand_of, subcommand_rows_of, with_subcommand}
+use Rattle.clap.specs.declared.builder.command.Command.{Command}
+use Rattle.clap.specs.declared.builder.command.Command.TheViews.{out-Command}
+use Rattle.clap.specs.Simple.{is_simple}
+use Rattle.clap.specs.declared.error.Error.{Error}
+use Rattle.clap.specs.declared.error.kind.ErrorKind.TheVariants.{DisplayHelp}
+use Rattle.clap.specs.declared.parser.matches.ArgMatches.{ArgMatches}
+use Rattle.krb_words.specs.Words.{Spells, IsNumber, IsHelp, IsOrderOf, IsOrderBy, IsOrderIn, krbls}
+use Rattle.krb_words.specs.declared.words.Order.{Order}
+
+pub subcommand_added : (old sub new : Command) (above below : App) → AddsSubcommand old sub new → app_of old ≡ above → app_of sub ≡ below → (out-Command sub).has_globals ≡ false → app_of new ≡ with_subcommand above below.top
+subcommand_added old sub new above below adds e f local = adds.shape local ∙ ap₂ with_subcommand e (ap (λ (a : App). a.top) f)
+
+-- what a typed getter gives of a text, or of none
+pub number_found : (E : Type 0) (gives : Text → Result ℕ E → Type 0) (text : Option Text) (number : Option ℕ) → ((t : Text) (n : ℕ) → gives t (Ok n) → Spells t n) → (text ≡ None → number ≡ None) → ((t : Text) → text ≡ Some t → TriesOne gives t (Ok number)) → IsNumber text number
+number_found E gives None number spells none value = none refl
+number_found E gives (Some t) None spells none value = value t refl
+number_found E gives (Some t) (Some n) spells none value = spells t n (value t refl)
+
+-- ---- what is wrong with words
+krbls-simple : is_simple krbls ≡ true
+krbls-simple = refl
+
+krbls-free : is_simple_and_free krbls ≡ true
+krbls-free = refl
+
+by_nothing : (kinds : Kinds) (words : List Text) (order : Order) → kinds ≡ [] → IsOrderOf (subcommand_of krbls words) order → IsOrderBy kinds words order
+by_nothing [] words order e o = o
+by_nothing (first ∷ kinds) words order e o = absurd cc
+
+by_help : (kinds : Kinds) (words : List Text) (order : Order) → IsAmong DisplayHelp kinds → IsHelp order.job → order.file ≡ None → IsOrderBy kinds words order
+by_help [] words order a h f = absurd a
+by_help (first ∷ kinds) words order a h f = (h, f, a)
+
+-- the order that the matches of words name
+pub IsOrderIn-matches : (app : App) (words : List Text) (m : ArgMatches) (order : Order) → app ≡ krbls → (is_simple_and_free app ≡ true → fault_of app words ≡ []) → HasMatchesOf app words m → IsOrderOf (subcommand_rows_of m) order → IsOrderIn words order
+IsOrderIn-matches app words m order e nothing has o =
+    let free : is_simple_and_free app ≡ true = ap is_simple_and_free e ∙ krbls-free in
+    let simple : is_simple app ≡ true = ap is_simple e ∙ krbls-simple in
+    by_nothing (fault_of krbls words) words order
+    (ap (λ a. fault_of a words) (sym e) ∙ nothing free)
+    (subst (λ met. IsOrderOf met order) ((has simple).1 ∙ ap (λ a. subcommand_of a words) e) o)
+
+among : (kinds : Kinds) (error : Error) → HasKind kinds error → kind_of error ≡ DisplayHelp → IsAmong DisplayHelp kinds
+among kinds error (inl m) e = absurd cc
+among kinds error (inr a) e = subst (λ k. IsAmong k kinds) e a
+
+-- help, which the words ask for
+pub IsOrderIn-help : (app : App) (words : List Text) (error : Error) (order : Order) → app ≡ krbls → (is_simple_and_free app ≡ true → HasKind (fault_of app words) error) → IsHelp order.job → order.file ≡ None → kind_of error ≡ DisplayHelp → IsOrderIn words order
+IsOrderIn-help app words error order e fails h f k =
+    let free : is_simple_and_free app ≡ true = ap is_simple_and_free e ∙ krbls-free in
+    by_help (fault_of krbls words) words order
+    (subst (λ a. IsAmong DisplayHelp (fault_of a words)) e (among (fault_of app words) error (fails free) k)) h f

@@ -1,0 +1,22 @@
+use Rattle.std.proofs.Common.{◌≡◌, true, ◌∙◌, ap}
+use Rattle.std.proofs.lemmas.Result.{IfOk-weaker}
+use Rattle.clap.specs.Words.{App, app_of, with_subcommand}
+use Rattle.clap.specs.Simple.{Shape, app_of_fields, on_top}
+use Rattle.krb_words.specs.Words.{stream_app, message_app, keytab_app, krbls_top}
+use Rattle.krb_words.proofs.Matched.{subcommand_added}
+use Rattle.krb_words.proofs.words.krbls_command.Goals as goal
+
+pub returns : goal.returns
+returns c =
+    let named : app_of c.no_binary_name.result ≡ on_top (λ (s : Shape). record s { no_binary_name = true }) (app_of c.new_command.result) =
+    ap app_of_fields c.no_binary_name.ensures in
+    let top : app_of c.disable_help_subcommand.result ≡ krbls_top =
+    ap app_of_fields c.disable_help_subcommand.ensures
+    ∙ ap (λ (a : App). on_top (λ (s : Shape). record s { disable_help_subcommand = true }) a) (named ∙ ap (λ (a : App). on_top (λ (s : Shape). record s { no_binary_name = true }) a) c.new_command.ensures.app) in
+    let first : app_of c.in_ok-subcommand.field-0 ≡ with_subcommand krbls_top stream_app.top =
+    subcommand_added _ _ _ _ _ c.in_ok-subcommand.ensures top c.in_ok-stream_command.ensures.0 c.in_ok-stream_command.ensures.1 in
+    let second : app_of c.in_ok-subcommand-2.field-0 ≡ with_subcommand (with_subcommand krbls_top stream_app.top) message_app.top =
+    subcommand_added _ _ _ _ _ c.in_ok-subcommand-2.ensures first c.in_ok-message_command.ensures.0 c.in_ok-message_command.ensures.1 in
+    let third : app_of c.in_ok-subcommand-3.field-0 ≡ with_subcommand (with_subcommand (with_subcommand krbls_top stream_app.top) message_app.top) keytab_app.top =
+    subcommand_added _ _ _ _ _ c.in_ok-subcommand-3.ensures second c.in_ok-keytab_command.ensures.0 c.in_ok-keytab_command.ensures.1 in
+    IfOk-weaker c.subcommand-4.result _ _ (λ r adds. subcommand_added _ _ r _ _ adds third c.in_ok-ccache_command.ensures.0 c.in_ok-ccache_command.ensures.1) c.subcommand-4.ensures
