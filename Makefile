@@ -1,5 +1,5 @@
 # krbls: build, run, test and measure. Needs the Rattle toolchain's `rt`; `make test` and `make bench` also need python3.
-.PHONY: run build gate test fuzz bench clean
+.PHONY: run build gate test edits fuzz bench clean
 
 # The crates of crates.txt, and those of them that one uses.
 CRATES := $(shell sed -n 's/^\([a-z_0-9]*\):.*/\1/p' crates.txt)
@@ -35,10 +35,15 @@ gate:
 test:
 	tests/all
 
-# More than `make test` tries: 100000 made-up streams, each change of the messages of krb_damage, and the marks of
-# 2000 made-up messages.
+# The must-fail edits that the gate leaves out.
+edits: build
+	tests/edits
+
+# More than `make test` tries: 100000 made-up streams, each change of the messages of krb_damage and what it counts, and
+# the marks of 2000 made-up messages.
 fuzz: build
 	cd crates/krb_damage && rt run < stdin > /dev/null
+	tests/damage | diff crates/krb_damage/stdout -
 	tests/fuzz damage
 	tests/marks
 	tests/fuzz 100000 1

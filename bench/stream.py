@@ -34,6 +34,8 @@ def mixed_frames():
     are. The few large ones, which are almost all cipher, are left out."""
     frames, messages = b"", 0
     for path in sorted(pathlib.Path("tests/streams").glob("*.stream")):
+        if path.name.startswith("worked-"):
+            continue
         lines = path.with_suffix(".want").read_text().splitlines()
         if lines[1:] == ["end messages=1", "status 0"] and not lines[0].startswith("AP-REP"):
             if path.stat().st_size < LARGE_OCTETS:

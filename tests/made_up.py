@@ -305,9 +305,10 @@ class FileMaker:
             + self.data(self.dice.choice([self.number(4) + self.number(4), self.octets()]), 2)
             for _ in range(self.dice.choice([0, 1, 1, 3]))
         ]
-        credentials = [self.credential() for _ in range(self.dice.choice([0, 1, 1, 2, 4]))]
-        header = self.data(b"".join(fields), 2)
-        return self.changed(b"\x05\x04" + header + self.principal() + b"".join(credentials))
+        version = self.dice.choice([3, 4])
+        credentials = [self.credential(version) for _ in range(self.dice.choice([0, 1, 1, 2, 4]))]
+        header = self.data(b"".join(fields), 2) if version == 4 else b""
+        return self.changed(bytes([5, version]) + header + self.principal() + b"".join(credentials))
 
     def principal(self, realm=None, names=None):
         names = self.names() if names is None else names
@@ -315,7 +316,7 @@ class FileMaker:
         parts = b"".join(self.data(name, 4) for name in names)
         return self.number(4) + self.count(len(names), 4) + self.data(realm, 4) + parts
 
-    def credential(self):
+    def credential(self, version):
         server = self.dice.choice(
             [
                 self.principal(),
@@ -327,10 +328,13 @@ class FileMaker:
         )
         ticket = self.messages.item(TICKET)
         ticket = self.dice.choice([ticket, ticket, self.changed(ticket), b"", self.octets()])
+        enctype = self.number(2)
+        if version == 3:
+            enctype += self.dice.choice([enctype, enctype, self.number(2)])
         return (
             self.principal()
             + server
-            + self.number(2)
+            + enctype
             + self.data(self.octets(), 4)
             + b"".join(self.number(4) for _ in range(4))
             + self.number(1)

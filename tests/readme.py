@@ -1,8 +1,9 @@
-"""Takes the examples of README.md: each command line of krbls that stands alone in a block, and the block
-below it, which is what it prints; and the one program that it shows.
+"""Takes the examples of README.md and docs/: in each block `console`, a command after `$ ` and below it what it
+prints; and in each block `rust`, code, which has to be a part of the file of crates/ that the text before it links.
 
-  python3 tests/readme.py FOLDER    writes them to FOLDER/N.command and FOLDER/N.want, and the program to
-                                    FOLDER/program.rt
+  python3 tests/readme.py FOLDER    writes PAGE-N.command and PAGE-N.want of the Nth example of a page, and
+                                    PAGE-N.code and PAGE-N.source of its Nth block of code: the code, and the
+                                    same again if its file has it, else the whole file
 """
 
 import pathlib
@@ -10,19 +11,30 @@ import re
 import sys
 
 TOP = pathlib.Path(__file__).resolve().parent.parent
-EXAMPLE = re.compile(r"```sh\n(bin/krbls [^\n]*)\n```\n\n```text\n(.*?)```\n", re.DOTALL)
-PROGRAM = re.compile(r"```rust\n(.*?)```\n", re.DOTALL)
+CONSOLE = re.compile(r"^```console\n(.*?)^```\n", re.DOTALL | re.MULTILINE)
+EXAMPLE = re.compile(r"^\$ (.*)\n((?:(?!\$ ).*\n)*)", re.MULTILINE)
+CODE = re.compile(r"^```rust\n(.*?)^```\n", re.DOTALL | re.MULTILINE)
+LINK = re.compile(r"\]\((?:\.\./)?(crates/[^)]*\.rt)\)")
+
+
+def take(page, folder):
+    """Writes the examples and the code of a page."""
+    text = page.read_text()
+    examples = (example for block in CONSOLE.findall(text) for example in EXAMPLE.findall(block))
+    for number, (command, lines) in enumerate(examples, 1):
+        (folder / f"{page.stem}-{number}.command").write_text(f"{command}\n")
+        (folder / f"{page.stem}-{number}.want").write_text(lines)
+    for number, block in enumerate(CODE.finditer(text), 1):
+        *_, link = LINK.findall(text[: block.start()])
+        source = (TOP / link).read_text()
+        (folder / f"{page.stem}-{number}.code").write_text(block[1])
+        (folder / f"{page.stem}-{number}.source").write_text(block[1] if block[1] in source else source)
 
 
 def main(folder):
     folder.mkdir()
-    readme = (TOP / "README.md").read_text()
-    examples = EXAMPLE.findall(readme)
-    for number, (command, lines) in enumerate(examples, 1):
-        (folder / f"{number}.command").write_text(f"{command}\n")
-        (folder / f"{number}.want").write_text(lines)
-    (program,) = PROGRAM.findall(readme)
-    (folder / "program.rt").write_text(program)
+    for page in [TOP / "README.md", *sorted((TOP / "docs").glob("*.md"))]:
+        take(page, folder)
 
 
 main(pathlib.Path(sys.argv[1]))

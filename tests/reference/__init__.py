@@ -9,6 +9,13 @@ Each function gives the lines of a listing, and the status of the program.
 """
 
 from .files import ccache, keytab
-from .messages import message, stream
+from .messages import message, stream, strict_message, strict_stream
 
-LISTINGS = {"stream": stream, "message": message, "keytab": keytab, "ccache": ccache}
+LISTINGS = {
+    "stream": stream,
+    "stream --strict": strict_stream,
+    "message": message,
+    "message --strict": strict_message,
+    "keytab": keytab,
+    "ccache": ccache,
+}

@@ -54,10 +54,13 @@ class Fields:
     def data(self, size_of_length):
         return self.take(self.number(size_of_length), FIELD_LIMIT)
 
-    def version(self, version):
-        for place, wanted, why in ((0, 0x05, "Magic"), (1, version, "Version")):
-            if self.number(1) != wanted:
+    def version(self, *versions):
+        """The version, which is one of these."""
+        for place, wanted, why in ((0, (0x05,), "Magic"), (1, versions, "Version")):
+            octet = self.number(1)
+            if octet not in wanted:
                 raise Refused(place, why)
+        return octet
 
     def at_end(self):
         return self.place >= len(self.octets)
@@ -189,11 +192,13 @@ def ticket_texts(octets):
     return sealed(ticket["enc-part"]), ticket_server(ticket)
 
 
-def credential(fields, now):
+def credential(fields, version, now):
     """The line of a credential or of a configuration entry."""
     _, client_names, client_realm = file_principal(fields)
     _, server_names, server_realm = file_principal(fields)
     enctype = fields.number(2)
+    if version == 3:
+        fields.number(2)
     key = fields.data(4)
     times = [fields.number(4) for _ in range(4)]
     is_skey = fields.number(1)
@@ -231,8 +236,8 @@ def credential(fields, now):
 
 def ccache_lines(octets, now):
     fields = Fields(octets)
-    fields.version(0x04)
-    header_fields = header(fields)
+    version = fields.version(3, 4)
+    header_fields = header(fields) if version == 4 else []
     name_type, names, realm = file_principal(fields)
     shown = {
         "principal": principal(names, realm),
@@ -243,7 +248,7 @@ def ccache_lines(octets, now):
     yield line("cache", shown)
     credentials = 0
     while not fields.at_end():
-        yield credential(fields, now)
+        yield credential(fields, version, now)
         credentials += 1
     yield f"end credentials={credentials}"
 

@@ -1,6 +1,6 @@
 """The grammar of RFC 4120, appendix A: its types, and the messages."""
 
-from dataclasses import dataclass
+from dataclasses import dataclass, replace
 
 
 @dataclass(frozen=True)
@@ -13,12 +13,14 @@ class Integer:
 
 @dataclass(frozen=True)
 class Bits:
+    least: int = 0
     tag: int = 0x03
 
 
 @dataclass(frozen=True)
 class String:
     tag: int
+    greatest: int = 0xFF
 
 
 @dataclass(frozen=True)
@@ -29,6 +31,7 @@ class Time:
 @dataclass(frozen=True)
 class ListOf:
     item: object
+    empty: bool = True
     tag: int = 0x30
 
 
@@ -80,6 +83,7 @@ PRINCIPAL_NAME = sequence((0, "name-type", INT32), (1, "name-string", ListOf(TEX
 HOST_ADDRESS = sequence((0, "addr-type", INT32), (1, "address", OCTETS))
 PA_DATA = sequence((1, "padata-type", INT32), (2, "padata-value", OCTETS))
 ENCRYPTED_DATA = sequence((0, "etype", INT32), (1, "kvno?", WIDE32), (2, "cipher", OCTETS))
+CHECKSUM = sequence((0, "cksumtype", INT32), (1, "checksum", OCTETS))
 TICKET = application(
     1,
     sequence(
@@ -103,6 +107,14 @@ KDC_REQ_BODY = sequence(
     (9, "addresses?", ListOf(HOST_ADDRESS)),
     (10, "enc-authorization-data?", ENCRYPTED_DATA),
     (11, "additional-tickets?", ListOf(TICKET)),
+)
+KRB_SAFE_BODY = sequence(
+    (0, "user-data", OCTETS),
+    (1, "timestamp?", Time()),
+    (2, "usec?", MICROS),
+    (3, "seq-number?", WIDE32),
+    (4, "s-address", HOST_ADDRESS),
+    (5, "r-address?", HOST_ADDRESS),
 )
 
 
@@ -151,6 +163,27 @@ MESSAGES = {
     "AP-REP": application(
         15, sequence((0, "pvno", fixed(5)), (1, "msg-type", fixed(15)), (2, "enc-part", ENCRYPTED_DATA))
     ),
+    "KRB-SAFE": application(
+        20,
+        sequence(
+            (0, "pvno", fixed(5)),
+            (1, "msg-type", fixed(20)),
+            (2, "safe-body", KRB_SAFE_BODY),
+            (3, "cksum", CHECKSUM),
+        ),
+    ),
+    "KRB-PRIV": application(
+        21, sequence((0, "pvno", fixed(5)), (1, "msg-type", fixed(21)), (3, "enc-part", ENCRYPTED_DATA))
+    ),
+    "KRB-CRED": application(
+        22,
+        sequence(
+            (0, "pvno", fixed(5)),
+            (1, "msg-type", fixed(22)),
+            (2, "tickets", ListOf(TICKET)),
+            (3, "enc-part", ENCRYPTED_DATA),
+        ),
+    ),
     "KRB-ERROR": application(
         30,
         sequence(
@@ -170,3 +203,27 @@ MESSAGES = {
         ),
     ),
 }
+
+
+def strict(item, optional=False):
+    """A type as the strict profile has it, of a field that is OPTIONAL or not."""
+    match item:
+        case Integer() if item == WIDE32:
+            return replace(item, low=0)
+        case Bits():
+            return replace(item, least=32)
+        case String() if item == TEXT:
+            return replace(item, greatest=0x7F)
+        case ListOf():
+            return replace(item, item=strict(item.item), empty=not optional)
+        case Tagged():
+            return replace(item, item=strict(item.item, optional))
+        case Sequence():
+            return replace(
+                item, fields=tuple(replace(field, item=strict(field.item, field.optional)) for field in item.fields)
+            )
+        case _:
+            return item
+
+
+STRICT_MESSAGES = {name: strict(item) for name, item in MESSAGES.items()}

@@ -8,7 +8,7 @@ from .grammar import MESSAGES, Bits, Integer, ListOf, Sequence, String, Tagged, 
 
 REASONS = (
     "HighBit TooLong Empty Tag Overrun Indefinite LengthWide LengthNotMinimal Loose Size "
-    "IntegerNotMinimal Range Time Bits Missing Truncated"
+    "IntegerNotMinimal Range Time Bits Missing Truncated Charset"
 ).split()
 
 
@@ -85,14 +85,16 @@ class Judge:
             case Integer():
                 return self.integer(item, size)
             case Bits():
-                return self.bits(size)
+                return self.bits(item, size)
             case Time():
                 return self.time(size)
             case String():
-                return self.take(size)
+                return self.string(item, size)
             case Tagged():
                 return self.tagged(item, size)
             case ListOf():
+                if size == 0 and not item.empty:
+                    self.refuse("Size")
                 end = self.place + size
                 values = []
                 while self.place < end:
@@ -114,11 +116,21 @@ class Judge:
             self.refuse("Range")
         return number
 
-    def bits(self, size):
-        if size == 0:
+    def string(self, item, size):
+        if item.greatest == 0xFF:
+            return self.take(size)
+        octets = b""
+        for _ in range(size):
+            octets += bytes([self.next()])
+            if octets[-1] > item.greatest:
+                self.refuse("Charset")
+        return octets
+
+    def bits(self, item, size):
+        if size == 0 or 8 * (size - 1) < item.least:
             self.refuse("Size")
         unused = self.next()
-        if unused > 7 or (size == 1 and unused != 0):
+        if unused > 7 or 8 * (size - 1) - unused < item.least:
             self.refuse("Bits")
         if size == 1:
             return unused, b""

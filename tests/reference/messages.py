@@ -1,6 +1,6 @@
 """The lines of messages, with their notes, and the listings of streams and of a message in hexadecimal."""
 
-from .grammar import MESSAGES, METHOD_DATA, Bits, ListOf, Sequence, String, Tagged
+from .grammar import MESSAGES, METHOD_DATA, STRICT_MESSAGES, Bits, ListOf, Sequence, String, Tagged
 from .judging import Ended, Refused, fault, judge, whole
 from .texts import ascii_text, count, escaped, line, numbers, optional, principal, quoted, sealed
 
@@ -42,7 +42,7 @@ def notes(item, value, field=""):
             for part in item.fields:
                 if part.name in value:
                     found |= notes(part.item, value[part.name], part.name)
-    if field in ("kvno", "nonce") and value < 0:
+    if field in ("kvno", "nonce", "seq-number") and value < 0:
         found.add(3)
     return found
 
@@ -114,6 +114,33 @@ def ap_reply(value):
     return {"enc": sealed(value["enc-part"])}
 
 
+def address(value):
+    """H"""
+    return f"{value['addr-type']}:{value['address'].hex()}"
+
+
+def safe(value):
+    body = value["safe-body"]
+    checksum = value["cksum"]
+    return {
+        "size": count(body["user-data"]),
+        "time": optional(ascii_text, body.get("timestamp")),
+        "usec": optional(str, body.get("usec")),
+        "seq": optional(str, body.get("seq-number")),
+        "sender": address(body["s-address"]),
+        "receiver": optional(address, body.get("r-address")),
+        "cksum": f"{checksum['cksumtype']}:{count(checksum['checksum'])}",
+    }
+
+
+def private(value):
+    return {"enc": sealed(value["enc-part"])}
+
+
+def credentials(value):
+    return {"tickets": count(value["tickets"]), "enc": sealed(value["enc-part"])}
+
+
 def methods(value):
     """LIST of the types in the METHOD-DATA of an error, if there are any."""
     if value["error-code"] != 25 or "e-data" not in value:
@@ -150,6 +177,9 @@ FIELDS = {
     "TGS-REP": reply,
     "AP-REQ": ap_request,
     "AP-REP": ap_reply,
+    "KRB-SAFE": safe,
+    "KRB-PRIV": private,
+    "KRB-CRED": credentials,
     "KRB-ERROR": error,
 }
 
@@ -159,7 +189,7 @@ def message_line(name, value):
     return line(name, {**FIELDS[name](value), "notes": noted})
 
 
-def frame(octets, limit):
+def frame(octets, limit, messages):
     """The line of the message at the front of a stream, and the size of its frame."""
     if len(octets) < 4:
         raise Refused(len(octets), "Truncated")
@@ -168,19 +198,19 @@ def frame(octets, limit):
         if holds:
             raise Refused(3, why)
     try:
-        return message_line(*judge(octets[4 : 4 + n], n)), 4 + n
+        return message_line(*judge(octets[4 : 4 + n], n, messages)), 4 + n
     except Refused as refusal:
         raise Refused(refusal.place + 4, refusal.why) from None
     except Ended:
         raise Refused(len(octets), "Truncated") from None
 
 
-def stream(octets, limit=LIMIT):
+def stream(octets, limit=LIMIT, messages=MESSAGES):
     """The lines of a stream of frames, and the status of the program."""
     lines = []
     while octets:
         try:
-            text, size = frame(octets, limit)
+            text, size = frame(octets, limit, messages)
         except Refused as refusal:
             return [*lines, f"refused messages={len(lines)} {fault(refusal)}"], 1
         lines.append(text)
@@ -188,7 +218,7 @@ def stream(octets, limit=LIMIT):
     return [*lines, f"end messages={len(lines)}"], 0
 
 
-def message(text):
+def message(text, messages=MESSAGES):
     """The same of one message in hexadecimal."""
     if len(text) > MOST_TEXT:
         return ["refused length"], 1
@@ -196,6 +226,16 @@ def message(text):
     if len(digits) % 2 != 0 or digits.strip(b"0123456789abcdefABCDEF"):
         return ["refused hex"], 1
     try:
-        return [message_line(*whole(bytes.fromhex(digits.decode("ascii"))))], 0
+        return [message_line(*whole(bytes.fromhex(digits.decode("ascii")), messages))], 0
     except Refused as refusal:
         return [f"refused {fault(refusal)}"], 1
+
+
+def strict_stream(octets):
+    """As `stream`, by the strict profile."""
+    return stream(octets, messages=STRICT_MESSAGES)
+
+
+def strict_message(text):
+    """As `message`, by the strict profile."""
+    return message(text, STRICT_MESSAGES)

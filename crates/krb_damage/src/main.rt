@@ -1,115 +1,253 @@
-//! Reads messages, a line for each with its name and its octets in hexadecimal, and changes each octet
-//! to each other value. It is a test of `krb_judge` and `krb_scan` on what is nearly a message: `judge`
-//! of each front of such octets, `parse` of all of them, and scanners that take them one after another
-//! and in pieces of some sizes have to give one answer. The line of a message counts the changes, and
-//! those after which the octets are still a message. With the word `answers` there is a line for each
-//! change instead: its place, the new octet, and the answer. With the word `marks` nothing is changed,
-//! and the octets need not be a message: the line of each has the answer, how many lengths are open,
-//! and the marks, each as where the contents begin, how many octets they are, and the number.
+//! What damage, failing ends and want of memory come to. It reads messages, keytabs and caches, a line
+//! for each with its name and its octets in hexadecimal.
+//!
+//! Octets are cut after each of them, and each of them is changed to each other value. A message stands
+//! in a frame then, and is tried by both profiles: decoders that are fed all at once and octet by octet
+//! have to give one answer; and `judge_in` of each front, `parse_in`, and scanners that take the octets
+//! one after another and in pieces of some sizes have to give the same. A file that is read whole, and
+//! one record after another from some readers, has to be the same records or the same fault. And each
+//! is listed from readers that fail when they are asked for the first time, for the second, and so on,
+//! and to writers that fail, or take nothing, at each write in turn: a front of the lines is there
+//! then. A message is listed as a stream and as its digits. The line of each counts its fronts that are
+//! whole, the changes, those after which it is still a message or a file, and the reads and the writes
+//! that failed.
+//!
+//! A file of more than 256 octets is not changed: it has to come again where it is read and written, also
+//! from readers that give it in two parts, whatever the first is.
+//!
+//! Before all this each call that takes memory is made once. Its line is `done` where it gave what it
+//! has to give; `memory` where it was out of memory, nothing was changed, and the same call then gave
+//! that; `refused` where it was out of memory both times; and `wrong` otherwise. With ample memory all is
+//! done; `tests/memory` refuses it.
+//!
+//! With the word `memory` the calls alone are made. With `answers` there is a line for each change of a
+//! message instead, by each profile: its place, the new octet, and the answer. With `marks` nothing is
+//! changed, and the octets need not be a message: the line of each has the answer, how many lengths are
+//! open, and the marks, each as where the contents begin, how many octets they are, and the number.
 #![tactic(auto)]
 
+mod ends;
+mod fakes;
+mod files;
+mod growth;
+mod messages;
 mod scanning;
 
 ghost use Rattle.std.specs.Prelude.{◌^◌, ◌<◌, length};
 
-use krb_der::{Refusal, Verdict, why_number};
-use krb_judge::{ParseFault, judge, parse};
-use krb_msg::encode;
+use ends::{Failed, NONE_FAILED, Run, failures};
+use files::Format;
+use growth::report_calls;
+use krb_der::{Profile, Refusal, Verdict, why_number};
+use krb_frame::Status;
 use krb_scan::{Mark, Scanner};
-use scanning::{scanned, step_all};
+use messages::{changed, fronts, verdict};
+use scanning::step_all;
 use std::alloc::Global;
 use std::process::ExitCode;
 use std::{env, io};
 
-/// What octets are.
-#[derive(Clone, Copy, PartialEq, Eq)]
-enum Answer {
-    /// A message.
-    Message,
-    /// None.
-    Refused(Refusal),
+/// How many octets a file has at most that is changed.
+const MOST_CHANGED: usize = 256;
+
+/// What octets are tried as.
+#[derive(Clone, Copy)]
+enum Subject {
+    /// A frame.
+    Frame(Profile),
+    File(Format),
 }
 
-impl Answer {
-    /// What is decided of all octets, if it is.
-    fn of(verdict: Verdict) -> Option<Answer> {
-        match verdict {
-            Verdict::Open => None,
-            Verdict::Whole => Some(Answer::Message),
-            Verdict::Refused(refusal) => Some(Answer::Refused(refusal)),
+impl Subject {
+    /// How many fronts of octets are whole. `None` where answers differ, or out of memory.
+    fn fronts(self, alloc: Global, octets: &[u8]) -> Option<u64> {
+        match self {
+            Subject::Frame(profile) => fronts(alloc, profile, octets),
+            Subject::File(format) => format.fronts(alloc, octets),
         }
     }
-}
 
-/// What `judge` answers to all octets of a slice, the fronts of up to `open` octets being open. `None`
-/// where it does not stand by its answer: each front has to be open until one octet refuses, and
-/// refused by that octet from then on; and all octets are not open.
-fn judged(octets: &[u8], open: usize) -> Option<Answer>
-    requires { length octets.now < 2 ^ 31 }
-{
-    let n = octets.len();
-    let mut refusal = None;
-    for last in open..n {
-        match (refusal, judge(n as u32, &octets[..last + 1])) {
-            (None, Verdict::Open) if last + 1 < n => {}
-            (None, Verdict::Whole) if last + 1 == n => return Some(Answer::Message),
-            (None, Verdict::Refused(found)) if found.place as usize == last => {
-                refusal = Some(found);
+    /// Whether octets are whole of which the one at a place is changed. `None` where answers differ, or
+    /// out of memory.
+    fn is_whole(self, alloc: Global, octets: &[u8], place: usize) -> Option<bool> {
+        match self {
+            Subject::Frame(profile) => {
+                Some(changed(alloc, profile, octets, place)? == Status::Ready)
             }
-            (Some(first), Verdict::Refused(found)) if found == first => {}
-            _ => return None,
+            Subject::File(format) => format.is_whole(alloc, octets, place),
         }
     }
-    refusal.map(Answer::Refused)
 }
 
-/// What `parse` answers. `None` when out of memory, or where a message has other octets.
-fn parsed(alloc: Global, octets: &[u8]) -> Option<Answer> {
-    match parse(alloc, octets) {
-        Ok(message) => match encode(alloc, &message) {
-            Ok(again) if again.as_slice() == octets => Some(Answer::Message),
-            _ => None,
-        },
-        Err(ParseFault::Refused(refusal)) => Some(Answer::Refused(refusal)),
-        Err(ParseFault::Memory) => None,
+/// What was tried with octets.
+#[derive(Clone, Copy)]
+struct Counts {
+    /// How many fronts of them are whole.
+    fronts: u64,
+    /// How many changes were made.
+    changes: u64,
+    /// After how many of these they are whole.
+    whole: u64,
+    failed: Failed,
+}
+
+/// Cuts octets, and makes each change to them, one at a time.
+fn tried(alloc: Global, subject: Subject, octets: &mut [u8], failed: Failed) -> Option<Counts> {
+    let fronts = subject.fronts(alloc, octets)?;
+    let mut changes = 0u64;
+    let mut whole = 0u64;
+    for place in 0..octets.len() {
+        let kept = octets[place];
+        for octet in 0..=u8::MAX {
+            if octet != kept {
+                octets[place] = octet;
+                changes = changes.saturating_add(1);
+                if subject.is_whole(alloc, octets, place)? {
+                    whole = whole.saturating_add(1);
+                }
+            }
+        }
+        octets[place] = kept;
     }
+    Some(Counts {
+        fronts,
+        changes,
+        whole,
+        failed,
+    })
 }
 
-/// The one answer that octets get, if it is one.
-fn one_answer(alloc: Global, octets: &[u8], open: usize) -> Option<Answer> {
-    if octets.is_empty() || octets.len() > 2147483647 {
-        return None;
+/// Cuts a file, and changes it.
+fn tried_file(alloc: Global, format: Format, octets: &mut [u8]) -> Option<Counts> {
+    let run = match format {
+        Format::Keytab => Run::Keytab,
+        Format::Ccache => Run::Ccache,
+    };
+    let failed = failures(alloc, run, octets, NONE_FAILED)?;
+    tried(alloc, Subject::File(format), octets, failed)
+}
+
+/// Cuts a message, and changes it, by a profile. It comes in a frame, and as digits.
+fn tried_message(alloc: Global, profile: Profile, message: &[u8], digits: &str) -> Option<Counts> {
+    let mut frame = Vec::new(alloc);
+    let length = u32::try_from(message.len()).ok()?;
+    frame.extend_from_slice(&length.to_be_bytes()).ok()?;
+    frame.extend_from_slice(message).ok()?;
+    let failed = failures(alloc, Run::Message(profile), digits.as_bytes(), NONE_FAILED)?;
+    let failed = failures(alloc, Run::Stream(profile), frame.as_slice(), failed)?;
+    tried(alloc, Subject::Frame(profile), frame.as_mut_slice(), failed)
+}
+
+/// Prints what was tried, and whether all was as it has to be.
+fn report(rt: &impl Print, name: &str, counts: Option<Counts>) -> io::Result<bool> {
+    let Some(counts) = counts else {
+        println!(rt; "{name} is not as it has to be")?;
+        return Ok(false);
+    };
+    let Counts {
+        fronts,
+        changes,
+        whole,
+        failed: Failed { reads, writes },
+    } = counts;
+    print!(rt; "{name}: {fronts} fronts, {changes} changes, {whole} of them whole, ")?;
+    println!(rt; "{reads} reads and {writes} writes failed")?;
+    Ok(true)
+}
+
+/// Tries a file.
+fn damage_file<R: Print + AllocGlobal>(
+    rt: &R,
+    name: &str,
+    format: Format,
+    octets: &mut [u8],
+) -> io::Result<bool> {
+    let alloc = rt.alloc();
+    if octets.len() <= MOST_CHANGED {
+        return report(rt, name, tried_file(alloc, format, octets));
     }
-    let answer = judged(octets, open)?;
-    let alike = parsed(alloc, octets)? == answer && Answer::of(scanned(alloc, octets)?)? == answer;
-    alike.then_some(answer)
+    let comes_again = format.comes_again(alloc, octets) == Some(true);
+    let word = if comes_again {
+        "comes"
+    } else {
+        "does not come"
+    };
+    println!(rt; "{name}: {word} again")?;
+    Ok(comes_again)
 }
 
-/// What is printed.
-#[derive(Clone, Copy, PartialEq, Eq)]
-enum Output {
-    /// The counts of each message.
-    Counts,
-    /// The answer after each change.
-    Answers,
-    /// The answer to what is given, and its marks.
-    Marks,
+/// Tries a message by both profiles.
+fn damage_message<R: Print + AllocGlobal>(
+    rt: &R,
+    name: &str,
+    octets: &[u8],
+    digits: &str,
+) -> io::Result<bool> {
+    let alloc = rt.alloc();
+    print!(rt; "lenient ")?;
+    let is_right = report(
+        rt,
+        name,
+        tried_message(alloc, Profile::Lenient, octets, digits),
+    )?;
+    print!(rt; "strict ")?;
+    Ok(
+        report(
+            rt,
+            name,
+            tried_message(alloc, Profile::Strict, octets, digits),
+        )? && is_right,
+    )
 }
 
 /// Prints an answer, and no line feed.
-fn print_answer(rt: &impl Print, answer: Answer) -> io::Result<()> {
+fn print_answer(rt: &impl Print, answer: Verdict) -> io::Result<()> {
     match answer {
-        Answer::Message => print!(rt; "message"),
-        Answer::Refused(refusal) => {
-            let at = refusal.place;
-            let why = why_number(refusal.why);
-            print!(rt; "refused {at} {why}")
+        Verdict::Open => print!(rt; "open"),
+        Verdict::Whole => print!(rt; "message"),
+        Verdict::Refused(Refusal { place, why }) => {
+            let why = why_number(why);
+            print!(rt; "refused {place} {why}")
         }
     }
 }
 
-/// Prints the answer that octets get, and what a scanner of them tells.
-fn print_scan(rt: &impl Print, name: &str, answer: Answer, scanner: &Scanner) -> io::Result<()> {
+/// Prints the answer to each change of a message, by a profile, and whether each had one.
+fn print_answers<R: Print + AllocGlobal>(
+    rt: &R,
+    profile: Profile,
+    octets: &mut [u8],
+) -> io::Result<bool> {
+    for place in 0..octets.len() {
+        let kept = octets[place];
+        for octet in 0..=u8::MAX {
+            if octet != kept {
+                octets[place] = octet;
+                let Some(answer) = verdict(rt.alloc(), profile, octets, 0) else {
+                    return Ok(false);
+                };
+                print!(rt; "{place} {octet} ")?;
+                print_answer(rt, answer)?;
+                println!(rt)?;
+            }
+        }
+        octets[place] = kept;
+    }
+    Ok(true)
+}
+
+/// Prints what octets are and the marks in them, and whether they get one answer.
+fn print_marks<R: Print + AllocGlobal>(rt: &R, name: &str, octets: &[u8]) -> io::Result<bool> {
+    let alloc = rt.alloc();
+    if octets.is_empty() || octets.len() > 2147483647 {
+        return Ok(false);
+    }
+    let Some(answer) = verdict(alloc, Profile::Lenient, octets, 0) else {
+        println!(rt; "{name} has two answers")?;
+        return Ok(false);
+    };
+    let mut scanner = Scanner::new(alloc, octets.len() as u32);
+    let has_all = step_all(&mut scanner, octets);
     print!(rt; "{name} ")?;
     print_answer(rt, answer)?;
     let open = scanner.open_lengths();
@@ -123,76 +261,46 @@ fn print_scan(rt: &impl Print, name: &str, answer: Answer, scanner: &Scanner) ->
         } = *mark;
         print!(rt; " {start}+{len}={value}")?;
     }
-    println!(rt)
+    println!(rt)?;
+    Ok(has_all)
 }
 
-/// Prints what octets are and the marks in them, and whether they get one answer.
-fn mark<R: Print + AllocGlobal>(rt: &R, name: &str, octets: &[u8]) -> io::Result<bool> {
-    let alloc = rt.alloc();
-    let Some(answer) = one_answer(alloc, octets, 0) else {
-        println!(rt; "{name} has two answers")?;
-        return Ok(false);
-    };
-    if octets.is_empty() || octets.len() > 2147483647 {
-        return Ok(false);
-    }
-    let mut scanner = Scanner::new(alloc, octets.len() as u32);
-    let has_all = step_all(&mut scanner, octets);
-    print_scan(rt, name, answer, &scanner).map(|()| has_all)
-}
-
-/// Makes each change to a message, one at a time, and whether each had one answer.
-fn damage<R: Print + AllocGlobal>(
+/// Does what a word asks for with octets, and whether all was as it has to be.
+fn work_on<R: Print + AllocGlobal>(
     rt: &R,
+    word: Option<&str>,
     name: &str,
     octets: &mut [u8],
-    output: Output,
+    digits: &str,
 ) -> io::Result<bool> {
-    let alloc = rt.alloc();
-    if one_answer(alloc, octets, 0) != Some(Answer::Message) {
-        println!(rt; "{name} is no message")?;
-        return Ok(false);
-    }
-    let mut changes = 0u64;
-    let mut messages = 0u64;
-    for place in 0..octets.len() {
-        let kept = octets[place];
-        for octet in 0..=u8::MAX {
-            if octet == kept {
-                continue;
-            }
-            octets[place] = octet;
-            let Some(found) = one_answer(alloc, octets, place) else {
-                println!(rt; "{name} with {octet} at {place} has two answers")?;
-                return Ok(false);
-            };
-            changes = changes.saturating_add(1);
-            if found == Answer::Message {
-                messages = messages.saturating_add(1);
-            }
-            if output == Output::Answers {
-                print!(rt; "{place} {octet} ")?;
-                print_answer(rt, found)?;
-                println!(rt)?;
-            }
+    match (word, octets.first(), octets.get(1)) {
+        (Some("marks"), ..) => print_marks(rt, name, octets),
+        (Some("answers"), ..) => {
+            let is_right = print_answers(rt, Profile::Lenient, octets)?;
+            Ok(print_answers(rt, Profile::Strict, octets)? && is_right)
         }
-        octets[place] = kept;
+        (_, Some(5), Some(2)) => damage_file(rt, name, Format::Keytab, octets),
+        (_, Some(5), _) => damage_file(rt, name, Format::Ccache, octets),
+        _ => damage_message(rt, name, octets, digits),
     }
-    if output == Output::Counts {
-        println!(rt; "{name}: {changes} changes, {messages} to a message")?;
-    }
-    Ok(true)
 }
 
 fn main(rt: HostRuntime) -> io::Result<ExitCode> {
     let alloc = rt.alloc();
     let mut words = env::args(&rt)?;
     let _program = words.next();
-    let output = match words.next() {
-        Some(word) if word.as_str() == "answers" => Output::Answers,
-        Some(word) if word.as_str() == "marks" => Output::Marks,
-        _ => Output::Counts,
-    };
+    let word = words.next();
+    let word = word.as_deref();
+    if word.is_none() || word == Some("memory") {
+        let is_right = report_calls(&rt)?;
+        if !is_right || word.is_some() {
+            return Ok(if is_right {
+                ExitCode::SUCCESS
+            } else {
+                ExitCode::FAILURE
+            });
+        }
+    }
     let text = io::read_to_string(alloc, rt.stdin())?;
     for line in text.as_str().lines() {
         let Some((name, digits)) = line.split_once(' ') else {
@@ -201,11 +309,7 @@ fn main(rt: HostRuntime) -> io::Result<ExitCode> {
         let Ok(mut octets) = hex::decode(alloc, digits) else {
             return Ok(ExitCode::FAILURE);
         };
-        let is_right = match output {
-            Output::Marks => mark(&rt, name, octets.as_slice())?,
-            _ => damage(&rt, name, octets.as_mut_slice(), output)?,
-        };
-        if !is_right {
+        if !work_on(&rt, word, name, octets.as_mut_slice(), digits)? {
             return Ok(ExitCode::FAILURE);
         }
     }

@@ -4,7 +4,7 @@ use krb_judge::judge;
 use krb_scan::{Scanner, Verdict};
 
 /// How octets are judged.
-#[derive(Clone, Copy, PartialEq, Eq)]
+#[derive(Clone, Copy)]
 pub(crate) enum Judging {
     /// By `judge`.
     AtOnce,

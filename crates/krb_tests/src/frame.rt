@@ -2,8 +2,8 @@
 //! `docs/FORMATS.md`; the frames of messages were made so from RFC 4120, appendix A.
 
 use crate::examples::{
-    AP_REP, AP_REQ, AS_REP, AS_REQ, KRB_ERROR, KRB_ERROR_OF_CLIENT, TGS_REP, TGS_REQ, TWO_AP_REPS,
-    octets_of,
+    AP_REP, AP_REQ, AS_REP, AS_REQ, KRB_CRED, KRB_ERROR, KRB_ERROR_OF_CLIENT, KRB_PRIV, KRB_SAFE,
+    TGS_REP, TGS_REQ, TWO_AP_REPS, octets_of,
 };
 use krb_der::{GiveBack, Refusal, Room, Why};
 use krb_frame::{Decoder, Fed, Framed, Limit, Status, frame};
@@ -15,7 +15,6 @@ const WRONG_VERSION: &str =
     "0000001F6F1D301BA003020104A10302010FA20F300DA003020112A2060404DEADBEEF";
 
 /// What a decoder answers in the end.
-#[derive(Clone, Copy)]
 enum Answer {
     More,
     Ready,
@@ -23,11 +22,21 @@ enum Answer {
 }
 
 impl Answer {
-    fn status(self) -> Status {
+    /// The answer, and what is said of a stream that ends after this many octets.
+    fn after(&self, used: usize) -> (Status, Option<Refusal>) {
         match self {
-            Answer::More => Status::More,
-            Answer::Ready => Status::Ready,
-            Answer::Refused(place, why) => Status::Refused(Refusal { place, why }),
+            Answer::More if used == 0 => (Status::More, None),
+            Answer::More => {
+                let place = u32::try_from(used).unwrap_or(u32::MAX);
+                let why = Why::Truncated;
+                (Status::More, Some(Refusal { place, why }))
+            }
+            Answer::Ready => (Status::Ready, None),
+            Answer::Refused(place, why) => {
+                let (place, why) = (*place, *why);
+                let refusal = Refusal { place, why };
+                (Status::Refused(refusal), Some(refusal))
+            }
         }
     }
 }
@@ -40,15 +49,23 @@ const USUAL: u32 = 16777216;
 
 const GREATEST: u32 = 2147483647;
 
-const ROWS: [Row; 29] = [
+const ROWS: [Row; 43] = [
     Row("", USUAL, 0, Answer::More, 0, 0),
+    Row("00", USUAL, 1, Answer::More, 0, 0),
     Row("000000", USUAL, 3, Answer::More, 0, 0),
+    Row("0000001F", USUAL, 4, Answer::More, 0, 0),
+    Row("0000001F6F", USUAL, 5, Answer::More, 1, 0),
     Row(AP_REP, USUAL, 35, Answer::Ready, 31, 0),
     Row(AP_REP, 31, 35, Answer::Ready, 31, 0),
     Row(AP_REP, 30, 4, Answer::Refused(3, Why::TooLong), 0, 0),
+    Row(TWO_AP_REPS, USUAL, 35, Answer::Ready, 31, 0),
     Row(AP_REQ, USUAL, 89, Answer::Ready, 85, 0),
     Row(AS_REP, USUAL, 101, Answer::Ready, 97, 0),
+    Row(TGS_REP, USUAL, 101, Answer::Ready, 97, 0),
     Row(TGS_REQ, USUAL, 113, Answer::Ready, 109, 0),
+    Row(KRB_SAFE, USUAL, 65, Answer::Ready, 61, 0),
+    Row(KRB_PRIV, USUAL, 33, Answer::Ready, 29, 0),
+    Row(KRB_CRED, USUAL, 82, Answer::Ready, 78, 0),
     Row(KRB_ERROR, USUAL, 85, Answer::Ready, 81, 0),
     Row(AS_REQ, USUAL, 64, Answer::Ready, 60, 0),
     Row("80000005", USUAL, 4, Answer::Refused(3, Why::HighBit), 0, 0),
@@ -127,7 +144,15 @@ const ROWS: [Row; 29] = [
         0,
     ),
     Row("0000001F30", USUAL, 5, Answer::Refused(4, Why::Tag), 1, 0),
-    Row("0000001F76", USUAL, 5, Answer::Refused(4, Why::Tag), 1, 0),
+    Row("0000001F76", USUAL, 5, Answer::More, 1, 0),
+    Row(
+        "0000001D751B3019A003020105A103020115A20D300BA003020112A2040402BEEF",
+        USUAL,
+        19,
+        Answer::Refused(18, Why::Tag),
+        15,
+        2,
+    ),
     Row(
         "0000000E6F0C300AA003020105A10302010F",
         USUAL,
@@ -168,13 +193,48 @@ const ROWS: [Row; 29] = [
         8,
         3,
     ),
+    // none of the octets after the one that is refused are used
+    Row(
+        "0000001F6F1D301BA003020105A10302010FA20F300DA004020200120105A10302010F",
+        USUAL,
+        28,
+        Answer::Refused(27, Why::IntegerNotMinimal),
+        24,
+        6,
+    ),
+    Row(
+        "0000001F6F1D301BA10105A10302010F",
+        USUAL,
+        9,
+        Answer::Refused(8, Why::Tag),
+        5,
+        2,
+    ),
+    Row(
+        "0000001F6F1D301BA00302020105A10302010F",
+        USUAL,
+        12,
+        Answer::Refused(11, Why::Overrun),
+        8,
+        3,
+    ),
+    Row(
+        "0000001F6F1D301BA00402010105A10302010F",
+        USUAL,
+        12,
+        Answer::Refused(11, Why::Loose),
+        8,
+        3,
+    ),
+    Row(
+        "0000001F6F1D30811B0105A10302010F",
+        USUAL,
+        9,
+        Answer::Refused(8, Why::LengthNotMinimal),
+        5,
+        1,
+    ),
 ];
-
-/// A decoder of a limit.
-fn decoder(alloc: Global, limit: u32) -> Result<Decoder, Fail> {
-    let limit = Limit::new(limit).ok_or("a limit from 1 to 2147483647")?;
-    Ok(Decoder::new(alloc, limit))
-}
 
 /// Feeds octets in pieces of `at_most`, up to an answer that is not `More`, and answers how many were
 /// used in all.
@@ -199,209 +259,153 @@ fn feed_pieces(decoder: &mut Decoder, octets: &[u8], at_most: usize) -> Fed {
     }
 }
 
-/// Checks what a decoder came to: the answer again at every further piece, none of which is used
-/// where something is ready or refused.
-fn has_come_to(decoder: &mut Decoder, fed: Fed, row: &Row) -> bool {
+/// Whether a decoder is where it is after `next`: nothing is kept or ready.
+fn is_between(decoder: &mut Decoder) -> bool {
+    (decoder.kept(), decoder.looked(), decoder.open_lengths()) == (0, 0, 0) && !decoder.next()
+}
+
+/// Whether a decoder came to what a row says: to the answer, again at every further piece, of which
+/// none is used; and after a frame, to the next.
+fn came_to(decoder: &mut Decoder, fed: Fed, row: &Row, octets: &[u8]) -> bool {
     let Row(_, _, used, answer, kept, open) = row;
-    let status = answer.status();
-    let again = match answer {
-        Answer::More => decoder.feed(&[]),
-        _ => decoder.feed(b"\0\0\0"),
+    let (status, end) = answer.after(*used);
+    let is_ready = status == Status::Ready;
+    let again = decoder.feed(if status == Status::More {
+        b""
+    } else {
+        b"\0\0\0"
+    });
+    let told = (
+        decoder.kept(),
+        decoder.looked() as usize,
+        decoder.open_lengths(),
+    );
+    fed == Fed {
+        used: *used,
+        status,
+    } && again == Fed { used: 0, status }
+        && told == (*kept, *used, *open)
+        && decoder.ready().is_some() == is_ready
+        && decoder.finish().err() == end
+        && decoder.next() == is_ready
+        && (!is_ready || is_between(decoder) && decoder.feed(octets) == fed)
+}
+
+/// Whether a decoder that is fed in pieces of `at_most` octets comes to what a row says.
+fn comes_to(alloc: Global, row: &Row, octets: &[u8], at_most: usize) -> bool {
+    let Row(_, limit, _, _, _, _) = row;
+    let Some(limit) = Limit::new(*limit) else {
+        return false;
     };
-    let is_ready = decoder.ready().is_some();
-    fed.used == *used
-        && fed.status == status
-        && again == Fed { used: 0, status }
-        && decoder.kept() == *kept
-        && decoder.looked() as usize == *used
-        && decoder.open_lengths() == *open
-        && is_ready == (status == Status::Ready)
-}
-
-/// Whether a decoder fed in pieces of `at_most` octets comes to what a row says.
-fn comes_to(alloc: Global, row: &Row, octets: &[u8], at_most: usize) -> Result<bool, Fail> {
-    let Row(_, limit, _, _, _, _) = row;
-    let mut pieces = decoder(alloc, *limit)?;
-    let fed = feed_pieces(&mut pieces, octets, at_most);
-    Ok(has_come_to(&mut pieces, fed, row))
-}
-
-/// Whether a decoder fed two pieces comes to what a row says.
-fn comes_to_cut(alloc: Global, row: &Row, front: &[u8], back: &[u8]) -> Result<bool, Fail> {
-    let Row(_, limit, _, _, _, _) = row;
-    let mut cut = decoder(alloc, *limit)?;
-    let mut fed = cut.feed(front);
-    if fed.status == Status::More {
-        let second = cut.feed(back);
-        fed = Fed {
-            used: fed.used.saturating_add(second.used),
-            status: second.status,
-        };
-    }
-    Ok(has_come_to(&mut cut, fed, row))
+    let mut decoder = Decoder::new(alloc, limit);
+    let fed = feed_pieces(&mut decoder, octets, at_most);
+    came_to(&mut decoder, fed, row, octets)
 }
 
 #[test]
-fn decodes_in_pieces_of_every_kind(rt: HostRuntime) -> Result<(), Fail> {
+fn decodes_in_pieces_of_every_size(rt: HostRuntime) -> Result<(), Fail> {
     let alloc = rt.alloc();
     for row in &ROWS {
         let Row(digits, _, _, _, _, _) = row;
         let octets = octets_of(alloc, digits)?;
-        let octets = octets.as_slice();
-        for at_most in [octets.len().max(1), 1, 2, 3, 7] {
-            let as_said = comes_to(alloc, row, octets, at_most)?;
-            assert!(rt; as_said, "{digits} by {at_most}");
-        }
-        for place in 0..=octets.len() {
-            let (front, back) = octets.split_at(place);
-            let as_said = comes_to_cut(alloc, row, front, back)?;
-            assert!(rt; as_said, "{digits} cut at {place}");
+        for at_most in 1..=octets.len().max(1) {
+            assert!(rt;
+                comes_to(alloc, row, octets.as_slice(), at_most),
+                "{digits} by {at_most}"
+            );
         }
     }
     Ok(())
 }
 
-#[test]
-fn refuses_on_the_octet_itself(rt: HostRuntime) -> Result<(), Fail> {
-    let alloc = rt.alloc();
-    let octets = octets_of(alloc, WRONG_VERSION)?;
-    let (front, _) = octets.as_slice().split_at(13.min(octets.len()));
-    let status = Status::Refused(Refusal {
-        place: 12,
-        why: Why::Range,
-    });
-    let mut alone = decoder(alloc, USUAL)?;
-    assert_eq!(rt; alone.feed(front), Fed { used: 13, status });
-    assert_eq!(rt; alone.feed(front), Fed { used: 0, status });
-    assert!(rt; !alone.next(), "nothing is ready");
-    assert_eq!(rt; alone.feed(&[]), Fed { used: 0, status });
-    Ok(())
+/// How many lengths are open after octets, and after one more.
+fn open_lengths(alloc: Global, octets: &[u8], next: &[u8]) -> (usize, usize) {
+    let mut decoder = Decoder::new(alloc, Limit::DEFAULT);
+    let _ = decoder.feed(octets);
+    let open = decoder.open_lengths();
+    let _ = decoder.feed(next);
+    (open, decoder.open_lengths())
 }
 
-#[test]
-fn leaves_what_is_after_a_frame(rt: HostRuntime) -> Result<(), Fail> {
-    let alloc = rt.alloc();
-    let octets = octets_of(alloc, TWO_AP_REPS)?;
-    let mut frames = decoder(alloc, USUAL)?;
-    let rest = octets.as_slice().get(35..).ok_or("two frames")?;
-    let status = Status::Ready;
-    assert_eq!(rt; frames.feed(octets.as_slice()), Fed { used: 35, status });
-    assert_eq!(rt; frames.feed(rest), Fed { used: 0, status });
-    assert_eq!(rt; frames.kept(), 31);
-    assert_eq!(rt; frames.looked(), 35);
-    assert!(rt; frames.next(), "one is ready");
-    assert!(rt; !frames.next(), "none is ready");
-    assert_eq!(rt; frames.kept(), 0);
-    assert_eq!(rt; frames.looked(), 0);
-    assert_eq!(rt; frames.open_lengths(), 0);
-    assert_eq!(rt; frames.feed(rest), Fed { used: 35, status });
-    Ok(())
-}
+/// A frame, how many lengths are open after some of its octets, and after the next octet.
+const OPEN_LENGTHS: [(&str, usize, usize, usize); 6] = [
+    (AP_REP, 12, 4, 2),
+    (AP_REP, 34, 6, 0),
+    // no message has more
+    (TGS_REQ, 97, 13, 8),
+    (TGS_REQ, 112, 12, 0),
+    (KRB_CRED, 51, 11, 6),
+    (KRB_CRED, 81, 6, 0),
+];
 
-// The octet at 96 leaves thirteen lengths open, and no message has more; the one at 97 ends five.
 #[test]
 fn says_how_many_lengths_are_open(rt: HostRuntime) -> Result<(), Fail> {
-    let alloc = rt.alloc();
-    let octets = octets_of(alloc, TGS_REQ)?;
-    let mut frame = decoder(alloc, USUAL)?;
-    for (place, octet) in octets.iter().enumerate() {
-        let fed = frame.feed(&[*octet]);
-        let open = frame.open_lengths();
-        assert_eq!(rt; fed.used, 1, "at {place}");
-        assert!(rt; open <= 13, "at {place}");
-        match place {
-            0..=4 | 112 => assert_eq!(rt; open, 0, "at {place}"),
-            96 => assert_eq!(rt; open, 13, "at {place}"),
-            97 => assert_eq!(rt; open, 8, "at {place}"),
-            _ => assert!(rt; open > 0, "at {place}"),
-        }
-    }
-    Ok(())
-}
-
-#[test]
-fn says_how_a_stream_ends(rt: HostRuntime) -> Result<(), Fail> {
-    let alloc = rt.alloc();
-    let truncated = |place| {
-        Err(Refusal {
-            place,
-            why: Why::Truncated,
-        })
-    };
-    for (digits, end) in [
-        ("", Ok(())),
-        ("00", truncated(1)),
-        ("000000", truncated(3)),
-        ("0000001F", truncated(4)),
-        ("0000001F6F", truncated(5)),
-        (AP_REP, Ok(())),
-        (
-            "00000000",
-            Err(Refusal {
-                place: 3,
-                why: Why::Empty,
-            }),
-        ),
-    ] {
-        let octets = octets_of(alloc, digits)?;
-        let mut stream = decoder(alloc, USUAL)?;
-        let _ = stream.feed(octets.as_slice());
-        assert_eq!(rt; stream.finish(), end);
-        assert_eq!(rt; stream.next(), octets.len() == 35);
+    for (digits, count, open, next) in OPEN_LENGTHS {
+        let octets = octets_of(rt.alloc(), digits)?;
+        let (front, rest) = octets.as_slice().split_at(count.min(octets.len()));
+        let rest = &rest[..rest.len().min(1)];
+        assert_eq!(rt;
+            open_lengths(rt.alloc(), front, rest),
+            (open, next),
+            "{digits}"
+        );
     }
     Ok(())
 }
 
 /// Whether a message has the octets of a frame, by `encode` and by `frame`, and is too long for any
 /// smaller limit.
-fn is_framed(alloc: Global, message: &Message, octets: &[u8], count: u32) -> Result<bool, Fail> {
-    let encoded = encode(alloc, message).ok().ok_or("octets")?;
-    let limit = Limit::new(count).ok_or("a limit")?;
-    let framed = frame(alloc, message, limit).ok().ok_or("a frame")?;
-    let less = Limit::new(count.saturating_sub(1)).ok_or("a limit")?;
-    Ok(
-        size(message) == Some(count)
-            && Some(encoded.as_slice()) == octets.get(4..)
-            && framed.as_slice() == octets
-            && frame(alloc, message, less).err() == Some(EncodeFault::TooLong),
-    )
+fn is_framed(alloc: Global, message: &Message, octets: &[u8], count: u32) -> bool {
+    let (Some(limit), Some(less)) = (Limit::new(count), Limit::new(count.saturating_sub(1))) else {
+        return false;
+    };
+    let is_encoded = match encode(alloc, message) {
+        Ok(encoded) => Some(encoded.as_slice()) == octets.get(4..),
+        Err(_) => false,
+    };
+    let is_framed = match frame(alloc, message, limit) {
+        Ok(framed) => framed.as_slice() == octets,
+        Err(_) => false,
+    };
+    is_encoded
+        && is_framed
+        && size(message) == Some(count)
+        && frame(alloc, message, less).err() == Some(EncodeFault::TooLong)
 }
 
-/// Whether a message, which leaves its room, has the octets of a frame.
-fn leaves_same(
+/// Whether the message of a frame has the octets of the frame again, where it takes the room that one
+/// left before.
+fn comes_again(
     alloc: Global,
-    message: Message,
+    framed: &Framed<'_>,
     room: &mut Room,
     octets: &[u8],
     count: u32,
-) -> Result<bool, Fail> {
-    let same = is_framed(alloc, &message, octets, count);
-    message.give_back(room);
-    same
-}
-
-/// Whether the message of a frame has the octets of the frame again, also where it takes the room that
-/// it left before.
-fn is_same(alloc: Global, framed: &Framed<'_>, octets: &[u8], count: u32) -> Result<bool, Fail> {
-    let mut room = Room::new();
-    let message = framed.message(alloc).ok().ok_or("memory")?;
-    let same = leaves_same(alloc, message, &mut room, octets, count)?;
-    let message = framed.message_in(alloc, &mut room).ok().ok_or("memory")?;
-    let again = leaves_same(alloc, message, &mut room, octets, count)?;
-    Ok(same && again)
-}
-
-/// Whether a decoder gives a frame in hexadecimal with this kind, and its message comes again.
-fn comes_again(alloc: Global, digits: &str, kind: Kind, count: u32) -> Result<bool, Fail> {
-    let octets = octets_of(alloc, digits)?;
-    let octets = octets.as_slice();
-    let mut stream = decoder(alloc, USUAL)?;
-    let _ = stream.feed(octets);
-    let framed = stream.ready().ok_or("a frame")?;
-    if framed.kind() != kind || Some(framed.octets()) != octets.get(4..) {
-        return Ok(false);
+) -> bool {
+    match framed.message_in(alloc, room) {
+        Ok(message) => {
+            let same = is_framed(alloc, &message, octets, count);
+            message.give_back(room);
+            same
+        }
+        Err(_) => false,
     }
-    is_same(alloc, &framed, octets, count)
+}
+
+/// Whether a decoder gives a frame with this kind and these octets, and its message has them again.
+fn is_given(alloc: Global, octets: &[u8], kind: Kind, count: u32) -> bool {
+    let mut decoder = Decoder::new(alloc, Limit::DEFAULT);
+    let mut room = Room::new();
+    let _ = decoder.feed(octets);
+    match decoder.ready() {
+        Some(framed) => {
+            framed.kind() == kind
+                && Some(framed.octets()) == octets.get(4..)
+                && comes_again(alloc, &framed, &mut room, octets, count)
+                && comes_again(alloc, &framed, &mut room, octets, count)
+        }
+        None => false,
+    }
 }
 
 #[test]
@@ -413,110 +417,58 @@ fn frames_come_again(rt: HostRuntime) -> Result<(), Fail> {
         (AS_REP, Kind::AsRep, 97),
         (TGS_REP, Kind::TgsRep, 97),
         (TGS_REQ, Kind::TgsReq, 109),
+        (KRB_SAFE, Kind::KrbSafe, 61),
+        (KRB_PRIV, Kind::KrbPriv, 29),
+        (KRB_CRED, Kind::KrbCred, 78),
         (KRB_ERROR, Kind::KrbError, 81),
         (AS_REQ, Kind::AsReq, 60),
     ] {
-        let again = comes_again(alloc, digits, kind, count)?;
-        assert!(rt; again, "{digits}");
+        let octets = octets_of(alloc, digits)?;
+        assert!(rt; is_given(alloc, octets.as_slice(), kind, count), "{digits}");
     }
     Ok(())
 }
 
-/// Frames, and the place of the octet that is the realm of each. The replies, the TGS-REQ and the last
-/// KRB-ERROR have a second realm, of a ticket or of a client.
-const REALMS: [(&str, usize); 7] = [
-    (AS_REQ, 32),
-    (AS_REP, 22),
-    (TGS_REQ, 35),
-    (TGS_REP, 22),
-    (AP_REQ, 42),
-    (KRB_ERROR, 51),
-    (KRB_ERROR_OF_CLIENT, 56),
+/// Frames, and the place of the octet that is the realm of each, if it has one. The replies, the
+/// TGS-REQ and the last KRB-ERROR have a second realm, of a ticket or of a client.
+const REALMS: [(&str, Option<usize>); 11] = [
+    (AS_REQ, Some(32)),
+    (AS_REP, Some(22)),
+    (TGS_REQ, Some(35)),
+    (TGS_REP, Some(22)),
+    (AP_REQ, Some(42)),
+    (KRB_ERROR, Some(51)),
+    (KRB_ERROR_OF_CLIENT, Some(56)),
+    (AP_REP, None),
+    (KRB_SAFE, None),
+    (KRB_PRIV, None),
+    (KRB_CRED, None),
 ];
 
-#[test]
-fn lends_the_realm(rt: HostRuntime) -> Result<(), Fail> {
-    let alloc = rt.alloc();
-    for (digits, place) in REALMS {
-        let mut octets = octets_of(alloc, digits)?;
-        *octets.get_mut(place).ok_or("a realm")? = b'R';
-        let mut stream = decoder(alloc, USUAL)?;
-        let _ = stream.feed(octets.as_slice());
-        let framed = stream.ready().ok_or("a frame")?;
-        assert_eq!(rt; framed.realm(), Some(b"R".as_slice()), "{digits}");
-    }
-    let octets = octets_of(alloc, AP_REP)?;
-    let mut stream = decoder(alloc, USUAL)?;
-    let _ = stream.feed(octets.as_slice());
-    let framed = stream.ready().ok_or("a frame")?;
-    assert!(rt; framed.realm().is_none(), "an AP-REP has none");
-    Ok(())
-}
-
-/// Two AP-REPs and the length of a frame that is refused.
-const FRAMES: &[u8] =
-    b"\0\0\0\x1F\x6F\x1D\x30\x1B\xA0\x03\x02\x01\x05\xA1\x03\x02\x01\x0F\xA2\x0F\x30\x0D\xA0\x03\x02\x01\x12\xA2\x06\x04\x04\xDE\xAD\xBE\xEF\0\0\0\x1F\x6F\x1D\x30\x1B\xA0\x03\x02\x01\x05\xA1\x03\x02\x01\x0F\xA2\x0F\x30\x0D\xA0\x03\x02\x01\x12\xA2\x06\x04\x04\xDE\xAD\xBE\xEF\0\0\0\0";
-
-/// Whether the message of a frame is had.
-fn is_had(alloc: Global, framed: &Framed<'_>) -> bool {
-    match framed.message(alloc) {
-        Ok(message) => {
-            drop(message);
-            true
-        }
-        Err(_) => false,
-    }
-}
-
-/// Whether a ready frame's message is had, at the first or the second try.
-fn has_message(alloc: Global, stream: &Decoder) -> bool {
-    match stream.ready() {
-        Some(framed) => is_had(alloc, &framed) || is_had(alloc, &framed),
+/// Whether octets are a frame whose message has this realm.
+fn has_realm(alloc: Global, octets: &[u8], realm: Option<&[u8]>) -> bool {
+    let mut decoder = Decoder::new(alloc, Limit::DEFAULT);
+    let _ = decoder.feed(octets);
+    match decoder.ready() {
+        Some(framed) => framed.realm() == realm,
         None => false,
     }
 }
 
-/// How many messages octets hold, fed in pieces of `at_most`, and what refuses the rest. A feed that
-/// is out of memory is made again, with the octets after those that were used.
-fn messages_in(
-    alloc: Global,
-    octets: &[u8],
-    at_most: usize,
-) -> Result<(u32, Option<Refusal>), Fail> {
-    let mut stream = decoder(alloc, USUAL)?;
-    let mut rest = octets;
-    let mut messages = 0u32;
-    for _ in 0..1000 {
-        let (piece, _) = rest.split_at(at_most.min(rest.len()));
-        let fed = stream.feed(piece);
-        rest = rest.get(fed.used..).ok_or("no more is used than there is")?;
-        match fed.status {
-            Status::More if rest.is_empty() => return Ok((messages, None)),
-            Status::More | Status::Memory => {}
-            Status::Refused(refusal) => return Ok((messages, Some(refusal))),
-            Status::Ready if has_message(alloc, &stream) => {
-                messages = messages.saturating_add(1);
-                stream.next();
-            }
-            Status::Ready => return Err(Fail::from("memory twice")),
-        }
-    }
-    Err(Fail::from("the stream ends"))
+/// Whether the realm of a frame is the octet at this place, whatever it is.
+fn has_realm_at(alloc: Global, digits: &str, place: Option<usize>) -> Result<bool, Fail> {
+    let mut octets = octets_of(alloc, digits)?;
+    let Some(place) = place else {
+        return Ok(has_realm(alloc, octets.as_slice(), None));
+    };
+    *octets.get_mut(place).ok_or("a realm")? = b'R';
+    Ok(has_realm(alloc, octets.as_slice(), Some(b"R")))
 }
 
-// Its octets are no allocation, and so each allocation that is made to fail is one of the decoder's
-// or of a message.
 #[test]
-fn goes_on_where_memory_was_refused(rt: HostRuntime) -> Result<(), Fail> {
-    let alloc = rt.alloc();
-    let refusal = Refusal {
-        place: 3,
-        why: Why::Empty,
-    };
-    for at_most in [1, 2, 7, 40, 100] {
-        let (messages, end) = messages_in(alloc, FRAMES, at_most)?;
-        assert_eq!(rt; messages, 2, "by {at_most}");
-        assert_eq!(rt; end, Some(refusal), "by {at_most}");
+fn borrows_the_realm(rt: HostRuntime) -> Result<(), Fail> {
+    for (digits, place) in REALMS {
+        assert!(rt; has_realm_at(rt.alloc(), digits, place)?, "{digits}");
     }
     Ok(())
 }

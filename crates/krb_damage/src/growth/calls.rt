@@ -1,0 +1,349 @@
+//! The calls, and what each has to give.
+
+use super::Outcome;
+use super::decoders::{fed_twice, reserved_answers, reserved_feeds, reserves, stepped_over};
+use super::octets::{AP_REP, CACHE, KEYTAB, KRB_ERROR, METHOD_DATA, TICKET, message_of};
+use super::readers::{credentials, records, upgrades};
+use krb_ccache::{Ccache, CcacheFault, TicketState, ticket_of};
+use krb_der::{GiveBack, Many, Memory, Profile, Refusal, Room, Why};
+use krb_file::FileFault;
+use krb_frame::{Decoder, Framed, Limit, Status, frame};
+use krb_judge::{ParseFault, parse, parse_method_data, parse_ticket};
+use krb_keytab::{Keytab, KeytabFault, Record, Stop};
+use krb_list::{
+    cache_end_line, cache_line, ccache_lines, credential_line, keytab_end_line, keytab_lines,
+    message_line, principal_text, record_line, time_text,
+};
+use krb_msg::{EncodeFault, Message, encode};
+use krb_scan::Scanner;
+use std::alloc::Global;
+
+/// What calls are given.
+#[derive(Clone, Copy)]
+pub(super) struct Given<'a> {
+    /// An AP-REP.
+    pub(super) frame: &'a Framed<'a>,
+    pub(super) message: &'a Message,
+    pub(super) keytab: &'a Keytab,
+    pub(super) cache: &'a Ccache,
+}
+
+/// A call that gives a text.
+#[derive(Clone, Copy)]
+pub(super) enum Text {
+    Message,
+    Keytab,
+    Record,
+    KeytabEnd,
+    Principal,
+    Time,
+    Caches,
+    Cache,
+    CacheEnd,
+    Credential,
+}
+
+/// A call that gives octets.
+#[derive(Clone, Copy)]
+pub(super) enum Encoding {
+    Message,
+    Frame,
+    Keytab,
+    Cache,
+}
+
+/// A call that gives a value of octets.
+#[derive(Clone, Copy)]
+pub(super) enum Reading {
+    Framed,
+    Message,
+    Ticket,
+    MethodData,
+    Keytab,
+    Cache,
+    TicketState,
+}
+
+/// A call that takes memory.
+#[derive(Clone, Copy)]
+pub(super) enum Call {
+    Feed(usize),
+    Reserved(Profile, usize),
+    ReservedAnswers(u32, &'static [u8], Status),
+    Step,
+    Reserve,
+    Read(Reading),
+    Encode(Encoding),
+    Text(Text, &'static str),
+    Upgrade,
+    Records,
+    Credentials,
+}
+
+/// Each call, its name, and what it has to give.
+pub(super) const CALLS: [(&str, Call); 37] = [
+    ("feed", Call::Feed(1)),
+    ("feed", Call::Feed(7)),
+    ("feed", Call::Feed(100)),
+    ("Decoder::reserved", Call::Reserved(Profile::Lenient, 1)),
+    ("Decoder::reserved", Call::Reserved(Profile::Lenient, 7)),
+    ("Decoder::reserved", Call::Reserved(Profile::Lenient, 100)),
+    (
+        "Decoder::reserved_with_profile",
+        Call::Reserved(Profile::Strict, 1),
+    ),
+    (
+        "Decoder::reserved_with_profile",
+        Call::Reserved(Profile::Strict, 7),
+    ),
+    (
+        "Decoder::reserved_with_profile",
+        Call::Reserved(Profile::Strict, 100),
+    ),
+    (
+        "Decoder::reserved",
+        Call::ReservedAnswers(
+            30,
+            AP_REP,
+            Status::Refused(Refusal {
+                place: 3,
+                why: Why::TooLong,
+            }),
+        ),
+    ),
+    (
+        "Decoder::reserved",
+        Call::ReservedAnswers(
+            1,
+            b"\x00\x00\x00\x01\x6F",
+            Status::Refused(Refusal {
+                place: 4,
+                why: Why::Overrun,
+            }),
+        ),
+    ),
+    ("step", Call::Step),
+    ("reserve", Call::Reserve),
+    ("Framed::message", Call::Read(Reading::Framed)),
+    ("parse", Call::Read(Reading::Message)),
+    ("parse_ticket", Call::Read(Reading::Ticket)),
+    ("parse_method_data", Call::Read(Reading::MethodData)),
+    ("encode", Call::Encode(Encoding::Message)),
+    ("frame", Call::Encode(Encoding::Frame)),
+    (
+        "message_line",
+        Call::Text(
+            Text::Message,
+            "KRB-ERROR code=25:KDC_ERR_PREAUTH_REQUIRED client=- server=h@A ctime=- cusec=- stime=20000101000000Z susec=0 text=- data=13 methods=[2] notes=[]",
+        ),
+    ),
+    ("krb_keytab::read", Call::Read(Reading::Keytab)),
+    ("krb_keytab::write", Call::Encode(Encoding::Keytab)),
+    (
+        "keytab_lines",
+        Call::Text(
+            Text::Keytab,
+            "entry principal=h@A type=1 time=2000-01-01T00:00:00Z kvno=258 enctype=18 key=2 rest=4\nhole size=8 clean=yes\nend records=2 zero=yes\n",
+        ),
+    ),
+    (
+        "record_line",
+        Call::Text(
+            Text::Record,
+            "entry principal=h@A type=1 time=2000-01-01T00:00:00Z kvno=258 enctype=18 key=2 rest=4",
+        ),
+    ),
+    (
+        "keytab_end_line",
+        Call::Text(Text::KeytabEnd, "end records=2 zero=yes"),
+    ),
+    ("principal_text", Call::Text(Text::Principal, "h@A")),
+    ("time_text", Call::Text(Text::Time, "2000-01-01T00:00:00Z")),
+    ("krb_ccache::read", Call::Read(Reading::Cache)),
+    ("krb_ccache::write", Call::Encode(Encoding::Cache)),
+    (
+        "ccache_lines",
+        Call::Text(
+            Text::Caches,
+            "cache principal=u@A type=1 offset=0:0 fields=1\nconfig client=u@A server=krb5_ccache_conf_data/pa_type@X-CACHECONF: size=1\ncred client=u@A server=h@A enctype=18 key=2 auth=2000-01-01T00:00:00Z start=2000-01-01T00:00:00Z end=2000-01-01T01:00:00Z renew=- skey=0 flags=forwardable,renewable,initial,pre-authent+00010000 state=- addresses=0 authdata=0 ticket=refused:1:6 tserver=- second=0\nend credentials=2\n",
+        ),
+    ),
+    (
+        "cache_line",
+        Call::Text(
+            Text::Cache,
+            "cache principal=u@A type=1 offset=0:0 fields=1",
+        ),
+    ),
+    (
+        "cache_end_line",
+        Call::Text(Text::CacheEnd, "end credentials=2"),
+    ),
+    (
+        "credential_line",
+        Call::Text(
+            Text::Credential,
+            "cred client=u@A server=h@A enctype=18 key=2 auth=2000-01-01T00:00:00Z start=2000-01-01T00:00:00Z end=2000-01-01T01:00:00Z renew=- skey=0 flags=forwardable,renewable,initial,pre-authent+00010000 state=- addresses=0 authdata=0 ticket=refused:1:6 tserver=- second=0",
+        ),
+    ),
+    ("ticket_of", Call::Read(Reading::TicketState)),
+    ("read3 and upgrade", Call::Upgrade),
+    ("next_record", Call::Records),
+    ("start and next_credential", Call::Credentials),
+];
+
+/// What a call gave; `None` where it refused. It is out of memory where its fault says so.
+fn tried<T, E: PartialEq + Drop>(answer: Result<T, E>, memory: E) -> Result<Option<T>, Memory> {
+    match answer {
+        Ok(value) => Ok(Some(value)),
+        Err(fault) if fault == memory => Err(Memory),
+        Err(_) => Ok(None),
+    }
+}
+
+impl Text {
+    fn make(self, alloc: Global, given: Given<'_>) -> Result<String, Memory> {
+        let cache = given.cache;
+        match (
+            self,
+            given.keytab.records.as_slice(),
+            cache.credentials.as_slice(),
+        ) {
+            (Text::Message, ..) => message_line(alloc, given.message),
+            (Text::Keytab, ..) => keytab_lines(alloc, given.keytab),
+            (Text::Record, [record, ..], _) => record_line(alloc, record),
+            (Text::KeytabEnd, ..) => keytab_end_line(alloc, 2, &Stop::Zero),
+            (Text::Principal, [Record::Entry(entry), ..], _) => {
+                principal_text(alloc, entry.components.as_slice(), &entry.realm)
+            }
+            (Text::Time, ..) => time_text(alloc, 946684800),
+            (Text::Caches, ..) => ccache_lines(alloc, cache, None),
+            (Text::Cache, ..) => cache_line(alloc, &cache.header, &cache.principal),
+            (Text::CacheEnd, ..) => cache_end_line(alloc, 2),
+            (Text::Credential, _, [_, credential]) => credential_line(alloc, credential, None),
+            _ => Ok(String::new(alloc)),
+        }
+    }
+}
+
+impl Encoding {
+    fn wanted(self) -> &'static [u8] {
+        match self {
+            Encoding::Message => message_of(KRB_ERROR),
+            Encoding::Frame => KRB_ERROR,
+            Encoding::Keytab => KEYTAB,
+            Encoding::Cache => CACHE,
+        }
+    }
+
+    /// The octets that the call gives. `None` where it refuses.
+    fn make(self, alloc: Global, given: Given<'_>) -> Result<Option<Vec<u8>>, Memory> {
+        match self {
+            Encoding::Message => tried(encode(alloc, given.message), EncodeFault::Memory),
+            Encoding::Frame => tried(
+                frame(alloc, given.message, Limit::DEFAULT),
+                EncodeFault::Memory,
+            ),
+            Encoding::Keytab => tried(krb_keytab::write(alloc, given.keytab), KeytabFault::Memory),
+            Encoding::Cache => tried(krb_ccache::write(alloc, given.cache), CcacheFault::Memory),
+        }
+    }
+}
+
+impl Reading {
+    /// Whether the call gives a value.
+    fn make(self, alloc: Global, given: Given<'_>) -> Result<bool, Memory> {
+        let mut room = Room::new();
+        match self {
+            Reading::Framed => given.frame.message(alloc)?.give_back(&mut room),
+            Reading::Message => match tried(
+                parse(alloc, message_of(KRB_ERROR)),
+                ParseFault::Memory,
+            )? {
+                Some(message) => message.give_back(&mut room),
+                None => return Ok(false),
+            },
+            Reading::Ticket => match tried(parse_ticket(alloc, TICKET), ParseFault::Memory)? {
+                Some(ticket) => ticket.give_back(&mut room),
+                None => return Ok(false),
+            },
+            Reading::MethodData => {
+                match tried(parse_method_data(alloc, METHOD_DATA), ParseFault::Memory)? {
+                    Some(items) => Many::new(items).give_back(&mut room),
+                    None => return Ok(false),
+                }
+            }
+            Reading::Keytab => {
+                let read = tried(krb_keytab::read(alloc, KEYTAB), FileFault::Memory)?;
+                return Ok(read.is_some());
+            }
+            Reading::Cache => {
+                let read = tried(krb_ccache::read(alloc, CACHE), FileFault::Memory)?;
+                return Ok(read.is_some());
+            }
+            Reading::TicketState => return is_refused(alloc, given.cache, &mut room),
+        }
+        Ok(true)
+    }
+}
+
+/// Whether the ticket of the last credential is refused.
+fn is_refused(alloc: Global, cache: &Ccache, room: &mut Room) -> Result<bool, Memory> {
+    let [_, credential] = cache.credentials.as_slice() else {
+        return Ok(false);
+    };
+    match ticket_of(alloc, credential)? {
+        TicketState::Refused(_) => Ok(true),
+        TicketState::Ticket(ticket) => {
+            ticket.give_back(room);
+            Ok(false)
+        }
+        TicketState::Absent | TicketState::Config => Ok(false),
+    }
+}
+
+impl Call {
+    /// Whether the call, made once, gives what it has to give; of one that may be made again where it
+    /// was out of memory.
+    fn make(self, alloc: Global, given: Given<'_>) -> Result<bool, Memory> {
+        match self {
+            Call::Reserved(profile, at_most) => reserved_feeds(alloc, profile, at_most),
+            Call::ReservedAnswers(limit, octets, status) => {
+                reserved_answers(alloc, limit, octets, status)
+            }
+            Call::Read(reading) => reading.make(alloc, given),
+            Call::Encode(encoding) => {
+                Ok(encoding.make(alloc, given)?.as_deref() == Some(encoding.wanted()))
+            }
+            Call::Text(text, wanted) => Ok(text.make(alloc, given)?.as_str() == wanted),
+            _ => Ok(false),
+        }
+    }
+
+    /// What comes of the call.
+    pub(super) fn outcome(self, alloc: Global, given: Given<'_>) -> Outcome {
+        match self {
+            Call::Feed(at_most) => {
+                let mut decoder = Decoder::new(alloc, Limit::DEFAULT);
+                fed_twice(&mut decoder, at_most)
+            }
+            Call::Step => {
+                let mut scanner = Scanner::new(alloc, 31);
+                stepped_over(&mut scanner)
+            }
+            Call::Reserve => reserves(alloc),
+            Call::Upgrade => upgrades(alloc),
+            Call::Records => records(alloc),
+            Call::Credentials => credentials(alloc),
+            _ => match self.make(alloc, given) {
+                Ok(true) => Outcome::Done,
+                Ok(false) => Outcome::Wrong,
+                Err(_) => match self.make(alloc, given) {
+                    Ok(true) => Outcome::Memory,
+                    Ok(false) => Outcome::Wrong,
+                    Err(_) => Outcome::Refused,
+                },
+            },
+        }
+    }
+}

@@ -1,0 +1,84 @@
+//! Readers of files, which stay out of memory, and caches that are handed back.
+
+use super::Outcome;
+use super::octets::{CACHE, CACHE3, KEYTAB};
+use krb_ccache::{Cache3, Credentials, read3, upgrade};
+use krb_file::{FieldLimit, FileFault};
+use krb_keytab::{Next, Records, Stop};
+use std::alloc::Global;
+
+/// What a fault of a reader comes to, and what it answers after that, if it is a fault.
+fn faulted(fault: FileFault, after: Option<FileFault>) -> Outcome {
+    if fault == FileFault::Memory && after == Some(fault) {
+        Outcome::Memory
+    } else {
+        Outcome::Wrong
+    }
+}
+
+/// Reads the two records of a keytab.
+pub(super) fn records(alloc: Global) -> Outcome {
+    let Some(limit) = FieldLimit::new(64) else {
+        return Outcome::Wrong;
+    };
+    let mut records = Records::new(KEYTAB, limit);
+    for count in 0..3 {
+        match records.next_record(alloc) {
+            Ok(Next::Item(_)) => {}
+            Ok(Next::Done(Stop::Zero)) if count == 2 => return Outcome::Done,
+            Ok(Next::Done(_)) => return Outcome::Wrong,
+            Err(fault) => return faulted(fault, records.next_record(alloc).err()),
+        }
+    }
+    Outcome::Wrong
+}
+
+/// Reads the two credentials of a cache.
+pub(super) fn credentials(alloc: Global) -> Outcome {
+    let Some(limit) = FieldLimit::new(64) else {
+        return Outcome::Wrong;
+    };
+    let mut credentials = match Credentials::start(alloc, CACHE, limit) {
+        Ok(credentials) => credentials,
+        Err(fault) => return faulted(fault, Some(fault)),
+    };
+    for count in 0..3 {
+        match credentials.next_credential(alloc) {
+            Ok(Some(_)) => {}
+            Ok(None) if count == 2 => return Outcome::Done,
+            Ok(None) => return Outcome::Wrong,
+            Err(fault) => return faulted(fault, credentials.next_credential(alloc).err()),
+        }
+    }
+    Outcome::Wrong
+}
+
+/// Upgrades a cache of version 3, again where it was handed back.
+fn upgraded(alloc: Global, cache: Cache3) -> Outcome {
+    let (upgraded, outcome) = match upgrade(alloc, cache) {
+        Ok(upgraded) => (upgraded, Outcome::Done),
+        Err(same) => match upgrade(alloc, same) {
+            Ok(upgraded) => (upgraded, Outcome::Memory),
+            Err(_) => return Outcome::Refused,
+        },
+    };
+    if upgraded.credentials.as_slice().len() == 1 {
+        outcome
+    } else {
+        Outcome::Wrong
+    }
+}
+
+/// Reads a cache of version 3, and upgrades it.
+pub(super) fn upgrades(alloc: Global) -> Outcome {
+    for outcome in [Outcome::Done, Outcome::Memory] {
+        if let Ok(cache) = read3(alloc, CACHE3) {
+            return match (outcome, upgraded(alloc, cache)) {
+                (Outcome::Done, upgraded) => upgraded,
+                (_, Outcome::Done) => outcome,
+                _ => Outcome::Wrong,
+            };
+        }
+    }
+    Outcome::Refused
+}

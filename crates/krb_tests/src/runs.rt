@@ -1,0 +1,299 @@
+//! How runs treat their readers and writers: how often they ask, when they write, and that they do not
+//! ask or write again after an error, the end or a refusal. The texts that are expected were worked out
+//! by hand from the rules of `docs/FORMATS.md`.
+
+use crate::fakes::{Asked, Full, Watched};
+use krb_tool::{Limit, RunEnd, RunFault, run_ccache, run_keytab, run_message, run_stream, status};
+use std::alloc::{AllocError, Global};
+use std::io::{Read, Write};
+use std::test::Fail;
+
+/// A run.
+enum Run {
+    Stream,
+    Message,
+    Keytab,
+    Ccache,
+}
+
+/// Makes a run.
+fn list<R: Read, W: Write>(
+    alloc: Global,
+    run: &Run,
+    reader: &mut R,
+    writer: &mut W,
+) -> Result<RunEnd, RunFault> {
+    match run {
+        Run::Stream => run_stream(alloc, reader, writer, Limit::DEFAULT),
+        Run::Message => run_message(alloc, reader, writer),
+        Run::Keytab => run_keytab(alloc, reader, writer),
+        Run::Ccache => run_ccache(alloc, reader, writer, None),
+    }
+}
+
+/// A run, what it lists, its lines, and the first of them, each with how many of the octets it takes.
+struct Example(Run, &'static [u8], &'static str, [(usize, &'static str); 2]);
+
+const FRAME: &[u8] =
+    b"\x00\x00\x00\x1F\x6F\x1D\x30\x1B\xA0\x03\x02\x01\x05\xA1\x03\x02\x01\x0F\xA2\x0F\x30\x0D\xA0\x03\x02\x01\x12\xA2\x06\x04\x04\xDE\xAD\xBE\xEF";
+
+/// Two of these frames, a message in hexadecimal, a keytab with an entry and a hole, and a cache of u@A
+/// with no credential.
+const EXAMPLES: [Example; 4] = [
+    Example(
+        Run::Stream,
+        b"\x00\x00\x00\x1F\x6F\x1D\x30\x1B\xA0\x03\x02\x01\x05\xA1\x03\x02\x01\x0F\xA2\x0F\x30\x0D\xA0\x03\x02\x01\x12\xA2\x06\x04\x04\xDE\xAD\xBE\xEF\x00\x00\x00\x1F\x6F\x1D\x30\x1B\xA0\x03\x02\x01\x05\xA1\x03\x02\x01\x0F\xA2\x0F\x30\x0D\xA0\x03\x02\x01\x12\xA2\x06\x04\x04\xDE\xAD\xBE\xEF",
+        "AP-REP enc=18:-:4 notes=[]\nAP-REP enc=18:-:4 notes=[]\nend messages=2\n",
+        [
+            (35, "AP-REP enc=18:-:4 notes=[]\n"),
+            (
+                70,
+                "AP-REP enc=18:-:4 notes=[]\nAP-REP enc=18:-:4 notes=[]\n",
+            ),
+        ],
+    ),
+    Example(
+        Run::Message,
+        b"6F1D301BA003020105A10302010FA20F300DA003020112A2060404DEADBEEF",
+        "AP-REP enc=18:-:4 notes=[]\n",
+        [(0, ""), (0, "")],
+    ),
+    Example(
+        Run::Keytab,
+        b"\x05\x02\x00\x00\x00\x1B\x00\x01\x00\x01\x41\x00\x01\x68\x00\x00\x00\x01\x38\x6D\x43\x80\x02\x00\x12\x00\x02\xAB\xCD\x00\x00\x01\x02\xFF\xFF\xFF\xF8\x00\x00\x00\x00\x00\x00\x00\x00",
+        "entry principal=h@A type=1 time=2000-01-01T00:00:00Z kvno=258 enctype=18 key=2 rest=4\nhole size=8 clean=yes\nend records=2 zero=no\n",
+        [
+            (
+                33,
+                "entry principal=h@A type=1 time=2000-01-01T00:00:00Z kvno=258 enctype=18 key=2 rest=4\n",
+            ),
+            (
+                45,
+                "entry principal=h@A type=1 time=2000-01-01T00:00:00Z kvno=258 enctype=18 key=2 rest=4\nhole size=8 clean=yes\n",
+            ),
+        ],
+    ),
+    Example(
+        Run::Ccache,
+        b"\x05\x04\x00\x00\x00\x00\x00\x01\x00\x00\x00\x01\x00\x00\x00\x01A\x00\x00\x00\x01u",
+        "cache principal=u@A type=1 offset=- fields=0\nend credentials=0\n",
+        [
+            (0, ""),
+            (22, "cache principal=u@A type=1 offset=- fields=0\n"),
+        ],
+    ),
+];
+
+/// The lines of an example that are written if a read fails after this many octets.
+fn lines_before(example: &Example, count: usize) -> &'static str {
+    let Example(_, _, _, [(one, line), (two, lines)]) = example;
+    if count >= *two {
+        lines
+    } else if count >= *one {
+        line
+    } else {
+        ""
+    }
+}
+
+/// What a run gives of a reader.
+#[derive(Drop)]
+struct Given<'a> {
+    outcome: Result<RunEnd, RunFault>,
+    lines: &'a [u8],
+    asks: usize,
+}
+
+/// Whether a run gives this of a reader that gives octets, at most `at_most` for each ask, and then
+/// tells its end or fails. It asks the reader no more after that.
+fn gives(
+    alloc: Global,
+    run: &Run,
+    octets: &[u8],
+    at_most: usize,
+    fails: bool,
+    wanted: &Given<'_>,
+) -> bool {
+    let asked = Asked::new();
+    let mut reader = Watched {
+        octets,
+        at_most,
+        fails,
+        is_over: false,
+        asked: &asked,
+    };
+    let mut text = Vec::new(alloc);
+    let outcome = list(alloc, run, &mut reader, &mut text);
+    outcome == wanted.outcome
+        && text.as_slice() == wanted.lines
+        && (asked.asks.get(), asked.wrong_asks.get()) == (wanted.asks, 0)
+}
+
+/// Whether an example is listed from a reader that fails after this many octets, or tells its end after
+/// all of them.
+fn is_listed(alloc: Global, example: &Example, count: Option<usize>, at_most: usize) -> bool {
+    let Example(run, octets, lines, _) = example;
+    let (octets, lines, outcome) = match count {
+        Some(count) => {
+            let front = octets.get(..count).unwrap_or(octets);
+            (front, lines_before(example, count), Err(RunFault::Read))
+        }
+        None => (*octets, *lines, Ok(RunEnd::Clean)),
+    };
+    let asks = if at_most == 1 {
+        octets.len()
+    } else {
+        octets.len().min(1)
+    };
+    let wanted = Given {
+        outcome,
+        lines: lines.as_bytes(),
+        asks: asks.saturating_add(1),
+    };
+    gives(alloc, run, octets, at_most, count.is_some(), &wanted)
+        && status(&outcome) == if count.is_some() { 3 } else { 0 }
+}
+
+#[test]
+fn asks_until_the_end_or_an_error_and_no_more(rt: HostRuntime) {
+    for example in &EXAMPLES {
+        for at_most in [1, 65536] {
+            assert!(rt; is_listed(rt.alloc(), example, None, at_most), "{at_most}");
+            for count in 0..=example.1.len() {
+                assert!(rt;
+                    is_listed(rt.alloc(), example, Some(count), at_most),
+                    "{at_most} at {count}"
+                );
+            }
+        }
+    }
+}
+
+#[test]
+fn asks_until_a_refusal_and_no_more(rt: HostRuntime) -> Result<(), Fail> {
+    let octets = repeated(rt.alloc(), b"\x00\x00\x00\x1F\x30", 1, 200000)?;
+    for (at_most, asks) in [(1, 5), (5, 1), (65536, 1)] {
+        let wanted = Given {
+            outcome: Ok(RunEnd::Refused),
+            lines: b"refused messages=0 place=4 why=4 Tag\n",
+            asks,
+        };
+        let octets = octets.as_slice();
+        assert!(rt;
+            gives(rt.alloc(), &Run::Stream, octets, at_most, false, &wanted),
+            "{at_most}"
+        );
+    }
+    Ok(())
+}
+
+/// Whether a run writes the first `room` octets of the lines of an example to a writer that then fails or
+/// takes nothing, and no more.
+fn is_cut(alloc: Global, example: &Example, room: usize, fails: bool) -> bool {
+    let Example(run, octets, lines, _) = example;
+    let asked = Asked::new();
+    let mut reader = Watched {
+        octets,
+        at_most: 1,
+        fails: false,
+        is_over: false,
+        asked: &asked,
+    };
+    let mut writer = Full {
+        text: lines.as_bytes(),
+        room,
+        fails,
+        is_over: false,
+        writes: 0,
+        wrong_writes: 0,
+    };
+    let outcome = list(alloc, run, &mut reader, &mut writer);
+    outcome == Err(RunFault::Write)
+        && status(&outcome) == 3
+        && (writer.room, writer.wrong_writes) == (0, 0)
+}
+
+#[test]
+fn writes_until_an_error_and_no_more(rt: HostRuntime) {
+    for example in &EXAMPLES {
+        for room in 0..example.2.len() {
+            for fails in [true, false] {
+                assert!(rt; is_cut(rt.alloc(), example, room, fails), "after {room}");
+            }
+        }
+    }
+}
+
+/// How many writes the listing of two frames takes, of a reader that gives at most some octets for an
+/// ask.
+fn writes_of(alloc: Global, at_most: usize) -> usize {
+    let [Example(run, octets, lines, _), ..] = &EXAMPLES;
+    let asked = Asked::new();
+    let mut reader = Watched {
+        octets,
+        at_most,
+        fails: false,
+        is_over: false,
+        asked: &asked,
+    };
+    let mut writer = Full {
+        text: lines.as_bytes(),
+        room: 1000,
+        fails: true,
+        is_over: false,
+        writes: 0,
+        wrong_writes: 0,
+    };
+    let _ = list(alloc, run, &mut reader, &mut writer);
+    writer.writes
+}
+
+#[test]
+fn writes_each_line_when_its_frame_ends(rt: HostRuntime) {
+    assert_eq!(rt; writes_of(rt.alloc(), 35), 3, "a line, a line and the end");
+    assert_eq!(rt;
+        writes_of(rt.alloc(), 70),
+        2,
+        "the lines of one piece, and the end"
+    );
+}
+
+/// Octets again and again, and then zeros.
+fn repeated(
+    alloc: Global,
+    octets: &[u8],
+    times: usize,
+    zeros: usize,
+) -> Result<Vec<u8>, AllocError> {
+    let mut all = Vec::new(alloc);
+    for _ in 0..times {
+        all.extend_from_slice(octets)?;
+    }
+    for _ in 0..zeros {
+        all.push(0)?;
+    }
+    Ok(all)
+}
+
+#[test]
+fn asks_more_than_a_million_times(rt: HostRuntime) -> Result<(), Fail> {
+    let alloc = rt.alloc();
+    let line = b"AP-REP enc=18:-:4 notes=[]\n";
+    let frames = repeated(alloc, FRAME, 30000, 0)?;
+    let mut lines = repeated(alloc, line, 30000, 0)?;
+    lines.extend_from_slice(b"end messages=30000\n")?;
+    let wanted = Given {
+        outcome: Ok(RunEnd::Clean),
+        lines: lines.as_slice(),
+        asks: 35 * 30000 + 1,
+    };
+    assert!(rt; gives(alloc, &Run::Stream, frames.as_slice(), 1, false, &wanted));
+    let keytab = repeated(alloc, b"\x05\x02\xFF\xF0\x00\x00", 1, 1 << 20)?;
+    let wanted = Given {
+        outcome: Ok(RunEnd::Clean),
+        lines: b"hole size=1048576 clean=yes\nend records=1 zero=no\n",
+        asks: (1 << 20) + 7,
+    };
+    assert!(rt; gives(alloc, &Run::Keytab, keytab.as_slice(), 1, false, &wanted));
+    Ok(())
+}
