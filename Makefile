@@ -1,5 +1,9 @@
 # krbls: build, run, test and measure. Needs the Rattle toolchain's `rt`; `make test` and `make bench` also need python3.
-.PHONY: run build gate test edits fuzz bench clean
+.PHONY: run build install uninstall gate test edits fuzz bench clean
+
+# Where `make install` puts the program.
+PREFIX := /usr/local
+DESTDIR :=
 
 # The crates of crates.txt, and those of them that one uses.
 CRATES := $(shell sed -n 's/^\([a-z_0-9]*\):.*/\1/p' crates.txt)
@@ -24,6 +28,21 @@ library-$(1): $(addprefix library-,$(call uses,$(1)))
 	cd crates/$(1) && rt lib
 endef
 $(foreach crate,$(CRATES),$(eval $(call LIBRARY,$(crate))))
+
+# Puts the program that `make build` left, its manual page and the completions of three shells under $(DESTDIR)$(PREFIX).
+share := $(DESTDIR)$(PREFIX)/share
+install:
+	@test -x bin/krbls || { echo 'make build first' >&2; exit 1; }
+	install -D -m 755 bin/krbls $(DESTDIR)$(PREFIX)/bin/krbls
+	install -D -m 644 docs/krbls.1 $(share)/man/man1/krbls.1
+	install -D -m 644 completions/krbls.bash $(share)/bash-completion/completions/krbls
+	install -D -m 644 completions/_krbls $(share)/zsh/site-functions/_krbls
+	install -D -m 644 completions/krbls.fish $(share)/fish/vendor_completions.d/krbls.fish
+
+# Takes the same away.
+uninstall:
+	rm -f $(DESTDIR)$(PREFIX)/bin/krbls $(share)/man/man1/krbls.1 $(share)/bash-completion/completions/krbls \
+		$(share)/zsh/site-functions/_krbls $(share)/fish/vendor_completions.d/krbls.fish
 
 # The merge gate alone, and the processor minutes of each of its parts.
 gate:

@@ -9,11 +9,20 @@ Each function gives the lines of a listing, and the status of the program.
 """
 
 from .files import ccache, keytab
-from .messages import message, stream, strict_message, strict_stream
+from .messages import (
+    message,
+    stream,
+    stream_going_on,
+    strict_message,
+    strict_stream,
+    strict_stream_going_on,
+)
 
 LISTINGS = {
     "stream": stream,
     "stream --strict": strict_stream,
+    "stream --keep-going": stream_going_on,
+    "stream --keep-going --strict": strict_stream_going_on,
     "message": message,
     "message --strict": strict_message,
     "keytab": keytab,

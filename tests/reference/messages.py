@@ -218,6 +218,24 @@ def stream(octets, limit=LIMIT, messages=MESSAGES):
     return [*lines, f"end messages={len(lines)}"], 0
 
 
+def stream_going_on(octets, limit=LIMIT, messages=MESSAGES):
+    """The same of a stream in which one goes on after a frame that is refused, where that one ends."""
+    lines, found, refused = [], 0, 0
+    while octets:
+        try:
+            text, size = frame(octets, limit, messages)
+            found += 1
+        except Refused as refusal:
+            text = f"refused messages={found} {fault(refusal)}"
+            size = 4 + int.from_bytes(octets[:4], "big")
+            refused += 1
+            if refusal.why in ("HighBit", "Truncated"):
+                size = len(octets)
+        lines.append(text)
+        octets = octets[size:]
+    return [*lines, f"end messages={found} refused={refused}"], min(refused, 1)
+
+
 def message(text, messages=MESSAGES):
     """The same of one message in hexadecimal."""
     if len(text) > MOST_TEXT:
@@ -239,3 +257,8 @@ def strict_stream(octets):
 def strict_message(text):
     """As `message`, by the strict profile."""
     return message(text, STRICT_MESSAGES)
+
+
+def strict_stream_going_on(octets):
+    """As `stream_going_on`, by the strict profile."""
+    return stream_going_on(octets, messages=STRICT_MESSAGES)

@@ -131,7 +131,7 @@ module _ {A : Type 0} (kept : Credential → ℕ → A) (version : ℕ) where
           no : (v : Start × List A) → done v ≡ failed (Start × List A) f → ⊥
           no v e = cc
 
--- a cache that is made of what a file holds is at fault where the file is
+-- a cache that is made of what a file holds is at fault if the file is
 pub made-fault : {A B : Type 0} (read : Result A Fault) (make : A → B) (f : Fault) → onward read (λ x. Ok (make x)) ≡ Err f → read ≡ Err f
 made-fault {A} {B} read make f e =
     elim (onward-err read (λ x. done (make x)) f e) [

@@ -56,7 +56,7 @@ module _ (limit : Option ℕ) (file : List ℕ) (count : ℕ) (start : Start) (s
   abbrev shortens : Shortens one
   shortens = Shortens-credential once start.version
 
-  -- what is left, where it is read so
+  -- what is left, if it is read so
   of_rest : (octets : List ℕ) (r : Result (Option Credential × Source) Fault) → next old.bounds (source_at old.place octets) ≡ r → next (limited limit) (source_at old.place octets) ≡ r
   of_rest octets r e = subst (λ (k : Bounds). next k (source_at old.place octets) ≡ r) reads.bounds e
 

@@ -39,7 +39,7 @@ small octets form e short = omega (arith, ap length e)
 ticket_is_read : (octets : List ℕ) (t : Ticket) → AreOfTicket profiles.Lenient octets t → ticket_read octets ≡ t
 ticket_is_read octets t are = ap (λ (o : List ℕ). ticket_of (value_read ticket o)) (sym are.form) ∙ ap ticket_of (value_is_read ticket (ticket_value t) refl (small octets _ are.form are.short))
 
--- ---- the state, where there is no configuration entry and the field is not empty
+-- ---- the state, if there is no configuration entry and the field is not empty
 judged-some : (octets : List ℕ) → octets ≢ [] → field_state octets ≡ judged_state (ticket_refusal profiles.Lenient octets) octets
 judged-some [] some = absurd (some refl)
 judged-some (octet ∷ octets) some = refl

@@ -74,7 +74,7 @@ once credential again = credential
 abbrev pub twice : Credential → ℕ → Credential3
 twice credential again = record { credential = credential; again = again }
 
--- the next credential, and none where the file ends
+-- the next credential, and none if the file ends
 abbrev pub next_at : {A : Type 0} → (Credential → ℕ → A) → ℕ → Reader (Option A)
 next_at kept version = λ bounds source. when (is_empty source.octets) (λ _. Ok (None, source)) (λ _. (credential_at kept version >>= λ item. gives (Some item)) bounds source)
 
@@ -142,7 +142,7 @@ items_within (suc bound) item_at limit source =
 abbrev pub items_after : {A : Type 0} → Reader A → Option ℕ → Source → Items A
 items_after item_at limit source = items_within (length source.octets) item_at limit source
 
--- all of them, where none is at fault
+-- all of them, if none is at fault
 abbrev pub all_items : {A : Type 0} → Items A → Result (List A) Fault
 all_items found = onward found.end (λ size. Ok found.items)
 

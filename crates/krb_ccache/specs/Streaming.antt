@@ -74,7 +74,7 @@ pub record FailsBy (items : Items Credential) (count : ℕ) (fault : Fault) : Ty
   pub counted : length items.items ≡ count
   pub is : items.end ≡ Err fault
 
--- What a call gives where `count` were given: the next credential, after which one more was given; else none, where the reader stands at the end of the file, or the fault, where no credential is left. Else the device failed or memory ran out.
+-- What a call gives if `count` were given: the next credential, after which one more was given; else none, where the reader stands at the end of the file, or the fault, if no credential is left. Else the device failed or memory ran out.
 abbrev pub GivesNext : Option ℕ → List ℕ → ℕ → Result (Option Credential) FileFault → Held → Start → State → Type 0
 GivesNext limit file count (Ok (Some credential)) held start state = IsItem (credentials limit file) count credential × Reads limit held start state file (suc count)
 GivesNext limit file count (Ok None) held start state = EndsBy (credentials limit file) count held.place

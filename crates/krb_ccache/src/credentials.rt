@@ -25,8 +25,8 @@ pub enum State {
 }
 
 /// A reader of the credentials of a cache, which takes no octet of its reader after the credential
-/// that it gives. It keeps none of the credentials that it gave, and takes memory for the octets that
-/// came.
+/// that it gives. It keeps none of the credentials that it gave, and takes memory for the octets
+/// that came.
 #[derive(Drop)]
 pub struct Credentials<R: Read> {
     reader: StreamReader<R>,
@@ -35,8 +35,9 @@ pub struct Credentials<R: Read> {
 }
 
 impl<R: Read + Drop> Credentials<R> {
-    /// The credentials of what a reader gives, where no field of octets may be longer than a limit.
-    /// What stands before them is read: the version, 3 or 4, the header and the default principal.
+    /// Begins to read the credentials of what a [`Read`] gives. No field of octets may be longer
+    /// than the limit. What stands before them is read: the version, 3 or 4, the header and the
+    /// default principal.
     pub fn start(alloc: Global, reader: R, limit: FieldLimit) -> Result<Credentials<R>, FileFault>
         ensures begins { IfOk result (λ made. (file : List ℕ) → R.remaining reader ≡ Some file → Reads (Some limit) made.reader made.start made.state file 0) }
         // No octet after the default principal was taken.
@@ -54,31 +55,32 @@ impl<R: Read + Drop> Credentials<R> {
         })
     }
 
-    /// The version of the cache, 3 or 4.
+    /// Returns the version of the cache, 3 or 4.
     pub fn version(&self) -> u8
         ensures { result ≡ self.now.start.version }
     {
         self.start.version
     }
 
-    /// The header of the cache, which has no fields in version 3.
+    /// Returns the header of the cache, which has no fields in version 3.
     pub fn header(&self) -> &Header
         ensures { result.now ≡ self.now.start.header }
     {
         &self.start.header
     }
 
-    /// The default principal of the cache.
+    /// Returns the default principal of the cache.
     pub fn principal(&self) -> &FilePrincipal
         ensures { result.now ≡ self.now.start.principal }
     {
         &self.start.principal
     }
 
-    /// The next credential, and none where the file ends. A cache is refused as
-    /// [`read`](crate::read) or [`read3`](crate::read3) refuses it, but that a field of octets is TooLong where it is longer than
-    /// the limit: after Overrun, and before Truncated. After a fault of any kind each call answers this
-    /// fault, and after the end each call answers that none is left; neither reads any more.
+    /// Reads the next credential, and none if the file ends. A cache is refused as
+    /// [`read`](crate::read) or [`read3`](crate::read3) refuses it, but that a field of octets is
+    /// TooLong if it is longer than the limit: after Overrun, and before Truncated. After a fault
+    /// of any kind each call answers this fault, and after the end each call answers that none is
+    /// left; neither reads any more.
     pub fn next_credential(&mut self, alloc: Global) -> Result<Option<Credential>, FileFault>
         // The credentials of a file that its reader tells, one after another, and then the end or the fault.
         ensures next { (file : List ℕ) (limit : ℕ) (given : ℕ) → Reads (Some limit) self.old.reader self.old.start self.old.state file given → GivesNext (Some limit) file given result self.new.reader self.new.start self.new.state }
@@ -123,7 +125,7 @@ impl<R: Read + Drop> Credentials<R> {
         self.reader.give_back(second_ticket);
     }
 
-    /// The next credential of a reader that met neither the end nor a fault.
+    /// Returns the next credential of a reader that met neither the end nor a fault.
     fn next_open(&mut self, alloc: Global) -> Result<Option<Credential>, FileFault>
         ensures next { (file : List ℕ) (limit : ℕ) (given : ℕ) → Reads (Some limit) self.old.reader self.old.start self.old.state file given → GivesNext (Some limit) file given result self.new.reader self.new.start self.new.state }
         ensures refused { (file : List ℕ) (limit : ℕ) (given : ℕ) → Reads (Some limit) self.old.reader self.old.start self.old.state file given → IfErr result (StandsIn file) }

@@ -2,7 +2,7 @@
 
 ghost use Rattle.std.specs.Prelude.{◌≡◌, ℕ, None, Ok, IfOk, IfErr, OnOk};
 ghost use Rattle.krb_file.specs.Fields.{Gives, IsFaultIn, Reader, within, times};
-ghost use Rattle.krb_file.specs.FieldReaders.{Follows, Stays, Slice, source_at};
+ghost use Rattle.krb_file.specs.FieldReaders.{Follows, Stays, Keeps, Slice, source_at};
 ghost use Rattle.krb_ccache.specs.declared.value.Cache3.{Cache3 as Cache3Value};
 ghost use Rattle.krb_ccache.specs.declared.value.Ccache.{Ccache as CcacheValue};
 ghost use Rattle.krb_ccache.specs.declared.value.Credential.{Credential as CredentialValue};
@@ -16,10 +16,10 @@ use krb_der::{KString, Many, Octets};
 use krb_file::{Field, FieldReader, FileFault, SliceReader, read_many};
 use std::alloc::Global;
 
-/// A principal.
+/// Reads a principal.
 fn principal<F: FieldReader>(alloc: Global, reader: &mut F) -> Result<FilePrincipal, FileFault>
     ensures read { Follows (λ principal. principal) result principal_at F.MayFail (F.held reader.old) (F.held reader.new) }
-    ensures stays { OnOk result (Stays (F.held reader.old) (F.held reader.new)) }
+    ensures keeps { Keeps (F.held reader.old) (F.held reader.new) }
 {
     let name_type = reader.signed32()?;
     let mut realm = reader.room(alloc);
@@ -54,7 +54,7 @@ impl Field for OctetsOfKind {
 /// Addresses, or authorization data, after their number.
 fn typed_list<F: FieldReader>(alloc: Global, reader: &mut F) -> Result<Many<Typed>, FileFault>
     ensures read { Follows (λ list. list) result typed_list_at F.MayFail (F.held reader.old) (F.held reader.new) }
-    ensures stays { OnOk result (Stays (F.held reader.old) (F.held reader.new)) }
+    ensures keeps { Keeps (F.held reader.old) (F.held reader.new) }
 {
     let count = reader.number32()?;
     let mut list = Vec::new(alloc);
@@ -65,7 +65,7 @@ fn typed_list<F: FieldReader>(alloc: Global, reader: &mut F) -> Result<Many<Type
 /// How many octets stand at least in a credential after its key.
 const LEAST_AFTER_KEY: u64 = 37;
 
-/// What stands of a credential from its key on.
+/// Reads what stands of a credential from its key on.
 fn credential_from<F: FieldReader>(
     alloc: Global,
     client: FilePrincipal,
@@ -135,10 +135,10 @@ impl Kept for Credential3 {
     }
 }
 
-/// The encryption type again, which version 4 does not write.
+/// Reads the encryption type again, which version 4 does not write.
 fn again<F: FieldReader>(version: u8, enctype: u16, reader: &mut F) -> Result<u16, FileFault>
     ensures read { Follows (λ again. again) result (again_at version enctype) F.MayFail (F.held reader.old) (F.held reader.new) }
-    ensures stays { OnOk result (Stays (F.held reader.old) (F.held reader.new)) }
+    ensures keeps { Keeps (F.held reader.old) (F.held reader.new) }
 {
     if version == 3 {
         return reader.number16();
@@ -146,7 +146,7 @@ fn again<F: FieldReader>(version: u8, enctype: u16, reader: &mut F) -> Result<u1
     Ok(enctype)
 }
 
-/// A credential in a version.
+/// Reads a credential in a version.
 #[inline(never)]
 fn credential<K: Kept, F: FieldReader>(
     alloc: Global,
@@ -167,7 +167,7 @@ fn credential<K: Kept, F: FieldReader>(
 /// How many octets a credential has at least, in either version.
 const LEAST_CREDENTIAL: u64 = 67;
 
-/// The next credential in a version, and none where the file ends.
+/// Reads the next credential in a version, and none if the file ends.
 pub(crate) fn next<K: Kept, F: FieldReader>(
     alloc: Global,
     version: u8,
@@ -184,10 +184,10 @@ pub(crate) fn next<K: Kept, F: FieldReader>(
     Ok(Some(item))
 }
 
-/// A field of the header.
+/// Reads a field of the header.
 fn header_field<F: FieldReader>(alloc: Global, reader: &mut F) -> Result<HeaderField, FileFault>
     ensures read { Follows (λ field. field) result header_field_at F.MayFail (F.held reader.old) (F.held reader.new) }
-    ensures stays { OnOk result (Stays (F.held reader.old) (F.held reader.new)) }
+    ensures keeps { Keeps (F.held reader.old) (F.held reader.new) }
 {
     let tag = reader.number16()?;
     let mut value = reader.room(alloc);
@@ -198,7 +198,7 @@ fn header_field<F: FieldReader>(alloc: Global, reader: &mut F) -> Result<HeaderF
     })
 }
 
-/// The fields of a header of `size` octets.
+/// Reads the fields of a header of `size` octets.
 fn header_fields<F: FieldReader>(
     alloc: Global,
     size: u16,
@@ -219,7 +219,7 @@ fn header_fields<F: FieldReader>(
     Ok(Many::new(fields))
 }
 
-/// The header.
+/// Reads the header.
 fn header<F: FieldReader>(alloc: Global, reader: &mut F) -> Result<Header, FileFault>
     ensures read { Follows (λ header. header) result header_at F.MayFail (F.held reader.old) (F.held reader.new) }
     ensures stays { OnOk result (Stays (F.held reader.old) (F.held reader.new)) }
@@ -229,7 +229,7 @@ fn header<F: FieldReader>(alloc: Global, reader: &mut F) -> Result<Header, FileF
     Ok(Header { fields })
 }
 
-/// The header, which version 3 does not write.
+/// Reads the header, which version 3 does not write.
 fn header_in<F: FieldReader>(
     alloc: Global,
     version: u8,
@@ -256,7 +256,8 @@ pub struct Start {
     pub principal: FilePrincipal,
 }
 
-/// What stands before the credentials of a file in one of these versions, from its first octet on.
+/// Reads what stands before the credentials of a file in one of these versions, from its first
+/// octet on.
 pub(crate) fn beginning<F: FieldReader>(
     alloc: Global,
     versions: &[u8],
@@ -275,7 +276,7 @@ pub(crate) fn beginning<F: FieldReader>(
     })
 }
 
-/// The credentials up to the end of the file.
+/// Reads the credentials up to the end of the file.
 fn credentials<K: Kept>(
     alloc: Global,
     version: u8,
@@ -291,7 +292,7 @@ fn credentials<K: Kept>(
     Ok(Many::new(credentials))
 }
 
-/// What a file of a version holds: what stands before the credentials, and these.
+/// Reads what a file of a version holds: what stands before the credentials, and these.
 fn file<K: Kept>(alloc: Global, version: u8, octets: &[u8]) -> Result<(Start, Many<K>), FileFault>
     ensures { Gives (λ found. found) result (read_in K.kept version octets.now) }
 {
@@ -301,7 +302,7 @@ fn file<K: Kept>(alloc: Global, version: u8, octets: &[u8]) -> Result<(Start, Ma
     Ok((start, credentials))
 }
 
-/// The cache that a file holds.
+/// Reads the cache that a file holds.
 fn whole(alloc: Global, octets: &[u8]) -> Result<Ccache, FileFault>
     ensures { Gives (λ ccache. ccache) result (read octets.now) }
 {
@@ -318,7 +319,7 @@ fn whole(alloc: Global, octets: &[u8]) -> Result<Ccache, FileFault>
     })
 }
 
-/// The cache of version 3 that a file holds.
+/// Reads the cache of version 3 that a file holds.
 fn whole3(alloc: Global, octets: &[u8]) -> Result<Cache3, FileFault>
     ensures { Gives (λ cache. cache) result (read3 octets.now) }
 {
@@ -329,10 +330,10 @@ fn whole3(alloc: Global, octets: &[u8]) -> Result<Cache3, FileFault>
     })
 }
 
-/// The cache of version 4 that a file holds. A file that holds none is refused at the first field at
-/// fault: Magic at 0, Version at 1, Overrun for a field that passes the end of the header that it
-/// stands in, else Truncated for one that passes the end of the file. Memory is taken for octets that
-/// are there, and never for a number of addresses that only announces them.
+/// Reads the cache of version 4 that a file holds. A file that holds none is refused at the first
+/// field at fault: Magic at 0, Version at 1, Overrun for a field that passes the end of the header
+/// that it stands in, else Truncated for one that passes the end of the file. Memory is taken for
+/// octets that are there, and never for a number of addresses that only announces them.
 pub fn read(alloc: Global, octets: &[u8]) -> Result<Ccache, FileFault>
     // What is read is spelled so.
     ensures found { IfOk result (λ ccache. CcacheSpells ccache octets.now) }
@@ -345,8 +346,8 @@ pub fn read(alloc: Global, octets: &[u8]) -> Result<Ccache, FileFault>
     whole(alloc, octets)
 }
 
-/// The cache of version 3 that a file holds. A file that holds none is refused as [`read`] refuses
-/// it, but that it has no header.
+/// Reads the cache of version 3 that a file holds. A file that holds none is refused as [`read`]
+/// refuses it, but that it has no header.
 pub fn read3(alloc: Global, octets: &[u8]) -> Result<Cache3, FileFault>
     // What is read is spelled so.
     ensures found { IfOk result (λ cache. Spells3 cache octets.now) }

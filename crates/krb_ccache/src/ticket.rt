@@ -33,7 +33,8 @@ pub enum TicketStateView<'a> {
     Refused(Refusal),
 }
 
-/// What stands in the ticket field of a credential, which is [`ticket_of`]'s. It takes no memory.
+/// Returns what stands in the ticket field of a credential, which is [`ticket_of`]'s. It takes no
+/// memory.
 #[tactic(auto, unfolding(crate::specs::Tickets::state_of))]
 pub fn ticket_view_of(credential: &Credential) -> TicketStateView<'_>
     ensures { state_viewed result ≡ state_of credential.now }
@@ -51,8 +52,8 @@ pub fn ticket_view_of(credential: &Credential) -> TicketStateView<'_>
     }
 }
 
-/// What stands in the ticket field of a credential. A configuration entry is told first, and an
-/// empty field then. Memory is taken for a Ticket alone.
+/// Returns what stands in the ticket field of a credential. A configuration entry is told first,
+/// and an empty field then. Memory is taken for a Ticket alone.
 #[tactic(auto, unfolding(crate::specs::Tickets::state_of))]
 pub fn ticket_of(alloc: Global, credential: &Credential) -> Result<TicketState, Memory>
     ensures state { IfOk result (λ state. state ≡ state_of credential.now) }

@@ -8,9 +8,9 @@ use crate::value::{Cache3, Ccache, Credential, Credential3, Header};
 use krb_der::Many;
 use std::alloc::Global;
 
-/// The cache in version 4: a header of no fields, the same principal and the same credentials in the
-/// same order. What is dropped is the encryption type as it is written again. Where memory runs out
-/// the cache is handed back.
+/// Returns the cache in version 4: a header of no fields, the same principal and the same
+/// credentials in the same order. What is dropped is the encryption type as it is written again. If
+/// memory runs out the cache is handed back.
 pub fn upgrade(alloc: Global, cache: Cache3) -> Result<Ccache, Cache3>
     ensures upgraded { IfOk result (λ made. made ≡ upgraded cache) }
     ensures unchanged { IfErr result (λ same. same ≡ cache) }

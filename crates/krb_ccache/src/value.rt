@@ -79,7 +79,7 @@ pub struct Credential {
     pub endtime: u32,
     /// Until when it can be renewed.
     pub renew_till: u32,
-    /// Whether the ticket is for user-to-user authentication, encrypted in a session key: 0 where it
+    /// Whether the ticket is for user-to-user authentication, encrypted in a session key: 0 if it
     /// is not.
     pub is_skey: u8,
     /// The flags of the ticket (RFC 4120, 5.3), bit 0 the highest.
@@ -114,8 +114,8 @@ const CONFIG_REALM: &[u8] = b"X-CACHECONF:";
 const CONFIG_NAME: &[u8] = b"krb5_ccache_conf_data";
 
 impl Header {
-    /// How far the KDC's clock was ahead: seconds, and microseconds. It stands in the first field
-    /// that has both tag 1 and eight octets.
+    /// Returns how far the KDC's clock was ahead: seconds, and microseconds. It stands in the first
+    /// field that has both tag 1 and eight octets.
     pub fn offset(&self) -> Option<(i32, i32)>
         ensures { result ≡ offset self.now }
     {
@@ -132,7 +132,7 @@ impl Header {
     }
 }
 
-/// Whether the first of some strings has these octets.
+/// Returns whether the first of some strings has these octets.
 fn first_is(strings: &[KString], octets: &[u8]) -> bool
     ensures { result ≡ first_is strings.now octets.now }
 {
@@ -143,7 +143,7 @@ fn first_is(strings: &[KString], octets: &[u8]) -> bool
 }
 
 impl Credential {
-    /// Whether this is a configuration entry and no credential: the realm of its server is
+    /// Returns whether this is a configuration entry and no credential: the realm of its server is
     /// `X-CACHECONF:` and the first component of the server's name is `krb5_ccache_conf_data`.
     pub fn is_config(&self) -> bool
         ensures { result ≡ is_config self.now }

@@ -86,7 +86,7 @@ fn failing_reads(alloc: Global, run: Run, octets: &[u8], at_most: usize) -> Opti
         let count = asks.saturating_mul(at_most).min(octets.len());
         let read = run.listing(alloc, &octets[..count])?;
         let lines = without_last(read.as_slice());
-        if outcome != Err(RunFault::Read) || !lines.starts_with(text.as_slice()) {
+        if !matches!(outcome, Err(RunFault::Read(_))) || !lines.starts_with(text.as_slice()) {
             return None;
         }
         reads = reads.saturating_add(1);
@@ -120,7 +120,10 @@ fn failing_writes(
         }
         let all = writes.saturating_mul(at_most);
         let few = taken.len() <= all && (at_most > 1 || taken.len() == all);
-        if outcome != Err(RunFault::Write) || !few || !whole.as_slice().starts_with(taken) {
+        if !matches!(outcome, Err(RunFault::Write(_)))
+            || !few
+            || !whole.as_slice().starts_with(taken)
+        {
             return None;
         }
         failed = failed.saturating_add(1);

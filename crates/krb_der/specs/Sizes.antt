@@ -10,7 +10,7 @@ item_length contents = 1 + length (length_octets contents) + contents
 abbrev pub saturated : ℕ → ℕ
 saturated n = min n 2147483648
 
--- the number that the octets of an integer spell, or that their complements spell where it is negative
+-- the number that the octets of an integer spell, or that their complements spell if it is negative
 abbrev pub magnitude : ℤ → ℕ
 magnitude (pos n) = n
 magnitude (negsuc n) = n

@@ -14,7 +14,7 @@ pub trait Der {
     /// their shape.
     ghost Fits: { Self → Type 0 };
 
-    /// The number of DER octets; 2147483648 where there are more.
+    /// Returns the number of DER octets; 2147483648 if there are more.
     fn size(&self) -> u64
         ensures octets { result ≡ saturated (length (der self.now)) }
         ensures fits { Fits self.now };

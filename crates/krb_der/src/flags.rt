@@ -5,7 +5,7 @@ use crate::item::{item_size, put_header, put_octets, size_of};
 use std::marker::Model;
 
 /// A bit string (KerberosFlags of RFC 4120, 5.2.8; X.690, 8.6 and 11.2): octets, and how many low
-/// bits of the last one are unused, 0 to 7. These bits are clear, and where there are no octets
+/// bits of the last one are unused, 0 to 7. These bits are clear, and if there are no octets
 /// none are unused. Contracts see the pair of the count and the list of the octets.
 #[derive(Debug, Drop)]
 pub struct Flags {
@@ -36,8 +36,8 @@ ghost use Rattle.krb_der.specs.inner.PrefixFree.{item_begins, same_bits};
 ghost use Rattle.krb_der.specs.Scalars.{has_bit};
 
 impl Flags {
-    /// The flags of octets whose last has `unused` low bits that are clear: at most 7, and 0 where
-    /// there are no octets. `None` of any other. The vector is moved and not copied.
+    /// Returns the flags of octets whose last has `unused` low bits that are clear: at most 7, and
+    /// 0 if there are no octets. `None` of any other. The vector is moved and not copied.
     pub fn new(unused: u8, octets: Vec<u8>) -> Option<Flags>
         ensures shape { IsSome result ↔ AreBits unused octets.items }
         ensures value { IfSome result (λ flags. flags ≡ (unused, octets.items)) }
@@ -50,7 +50,7 @@ impl Flags {
         }
     }
 
-    /// The number of unused low bits of the last octet, 0 to 7.
+    /// Returns the number of unused low bits of the last octet, 0 to 7.
     pub fn unused(&self) -> u8
         ensures value { result ≡ self.now.0 }
         ensures shape { AreBits result self.now.1 }
@@ -58,14 +58,14 @@ impl Flags {
         self.unused
     }
 
-    /// The octets, borrowed.
+    /// Returns the octets, borrowed.
     pub fn octets(&self) -> &[u8]
         ensures { result.now ≡ self.now.1 }
     {
         self.octets.as_slice()
     }
 
-    /// The octets, given back in their vector.
+    /// Returns the octets, given back in their vector.
     pub(crate) fn into_octets(self) -> Vec<u8>
         ensures { result.items ≡ self.1 }
     {
@@ -73,8 +73,8 @@ impl Flags {
         octets
     }
 
-    /// The number of bits that are there: 8 for each octet, less the unused. No memory holds so
-    /// many octets that it passes `u64::MAX`, where it would stay.
+    /// Returns the number of bits that are there: 8 for each octet, less the unused. No memory
+    /// holds so many octets that it passes `u64::MAX`, where it would stay.
     pub fn bits(&self) -> u64
         ensures { result ≡ min (8 * length self.now.1 - self.now.0) u64.MAX }
     {
@@ -82,8 +82,8 @@ impl Flags {
         u64::try_from(bits).unwrap_or(u64::MAX)
     }
 
-    /// Whether a bit is set, counted from 0, the high bit of the first octet (X.690, 8.6.2). A bit
-    /// that is missing is not.
+    /// Returns whether a bit is set, counted from 0, the high bit of the first octet (X.690,
+    /// 8.6.2). A bit that is missing is not.
     pub fn bit(&self, index: u64) -> bool
         ensures value { result ≡ has_bit self.now.1 index }
         ensures missing { 8 * length self.now.1 - self.now.0 ≤ index → result ≡ false }
@@ -131,7 +131,7 @@ impl Der for Flags {
     ghost prefix_free = { same_bits };
 }
 
-/// The last octet, or 0 where there is none.
+/// Returns the last octet, or 0 if there is none.
 pub fn last_or_zero(octets: &[u8]) -> u8
     ensures { result ≡ last_of octets.now }
 {

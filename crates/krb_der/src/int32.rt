@@ -26,14 +26,14 @@ ghost use Rattle.krb_der.specs.Scalars.{IsInt32};
 ghost use Rattle.krb_der.specs.inner.PrefixFree.{item_begins, same_integer};
 
 impl Int32 {
-    /// The Int32 of a number.
+    /// Returns the Int32 of a number.
     pub fn new(number: i32) -> Int32
         ensures { result ≡ number }
     {
         Int32 { number }
     }
 
-    /// The number.
+    /// Returns the number.
     pub fn get(self) -> i32
         ensures { result ≡ self }
     {

@@ -11,7 +11,7 @@ use crate::number::{number_size, put_number};
 /// The least number of octets that no message has.
 pub const TOO_LONG: u64 = 2147483648;
 
-/// The number of octets of an item with `contents` octets of contents; 2147483648 where there
+/// Returns the number of octets of an item with `contents` octets of contents; 2147483648 if there
 /// are more.
 pub fn item_size(contents: u64) -> u64
     ensures { result ≡ saturated (item_length contents) }
@@ -25,7 +25,7 @@ pub fn item_size(contents: u64) -> u64
     }
 }
 
-/// The number of octets.
+/// Returns the number of octets.
 pub fn size_of(octets: &[u8]) -> u64
     ensures value { result ≡ length octets.now }
     ensures octets { AreOctets octets.now }
@@ -33,7 +33,7 @@ pub fn size_of(octets: &[u8]) -> u64
     octets.len() as u64
 }
 
-/// Two numbers of octets together; 2147483648 where there are more.
+/// Adds two numbers of octets; 2147483648 if there are more.
 pub fn add_sizes(size: u64, more: u64) -> u64
     ensures { result ≡ saturated (size + more) }
 {

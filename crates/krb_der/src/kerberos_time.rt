@@ -34,7 +34,7 @@ ghost use Rattle.krb_der.specs.Octets.{item};
 ghost use Rattle.krb_der.specs.inner.PrefixFree.{item_begins, same_octets};
 
 impl KerberosTime {
-    /// The time of fourteen digits and a `Z`, and `None` of any other octets.
+    /// Returns the time of fourteen digits and a `Z`, and `None` of any other octets.
     pub fn new(octets: [u8; 15]) -> Option<KerberosTime>
         ensures shape { IsSome result ↔ IsTimeFrom 14 octets }
         ensures value { IfSome result (λ time. time ≡ octets) }
@@ -46,7 +46,7 @@ impl KerberosTime {
         }
     }
 
-    /// The octets, borrowed.
+    /// Returns the octets, borrowed.
     pub fn octets(&self) -> &[u8; 15]
         ensures value { result.now ≡ self.now }
         ensures shape { IsTimeFrom 14 result.now }
@@ -75,7 +75,7 @@ impl Der for KerberosTime {
     ghost prefix_free = { same_octets 0x18 };
 }
 
-/// Whether all octets are ASCII digits.
+/// Returns whether all octets are ASCII digits.
 fn are_digits(octets: &[u8]) -> bool
     ensures { result ≡ list_all is_ascii_digit octets.now }
 {

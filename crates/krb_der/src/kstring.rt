@@ -27,21 +27,21 @@ ghost use Rattle.krb_der.specs.Octets.{item, AreOctets};
 ghost use Rattle.krb_der.specs.inner.PrefixFree.{item_begins, same_octets};
 
 impl KString {
-    /// The string of a vector of octets, which is moved and not copied.
+    /// Returns the string of a vector of octets, which is moved and not copied.
     pub fn new(octets: Vec<u8>) -> KString
         ensures { result ≡ octets.items }
     {
         KString { octets }
     }
 
-    /// The octets, borrowed.
+    /// Returns the octets, borrowed.
     pub fn octets(&self) -> &[u8]
         ensures { result.now ≡ self.now }
     {
         self.octets.as_slice()
     }
 
-    /// The octets, given back in their vector.
+    /// Returns the octets, given back in their vector.
     pub fn into_vec(self) -> Vec<u8>
         ensures { result.items ≡ self }
     {

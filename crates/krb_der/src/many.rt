@@ -28,21 +28,21 @@ ghost use Rattle.krb_der.specs.Sizes.{saturated};
 ghost use Rattle.krb_der.specs.inner.PrefixFree.{item_begins, same_many};
 
 impl<T> Many<T> {
-    /// The values of a vector, which is moved and not copied.
+    /// Returns the values of a vector, which is moved and not copied.
     pub fn new(values: Vec<T>) -> Many<T>
         ensures { result ≡ values.items }
     {
         Many { values }
     }
 
-    /// The values, borrowed.
+    /// Returns the values, borrowed.
     pub fn as_slice(&self) -> &[T]
         ensures { result.now ≡ self.now }
     {
         self.values.as_slice()
     }
 
-    /// The values, given back in their vector.
+    /// Returns the values, given back in their vector.
     pub fn into_vec(self) -> Vec<T>
         ensures { result.items ≡ self }
     {
@@ -87,7 +87,7 @@ impl<T: Der> Der for Many<T> {
     ghost prefix_free = { same_many T.der T.begins T.prefix_free };
 }
 
-/// The number of DER octets of all the values; 2147483648 where there are more.
+/// Returns the number of DER octets of all the values; 2147483648 if there are more.
 fn size_of_values<T: Der>(values: &[T]) -> u64
     ensures octets { result ≡ saturated (length (flat_map T.der values.now)) }
     ensures fits { AllByRecursion T.Fits values.now }

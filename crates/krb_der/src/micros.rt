@@ -33,7 +33,7 @@ impl Micros {
     /// The greatest of them, 999999.
     pub const GREATEST: u32 = 999999;
 
-    /// The Micros of a number up to `GREATEST`, and `None` of any other.
+    /// Returns the Micros of a number up to `GREATEST`, and `None` of any other.
     pub fn new(number: u32) -> Option<Micros>
         ensures range { IsSome result ↔ IsMicros number }
         ensures value { IfSome result (λ micros. micros ≡ number) }
@@ -45,7 +45,7 @@ impl Micros {
         }
     }
 
-    /// The number of microseconds.
+    /// Returns the number of microseconds.
     pub fn get(self) -> u32
         ensures value { result ≡ self }
         ensures range { IsMicros result }

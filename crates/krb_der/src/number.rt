@@ -8,7 +8,7 @@ ghost use Rattle.krb_der.specs.Sizes.{magnitude as magnitude_of};
 
 use crate::item::put_header;
 
-/// How many octets spell a number at least, if they begin below a bound: 1 to 8 or 9.
+/// Returns how many octets spell a number at least, if they begin below a bound: 1 to 8 or 9.
 pub(crate) fn number_size(bound: u64, number: u64) -> u64
     requires { 0 < bound }
     ensures value { result ≡ length (spelled bound number) }
@@ -49,7 +49,7 @@ fn put_complement(out: &mut Vec<u8>, number: u64)
     }
 }
 
-/// The number, or one below the magnitude of a negative one.
+/// Returns the number, or one below the magnitude of a negative one.
 fn magnitude(number: i64) -> u64
     ensures { result ≡ magnitude_of number }
 {
@@ -60,7 +60,7 @@ fn magnitude(number: i64) -> u64
     }
 }
 
-/// The number of DER octets of an INTEGER, 3 to 10 (X.690, 8.3).
+/// Returns the number of DER octets of an INTEGER, 3 to 10 (X.690, 8.3).
 pub fn integer_size(number: i64) -> u64
     ensures value { result ≡ length (item 0x02 (integer_octets number)) }
     ensures small { result ≤ 11 }
@@ -82,7 +82,7 @@ pub fn put_integer(out: &mut Vec<u8>, number: i64)
     }
 }
 
-/// The number that at most five octets spell, the first the highest.
+/// Returns the number that at most five octets spell, the first the highest.
 #[inline(always)]
 pub fn number_of(octets: &[u8]) -> u64
     requires { length octets.now ≤ 5 }
@@ -96,7 +96,7 @@ pub fn number_of(octets: &[u8]) -> u64
     number
 }
 
-/// The number that the complements of octets spell.
+/// Returns the number that the complements of octets spell.
 fn number_of_complement(octets: &[u8]) -> u64
     requires { length octets.now ≤ 5 }
     ensures value { result ≡ number_spelled (complement octets.now) }
@@ -109,7 +109,8 @@ fn number_of_complement(octets: &[u8]) -> u64
     number
 }
 
-/// The number of an INTEGER's contents of at most five octets, in two's complement (X.690, 8.3.3).
+/// Returns the number of an INTEGER's contents of at most five octets, in two's complement (X.690,
+/// 8.3.3).
 #[inline(always)]
 pub fn integer_value(octets: &[u8]) -> i64
     requires { length octets.now ≤ 5 }

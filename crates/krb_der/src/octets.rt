@@ -26,21 +26,21 @@ ghost use Rattle.krb_der.specs.Octets.{item, AreOctets};
 ghost use Rattle.krb_der.specs.inner.PrefixFree.{item_begins, same_octets};
 
 impl Octets {
-    /// The octets of a vector, which is moved and not copied.
+    /// Returns the octets of a vector, which is moved and not copied.
     pub fn new(octets: Vec<u8>) -> Octets
         ensures { result ≡ octets.items }
     {
         Octets { octets }
     }
 
-    /// The octets, borrowed.
+    /// Returns the octets, borrowed.
     pub fn as_slice(&self) -> &[u8]
         ensures { result.now ≡ self.now }
     {
         self.octets.as_slice()
     }
 
-    /// The octets, given back in their vector.
+    /// Returns the octets, given back in their vector.
     pub fn into_vec(self) -> Vec<u8>
         ensures { result.items ≡ self }
     {

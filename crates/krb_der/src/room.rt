@@ -45,7 +45,7 @@ pub trait GiveBack: Drop {
 }
 
 impl Room {
-    /// No room.
+    /// Creates a room that keeps nothing.
     pub fn new() -> Room {
         Room {
             vectors: [
@@ -66,7 +66,7 @@ impl Room {
         }
     }
 
-    /// A vector without octets: one of those that are kept, where there is one.
+    /// Returns a vector without octets: one of those that are kept, if there is one.
     #[inline(always)]
     pub fn take(&mut self, alloc: Global) -> Vec<u8>
         ensures { result.items ≡ [] }
@@ -89,7 +89,7 @@ impl Room {
         }
     }
 
-    /// A list without strings: one of those that are kept, where there is one.
+    /// Returns a list without strings: one of those that are kept, if there is one.
     pub fn take_list(&mut self, alloc: Global) -> Vec<KString>
         ensures { result.items ≡ [] }
     {
@@ -103,7 +103,7 @@ impl Room {
         Vec::new(alloc)
     }
 
-    /// A copy of octets, with room for all of them where it is new.
+    /// Returns a copy of octets, with room for all of them if it is new.
     pub fn copy(&mut self, alloc: Global, octets: &[u8]) -> Result<Vec<u8>, AllocError>
         ensures { IfOk result (λ copied. copied.items ≡ octets.now) }
     {

@@ -46,7 +46,7 @@ pub enum Why {
     Charset,
 }
 
-/// The number of a reason, from 1 (`HighBit`) to 17 (`Charset`), in the order of the enum.
+/// Returns the number of a reason, from 1 (`HighBit`) to 17 (`Charset`), in the order of the enum.
 pub fn why_number(why: Why) -> u8
     ensures { result ≡ reason_number why }
 {
@@ -71,7 +71,7 @@ pub fn why_number(why: Why) -> u8
     }
 }
 
-/// The name of a reason, as the enum spells it.
+/// Returns the name of a reason, as the enum spells it.
 pub fn why_text(why: Why) -> &'static str
     ensures { result.now ≡ reason_name why }
 {

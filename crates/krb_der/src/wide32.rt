@@ -36,7 +36,7 @@ impl Wide32 {
     /// The greatest of them, 4294967295.
     pub const GREATEST: i64 = 4294967295;
 
-    /// The Wide32 of a number from `LEAST` to `GREATEST`, and `None` of any other.
+    /// Returns the Wide32 of a number from `LEAST` to `GREATEST`, and `None` of any other.
     pub fn new(number: i64) -> Option<Wide32>
         ensures range { IsSome result ↔ IsWide32 number }
         ensures value { IfSome result (λ wide32. wide32 ≡ number) }
@@ -48,7 +48,7 @@ impl Wide32 {
         }
     }
 
-    /// The number.
+    /// Returns the number.
     pub fn get(self) -> i64
         ensures value { result ≡ self }
         ensures range { IsWide32 result }

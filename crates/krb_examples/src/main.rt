@@ -218,7 +218,7 @@ fn show_files(rt: &HostRuntime) -> Result<()> {
 fn main(rt: HostRuntime) -> Result<()> {
     let words = vec![in rt.alloc(); String::from_str(rt.alloc(), "keytab")?]?;
     let is_keytab = is_keytab_command(rt.alloc(), words.as_slice());
-    println!(rt; "keytab: {}", is_keytab == Ok(true))?;
+    println!(rt; "keytab: {}", matches!(is_keytab, Ok(true)))?;
     show_messages(&rt)?;
     show_stream(&rt)?;
     show_files(&rt)

@@ -1,7 +1,7 @@
 -- What readers of fields read one after another.
 use Rattle.std.proofs.Common.{◌≡◌, ℕ, zero, suc, ◌+◌, ◌<◌, ◌≤◌, Bool, Option, Some, None, Result, Ok, Err, List, [], ◌∷◌, ◌++◌, refl, sym, ◌∙◌, ap, subst, arith}
 use Rattle.krb_file.specs.Fields.{Source, Fault, Bounds, ended, Fails, Reader, onward, ◌>>=◌, gives, next_octets_at, are_zero, times}
-use Rattle.krb_file.specs.FieldReaders.{Held, GoesOn, MayHave, source_at, reach, Stays, HasRead, FailsBy, skipped_at, Slice, of_slice}
+use Rattle.krb_file.specs.FieldReaders.{Held, GoesOn, MayHave, source_at, reach, TakesTo, Stays, Keeps, HasRead, FailsBy, skipped_at, Slice, of_slice}
 use Rattle.krb_file.specs.declared.fault.FileFault.{FileFault}
 use Rattle.krb_file.specs.declared.fault.FileFault.TheVariants as faults
 use Rattle.krb_file.proofs.Fields.{done, ok_is, onward-ok}
@@ -27,6 +27,25 @@ Stays-then {old} {mid} {new} p q = record {
   on = omega (arith, p.on, q.on);
   within = λ more. let first : reach new ≤ reach mid = q.within more in let second : reach mid ≤ reach old = p.within (omega (arith, q.on)) in omega (arith, first, second);
 }
+
+pub Keeps-same : {old new : Held} → new ≡ old → Keeps old new
+Keeps-same {old} {new} same = rw same (record { stays = Stays-same refl; same_bounds = refl; inside = λ end is more. omega arith })
+
+pub Keeps-then : {old mid new : Held} → Keeps old mid → Keeps mid new → Keeps old new
+Keeps-then {old} {mid} {new} p q = record {
+  stays = Stays-then p.stays q.stays;
+  same_bounds = q.same_bounds ∙ p.same_bounds;
+  inside = λ end is more.
+      let first : reach new ≤ reach mid = q.inside end (ap (λ (b : Bounds). b.end) p.same_bounds ∙ is) more in
+      let second : reach mid ≤ reach old = p.inside end is (omega (arith, first, more)) in
+      omega (arith, first, second);
+}
+
+pub TakesTo-then : (most : ℕ) (old mid new : Held) → TakesTo most old mid → TakesTo most mid new → TakesTo most old new
+TakesTo-then most old mid new p q = λ more.
+    let first : reach new ≤ reach mid = q more in
+    let second : reach mid ≤ reach old = p (omega (arith, first, more)) in
+    omega (arith, first, second)
 
 -- ---- what is made of a value that was read
 pub made_of : {A B : Type 0} (reader : Reader A) (make : A → B) (v : A) (s t : Held) → HasRead reader v s t → HasRead (reader >>= λ x. gives (make x)) (make v) s t

@@ -1,9 +1,12 @@
 -- How far readers go: over a number of octets at least, or up to the end of what a field stands in.
 use Rattle.std.proofs.Common.{◌≡◌, ℕ, ◌+◌, ◌-◌, ◌<◌, ◌≤◌, Bool, true, false, Option, Some, None, Ok, List, [], ◌∷◌, length, refl, ap, subst, arith}
-use Rattle.std.specs.Int.{Width, byte_len, from_be_bytes, cast_signed}
-use Rattle.krb_file.specs.Fields.{Source, Bounds, Reader, ◌>>=◌, gives, is_empty, next_octets_at, octets_at, room, rest_at, number_at, signed_at, counted_at, within}
-use Rattle.krb_file.specs.FieldReaders.{Held, GoesOn, source_at, reach, Stays, LooksTo, HasRead, ended_at}
-use Rattle.krb_file.proofs.Fields.{ok_is, onward-ok, piece-ok}
+use Rattle.std.specs.Int.{Width, w8, byte_len, from_be_bytes, cast_signed}
+use Rattle.krb_file.specs.Fields.{Source, Bounds, Reader, ◌>>=◌, gives, is_empty, next_octets_at, octets_at, room, rest_at, number_at, signed_at, counted_at, within, is_one_of, expect, version_at, refused}
+use Rattle.krb_der.specs.Octets.{when}
+use Rattle.krb_file.specs.declared.fault.FileWhy.{FileWhy}
+use Rattle.krb_file.specs.declared.fault.FileWhy.TheVariants as why
+use Rattle.krb_file.specs.FieldReaders.{Held, GoesOn, source_at, reach, TakesTo, KeepsTo, Stays, LooksTo, HasRead, ended_at}
+use Rattle.krb_file.proofs.Fields.{done, ok_is, onward-ok, piece-ok, when-ok_else}
 use Rattle.krb_file.proofs.FieldReaders.{some_rest, Stays-same, Stays-then}
 use Rattle.krb_file.proofs.Steps.{Steps, Steps-gives, Steps-octets}
 
@@ -46,6 +49,47 @@ AtLeast-signed w = AtLeast-fewer (byte_len w) (byte_len w + 0) (signed_at w) (om
 pub AtLeast-counted : (w : Width) → AtLeast (byte_len w) (counted_at w)
 AtLeast-counted w = AtLeast-fewer (byte_len w) (byte_len w + 0) (counted_at w) (omega arith) (AtLeast-then (byte_len w) 0 (number_at w) octets_at (AtLeast-number w) (λ size. AtLeast-none (octets_at size) (Steps-octets size)))
 
+-- it goes on over n octets
+pub record Exactly {A : Type 0} (n : ℕ) (reader : Reader A) : Type 0 where
+  pub goes : (bounds : Bounds) (s : Source) (v : A) (t : Source) → reader bounds s ≡ Ok (v, t) → t.place ≡ s.place + n
+
+Exactly-piece : (size : ℕ) → Exactly size (next_octets_at None size)
+Exactly-piece size = record { goes = λ bounds s v t e. rw (piece-ok None size bounds s t v e).source refl }
+
+pub Exactly-made : {A B : Type 0} (n : ℕ) (reader : Reader A) (make : A → B) → Exactly n reader → Exactly n (reader >>= λ x. gives (make x))
+Exactly-made {A} {B} n reader make first = record {
+  goes = λ bounds s v t e.
+      let a = onward-ok (reader bounds s) (λ p. gives (make p.0) bounds p.1) (v, t) e in
+      let same : a.0.1 ≡ t = ap (λ (x : B × Source). x.1) (ok_is (make a.0.0, a.0.1) (v, t) a.2) in
+      subst (λ (x : Source). x.place ≡ s.place + n) same (first.goes bounds s a.0.0 a.0.1 a.1);
+}
+
+pub Exactly-number : (w : Width) → Exactly (byte_len w) (number_at w)
+Exactly-number w = Exactly-made (byte_len w) (next_octets_at None (byte_len w)) (from_be_bytes w) (Exactly-piece (byte_len w))
+
+pub Exactly-signed : (w : Width) → Exactly (byte_len w) (signed_at w)
+Exactly-signed w = Exactly-made (byte_len w) (number_at w) (cast_signed w) (Exactly-number w)
+
+pub Exactly-expect : (wanted : List ℕ) (reason : FileWhy) → Exactly 1 (expect wanted reason)
+Exactly-expect wanted reason = record {
+  goes = λ bounds s v t e.
+      let a = onward-ok (number_at w8 bounds s) (λ p. when (is_one_of p.0 wanted) (λ _. done p) (λ _. refused s reason)) (v, t) e in
+      let b = when-ok_else (is_one_of a.0.0 wanted) _ a.0 (v, t) a.2 in
+      subst (λ (p : ℕ × Source). p.1.place ≡ s.place + 1) b.1 ((Exactly-number w8).goes bounds s a.0.0 a.0.1 a.1);
+}
+
+pub Exactly-then : {A B : Type 0} (m n : ℕ) (reader : Reader A) (next : A → Reader B) → Exactly m reader → ((value : A) → Exactly n (next value)) → Exactly (m + n) (reader >>= next)
+Exactly-then m n reader next first others = record {
+  goes = λ bounds s v t e.
+      let a = onward-ok (reader bounds s) (λ p. next p.0 bounds p.1) (v, t) e in
+      let one = first.goes bounds s a.0.0 a.0.1 a.1 in
+      let two = (others a.0.0).goes bounds a.0.1 v t a.2 in
+      omega (arith, one, two);
+}
+
+pub Exactly-version : (versions : List ℕ) → Exactly 2 (version_at versions)
+Exactly-version versions = Exactly-then 1 1 (expect (5 ∷ []) why.Magic) _ (Exactly-expect (5 ∷ []) why.Magic) (λ _. Exactly-expect versions why.Version)
+
 -- ---- up to the end
 pub record ToEnd {A : Type 0} (reader : Reader A) : Type 0 where
   pub goes : (end : ℕ) (bounds : Bounds) (s : Source) (v : A) (t : Source) → bounds.end ≡ Some end → reader bounds s ≡ Ok (v, t) → end ≤ t.place
@@ -85,12 +129,18 @@ goes_on n reader v old new long read =
     let a = read.from now.rest now.there in
     long.goes old.bounds (source_at old.place a.0) v (source_at new.place now.rest) a.2
 
+pub goes_to : {A : Type 0} (n : ℕ) (reader : Reader A) (v : A) (old new : Held) → Exactly n reader → HasRead reader v old new → new.place ≡ old.place + n
+goes_to n reader v old new long read =
+    let now = some_rest new in
+    let a = read.from now.rest now.there in
+    long.goes old.bounds (source_at old.place a.0) v (source_at new.place now.rest) a.2
+
 no_front : (front : List ℕ) (left : Option (List ℕ)) (octets : List ℕ) → GoesOn front left octets → is_empty octets ≡ true → front ≡ []
 no_front [] left octets there none = refl
 no_front (x ∷ front) None octets there none = let some : is_empty octets ≡ false = rw there.1 refl in absurd cc
 no_front (x ∷ front) (Some known) octets there none = let some : is_empty octets ≡ false = rw there refl in absurd cc
 
--- where none is left, none is ahead
+-- if none is left, none is ahead
 pub none_left : (old new : Held) → HasRead ended_at true old new → new.ahead ≡ []
 none_left old new read =
     let now = some_rest new in
@@ -104,9 +154,31 @@ nothing_more : (ahead : List ℕ) (place most : ℕ) → (place < place + length
 nothing_more [] place most within le = refl
 nothing_more (x ∷ ahead) place most within le = absurd (omega (arith, within (omega arith)))
 
--- where nothing was ahead, nothing is
+-- if nothing was ahead, nothing is
 pub none_ahead : (old new : Held) → Stays old new → old.ahead ≡ [] → new.ahead ≡ []
 none_ahead old new stays none = let at : length old.ahead ≡ 0 = ap length none in nothing_more new.ahead new.place (reach old) stays.within (omega (arith, at, stays.on))
+
+-- if the least that may be announced was taken
+pub keeps_least : (announced : Bounds → Source → ℕ) (least : ℕ) (old new : Held) → ((bounds : Bounds) (s : Source) → least ≤ announced bounds s) → TakesTo (old.place + least) old new → KeepsTo announced old new
+keeps_least announced least old new few within =
+    let now = some_rest old in
+    record { octets = now.rest; there = now.there; within = λ more. within (omega (arith, more, few old.bounds (source_at old.place now.rest))) }
+
+-- a value was read, and then octets were taken
+pub keeps_then : {A : Type 0} (announced after : Bounds → Source → ℕ) (size : ℕ) (reader : Reader A) (v : A) (old mid new : Held) → HasRead reader v old mid → Stays old mid → mid.place ≡ old.place + size
+    → ((bounds : Bounds) (s t : Source) → reader bounds s ≡ Ok (v, t) → announced bounds s ≡ size + after bounds t) → KeepsTo after mid new → KeepsTo announced old new
+keeps_then announced after size reader v old mid new read stays place is keeps =
+    let a = read.from keeps.octets keeps.there in
+    let same : announced old.bounds (source_at old.place a.0) ≡ size + after old.bounds (source_at mid.place keeps.octets) = is old.bounds (source_at old.place a.0) (source_at mid.place keeps.octets) a.2 in
+    let whose : after mid.bounds (source_at mid.place keeps.octets) ≡ after old.bounds (source_at mid.place keeps.octets) = ap (λ (b : Bounds). after b (source_at mid.place keeps.octets)) read.same_bounds in
+    record {
+      octets = a.0;
+      there = a.1;
+      within = λ more.
+          let first : reach new ≤ reach mid = keeps.within (omega (arith, place, same, whose, more)) in
+          let second : reach mid ≤ reach old = stays.within (omega (arith, place, same, more, first)) in
+          omega (arith, first, second);
+    }
 
 -- fields that were looked at first stay, if they have as many octets at least
 pub looked : (size : ℕ) (old mid new : Held) → LooksTo size old mid → Stays mid new → mid.place + size ≤ new.place → Stays old new
@@ -122,7 +194,7 @@ looked size old mid new looks stays far = record {
 pub item_stays : (size : ℕ) (old mid some new : Held) → 0 < size → LooksTo size old mid → LooksTo 1 mid some → Stays some new → some.place + size ≤ new.place → Stays old new
 item_stays size old mid some new one looks more stays far = looked size old mid new looks (looked 1 mid some new more stays (omega (arith, far, one))) (omega (arith, more.same, far))
 
--- no item, where none is left
+-- no item, if none is left
 pub end_stays : (size : ℕ) (none : Bool) (old mid new : Held) → none ≡ true → LooksTo size old mid → LooksTo 1 mid new → HasRead ended_at none mid new → Stays old new
 end_stays size none old mid new is looks more read =
     let nothing : length new.ahead ≡ 0 = ap length (none_left mid new (subst (λ (b : Bool). HasRead ended_at b mid new) is read)) in

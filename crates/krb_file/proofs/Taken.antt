@@ -7,8 +7,8 @@ use lib.Dec.{T}
 use borrow.Rule.Slice.PartMut.{put_mid}
 use Rattle.std.specs.Io.KnownBytes.{Consumes, IsAtEnd}
 use Rattle.krb_file.specs.Fields.{Source, Fault, Bounds, passes, onward, gives, is_empty, next_octets_at, octets_at, are_zero}
-use Rattle.krb_file.specs.FieldReaders.{Held, GoesOn, MayHave, HasRead, HasMet, FailsBy, ended_at, skipped_at}
-use Rattle.krb_file.specs.inner.Takes.{Takes, left_of, FallsShort, FailsTaking, AreNear}
+use Rattle.krb_file.specs.FieldReaders.{Held, GoesOn, MayHave, left_of, HasRead, HasMet, FailsBy, ended_at, skipped_at}
+use Rattle.krb_file.specs.inner.Takes.{Takes, FallsShort, FailsTaking, AreNear}
 use Rattle.krb_file.specs.declared.fault.FileFault.{FileFault}
 use Rattle.krb_file.specs.declared.fault.FileFault.TheVariants as faults
 use Rattle.krb_file.specs.declared.fault.FileWhy.{FileWhy}

@@ -1,10 +1,10 @@
 -- Readers of fields: what one still has, and what its calls give, whatever the octets come from.
-use Rattle.std.specs.Prelude.{ℕ, ◌+◌, ◌<◌, ◌≤◌, ◌≡◌, Bool, List, [], ◌++◌, length, Option, Some, None, Result, Ok, Err}
+use Rattle.std.specs.Prelude.{ℕ, ◌+◌, ◌<◌, ◌≤◌, ◌≡◌, Bool, true, false, List, [], ◌++◌, length, Option, Some, None, Result, Ok, Err}
 use Rattle.krb_file.specs.Fields.{Source, Fault, Bounds, ended, Reader, ◌>>=◌, gives, next_octets_at, is_empty, are_zero}
 use Rattle.krb_file.specs.declared.fault.FileFault.{FileFault}
 use Rattle.krb_file.specs.declared.fault.FileFault.TheVariants as faults
 
--- Octets that were taken and are not read yet; the octets after these, where they are known; the place of the next octet; and what bounds the next field.
+-- Octets that were taken and are not read yet; the octets after these, if they are known; the place of the next octet; and what bounds the next field.
 pub record Held : Type 0 where
   pub ahead : List ℕ
   pub left : Option (List ℕ)
@@ -64,15 +64,36 @@ skipped_at size = do
 abbrev pub reach : Held → ℕ
 reach held = held.place + length held.ahead
 
--- Fields were read, and nothing was taken after them: what is ahead now was ahead before.
+-- Nothing was taken after so many octets of the file: what is ahead of these now was ahead before.
+abbrev pub TakesTo : ℕ → Held → Held → Type 0
+TakesTo most old new = most < reach new → reach new ≤ reach old
+
+-- Octets were read, at a fault of a field maybe not all, and nothing was taken after them.
 pub record Stays (old new : Held) : Type 0 where
   pub on : old.place ≤ new.place
-  pub within : new.place < reach new → reach new ≤ reach old
+  pub within : TakesTo new.place old new
 
--- Nothing was read, and nothing taken after the next `size` octets: what is ahead of these now was ahead before.
+-- So fields were read, or one of them met a fault: and nothing was taken after the end of what they stand in.
+pub record Keeps (old new : Held) : Type 0 where
+  pub stays : Stays old new
+  pub same_bounds : new.bounds ≡ old.bounds
+  pub inside : (end : ℕ) → old.bounds.end ≡ Some end → TakesTo end old new
+
+-- Nothing was read, and nothing taken after the next `size` octets.
 pub record LooksTo (size : ℕ) (old new : Held) : Type 0 where
   pub same : new.place ≡ old.place
-  pub within : new.place + size < reach new → reach new ≤ reach old
+  pub within : TakesTo (new.place + size) old new
+
+-- Of octets that were there, nothing was taken after as many as they announce.
+pub record KeepsTo (announced : Bounds → Source → ℕ) (old new : Held) : Type 0 where
+  pub octets : List ℕ
+  pub there : MayHave old octets
+  pub within : TakesTo (old.place + announced old.bounds (source_at old.place octets)) old new
+
+-- what a device has left: nothing, after it told its end
+abbrev pub left_of : Bool → Option (List ℕ) → Option (List ℕ)
+left_of true left = Some []
+left_of false left = left
 
 -- ---- Slices
 

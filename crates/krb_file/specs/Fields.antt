@@ -183,7 +183,7 @@ abbrev pub Gives : {A B : Type 0} → (A → B) → Result A FileFault → Resul
 Gives view (Ok x) read = read ≡ Ok (view x)
 Gives view (Err e) read = Fails e read
 
--- What the reader of a whole file answers where it gives none: a refusal in the file or at its end, which no limit brings, or out of memory.
+-- What the reader of a whole file answers if it gives none: a refusal in the file or at its end, which no limit brings, or out of memory.
 abbrev pub IsFaultIn : List ℕ → FileFault → Type 0
 IsFaultIn file (faults.Refused place reason) = (place ≤ length file) × (reason ≡ why.TooLong → ⊥)
 IsFaultIn file faults.Read = ⊥

@@ -13,6 +13,6 @@ is_long32 xs = nat_lt 4294967295 (length xs)
 abbrev pub greatest : ℕ
 greatest = 2 ^ 40
 
--- a number of octets, held at one more than that where there are more
+-- a number of octets, held at one more than that if there are more
 abbrev pub held : ℕ → ℕ
 held size = min size (greatest + 1)

@@ -45,7 +45,7 @@ impl Ahead {
         }
     }
 
-    /// How many there are.
+    /// Returns how many there are.
     #[inline(always)]
     pub(crate) fn count(&self) -> usize
         ensures count { result ≡ length self.now }
@@ -81,7 +81,7 @@ impl Ahead {
         Ok(())
     }
 
-    /// Takes octets of a reader where none is left: as many as come at once, at most `most`. There
+    /// Takes octets of a reader if none is left: as many as come at once, at most `most`. There
     /// are none at its end.
     pub(crate) fn refill<R: Read>(
         &mut self,

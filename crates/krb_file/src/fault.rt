@@ -28,7 +28,7 @@ pub enum FileWhy {
 #[derive(Clone, Copy, PartialEq, Eq, Debug)]
 pub enum FileFault {
     /// The file is refused: the first octet of the first field at fault, counted from 0, and what
-    /// is wrong with that field. The place is in the file or, where octets are missing, at its end.
+    /// is wrong with that field. The place is in the file or, if octets are missing, at its end.
     Refused {
         /// The first octet of the field.
         place: u64,
@@ -57,7 +57,7 @@ impl<T: Drop> From<AllocFailed<T>> for FileFault {
     }
 }
 
-/// The number of a reason, from 1 (`Magic`) to 5 (`TooLong`), in the order of the enum.
+/// Returns the number of a reason, from 1 (`Magic`) to 5 (`TooLong`), in the order of the enum.
 pub fn file_why_number(why: FileWhy) -> u8
     ensures { result ≡ file_reason_number why }
 {
@@ -70,7 +70,7 @@ pub fn file_why_number(why: FileWhy) -> u8
     }
 }
 
-/// The name of a reason, as the enum spells it.
+/// Returns the name of a reason, as the enum spells it.
 pub fn file_why_text(why: FileWhy) -> &'static str
     ensures { result.now ≡ file_reason_name why }
 {

@@ -24,7 +24,7 @@ impl Model for FieldLimit {
 ghost use Rattle.std.specs.Prelude.{◌≡◌, ◌<◌, ◌^◌, ◌↔◌, IsSome, IfSome};
 
 impl FieldLimit {
-    /// The limit of `octets` octets, and `None` of 0 and of more than 2147483647.
+    /// Returns the limit of `octets` octets, and `None` of 0 and of more than 2147483647.
     pub fn new(octets: u32) -> Option<FieldLimit>
         ensures range { IsSome result ↔ ((0 < octets) × (octets < 2 ^ 31)) }
         ensures value { IfSome result (λ limit. limit ≡ octets) }
@@ -36,7 +36,7 @@ impl FieldLimit {
         }
     }
 
-    /// The octets.
+    /// Returns the octets.
     pub fn get(self) -> u32
         ensures value { result ≡ self }
         ensures some { 0 < result }

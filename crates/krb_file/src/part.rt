@@ -29,8 +29,8 @@ pub trait Part {
     /// Its numbers and lengths are in their ranges.
     ghost Fits: { Self → Type 0 };
 
-    /// The number of octets, or 2^40 + 1 where there are more than 2^40; `None` where a number cannot
-    /// say how long a part is.
+    /// Returns the number of octets, or 2^40 + 1 if there are more than 2^40; `None` if a number
+    /// cannot say how long a part is.
     fn size(&self) -> Option<u64>
         ensures none { IsNone result ↔ (is_long self.now ≡ true) }
         ensures some { IfSome result (λ size. size ≡ held (length (octets self.now))) }
@@ -43,7 +43,7 @@ pub trait Part {
         ensures { Puts (octets self.now) out.old out.new };
 }
 
-/// Two numbers of octets together, held at 2^40 + 1.
+/// Returns two numbers of octets together, held at 2^40 + 1.
 fn add_held(size: u64, more: u64) -> u64
     ensures { result ≡ held (size + more) }
 {
@@ -322,7 +322,7 @@ trait Spelled {
     /// Its numbers and lengths are in their ranges.
     ghost Fits: { Self.Value → Type 0 };
 
-    /// The number of its octets, as [`size`](Part::size) of a part.
+    /// Returns the number of its octets, as [`size`](Part::size) of a part.
     fn size(value: &Self::Value) -> Option<u64>
         ensures none { IsNone result ↔ (is_long value.now ≡ true) }
         ensures some { IfSome result (λ size. size ≡ held (length (octets value.now))) }
@@ -459,7 +459,8 @@ impl<P: Part> Part for Measured<P> {
     }
 }
 
-/// The number of octets of items, held at 2^40 + 1; `None` where a number cannot say how long one is.
+/// Returns the number of octets of items, held at 2^40 + 1; `None` if a number cannot say how long
+/// one is.
 fn size_of_each<K: Spelled>(items: &[K::Value]) -> Option<u64>
     ensures none { IsNone result ↔ (list_any K.is_long items.now ≡ true) }
     ensures some { IfSome result (λ size. size ≡ held (length (flat_map K.octets items.now))) }

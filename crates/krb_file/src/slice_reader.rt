@@ -26,12 +26,12 @@ impl<'a> Model for SliceReader<'a> {
     ghost invariant = { λ reader. reader.place + length reader.octets.now < 2 ^ 63 };
 }
 
-ghost use Rattle.std.specs.Prelude.{◌≡◌, None, length, IfOk, OnOk};
+ghost use Rattle.std.specs.Prelude.{◌≡◌, ◌+◌, None, length, IfOk};
 ghost use Rattle.krb_file.specs.Fields.{next_octets_at, are_zero};
-ghost use Rattle.krb_file.specs.FieldReaders.{Follows, Stays, of_slice};
+ghost use Rattle.krb_file.specs.FieldReaders.{Follows, Keeps, TakesTo, of_slice};
 
 impl<'a> SliceReader<'a> {
-    /// A whole file.
+    /// Creates a reader of a whole file.
     pub fn new(octets: &'a [u8]) -> SliceReader<'a>
         ensures { result ≡ record { place = 0; end = None; octets = octets.now } }
     {
@@ -42,11 +42,12 @@ impl<'a> SliceReader<'a> {
         }
     }
 
-    /// The next octets, borrowed.
+    /// Takes the next octets, borrowed.
     fn take(&mut self, size: u64) -> Result<&'a [u8], FileFault>
         ensures size { IfOk result (λ taken. length taken.now ≡ size) }
         ensures read { Follows (λ taken. taken.now) result (next_octets_at None size) ⊥ (of_slice self.old) (of_slice self.new) }
-        ensures stays { OnOk result (Stays (of_slice self.old) (of_slice self.new)) }
+        ensures keeps { Keeps (of_slice self.old) (of_slice self.new) }
+        ensures within { TakesTo (self.old.place + size) (of_slice self.old) (of_slice self.new) }
     {
         let place = self.place;
         if self
@@ -124,7 +125,7 @@ impl<'a> FieldReader for SliceReader<'a> {
     }
 }
 
-/// Whether all of the octets are 00.
+/// Returns whether all of the octets are 00.
 pub(crate) fn are_zero(octets: &[u8]) -> bool
     ensures { result ≡ are_zero octets.now }
 {

@@ -20,8 +20,8 @@ const LEAST_PIECE: u64 = 4096;
 /// How many octets a reader is asked for at once at most.
 const GREATEST_PIECE: u64 = 1 << 22;
 
-/// A reader of the fields of what a [`Read`] gives. It asks for octets where a field of them is
-/// read, where it is asked whether any is left, and where it is told how many belong to what is
+/// A reader of the fields of what a [`Read`] gives. It asks for octets when a field of them is
+/// read, when it is asked whether any is left, and when it is told how many belong to what is
 /// read, and for none after these. A reader is asked at most 2^40 times, and not after it told its
 /// end.
 #[derive(Drop)]
@@ -43,8 +43,8 @@ pub struct StreamReader<R: Read> {
 
 impl<R: Read> Model for StreamReader<R> {
     ghost use Rattle.std.specs.Prelude.{◌+◌, ◌*◌, ◌^◌, ◌≤◌, Some, length};
-    ghost use Rattle.krb_file.specs.FieldReaders.{Held};
-    ghost use Rattle.krb_file.specs.inner.Takes.{left_of, AreNear};
+    ghost use Rattle.krb_file.specs.FieldReaders.{Held, left_of};
+    ghost use Rattle.krb_file.specs.inner.Takes.{AreNear};
 
     ghost Value = { Held };
 
@@ -56,8 +56,8 @@ impl<R: Read> Model for StreamReader<R> {
 ghost use Rattle.std.specs.Prelude.{◌≡◌, ◌+◌, ◌^◌, ◌<◌, ◌≤◌, false, [], length, take, None, Some, IfOk, IfErr, OnOk};
 ghost use Rattle.std.specs.Io.KnownBytes.{Consumes, IsAtEnd};
 ghost use Rattle.krb_file.specs.Fields.{passes, next_octets_at, octets_at};
-ghost use Rattle.krb_file.specs.FieldReaders.{MayHave, FailsBy, Follows, Stays, LooksTo};
-ghost use Rattle.krb_file.specs.inner.Takes.{Takes, FailsTaking, AreNear};
+ghost use Rattle.krb_file.specs.FieldReaders.{MayHave, FailsBy, Follows, Stays, Keeps, TakesTo, LooksTo};
+ghost use Rattle.krb_file.specs.inner.Takes.{Takes, Within, FailsTaking, AreNear};
 
 /// Asks a reader for octets, and answers how many came: 0 at its end.
 pub(crate) fn ask<R: Read>(
@@ -86,7 +86,8 @@ pub(crate) fn ask<R: Read>(
 }
 
 impl<R: Read> StreamReader<R> {
-    /// What a reader gives, from place 0 on, where no field of octets may be longer than a limit.
+    /// Creates a reader of the fields of what a [`Read`] gives, from place 0 on. No field of octets
+    /// may be longer than the limit.
     pub fn new(reader: R, limit: FieldLimit) -> StreamReader<R>
         ensures { result ≡ record { ahead = []; left = R.remaining reader; place = 0; bounds = record { end = None; limit = Some limit } } }
     {
@@ -110,12 +111,12 @@ impl<R: Read> StreamReader<R> {
         value.give_back(&mut self.spare);
     }
 
-    /// Takes octets that are still to be read, unless some are ahead: as many as come at once, at most
-    /// `most`.
+    /// Takes octets that are still to be read, unless some are ahead: as many as come at once, at
+    /// most `most`.
     fn see(&mut self, most: u64) -> Result<(), FileFault>
         requires { 0 < most }
         ensures same { OnOk result (Takes self.old self.new []) }
-        ensures looks { OnOk result (LooksTo most self.old self.new) }
+        ensures looks { LooksTo most self.old self.new }
         ensures end { OnOk result (self.new.ahead ≡ [] → self.new.left ≡ Some []) }
         ensures fault { IfErr result (λ e. e ≡ FileFault.Read) }
     {
@@ -129,13 +130,14 @@ impl<R: Read> StreamReader<R> {
         Ok(())
     }
 
-    /// Takes octets, as many as come at once, and answers how many: 0 where none is left.
+    /// Takes octets, as many as come at once, and answers how many: 0 if none is left.
     fn take(&mut self, octets: &mut [u8]) -> Result<usize, FileFault>
         requires room { 0 < length octets.old }
         requires few { length octets.old ≤ 2 ^ 22 }
         ensures count { IfOk result (λ count. count ≤ length octets.new) }
         ensures taken { IfOk result (λ count. Takes self.old self.new (take count octets.new)) }
-        ensures stays { OnOk result (Stays self.old self.new) }
+        ensures stays { Stays self.old self.new }
+        ensures within { Within (length octets.old) self.old self.new }
         ensures end { IfOk result (λ count. count ≡ 0 → MayHave self.new []) }
         ensures fault { IfErr result (λ e. e ≡ FileFault.Read) }
     {
@@ -165,13 +167,14 @@ impl<R: Read> StreamReader<R> {
         self.place += octets.len() as u64;
     }
 
-    /// Takes octets till there is no more room. Where there are too few left, the field that begins
+    /// Takes octets till there is no more room. If there are too few left, the field that begins
     /// at `start` is Truncated.
     #[inline(never)]
     fn take_all(&mut self, start: u64, octets: &mut [u8]) -> Result<(), FileFault>
         requires { length octets.old ≤ 2 ^ 22 }
         ensures taken { OnOk result (Takes self.old self.new octets.new) }
-        ensures stays { OnOk result (Stays self.old self.new) }
+        ensures stays { Stays self.old self.new }
+        ensures within { Within (length octets.old) self.old self.new }
         ensures fault { IfErr result (λ e. FailsTaking e start self.old self.new (length octets.old)) }
     {
         let mut filled = 0;
@@ -188,12 +191,13 @@ impl<R: Read> StreamReader<R> {
         Ok(())
     }
 
-    /// Takes `room` octets, as [`take_all`](StreamReader::take_all) does, which take the place of those
-    /// in `piece`.
+    /// Takes `room` octets, as [`take_all`](StreamReader::take_all) does, which take the place of
+    /// those in `piece`.
     fn take_piece(&mut self, start: u64, room: usize, piece: &mut Vec<u8>) -> Result<(), FileFault>
         requires { room ≤ 2 ^ 22 }
         ensures taken { OnOk result (Takes self.old self.new piece.new.items) }
-        ensures stays { OnOk result (Stays self.old self.new) }
+        ensures stays { Stays self.old self.new }
+        ensures within { Within room self.old self.new }
         ensures room { OnOk result (length piece.new.items ≡ room) }
         ensures fault { IfErr result (λ e. FailsTaking e start self.old self.new room) }
     {
@@ -213,7 +217,8 @@ impl<R: Read> StreamReader<R> {
         requires inside { passes (self.old.place + size) self.old.bounds.end ≡ false }
         requires under { passes size self.old.bounds.limit ≡ false }
         ensures read { Follows (λ _. octets.new.items) result (octets_at size) (Unit {0}) self.old self.new }
-        ensures stays { OnOk result (Stays self.old self.new) }
+        ensures stays { Stays self.old self.new }
+        ensures within { Within size self.old self.new }
     {
         let place = self.place;
         self.take_piece(place, size.min(LEAST_PIECE) as usize, octets)?;
@@ -227,14 +232,14 @@ impl<R: Read> StreamReader<R> {
         Ok(())
     }
 
-    /// The place of the next octet.
+    /// Returns the place of the next octet.
     fn at(&self) -> u64
         ensures { result ≡ self.now.place }
     {
         self.place
     }
 
-    /// Whether `size` octets pass the end of the entry or of the header that they stand in.
+    /// Returns whether `size` octets pass the end of the entry or of the header that they stand in.
     fn passes_end(&self, size: u64) -> bool
         ensures { result ≡ passes (self.now.place + size) self.now.bounds.end }
     {
@@ -276,12 +281,13 @@ impl<R: Read> StreamReader<R> {
         self.check(size, Some(most))
     }
 
-    /// The next octets of a field that is no field of octets, whatever is ahead.
+    /// Reads the next octets of a field that is no field of octets, whatever is ahead.
     #[inline(never)]
     fn fill_slowly(&mut self, octets: &mut [u8]) -> Result<(), FileFault>
         requires { length octets.old ≤ 2 ^ 16 }
         ensures read { Follows (λ _. octets.new) result (next_octets_at None (length octets.old)) (Unit {0}) self.old self.new }
-        ensures stays { OnOk result (Stays self.old self.new) }
+        ensures keeps { Keeps self.old self.new }
+        ensures within { TakesTo (self.old.place + length octets.old) self.old self.new }
     {
         let place = self.place;
         self.check(octets.len() as u64, None)?;
@@ -297,7 +303,8 @@ impl<R: Read> StreamReader<R> {
         octets: &mut Vec<u8>,
     ) -> Result<(), FileFault>
         ensures read { Follows (λ _. octets.new.items) result (octets_at size) (Unit {0}) self.old self.new }
-        ensures stays { OnOk result (Stays self.old self.new) }
+        ensures keeps { Keeps self.old self.new }
+        ensures within { TakesTo (self.old.place + size) self.old self.new }
     {
         self.check_octets(size)?;
         self.take_octets(alloc, size, octets)
@@ -383,8 +390,8 @@ impl<R: Read> FieldReader for StreamReader<R> {
     }
 }
 
-/// The least number of octets of a field, at a place, that is not ahead, or passes an end or a limit,
-/// where `ahead` octets are ahead.
+/// Returns the least number of octets of a field, at a place, that is not ahead, or passes an end
+/// or a limit, if `ahead` octets are ahead.
 fn near(ahead: usize, place: u64, end: Option<u64>, limit: FieldLimit) -> usize
     requires { ahead ≤ 512 }
     ensures { AreNear result ahead place end limit }
@@ -398,7 +405,7 @@ fn near(ahead: usize, place: u64, end: Option<u64>, limit: FieldLimit) -> usize
     room as usize + 1
 }
 
-/// Whether a number of octets is above the greatest that there may be, where there is one.
+/// Returns whether a number of octets is above the greatest that there may be, if there is one.
 fn is_longer(size: u64, most: Option<u64>) -> bool
     ensures { result ≡ passes size most }
 {

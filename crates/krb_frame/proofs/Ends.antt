@@ -20,19 +20,19 @@ use Rattle.krb_frame.specs.declared.decoder.Status.TheVariants as status
 same_refused : (place other : ℕ) (reason same : Why) → ends (Refused place reason) ≡ ends (Refused other same) → Refused place reason ≡ Refused other same
 same_refused place other reason same e = ap (λ f. f.end) e
 
-no_within : (n place : ℕ) (reason : Why) → ends (Within n) ≡ ends (Refused place reason) → ⊥
+pub no_within : (n place : ℕ) (reason : Why) → ends (Within n) ≡ ends (Refused place reason) → ⊥
 no_within n place reason e = absurd (no (ap (λ f. f.end) e))
   where
     no : Within n ≡ Refused place reason → ⊥
     no e = cc
 
-no_boundary : (place : ℕ) (reason : Why) → ends Boundary ≡ ends (Refused place reason) → ⊥
+pub no_boundary : (place : ℕ) (reason : Why) → ends Boundary ≡ ends (Refused place reason) → ⊥
 no_boundary place reason e = absurd (no (ap (λ f. f.end) e))
   where
     no : Boundary ≡ Refused place reason → ⊥
     no e = cc
 
-no_first : (contents : List ℕ) (f : Frames) (place : ℕ) (reason : Why) → with_first contents f ≡ ends (Refused place reason) → ⊥
+pub no_first : (contents : List ℕ) (f : Frames) (place : ℕ) (reason : Why) → with_first contents f ≡ ends (Refused place reason) → ⊥
 no_first contents f place reason e = absurd (no (ap (λ g. g.contents) e))
   where
     no : contents ∷ f.contents ≡ [] → ⊥

@@ -37,13 +37,13 @@ pub record Announces (announced : List ℕ) (size : ℕ) : Type 0 where
   pub four : length announced ≡ 4
   pub is : number announced ≡ size
 
-number_of : (announced contents : List ℕ) (size : ℕ) → Announces announced size → number (take 4 (announced ++ contents)) ≡ size
+pub number_of : (announced contents : List ℕ) (size : ℕ) → Announces announced size → number (take 4 (announced ++ contents)) ≡ size
 number_of announced contents size a = ap number (take_at announced contents 4 a.four) ∙ a.is
 
-room : (announced contents : List ℕ) (size : ℕ) → Announces announced size → 4 ≤ length (announced ++ contents)
+pub room : (announced contents : List ℕ) (size : ℕ) → Announces announced size → 4 ≤ length (announced ++ contents)
 room announced contents size a = omega (arith, a.four, length-append announced contents)
 
-announces : (limit : ℕ) (announced : List ℕ) (size : ℕ) → IsAccepted limit announced size → Announces announced size
+pub announces : (limit : ℕ) (announced : List ℕ) (size : ℕ) → IsAccepted limit announced size → Announces announced size
 announces limit announced size a = record { four = a.four; is = a.is }
 
 -- the frames of the octets that a phase holds
@@ -89,13 +89,13 @@ none_ready (phase.Contents size) contents n = refl
 none_ready phase.Ready contents n = absurd (n refl)
 none_ready (phase.Refused refusal) contents n = refl
 
--- no length is open where nothing came
+-- no length is open if nothing came
 none_open : (profile : Profile) (n : ℕ) → open_count profile n [] ≡ 0
 none_open profile zero = refl
 none_open profile (suc n) = refl
 
 -- ---- by any messages
-module _ (messages : List Term) (profile : Profile) where
+module _ (messages : List Term) where
   pub high : (limit : ℕ) (announced : List ℕ) (size : ℕ) → Announces announced size → 2 ^ 31 ≤ size → HasRefused messages limit announced [] (record { place = 3; why = why.HighBit })
   high limit announced size a h = record {
     four = a.four;
@@ -123,6 +123,7 @@ module _ (messages : List Term) (profile : Profile) where
     short = omega arith;
   }
 
+module _ (messages : List Term) (profile : Profile) where
   -- ---- the frames of what a decoder holds
   may_follow : (limit : ℕ) (announced : List ℕ) (size : ℕ) → IsAccepted limit announced size → MayFollow messages limit size
   may_follow limit announced size a = record { some = a.some; short = a.short; within = a.within }
@@ -159,7 +160,7 @@ module _ (messages : List Term) (profile : Profile) where
           frames-done_more messages limit (announced ++ contents) more (length contents) count (omega (arith, all)) (number_of announced contents (length contents) a) (may_follow limit announced (length contents) h.accepted) (ap (message_outcome messages (length contents)) there ∙ d)
           ∙ ap₂ (λ c r. with_first c (frames messages limit r)) there none
 
-  found-short : (limit : ℕ) (octets : List ℕ) → length octets < 4 → frames messages limit octets ≡ ends (end_after (length octets))
+  pub found-short : (limit : ℕ) (octets : List ℕ) → length octets < 4 → frames messages limit octets ≡ ends (end_after (length octets))
   found-short limit [] h = frames-nil messages limit
   found-short limit (octet ∷ octets) h = frames-short messages limit octet octets h
 

@@ -3,3 +3,7 @@ pub mod Founds
 pub mod Standing
 pub mod Ends
 pub mod Refusals
+pub mod GoingOn
+pub mod Skips
+pub mod Passing
+pub mod Mixed

@@ -267,18 +267,19 @@ module _ (messages : List Term) (profile : Profile) where
       no_contents : (contents : List ℕ) → None ≡ Some contents → ⊥
       no_contents contents n = cc
 
-  pub Clears-frame : (limit looks looked : ℕ) (space made : Room) (announced contents after : List ℕ) → HasFrame messages limit announced contents → after ≡ [] → looked ≡ looks → (limit ≤ space.octets → limit / 2 ≤ space.marks → KeepsRoom space made) → Clears messages (decoding_of profile limit looks space announced contents phase.Ready) (record { profile = profile; limit = limit; octets = after; looks = looked; room = made }) true
-  Clears-frame limit looks looked space made announced contents after h e k ample =
+  pub Clears-frame : (limit looks : ℕ) (space : Room) (announced contents : List ℕ) (new : Decoding) → HasFrame messages limit announced contents → new ≡ record { profile = profile; limit = limit; octets = []; looks = looks; room = new.room } → (IsAmple (decoding_of profile limit looks space announced contents phase.Ready) → IsAmple new) → Clears messages (decoding_of profile limit looks space announced contents phase.Ready) new true
+  Clears-frame limit looks space announced contents new h left ample =
       let d : Decoding = decoding_of profile limit looks space announced contents phase.Ready in
       let there : borrowed messages d ≡ Some contents = borrowed-ready messages profile limit looks space announced contents phase.Ready h refl in
       let first : (more : List ℕ) → frames messages limit ((take 4 announced ++ contents) ++ more) ≡ with_first contents (frames messages limit more) =
       λ more. ap (λ l. frames messages limit (l ++ more)) (four_octets announced contents h.accepted.four) ∙ found-frame messages profile limit announced contents more h in
       record {
         is_ready = sym (ap is_some there);
-        left = rw (there, e, k) refl;
-        ample = λ a. ample-kept d _ refl (ample a.octets a.marks) a;
+        left = rw there left;
+        ample = ample;
         stands = λ stream other cleared s m.
             let same : contents ≡ other = same_contents contents other (sym there ∙ m) in
-            subst (λ o. Stands messages (record { profile = profile; limit = limit; octets = after; looks = looked; room = made }) stream (cleared ++ o ∷ [])) same
-            (rw (e, k) (Stands-cleared limit looks space made (take 4 announced ++ contents) contents first stream cleared s));
+            subst (λ n. Stands messages n stream (cleared ++ other ∷ [])) (sym left)
+            (subst (λ o. Stands messages (record { profile = profile; limit = limit; octets = []; looks = looks; room = new.room }) stream (cleared ++ o ∷ [])) same
+            (Stands-cleared limit looks space new.room (take 4 announced ++ contents) contents first stream cleared s));
       }

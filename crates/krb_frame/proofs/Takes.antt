@@ -27,7 +27,7 @@ pub extended : {A B : Type 0} (r : Result A B) (held all kept : List ℕ) → he
 extended (Ok done) held all kept e f = e
 extended (Err error) held all kept e f = absurd cc
 
--- what is answered where memory was not refused
+-- what is answered if memory was not refused
 pub not_memory : (r : Result Verdict Memory) → IsOk r → status_by r ≢ status.Memory
 not_memory (Ok verdict.Open) some e = cc
 not_memory (Ok verdict.Whole) some e = cc

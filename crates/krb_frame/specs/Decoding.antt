@@ -50,11 +50,11 @@ pub record IsAmple (d : Decoding) : Type 0 where
   pub octets : d.limit ≤ d.room.octets
   pub marks : d.limit / 2 ≤ d.room.marks
 
--- the frames of these octets: the current one, where it is whole, and the end
+-- the frames of these octets: the current one, if it is whole, and the end
 unfoldable pub found : List Term → Decoding → Frames
 found messages d = frames messages d.limit d.octets
 
--- ready where there is a frame, refused where the end is so, and else more octets are needed
+-- ready if there is a frame, refused if the end is so, and else more octets are needed
 abbrev pub status_at : List (List ℕ) → End → Status
 status_at (contents ∷ others) end = status.Ready
 status_at [] Boundary = status.More
@@ -72,7 +72,7 @@ first_of (contents ∷ others) = Some contents
 abbrev pub borrowed : List Term → Decoding → Option (List ℕ)
 borrowed messages d = first_of (found messages d).contents
 
--- what is left where the frame that is ready is cleared, if one is, and this room is left
+-- what is left if the frame that is ready is cleared, if one is, and this room is left
 abbrev pub after_next : List Term → Decoding → Room → Decoding
 after_next messages d room = if is_some (borrowed messages d) then record d { octets = []; room = room } else d
 

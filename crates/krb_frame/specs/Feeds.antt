@@ -7,7 +7,7 @@ use Rattle.krb_frame.specs.declared.decoder.Fed.{Fed}
 use Rattle.krb_frame.specs.declared.decoder.Status.{Status}
 use Rattle.krb_frame.specs.declared.decoder.Status.TheVariants as status
 
--- what a decoder is answered as: what it stands for, or out of memory where it needs more octets
+-- what a decoder is answered as: what it stands for, or out of memory if it needs more octets
 abbrev pub IsAnswer : List Term → Decoding → Status → Type 0
 IsAnswer messages d answer = (answer ≡ status_of messages d) ⊎ ((answer ≡ status.Memory) × (status_of messages d ≡ status.More))
 
@@ -20,13 +20,13 @@ pub record Feeds (messages : List Term) (old : Decoding) (piece : List ℕ) (new
   -- each octet of the contents that was used was looked at once, and no other
   pub looks : new.looks ≡ old.looks + (length (kept_contents new) - length (kept_contents old))
   pub answer : IsAnswer messages new fed.status
-  -- more octets are asked for only where the whole piece was used
+  -- more octets are asked for only if the whole piece was used
   pub all : fed.status ≡ status.More → fed.used ≡ length piece
   -- what is ready or refused uses none and answers the same again
   pub again : status_of messages old ≢ status.More → (fed.used ≡ 0) × (fed.status ≡ status_of messages old)
   -- the octets of a length take no memory
   pub memory : fed.status ≡ status.Memory → (4 ≤ length new.octets) × (fed.used < length piece)
-  -- nor does anything where there is room for any frame; and that room stays
+  -- nor does anything if there is room for any frame; and that room stays
   pub enough : IsAmple old → fed.status ≢ status.Memory
   pub ample : IsAmple old → IsAmple new
   -- the decoder stands for the stream with the octets that were used

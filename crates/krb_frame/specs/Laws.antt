@@ -1,5 +1,5 @@
 -- What holds of all decoders by any messages, and of all streams. Each is the contract of a function of the module `law`.
-use Rattle.std.specs.Prelude.{ℕ, ◌+◌, ◌≡◌, ◌<◌, ◌↔◌, if◌then◌else◌, List, [], ◌++◌, length, Some, None, is_some, Err}
+use Rattle.std.specs.Prelude.{ℕ, ◌+◌, ◌≡◌, ◌<◌, ◌↔◌, if◌then◌else◌, List, [], ◌++◌, length, map, Some, None, is_some, Err}
 use Rattle.krb_der.specs.Octets.{AreOctets}
 use Rattle.krb_der.specs.declared.profile.Profile.TheVariants.{Lenient}
 use Rattle.krb_der.specs.declared.why.Why.{Why}
@@ -9,18 +9,19 @@ use Rattle.krb_msg.specs.Term.{Term}
 use Rattle.krb_msg.specs.Stream.{Boundary, Within, Refused, ends, with_first, frames}
 use Rattle.krb_frame.specs.Decoding.{Decoding, found, status_of, borrowed, kept_contents, finish_of}
 use Rattle.krb_frame.specs.Feeds.{Feeds}
+use Rattle.krb_frame.specs.GoingOn.{Entry, Contents, last_entry, entries}
 use Rattle.krb_frame.specs.Stands.{EndsWith, after_frames, Stands}
 use Rattle.krb_frame.specs.declared.decoder.Fed.{Fed}
 use Rattle.krb_frame.specs.declared.decoder.Status.TheVariants as status
 
 -- What a decoder has of a stream that it stands for.
 pub record HasOfStream (messages : List Term) (d : Decoding) (stream : List ℕ) (cleared : List (List ℕ)) : Type 0 where
-  -- the frames of the stream are those that were cleared, and one more exactly where one is ready
+  -- the frames of the stream are those that were cleared, and one more exactly if one is ready
   pub found_all : frames messages d.limit stream ≡ after_frames cleared (found messages d)
   pub counted : length (frames messages d.limit stream).contents ≡ length cleared + (if is_some (borrowed messages d) then 1 else 0)
   -- what is ready fills the end of the stream
   pub ready : (contents : List ℕ) → borrowed messages d ≡ Some contents → (found messages d ≡ with_first contents (ends Boundary)) × (kept_contents d ≡ contents) × EndsWith contents stream
-  -- the decoder is refused exactly where the stream is
+  -- the decoder is refused exactly if the stream is
   pub refused : (place : ℕ) (reason : Why) → ((frames messages d.limit stream).end ≡ Refused place reason) ↔ (status_of messages d ≡ status.Refused (record { place = place; why = reason }))
   -- between two frames it holds nothing of a next one, and within one the octets of that one, with which the stream ends
   pub boundary : (frames messages d.limit stream).end ≡ Boundary → borrowed messages d ≡ None → d.octets ≡ []
@@ -57,3 +58,13 @@ FeedIsNotTruncated = (messages : List Term) (old new : Decoding) (piece : List �
 pub record LenientHasNoCharset : Type 0 where
   pub of_feed : (old new : Decoding) (piece : List ℕ) (fed : Fed) (place : ℕ) → AreOctets new.octets → Feeds (messages Lenient) old piece new fed → RefusesFor Charset place fed → ⊥
   pub of_finish : (d : Decoding) (place : ℕ) → AreOctets d.octets → finish_of (messages Lenient) d ≡ Err (record { place = place; why = Charset }) → ⊥
+
+-- Going on changes nothing up to the first refusal.
+pub record GoingOnBegins (messages : List Term) (limit : ℕ) (stream : List ℕ) : Type 0 where
+  -- the whole frames of the stream come first, and then the one that is refused or cut
+  pub first : (rest : List Entry) × (entries messages limit stream ≡ (map Contents (frames messages limit stream).contents ++ last_entry (frames messages limit stream).end) ++ rest)
+  -- after a stream that is not refused nothing comes
+  pub alone : ((place : ℕ) (reason : Why) → (frames messages limit stream).end ≡ Refused place reason → ⊥) → entries messages limit stream ≡ map Contents (frames messages limit stream).contents ++ last_entry (frames messages limit stream).end
+
+abbrev pub GoingOnChangesNothingBefore : Type 0
+GoingOnChangesNothingBefore = (messages : List Term) (limit : ℕ) (stream : List ℕ) → GoingOnBegins messages limit stream

@@ -2,5 +2,8 @@ pub mod Decoding
 pub mod Stands
 pub mod Feeds
 pub mod Frame
+pub mod GoingOn
+pub mod Passes
+pub mod Calls
 pub mod Laws
 pub mod inner

@@ -22,8 +22,8 @@ const CONTENTS_KEPT: usize = 1 << 22;
 const MARKS_KEPT: usize = 1 << 17;
 
 /// Takes octets of the contents of a frame of `size` octets, as many as are missing and come, up to
-/// one that is refused. The scanner looks at each of them once. Where memory is refused none is
-/// taken after those that it has looked at; none is where there is room for the whole frame.
+/// one that is refused. The scanner looks at each of them once. If memory is refused none is
+/// taken after those that it has looked at; none is if there is room for the whole frame.
 pub(crate) fn take_contents(
     contents: &mut Vec<u8>,
     scanner: &mut Scanner,
@@ -59,7 +59,7 @@ pub(crate) fn take_contents(
     }
 }
 
-/// What is answered where a scanner decides so, or was out of memory.
+/// Returns what is answered if a scanner decides so, or was out of memory.
 fn status_after(verdict: Result<Verdict, Memory>) -> Status
     requires { IfOk verdict IsEarly }
     ensures { result ≡ status_by verdict }
@@ -75,7 +75,7 @@ fn status_after(verdict: Result<Verdict, Memory>) -> Status
     }
 }
 
-/// Forgets contents. The room of many is given back, where it is not to stay.
+/// Forgets contents. The room of many is given back, if it is not to stay.
 pub(crate) fn clear_contents(contents: &mut Vec<u8>, alloc: Global, stays: bool)
     ensures none { contents.new.items ≡ [] }
     ensures room { stays ≡ true → vec_capacity contents.old ≤ vec_capacity contents.new }
@@ -87,7 +87,7 @@ pub(crate) fn clear_contents(contents: &mut Vec<u8>, alloc: Global, stays: bool)
     }
 }
 
-/// Gives back the room of many marks, where it is not to stay.
+/// Gives back the room of many marks, if it is not to stay.
 pub(crate) fn clear_marks(scanner: &mut Scanner, alloc: Global, stays: bool)
     ensures looks { ledger_of scanner.new ≡ ledger_of scanner.old }
     ensures profile { profile_of scanner.new ≡ profile_of scanner.old }

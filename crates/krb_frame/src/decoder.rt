@@ -2,7 +2,9 @@
 
 use crate::contents::{clear_contents, clear_marks, take_contents};
 use crate::framed::Framed;
+use crate::length::accepted_size;
 use crate::limit::Limit;
+use crate::pass::{Passed, first_frame};
 use krb_der::{Memory, Profile, Refusal, Why};
 use krb_scan::Scanner;
 use std::alloc::Global;
@@ -75,17 +77,21 @@ impl Model for Decoder {
     ghost invariant = { λ d. IsAt (messages (profile_of d.scanner)) d.limit d.length d.contents.items d.phase × IsScanned (profile_of d.scanner) d.scanner d.length d.contents.items d.phase };
 }
 
-ghost use Rattle.std.specs.Prelude.{◌≡◌, ◌≤◌, ◌<◌, ◌⊎◌, ◌^◌, ◌↔◌, true, [], length, vec_capacity, IfOk};
+ghost use Rattle.std.specs.Prelude.{◌≡◌, ◌≤◌, ◌<◌, ◌⊎◌, ◌^◌, ◌↔◌, true, [], length, vec_capacity, IfOk, IfSome};
+ghost use Rattle.std.specs.Option.{option_map};
 ghost use Rattle.krb_msg.specs.Grammar.{messages};
 ghost use Rattle.krb_scan.specs.Scanner.{ledger_of, profile_of, room_of};
 ghost use Rattle.krb_frame.specs.Decoding.{IsAmple, borrowed, finish_at, finish_of, kept_contents, open_lengths_of, decoding_of, room_for};
 ghost use Rattle.krb_frame.specs.Stands.{Stands};
 ghost use Rattle.krb_frame.specs.Feeds.{Feeds, Clears};
+ghost use Rattle.krb_frame.specs.GoingOn.{GivesUp};
+ghost use Rattle.krb_frame.specs.Passes.{Passes, contents_of, passed};
 ghost use Rattle.krb_frame.specs.inner.Phases.{end_after, phase_of, IsLengthJudged, IsPut, IsScanned, FeedsLength};
 ghost use Rattle.krb_frame.specs.declared.decoder.Phase.TheVariants as phase;
 
 impl Decoder {
-    /// A decoder of a stream of which nothing came yet, by the lenient profile. It takes no memory.
+    /// Creates a decoder of a stream of which nothing came yet, by the lenient profile. It takes no
+    /// memory.
     pub fn new(alloc: Global, limit: Limit) -> Decoder
         ensures nothing { result ≡ record { profile = Profile.Lenient; limit = limit; octets = []; looks = result.looks; room = result.room } }
         ensures stands { Stands (messages Profile.Lenient) result [] [] }
@@ -93,7 +99,7 @@ impl Decoder {
         Decoder::with_profile(alloc, limit, Profile::Lenient)
     }
 
-    /// A decoder of a stream of which nothing came yet, by a profile. It takes no memory.
+    /// Creates a decoder of a stream of which nothing came yet, by a profile. It takes no memory.
     pub fn with_profile(alloc: Global, limit: Limit, profile: Profile) -> Decoder
         ensures nothing { result ≡ record { profile = profile; limit = limit; octets = []; looks = result.looks; room = result.room } }
         ensures stands { Stands (messages profile) result [] [] }
@@ -102,9 +108,9 @@ impl Decoder {
         Decoder::over(alloc, limit, Vec::new(alloc), scanner)
     }
 
-    /// A decoder of a stream of which nothing came yet, by the lenient profile, with room for any
-    /// frame that the limit allows: for as many octets, and for half as many marks, the most that
-    /// they can have. It keeps that room, and `feed` never answers [`Status::Memory`].
+    /// Creates a decoder of a stream of which nothing came yet, by the lenient profile, with room
+    /// for any frame that the limit allows: for as many octets, and for half as many marks, the
+    /// most that they can have. It keeps that room, and `feed` never answers [`Status::Memory`].
     pub fn reserved(alloc: Global, limit: Limit) -> Result<Decoder, Memory>
         ensures nothing { IfOk result (λ d. d ≡ record { profile = Profile.Lenient; limit = limit; octets = []; looks = d.looks; room = d.room }) }
         ensures stands { IfOk result (λ d. Stands (messages Profile.Lenient) d [] []) }
@@ -130,7 +136,8 @@ impl Decoder {
         Ok(Decoder::over(alloc, limit, contents, scanner))
     }
 
-    /// A decoder of a stream of which nothing came yet, with the room of contents and a scanner.
+    /// Creates a decoder of a stream of which nothing came yet, with the room of contents and a
+    /// scanner.
     fn over(alloc: Global, limit: Limit, contents: Vec<u8>, scanner: Scanner) -> Decoder
         requires { contents.items ≡ [] }
         ensures { result ≡ record { profile = profile_of scanner; limit = limit; octets = []; looks = ledger_of scanner; room = room_for (vec_capacity contents) (room_of scanner) } }
@@ -145,7 +152,7 @@ impl Decoder {
         }
     }
 
-    /// Whether there is room for any frame that the limit allows.
+    /// Returns whether there is room for any frame that the limit allows.
     fn is_ample(&self) -> bool
         ensures { (result ≡ true) ↔ IsAmple self.now }
     {
@@ -168,6 +175,24 @@ impl Decoder {
         Fed {
             used: used + fed.used,
             status: fed.status,
+        }
+    }
+
+    /// Passes the frame with which a piece begins, if it is all there and its contents are a message,
+    /// and returns that message as it stands in the piece, and what follows the frame. It is as if the
+    /// frame had been fed and cleared, but nothing is kept of it and the scanner looks at none of its
+    /// octets. Returns `None` of any other piece, if a part of a frame was fed before or one is ready or
+    /// refused, and always by the strict profile: then the piece is to be fed. It takes no memory.
+    pub fn pass<'p>(&self, piece: &'p [u8]) -> Option<Passed<'p>>
+        ensures frame { option_map contents_of result ≡ passed self.now piece.now }
+        ensures passes { IfSome result (Passes (messages self.now.profile) self.now piece.now) }
+    {
+        let Phase::Length(0) = self.phase else {
+            return None;
+        };
+        match self.scanner.profile() {
+            Profile::Lenient => first_frame(self.limit, piece),
+            Profile::Strict => None,
         }
     }
 
@@ -203,7 +228,7 @@ impl Decoder {
         fed
     }
 
-    /// The frame that is ready, borrowed.
+    /// Returns the frame that is ready, borrowed.
     pub fn ready(&self) -> Option<Framed<'_>>
         ensures { result ≡ borrowed (messages self.now.profile) self.now }
     {
@@ -217,7 +242,7 @@ impl Decoder {
     }
 
     /// Clears the frame that is ready, so that the next one may be fed, and answers whether there
-    /// was one. Where there was none nothing changes. The room of a frame that took much is given
+    /// was one. If there was none nothing changes. The room of a frame that took much is given
     /// back, unless there is room for any frame that the limit allows, as in a
     /// [`reserved`](Decoder::reserved) decoder.
     pub fn next(&mut self) -> bool
@@ -226,16 +251,43 @@ impl Decoder {
         let Phase::Ready = self.phase else {
             return false;
         };
+        self.forget();
+        true
+    }
+
+    /// Gives up the frame that is refused, so that the next one may be fed after the octets of this
+    /// one that are still to come, and answers how many these are. If nothing is refused nothing
+    /// changes; nor does it after `HighBit`, since the length of that frame is not known. The room
+    /// is kept or given back as by [`next`](Decoder::next).
+    pub fn skip(&mut self) -> Option<u32>
+        ensures { GivesUp (messages self.old.profile) self.old self.new result }
+    {
+        let Phase::Refused(_) = self.phase else {
+            return None;
+        };
+        let size = u32::from_be_bytes(self.length);
+        if size >= 1 << 31 {
+            return None;
+        }
+        let used = self.contents.len();
+        self.forget();
+        Some(size - used as u32)
+    }
+
+    /// Forgets the octets of the current frame.
+    fn forget(&mut self)
+        ensures left { self.new ≡ record { profile = self.old.profile; limit = self.old.limit; octets = []; looks = self.old.looks; room = self.new.room } }
+        ensures ample { IsAmple self.old → IsAmple self.new }
+    {
         let stays = self.is_ample();
         clear_contents(&mut self.contents, self.alloc, stays);
         clear_marks(&mut self.scanner, self.alloc, stays);
         self.phase = Phase::Length(0);
-        true
     }
 
-    /// What is refused of a stream that ends here: nothing between two frames, or where one is
-    /// ready; what was refused; and else `Truncated`, at the number of octets of the frame that
-    /// are there, those of its length with them.
+    /// Returns what is refused of a stream that ends here: nothing between two frames, or if one is
+    /// ready; what was refused; and else `Truncated`, at the number of octets of the frame that are
+    /// there, those of its length with them.
     pub fn finish(&self) -> Result<(), Refusal>
         ensures { result ≡ finish_of (messages self.now.profile) self.now }
     {
@@ -247,7 +299,8 @@ impl Decoder {
         }
     }
 
-    /// The number of octets of the current frame that were used, those of its length with them.
+    /// Returns the number of octets of the current frame that were used, those of its length with
+    /// them.
     pub fn looked(&self) -> u32
         ensures { result ≡ length self.now.octets }
     {
@@ -257,8 +310,8 @@ impl Decoder {
         }
     }
 
-    /// The number of lengths in the current frame's message that are whole and whose contents are
-    /// not complete (X.690, 8.1): how deep the message is open.
+    /// Returns the number of lengths in the current frame's message that are whole and whose
+    /// contents are not complete (X.690, 8.1): how deep the message is open.
     pub fn open_lengths(&self) -> usize
         ensures count { result ≡ open_lengths_of self.now }
         ensures few { result ≤ 13 }
@@ -270,7 +323,8 @@ impl Decoder {
         }
     }
 
-    /// The number of octets of the current frame's message that are kept, at most the limit.
+    /// Returns the number of octets of the current frame's message that are kept, at most the
+    /// limit.
     pub fn kept(&self) -> u32
         ensures value { result ≡ length (kept_contents self.now) }
         ensures few { result ≤ self.now.limit }
@@ -279,14 +333,14 @@ impl Decoder {
     }
 }
 
-/// The answer of a feed that uses nothing.
+/// Returns the answer of a feed that uses nothing.
 fn answer(status: Status) -> Fed
     ensures { result ≡ record { used = 0; status = status } }
 {
     Fed { used: 0, status }
 }
 
-/// What is refused of a stream that ends after `seen` octets of a frame.
+/// Returns what is refused of a stream that ends after `seen` octets of a frame.
 fn ended(seen: usize) -> Result<(), Refusal>
     requires { seen < 2 ^ 32 }
     ensures { result ≡ finish_at (end_after seen) }
@@ -300,7 +354,7 @@ fn ended(seen: usize) -> Result<(), Refusal>
     })
 }
 
-/// The phase after contents of a frame of `size` octets were taken.
+/// Returns the phase after contents of a frame of `size` octets were taken.
 fn phase_after(size: u32, status: Status) -> Phase
     ensures { result ≡ phase_of size status }
 {
@@ -329,7 +383,8 @@ fn put_octets(length: &mut [u8; LENGTH_OCTETS], present: usize, piece: &[u8]) ->
     count
 }
 
-/// What the four octets of a length come to. Where contents follow, the scanner is cleared for them.
+/// Returns what the four octets of a length come to. If contents follow, the scanner is cleared for
+/// them.
 fn judge_length(scanner: &mut Scanner, limit: Limit, announced: [u8; LENGTH_OCTETS]) -> Phase
     requires { length announced ≡ 4 }
     ensures judged { IsLengthJudged (messages (profile_of scanner.old)) limit announced result }
@@ -338,22 +393,11 @@ fn judge_length(scanner: &mut Scanner, limit: Limit, announced: [u8; LENGTH_OCTE
     ensures looks { ledger_of scanner.new ≡ ledger_of scanner.old }
     ensures room { room_of scanner.old ≤ room_of scanner.new }
 {
-    let size = u32::from_be_bytes(announced);
-    if size >= 1 << 31 {
-        refused_length(Why::HighBit)
-    } else if size > limit.get() {
-        refused_length(Why::TooLong)
-    } else if size == 0 {
-        refused_length(Why::Empty)
-    } else {
-        scanner.clear(size);
-        Phase::Contents(size)
+    match accepted_size(limit, announced) {
+        Ok(size) => {
+            scanner.clear(size);
+            Phase::Contents(size)
+        }
+        Err(why) => Phase::Refused(Refusal { place: 3, why }),
     }
-}
-
-/// A length that is refused, on its fourth octet.
-fn refused_length(why: Why) -> Phase
-    ensures { result ≡ phase.Refused (record { place = 3; why = why }) }
-{
-    Phase::Refused(Refusal { place: 3, why })
 }

@@ -1,7 +1,7 @@
 //! A frame that is ready, borrowed from its decoder.
 
 use krb_der::{Memory, Profile, Room};
-use krb_msg::{Kind, Message, whole_kind};
+use krb_msg::{Kind, Message, MessageView, view_message, whole_kind};
 use krb_scan::{Mark, build, build_in, realm};
 use std::alloc::Global;
 use std::marker::Model;
@@ -29,11 +29,12 @@ impl<'a> Model for Framed<'a> {
 ghost use Rattle.std.specs.Prelude.{◌≡◌, ◌<◌, ◌^◌, IfOk, length};
 ghost use Rattle.std.specs.Option.{option_map};
 ghost use Rattle.krb_msg.specs.Realm.{AreOfRealm};
+ghost use Rattle.krb_msg.specs.Seen.{IsMessageView};
 ghost use Rattle.krb_msg.specs.Views.{AreOfKind, message_der};
 ghost use Rattle.krb_scan.specs.At.{AreWhole};
 
 impl<'a> Framed<'a> {
-    /// A frame of the octets of one message, with its marks.
+    /// Creates a frame of the octets of one message, with its marks.
     pub(crate) fn new(octets: &'a [u8], marks: &'a [Mark]) -> Framed<'a>
         requires short { length octets.now < 2 ^ 31 }
         requires whole { AreWhole marks.now octets.now }
@@ -42,38 +43,48 @@ impl<'a> Framed<'a> {
         Framed { octets, marks }
     }
 
-    /// The octets of the message, those of the frame's length not with them.
+    /// Returns the octets of the message, those of the frame's length not with them.
     pub fn octets(&self) -> &[u8]
         ensures { result.now ≡ self.now }
     {
         self.octets
     }
 
-    /// The kind of the message. It takes no memory.
+    /// Returns the kind of the message. It takes no memory.
     pub fn kind(&self) -> Kind
         ensures { AreOfKind Profile.Lenient self.now result }
     {
         whole_kind(self.octets)
     }
 
-    /// The realm of the message, borrowed: of an AS-REQ or a TGS-REQ the realm that its body names,
-    /// of an AS-REP or a TGS-REP the client's, of an AP-REQ the ticket's, of a KRB-ERROR the
-    /// server's. The other messages name none. It takes no memory.
+    /// Returns a view of the message, where it stands. It takes no memory.
+    pub fn view(&self) -> MessageView<'_>
+        ensures { IsMessageView self.now result }
+    {
+        let Some(view) = view_message(self.octets) else {
+            unreachable!()
+        };
+        view
+    }
+
+    /// Returns the realm of the message, borrowed: of an AS-REQ or a TGS-REQ the realm that its
+    /// body names, of an AS-REP or a TGS-REP the client's, of an AP-REQ the ticket's, of a
+    /// KRB-ERROR the server's. The other messages name none. It takes no memory.
     pub fn realm(&self) -> Option<&[u8]>
         ensures { AreOfRealm Profile.Lenient self.now (option_map (λ realm. realm.now) result) }
     {
         realm(self.marks, self.octets)
     }
 
-    /// The message, by the marks of its octets, which are not judged again.
+    /// Returns the message, by the marks of its octets, which are not judged again.
     pub fn message(&self, alloc: Global) -> Result<Message, Memory>
         ensures { IfOk result (λ m. message_der m ≡ self.now) }
     {
         build(alloc, self.marks, self.octets)
     }
 
-    /// The message that [`message`](Framed::message) gives. Its strings of octets take room that
-    /// others left where there is some.
+    /// Returns the message that [`message`](Framed::message) gives. Its strings of octets take room
+    /// that others left if there is some.
     pub fn message_in(&self, alloc: Global, room: &mut Room) -> Result<Message, Memory>
         ensures { IfOk result (λ m. message_der m ≡ self.now) }
     {

@@ -10,9 +10,9 @@ use crate::limit::Limit;
 use krb_msg::{EncodeFault, Message, put, size};
 use std::alloc::Global;
 
-/// A message as a frame (RFC 4120, 7.2.2): the number of its DER octets in four octets, the highest
-/// first, and these. `TooLong`, where they are more than the limit, is decided first; then memory
-/// is taken once, for just as many octets as that, and no more.
+/// Returns a message as a frame (RFC 4120, 7.2.2): the number of its DER octets in four octets, the
+/// highest first, and these. `TooLong`, if they are more than the limit, is decided first; then
+/// memory is taken once, for just as many octets as that, and no more.
 pub fn frame(alloc: Global, message: &Message, limit: Limit) -> Result<Vec<u8>, EncodeFault>
     ensures octets { IfOk result (λ octets. octets.items ≡ framed (message_der message.now)) }
     ensures too_long { IsErrOf result fault.TooLong ↔ (limit < length (message_der message.now)) }
@@ -26,7 +26,7 @@ pub fn frame(alloc: Global, message: &Message, limit: Limit) -> Result<Vec<u8>, 
     Ok(octets)
 }
 
-/// The number of DER octets of a message, and `None` where they are more than the limit.
+/// Returns the number of DER octets of a message, and `None` if they are more than the limit.
 fn size_within(message: &Message, limit: Limit) -> Option<u32>
     ensures value { IfSome result (λ size. size ≡ length (message_der message.now)) }
     ensures few { IfSome result (λ size. size < 2 ^ 31) }

@@ -23,10 +23,10 @@ impl Model for Limit {
 ghost use Rattle.std.specs.Prelude.{◌≡◌, ◌<◌, ◌^◌, ◌↔◌, IsSome, IfSome};
 
 impl Limit {
-    /// What the program uses where nothing else is said: 16777216.
+    /// What the program uses if nothing else is said: 16777216.
     pub const DEFAULT: Limit = Limit { octets: 16777216 };
 
-    /// The limit of `octets` octets, and `None` of 0 and of more than 2147483647.
+    /// Returns the limit of `octets` octets, and `None` of 0 and of more than 2147483647.
     pub fn new(octets: u32) -> Option<Limit>
         ensures range { IsSome result ↔ ((0 < octets) × (octets < 2 ^ 31)) }
         ensures value { IfSome result (λ limit. limit ≡ octets) }
@@ -38,7 +38,7 @@ impl Limit {
         }
     }
 
-    /// The octets.
+    /// Returns the octets.
     pub fn get(self) -> u32
         ensures value { result ≡ self }
         ensures some { 0 < result }

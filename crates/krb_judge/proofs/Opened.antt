@@ -10,7 +10,7 @@ use Rattle.krb_judge.specs.declared.judging.head.Head.TheVariants as found
 abbrev nothing : Opened
 nothing = record { contents = []; rest = [] }
 
--- where none stands first
+-- if none stands first
 pub none_opened : (given : Found) (octets : List ℕ) → ((h s : ℕ) → given ≡ found.Got h s → ⊥) → head_of given ≡ head (length octets) octets → opened octets ≡ nothing
 none_opened found.Partial octets n e = ap (λ (h : Head). opened_at h octets) (sym e)
 none_opened (found.Refused offset reason) octets n e = ap (λ (h : Head). opened_at h octets) (sym e)

@@ -19,7 +19,7 @@ use Rattle.krb_judge.specs.declared.parsing.TheConstants.{TICKET}
 use Rattle.krb_judge.proofs.Slices.{whole_value}
 use Rattle.krb_judge.proofs.Values.{refused_as, ticket_node, are_of_ticket}
 
--- what opening an item tells, where one is there
+-- what opening an item tells, if one is there
 abbrev Opens : List ℕ → List ℕ → List ℕ → Type 0
 Opens octets inner rest = HasItem octets → IsSplit octets inner rest
 

@@ -4,7 +4,7 @@ use Rattle.krb_der.specs.declared.profile.Profile.{Profile}
 use Rattle.krb_der.specs.declared.verdict.Refusal.{Refusal}
 use Rattle.krb_judge.specs.Parses.{refusal_of, ticket_refusal, method_data_refusal}
 
--- A refusal of octets, where there are some, stands at one of them.
+-- A refusal of octets, if there are some, stands at one of them.
 abbrev pub IsInside : (List ℕ → Option Refusal) → Type 0
 IsInside refusal = (octets : List ℕ) (r : Refusal) → 0 < length octets → refusal octets ≡ Some r → r.place < length octets
 

@@ -18,13 +18,13 @@ use Rattle.krb_msg.specs.Judgement.{judgement, term_judgement}
 use Rattle.krb_judge.specs.declared.parsing.Expected.{Expected}
 use Rattle.krb_judge.specs.declared.parsing.Expected.TheVariants as expected
 
--- the refusal of a verdict, where it is one
+-- the refusal of a verdict, if it is one
 abbrev pub refused : Verdict → Option Refusal
 refused verdict.Open = None
 refused verdict.Whole = None
 refused (verdict.Refused refusal) = Some refusal
 
--- why a slice is not all of what it is judged as, where it is not
+-- why a slice is not all of what it is judged as, if it is not
 abbrev pub refusal_by : (ℕ → List ℕ → Verdict) → List ℕ → Option Refusal
 refusal_by judge octets =
     if nat_lt 2147483647 (length octets) then Some (record { place = 0; why = why.TooLong })

@@ -54,7 +54,7 @@ enum Due {
     Item { node: u16 },
 }
 
-/// What the octets present of a message of `n` octets decide, by the lenient profile.
+/// Returns what the octets present of a message of `n` octets decide, by the lenient profile.
 pub fn judge(n: u32, front: &[u8]) -> Verdict
     requires some { 0 < n }
     requires short { n < 2 ^ 31 }
@@ -64,7 +64,7 @@ pub fn judge(n: u32, front: &[u8]) -> Verdict
     judge_in(Profile::Lenient, n, front)
 }
 
-/// What the octets present of a message of `n` octets decide, by a profile.
+/// Returns what the octets present of a message of `n` octets decide, by a profile.
 pub fn judge_in(profile: Profile, n: u32, front: &[u8]) -> Verdict
     requires some { 0 < n }
     requires short { n < 2 ^ 31 }
@@ -83,7 +83,8 @@ pub fn judge_in(profile: Profile, n: u32, front: &[u8]) -> Verdict
     }
 }
 
-/// What the octets present of an item of a node's term decide, of which alone there are `n` octets.
+/// Returns what the octets present of an item of a node's term decide, of which alone there are `n`
+/// octets.
 pub(crate) fn judge_node(node: u16, n: u32, front: &[u8]) -> Verdict
     requires known { IsNode node }
     requires some { 0 < n }
@@ -94,7 +95,7 @@ pub(crate) fn judge_node(node: u16, n: u32, front: &[u8]) -> Verdict
     verdict(item(node, n, true, front))
 }
 
-/// An outcome as it is answered: what is done is whole.
+/// Returns an outcome as it is answered: what is done is whole.
 fn verdict(outcome: Outcome) -> Verdict
     ensures { result ≡ verdict_of (outcome_of outcome) }
 {
@@ -105,7 +106,7 @@ fn verdict(outcome: Outcome) -> Verdict
     }
 }
 
-/// An item of a node's term, in a room that it fills if it is the sole item there.
+/// Judges an item of a node's term, in a room that it fills if it is the sole item there.
 #[cycle(judge)]
 fn item(node: u16, room: u32, sole: bool, octets: &[u8]) -> Outcome
     requires known { IsNode node }
@@ -143,7 +144,7 @@ fn item(node: u16, room: u32, sole: bool, octets: &[u8]) -> Outcome
     }
 }
 
-/// The contents of an item, after its tag and length octets.
+/// Judges the contents octets of an item, after its tag and length octets.
 #[cycle(judge)]
 #[inline(always)]
 fn contents(node: u16, before: u32, size: u32, octets: &[u8]) -> Outcome
@@ -174,7 +175,7 @@ fn contents(node: u16, before: u32, size: u32, octets: &[u8]) -> Outcome
     }
 }
 
-/// The one item of a tag.
+/// Judges the one item in an explicit tag (X.690, 8.14).
 #[cycle(judge)]
 #[inline(always)]
 fn only(node: u16, before: u32, size: u32, octets: &[u8]) -> Outcome
@@ -203,7 +204,7 @@ fn only(node: u16, before: u32, size: u32, octets: &[u8]) -> Outcome
     }
 }
 
-/// The fields of a SEQUENCE.
+/// Judges the components of a SEQUENCE (X.690, 8.9).
 #[cycle(judge)]
 fn fields(slots: &[Slot], before: u32, size: u32, octets: &[u8]) -> Outcome
     requires known { AllByRecursion IsSlot slots.now }
@@ -231,7 +232,7 @@ fn fields(slots: &[Slot], before: u32, size: u32, octets: &[u8]) -> Outcome
     end(left)
 }
 
-/// Items one after another, until the room is full.
+/// Judges items one after another, until the room is full.
 #[cycle(judge)]
 fn items(node: u16, before: u32, size: u32, octets: &[u8]) -> Outcome
     requires known { IsNode node }
@@ -254,7 +255,7 @@ fn items(node: u16, before: u32, size: u32, octets: &[u8]) -> Outcome
     Outcome::Done { count: left.before }
 }
 
-/// An item at the front of what is left, and then what is left after it.
+/// Judges an item at the front of what is left, and returns what is left after it.
 #[cycle(judge)]
 #[inline(always)]
 fn front_item(node: u16, left: Left<'_>) -> Step<'_>
@@ -277,7 +278,7 @@ fn front_item(node: u16, left: Left<'_>) -> Step<'_>
     }
 }
 
-/// What is due for a field.
+/// Returns what is due for a field.
 #[inline(always)]
 fn due_for(slot: Slot, left: Left) -> Due
     requires known { IsSlot slot }
@@ -306,7 +307,7 @@ fn due_for(slot: Slot, left: Left) -> Due
     }
 }
 
-/// Where no field is left, no octet may be.
+/// Judges the end of a SEQUENCE: if no component is left, no octet may be.
 fn end(left: Left) -> Outcome
     requires { IsLeft left }
     ensures { outcome_of result ≡ outcome_in left.entry End }

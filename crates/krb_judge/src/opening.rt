@@ -7,8 +7,8 @@ ghost use Rattle.krb_msg.specs.Reads.{HasItem, IsSplit};
 use crate::judging::head::{Head, read_head};
 use std::marker::Model;
 
-/// The contents of the first item, and what is left after it (X.690, 8.1). Both are empty where none
-/// stands first.
+/// Returns the contents of the first item, and what is left after it (X.690, 8.1). Both are empty
+/// if none stands first.
 pub(crate) fn open(octets: &[u8]) -> (&[u8], &[u8])
     requires { length octets.now < 2 ^ 31 }
     ensures contents { result.0.now ≡ (opened octets.now).contents }
@@ -41,7 +41,7 @@ impl<'a> Model for Items<'a> {
 }
 
 impl<'a> Items<'a> {
-    /// The items that octets are.
+    /// Returns the items that octets are.
     pub(crate) fn new(octets: &'a [u8]) -> Items<'a>
         requires { length octets.now < 2 ^ 31 }
         ensures { result ≡ all_opened (length octets.now) octets.now }
@@ -49,7 +49,7 @@ impl<'a> Items<'a> {
         Items { octets }
     }
 
-    /// The contents of the first item, and the items after it.
+    /// Returns the contents of the first item, and the items after it.
     pub fn split_first(&self) -> Option<(&'a [u8], Items<'a>)>
         ensures { MatchOption result (self.now ≡ []) (λ (first, rest). self.now ≡ first.now ∷ rest) }
     {

@@ -85,9 +85,9 @@ const STRICT_TICKET: u16 = Row::Ticket as u16 + ROWS as u16;
 /// The node of METHOD-DATA (RFC 4120, 5.9.1).
 const METHOD_DATA: u16 = Row::MethodData as u16;
 
-/// The message that octets are, or why they are none, by the lenient profile. A slice of more than
-/// 2147483647 octets is `TooLong` at 0, an empty one `Empty` at 0; else [`judge`](crate::judge)
-/// refuses it. A refusal is decided before memory is taken.
+/// Returns the message that octets are, or why they are none, by the lenient profile. A slice of
+/// more than 2147483647 octets is `TooLong` at 0, an empty one `Empty` at 0; else
+/// [`judge`](crate::judge) refuses it. A refusal is decided before memory is taken.
 pub fn parse(alloc: Global, octets: &[u8]) -> Result<Message, ParseFault>
     ensures message { IfOk result (AreOf Profile.Lenient octets.now) }
     ensures found { (m : Message) → AreOf Profile.Lenient octets.now m → (result ≡ Ok m) ⊎ (result ≡ Err fault.Memory) }
@@ -97,7 +97,7 @@ pub fn parse(alloc: Global, octets: &[u8]) -> Result<Message, ParseFault>
     parse_in(alloc, Profile::Lenient, octets)
 }
 
-/// The message of a profile that octets are, or why they are none, as [`parse`] has it.
+/// Returns the message of a profile that octets are, or why they are none, as [`parse`] has it.
 pub fn parse_in(alloc: Global, profile: Profile, octets: &[u8]) -> Result<Message, ParseFault>
     ensures message { IfOk result (AreOf profile octets.now) }
     ensures found { (m : Message) → AreOf profile octets.now m → (result ≡ Ok m) ⊎ (result ≡ Err fault.Memory) }
@@ -110,8 +110,8 @@ pub fn parse_in(alloc: Global, profile: Profile, octets: &[u8]) -> Result<Messag
     }
 }
 
-/// The Ticket (RFC 4120, 5.3) that octets are, or why they are none, by the lenient profile, as
-/// [`parse`] has it of a message.
+/// Returns the Ticket (RFC 4120, 5.3) that octets are, or why they are none, by the lenient
+/// profile, as [`parse`] has it of a message.
 pub fn parse_ticket(alloc: Global, octets: &[u8]) -> Result<Ticket, ParseFault>
     ensures ticket { IfOk result (AreOfTicket Profile.Lenient octets.now) }
     ensures found { (t : Ticket) → AreOfTicket Profile.Lenient octets.now t → (result ≡ Ok t) ⊎ (result ≡ Err fault.Memory) }
@@ -121,7 +121,8 @@ pub fn parse_ticket(alloc: Global, octets: &[u8]) -> Result<Ticket, ParseFault>
     parse_ticket_in(alloc, Profile::Lenient, octets)
 }
 
-/// The Ticket of a profile that octets are, or why they are none, as [`parse`] has it of a message.
+/// Returns the Ticket of a profile that octets are, or why they are none, as [`parse`] has it of a
+/// message.
 pub fn parse_ticket_in(alloc: Global, profile: Profile, octets: &[u8]) -> Result<Ticket, ParseFault>
     ensures ticket { IfOk result (AreOfTicket profile octets.now) }
     ensures found { (t : Ticket) → AreOfTicket profile octets.now t → (result ≡ Ok t) ⊎ (result ≡ Err fault.Memory) }
@@ -131,7 +132,7 @@ pub fn parse_ticket_in(alloc: Global, profile: Profile, octets: &[u8]) -> Result
     parse_node(alloc, profile, ticket_node(profile), octets)
 }
 
-/// The node of a Ticket of a profile.
+/// Returns the node of a Ticket of a profile.
 fn ticket_node(profile: Profile) -> u16
     ensures known { IsNode result }
     ensures term { term_at result ≡ profile_term profile false ticket }
@@ -142,8 +143,8 @@ fn ticket_node(profile: Profile) -> u16
     }
 }
 
-/// The Ticket that octets are, where it stands, or why they are none, by the lenient profile. It
-/// takes no memory.
+/// Returns the Ticket that octets are, where it stands, or why they are none, by the lenient
+/// profile. It takes no memory.
 pub fn read_ticket(octets: &[u8]) -> Result<TicketView<'_>, Refusal>
     ensures ticket { IfOk result (λ view. AreOfTicket Profile.Lenient octets.now (ticket_viewed view)) }
     ensures refused { (r : Refusal) → IsErrOf result r ↔ (ticket_refusal Profile.Lenient octets.now ≡ Some r) }
@@ -154,8 +155,8 @@ pub fn read_ticket(octets: &[u8]) -> Result<TicketView<'_>, Refusal>
     }
 }
 
-/// The METHOD-DATA (RFC 4120, 5.9.1) that octets are, or why they are none, as [`parse`] has it of
-/// a message.
+/// Returns the METHOD-DATA (RFC 4120, 5.9.1) that octets are, or why they are none, as [`parse`]
+/// has it of a message.
 pub fn parse_method_data(alloc: Global, octets: &[u8]) -> Result<Vec<PaData>, ParseFault>
     ensures items { IfOk result (λ items. AreOfMethodData octets.now items.items) }
     ensures found { (items : List PaData) → AreOfMethodData octets.now items → IfOk result (λ those. those.items ≡ items) × (method_data_refusal octets.now ≡ None) }
@@ -168,7 +169,8 @@ pub fn parse_method_data(alloc: Global, octets: &[u8]) -> Result<Vec<PaData>, Pa
     }
 }
 
-/// The value whose octets these are, as an item of a node's term, which is that of a profile.
+/// Returns the value whose octets these are, as an item of a node's term, which is that of a
+/// profile.
 fn parse_node<T: Decode>(
     alloc: Global,
     _profile: Profile,
@@ -187,7 +189,7 @@ fn parse_node<T: Decode>(
     }
 }
 
-/// Why octets are not what they are judged as, where they are not.
+/// Returns why octets are not what they are judged as, if they are not.
 fn refusal_of(expected: Expected, octets: &[u8]) -> Option<Refusal>
     requires { IsKnown expected }
     ensures { result ≡ refusal_by (judged_as expected) octets.now }
@@ -210,7 +212,7 @@ fn refusal_of(expected: Expected, octets: &[u8]) -> Option<Refusal>
     }
 }
 
-/// The verdict on all the octets of a slice.
+/// Returns the verdict on all the octets of a slice.
 fn verdict_on(expected: Expected, octets: &[u8]) -> Verdict
     requires known { IsKnown expected }
     requires some { 0 < length octets.now }
@@ -224,7 +226,7 @@ fn verdict_on(expected: Expected, octets: &[u8]) -> Verdict
     }
 }
 
-/// The message whose octets these are, which are judged whole.
+/// Returns the message whose octets these are, which are judged whole.
 fn parse_whole(alloc: Global, octets: &[u8]) -> Result<Message, Memory>
     requires short { length octets.now < 2 ^ 31 }
     requires whole { judgement Profile.Lenient (length octets.now) octets.now ≡ Whole }

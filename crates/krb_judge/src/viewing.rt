@@ -36,13 +36,13 @@ pub struct NameView<'a> {
 pub struct SealedView<'a> {
     /// The encryption type.
     pub etype: i64,
-    /// The version of the key, where it is said.
+    /// The version of the key, if it is said.
     pub kvno: Option<i64>,
     /// The sealed octets.
     pub cipher: &'a [u8],
 }
 
-/// The number of an INTEGER.
+/// Returns the number of an INTEGER.
 fn number(item: &[u8]) -> i64
     requires short { length item.now < 2 ^ 31 }
     requires form { HasNumber item.now }
@@ -51,7 +51,7 @@ fn number(item: &[u8]) -> i64
     integer_value(open(item).0)
 }
 
-/// The name that an item is.
+/// Returns the name that an item is.
 fn view_name(item: &[u8]) -> NameView<'_>
     requires short { length item.now < 2 ^ 31 }
     requires form { Begins principal_name item.now }
@@ -66,7 +66,7 @@ fn view_name(item: &[u8]) -> NameView<'_>
     }
 }
 
-/// The version of a key, where it is said, and the fields after it.
+/// Returns the version of a key, if it is said, and the fields after it.
 fn view_kvno(fields: &[u8]) -> (Option<i64>, &[u8])
     requires short { length fields.now < 2 ^ 31 }
     requires form { FieldsBegin sealed_from_kvno fields.now 0 }
@@ -82,7 +82,7 @@ fn view_kvno(fields: &[u8]) -> (Option<i64>, &[u8])
     }
 }
 
-/// What is sealed in an item.
+/// Returns what is sealed in an item.
 fn view_sealed(item: &[u8]) -> SealedView<'_>
     requires short { length item.now < 2 ^ 31 }
     requires form { Begins encrypted_data item.now }
@@ -99,7 +99,7 @@ fn view_sealed(item: &[u8]) -> SealedView<'_>
     }
 }
 
-/// The Ticket that an item is.
+/// Returns the Ticket that an item is.
 pub(crate) fn view_ticket(item: &[u8]) -> TicketView<'_>
     requires short { length item.now < 2 ^ 31 }
     requires form { Begins ticket item.now }

@@ -1,12 +1,20 @@
 -- A record reaches its end: nothing that was taken for it stays ahead.
-use Rattle.std.proofs.Common.{◌≡◌, ℕ, ◌+◌, ◌≤◌, ℤ, arith}
+use Rattle.std.proofs.Common.{◌≡◌, ℕ, suc, ◌+◌, ◌≤◌, Bool, ℤ, pos, negsuc, Result, Ok, Err, [], ◌∷◌, ◌∙◌, ap, subst, arith}
+use Rattle.std.proofs.lemmas.Int.{to_z-of_z}
+use Rattle.std.specs.Int.RustNames.{FitsSigned}
+use lib.IntN.{nat_abs}
+use mir.Val.{to_z, of_z}
+use Rattle.std.specs.Prelude.{OnErr}
 use Rattle.std.specs.Int.{w8, w16, w32}
-use Rattle.krb_file.specs.Fields.{number_at, signed_at, counted_at, names_at, rest_at, within}
-use Rattle.krb_file.specs.FieldReaders.{Held, Stays, LooksTo, HasRead}
-use Rattle.krb_file.proofs.FieldReaders.{Stays-then}
-use Rattle.krb_file.proofs.Reaching.{ToEnd, ToEnd-then, ToEnd-made, ToEnd-rest, AtLeast-within, AtLeast-signed, goes_on, looked, item_stays}
+use Rattle.krb_file.specs.Fields.{Source, Fault, Bounds, gives, is_empty, number_at, signed_at, counted_at, names_at, rest_at, within, version_at}
+use Rattle.krb_file.specs.FieldReaders.{Held, source_at, reach, TakesTo, KeepsTo, Stays, LooksTo, HasRead, ended_at}
+use Rattle.krb_file.proofs.FieldReaders.{some_rest, Stays-then}
+use Rattle.krb_file.proofs.Fields.{ok_is}
+use Rattle.krb_file.proofs.Reaching.{ToEnd, ToEnd-then, ToEnd-made, ToEnd-rest, AtLeast-within, AtLeast-signed, Exactly-signed, Exactly-version, goes_on, goes_to, keeps_least, keeps_then, looked, item_stays}
 use Rattle.krb_keytab.specs.declared.value.Entry.{Entry}
-use Rattle.krb_keytab.specs.Reading.{entry_at}
+use Rattle.krb_keytab.specs.Reading.{entry_at, content_size, announced_by, announced}
+use Rattle.krb_keytab.specs.Streaming.{announced_after, announced_in}
+use Rattle.krb_keytab.specs.declared.records.State.TheVariants as states
 
 ToEnd-entry : ToEnd entry_at
 ToEnd-entry =
@@ -28,3 +36,81 @@ pub record_stays : (length : ℤ) (old mid some after new : Held) → LooksTo 4 
 record_stays length old mid some after new looks more read first second =
     let far : some.place + 4 ≤ after.place = goes_on 4 (signed_at w32) length some after (AtLeast-signed w32) read in
     item_stays 4 old mid some new (omega arith) looks more (Stays-then first second) (omega (arith, far, second.on))
+
+-- ---- at a fault
+least : (read : Result (ℤ × Source) Fault) → 4 ≤ announced_by read
+least (Err fault) = omega arith
+least (Ok read) = omega arith
+
+pub length_announced : (bounds : Bounds) (s : Source) → 4 ≤ announced bounds s
+length_announced bounds s = least (signed_at w32 bounds s)
+
+pub size_of_content : (z : ℤ) (size k : ℕ) → FitsSigned w32 z → size ≡ nat_abs (to_z w32 (of_z w32 z)) → k ≡ size → k ≡ content_size z
+size_of_content (pos n) size k fits is same = same ∙ is ∙ ap nat_abs (to_z-of_z w32 (pos n) fits)
+size_of_content (negsuc n) size k fits is same = same ∙ is ∙ ap nat_abs (to_z-of_z w32 (negsuc n) fits)
+
+pub on_err : {T E P : Type 0} (r : Result T E) → P → OnErr r P
+on_err (Ok x) p = tt
+on_err (Err e) p = p
+
+pub look_keeps : (old new : Held) → LooksTo 4 old new → KeepsTo announced old new
+look_keeps old new looks = keeps_least announced 4 old new length_announced (λ far. looks.within (omega (arith, looks.same, far)))
+
+pub asked_keeps : (old mid new : Held) → LooksTo 4 old mid → LooksTo 1 mid new → KeepsTo announced old new
+asked_keeps old mid new looks more = keeps_least announced 4 old new length_announced (λ far.
+    let first : reach new ≤ reach mid = more.within (omega (arith, looks.same, more.same, far)) in
+    let second : reach mid ≤ reach old = looks.within (omega (arith, looks.same, far, first)) in
+    omega (arith, first, second))
+
+-- an octet was looked for, and no length was read
+pub length_keeps : (old mid some new : Held) → LooksTo 4 old mid → LooksTo 1 mid some → TakesTo (some.place + 4) some new → KeepsTo announced old new
+length_keeps old mid some new looks more within = keeps_least announced 4 old new length_announced (λ far.
+    let first : reach new ≤ reach some = within (omega (arith, looks.same, more.same, far)) in
+    let second : reach some ≤ reach mid = more.within (omega (arith, looks.same, more.same, far, first)) in
+    let third : reach mid ≤ reach old = looks.within (omega (arith, looks.same, far, first, second)) in
+    omega (arith, first, second, third))
+
+-- a length was read, and then its record was not
+pub content_keeps : (length : ℤ) (nothing : Bool) (old mid some after new : Held) → LooksTo 4 old mid → HasRead (gives (tt {0})) (tt {0}) old mid → LooksTo 1 mid some → HasRead ended_at nothing mid some → HasRead (signed_at w32) length some after → Stays some after
+    → TakesTo (after.place + content_size length) after new → KeepsTo announced old new
+content_keeps length nothing old mid some after new looks looked more asked read stays within =
+    let rest = some_rest after in
+    let a = read.from rest.rest rest.there in
+    let b = asked.from a.0 a.1 in
+    let c = looked.from b.0 b.1 in
+    let one : (is_empty b.0, source_at mid.place b.0) ≡ (nothing, source_at some.place a.0) = ok_is (is_empty b.0, source_at mid.place b.0) (nothing, source_at some.place a.0) b.2 in
+    let two : (tt {0}, source_at old.place c.0) ≡ (tt {0}, source_at mid.place b.0) = ok_is (tt {0}, source_at old.place c.0) (tt {0}, source_at mid.place b.0) c.2 in
+    let same : source_at old.place c.0 ≡ source_at some.place a.0 = ap (λ (p : Unit {0} × Source). p.1) two ∙ ap (λ (p : Bool × Source). p.1) one in
+    let bounds : some.bounds ≡ old.bounds = asked.same_bounds ∙ looked.same_bounds in
+    let there : signed_at w32 old.bounds (source_at old.place c.0) ≡ Ok (length, source_at after.place rest.rest) =
+    ap (λ (s : Source). signed_at w32 old.bounds s) same ∙ subst (λ (k : Bounds). signed_at w32 k (source_at some.place a.0) ≡ Ok (length, source_at after.place rest.rest)) bounds a.2 in
+    let size : announced old.bounds (source_at old.place c.0) ≡ 4 + content_size length = ap announced_by there in
+    let place : after.place ≡ some.place + 4 = goes_to 4 (signed_at w32) length some after (Exactly-signed w32) read in
+    record {
+      octets = c.0;
+      there = c.1;
+      within = λ far.
+          let first : reach new ≤ reach after = within (omega (arith, looks.same, more.same, place, size, far)) in
+          let second : reach after ≤ reach some = stays.within (omega (arith, looks.same, more.same, place, size, far, first)) in
+          let third : reach some ≤ reach mid = more.within (omega (arith, looks.same, more.same, size, far, first, second)) in
+          let fourth : reach mid ≤ reach old = looks.within (omega (arith, looks.same, size, far, first, second, third)) in
+          omega (arith, first, second, third, fourth);
+    }
+
+-- ---- the version before the first record
+version_least : (read : Result (ℕ × Source) Fault) (bounds : Bounds) → 2 ≤ announced_after read bounds
+version_least (Err fault) bounds = omega arith
+version_least (Ok read) bounds = omega arith
+
+pub version_keeps : (old new : Held) → TakesTo (old.place + 2) old new → KeepsTo (announced_in states.Start) old new
+version_keeps old new within = keeps_least (announced_in states.Start) 2 old new (λ bounds s. version_least (version_at (2 ∷ []) bounds s) bounds) within
+
+pub opened_keeps : (version : ℕ) (old mid new : Held) → HasRead (version_at (2 ∷ [])) version old mid → Stays old mid → KeepsTo announced mid new → KeepsTo (announced_in states.Start) old new
+opened_keeps version old mid new read stays keeps =
+    keeps_then (announced_in states.Start) announced 2 (version_at (2 ∷ [])) version old mid new read stays
+    (goes_to 2 (version_at (2 ∷ [])) version old mid (Exactly-version (2 ∷ [])) read)
+    (λ bounds s t e. ap (λ (r : Result (ℕ × Source) Fault). announced_after r bounds) e) keeps
+
+-- a reader that is left as it is
+pub same_keeps : (announced : Bounds → Source → ℕ) (held : Held) → KeepsTo announced held held
+same_keeps announced held = keeps_least announced 0 held held (λ bounds s. omega arith) (λ far. omega arith)

@@ -1,8 +1,8 @@
 -- Reading a keytab from left to right, up to the first fault.
-use Rattle.std.specs.Prelude.{ℕ, zero, suc, ℤ, pos, negsuc, List, [], ◌∷◌, length, Option, None, Result, Ok, Err}
+use Rattle.std.specs.Prelude.{ℕ, zero, suc, ◌+◌, ℤ, pos, negsuc, List, [], ◌∷◌, length, Option, None, Result, Ok, Err}
 use Rattle.std.specs.Int.{w8, w16, w32}
 use Rattle.krb_der.specs.Octets.{when}
-use Rattle.krb_file.specs.Fields.{Source, source_of, Fault, limited, Reader, ◌>>=◌, gives, next_octets_at, rest_at, is_empty, number_at, signed_at, counted_at, names_at, within, version_at, are_zero}
+use Rattle.krb_file.specs.Fields.{Source, source_of, Fault, Bounds, limited, Reader, ◌>>=◌, gives, next_octets_at, rest_at, is_empty, number_at, signed_at, counted_at, names_at, within, version_at, are_zero}
 use Rattle.krb_keytab.specs.declared.value.Keytab.{Keytab}
 use Rattle.krb_keytab.specs.declared.value.Record.{Record}
 use Rattle.krb_keytab.specs.declared.value.Record.TheVariants as records
@@ -39,6 +39,21 @@ record_of (negsuc n) = do
 abbrev pub record_at : Reader Next
 record_at bounds source =
     when (is_empty source.octets) (λ _. Ok (nexts.Done stops.File, source)) (λ _. (signed_at w32 >>= record_of) bounds source)
+
+-- ---- how many octets a record announces
+
+-- those after its length: n of an entry, the negated number of a hole
+abbrev pub content_size : ℤ → ℕ
+content_size (pos n) = n
+content_size (negsuc n) = suc n
+
+abbrev pub announced_by : Result (ℤ × Source) Fault → ℕ
+announced_by (Err fault) = 4
+announced_by (Ok read) = 4 + content_size read.0
+
+-- the four of its length, and as many as this says where it is there whole
+abbrev pub announced : Bounds → Source → ℕ
+announced bounds source = announced_by (signed_at w32 bounds source)
 
 -- ---- records up to the stop
 

@@ -39,7 +39,7 @@ pub record EntryFits (e : Entry) : Type 0 where
   pub rest : AreOctets e.rest
   pub short : length (entry e) < 2 ^ 31
 
--- The key version: the first four octets of `rest` where they are there and not 0, else the one of 8 bits.
+-- The key version: the first four octets of `rest` if they are there and not 0, else the one of 8 bits.
 abbrev pub kvno : Entry → ℕ
 kvno e =
     let wide = from_be_bytes w32 (take 4 e.rest) in

@@ -1,12 +1,12 @@
 //! Keytabs, read from octets.
 
-ghost use Rattle.std.specs.Prelude.{◌≡◌, ℕ, None, Some, Ok, IfOk, IfErr, OnOk};
+ghost use Rattle.std.specs.Prelude.{◌≡◌, ℕ, ◌+◌, None, Some, Ok, IfOk, IfErr, OnOk, OnErr};
 ghost use Rattle.std.specs.Int.{w16, w32};
 ghost use Rattle.krb_file.specs.Fields.{Gives, IsFaultIn, ended, limited, within};
-ghost use Rattle.krb_file.specs.FieldReaders.{Follows, Stays, source_at};
+ghost use Rattle.krb_file.specs.FieldReaders.{Follows, TakesTo, Stays, Keeps, KeepsTo, source_at};
 ghost use Rattle.krb_keytab.specs.Spelling.{ReadAs};
 ghost use Rattle.krb_keytab.specs.declared.value.Keytab.{Keytab as KeytabValue};
-ghost use Rattle.krb_keytab.specs.Reading.{entry_at, record_of, record_at, items_after, keytab_of_items, read};
+ghost use Rattle.krb_keytab.specs.Reading.{entry_at, content_size, announced, record_of, record_at, items_after, keytab_of_items, read};
 
 use crate::value::{Entry, Hole, Keytab, Record, Stop};
 use krb_der::{KString, Many, Octets};
@@ -22,11 +22,11 @@ pub enum Next {
     Done(Stop),
 }
 
-/// The entry whose content is what is left up to the end that the reader knows.
+/// Reads the entry whose content is what is left up to the end that the reader knows.
 #[inline(never)]
 fn entry<F: FieldReader>(alloc: Global, reader: &mut F) -> Result<Entry, FileFault>
     ensures read { Follows (λ entry. entry) result entry_at F.MayFail (F.held reader.old) (F.held reader.new) }
-    ensures stays { OnOk result (Stays (F.held reader.old) (F.held reader.new)) }
+    ensures keeps { Keeps (F.held reader.old) (F.held reader.new) }
 {
     let mut realm = reader.room(alloc);
     let mut components = reader.list(alloc);
@@ -51,7 +51,7 @@ fn entry<F: FieldReader>(alloc: Global, reader: &mut F) -> Result<Entry, FileFau
     })
 }
 
-/// The entry that the next `size` octets are.
+/// Reads the entry that the next `size` octets are.
 fn entry_within<F: FieldReader>(
     alloc: Global,
     size: u32,
@@ -59,6 +59,7 @@ fn entry_within<F: FieldReader>(
 ) -> Result<Entry, FileFault>
     ensures read { Follows (λ entry. entry) result (within size entry_at) F.MayFail (F.held reader.old) (F.held reader.new) }
     ensures stays { OnOk result (Stays (F.held reader.old) (F.held reader.new)) }
+    ensures within { TakesTo ((F.held reader.old).place + size) (F.held reader.old) (F.held reader.new) }
 {
     let outer = reader.end();
     let place = reader.place();
@@ -68,7 +69,7 @@ fn entry_within<F: FieldReader>(
     Ok(entry)
 }
 
-/// What a record's length leads to.
+/// Reads what a record's length leads to.
 fn record_after<F: FieldReader>(
     alloc: Global,
     length: i32,
@@ -76,6 +77,7 @@ fn record_after<F: FieldReader>(
 ) -> Result<Next, FileFault>
     ensures read { Follows (λ next. next) result (record_of length) F.MayFail (F.held reader.old) (F.held reader.new) }
     ensures stays { OnOk result (Stays (F.held reader.old) (F.held reader.new)) }
+    ensures within { TakesTo ((F.held reader.old).place + content_size length) (F.held reader.old) (F.held reader.new) }
 {
     let size = length.unsigned_abs();
     if length == 0 {
@@ -93,10 +95,11 @@ fn record_after<F: FieldReader>(
 /// How many octets the length of a record has.
 const LENGTH_OCTETS: u64 = 4;
 
-/// The next record, or how the records end.
+/// Reads the next record, or how the records end.
 pub(crate) fn record<F: FieldReader>(alloc: Global, reader: &mut F) -> Result<Next, FileFault>
     ensures read { Follows (λ next. next) result record_at F.MayFail (F.held reader.old) (F.held reader.new) }
     ensures stays { OnOk result (Stays (F.held reader.old) (F.held reader.new)) }
+    ensures keeps { OnErr result (KeepsTo announced (F.held reader.old) (F.held reader.new)) }
 {
     reader.look_ahead(LENGTH_OCTETS)?;
     if reader.is_empty()? {
@@ -106,7 +109,7 @@ pub(crate) fn record<F: FieldReader>(alloc: Global, reader: &mut F) -> Result<Ne
     record_after(alloc, length, reader)
 }
 
-/// The records up to the stop, and the place after it.
+/// Reads the records up to the stop, and the place after it.
 fn keytab(alloc: Global, reader: &mut SliceReader<'_>) -> Result<(Keytab, usize), FileFault>
     requires { reader.old.end ≡ None }
     ensures { Gives (λ taken. taken) result (keytab_of_items (items_after None (source_at reader.old.place reader.old.octets))) }
@@ -123,7 +126,7 @@ fn keytab(alloc: Global, reader: &mut SliceReader<'_>) -> Result<(Keytab, usize)
     }
 }
 
-/// The keytab that a file holds, and how many of its octets were read.
+/// Reads the keytab that a file holds, and how many of its octets were read.
 fn whole(alloc: Global, octets: &[u8]) -> Result<(Keytab, usize), FileFault>
     ensures { Gives (λ taken. taken) result (read octets.now) }
 {
@@ -132,10 +135,10 @@ fn whole(alloc: Global, octets: &[u8]) -> Result<(Keytab, usize), FileFault>
     keytab(alloc, &mut reader)
 }
 
-/// The keytab that a file holds, and how many of its octets were read: all of them, unless a record
-/// of length 0 ends the keytab before. A file that holds none is refused at the first field at
-/// fault: Magic at 0, Version at 1, Overrun for a field that passes the end of its entry, else
-/// Truncated for one that passes the end of the file.
+/// Reads the keytab that a file holds, and how many of its octets were read: all of them, unless
+/// a record of length 0 ends the keytab before. A file that holds none is refused at the first
+/// field at fault: Magic at 0, Version at 1, Overrun for a field that passes the end of its entry,
+/// else Truncated for one that passes the end of the file.
 pub fn read(alloc: Global, octets: &[u8]) -> Result<(Keytab, usize), FileFault>
     // What is read is spelled so.
     ensures found { IfOk result (λ taken. ReadAs octets.now taken.0 taken.1) }

@@ -1,13 +1,14 @@
 //! Keytabs, read one record at a time.
 
-ghost use Rattle.std.specs.Prelude.{◌≡◌, ℕ, List, [], Some, Ok, Err, IfErr, OnOk};
+ghost use Rattle.std.specs.Prelude.{◌≡◌, ℕ, List, [], Some, Ok, Err, IfErr, OnOk, OnErr};
 ghost use Rattle.krb_file.specs.Fields.{StandsIn};
-ghost use Rattle.krb_file.specs.FieldReaders.{Stays};
+ghost use Rattle.krb_file.specs.FieldReaders.{Stays, KeepsTo};
+ghost use Rattle.krb_keytab.specs.Reading.{announced};
 ghost use Rattle.krb_keytab.specs.declared.value.Stop.{Stop as StopValue};
 ghost use Rattle.krb_keytab.specs.declared.reading.Next.TheVariants as nexts;
 ghost use Rattle.krb_keytab.specs.declared.records.State.TheVariants as states;
 ghost use Rattle.krb_file.specs.declared.fault.FileFault.{FileFault as FaultValue};
-ghost use Rattle.krb_keytab.specs.Streaming.{Reads, GivesNext};
+ghost use Rattle.krb_keytab.specs.Streaming.{Reads, GivesNext, announced_in};
 
 use crate::reading::{Next, record};
 use crate::value::{Entry, Record, Stop};
@@ -29,7 +30,8 @@ pub enum State {
 }
 
 /// A reader of the records of a keytab, which takes no octet of its reader after the record that it
-/// gives. It keeps none of the records that it gave, and takes memory for the octets that came.
+/// gives, nor after the end, by its length, of one that it meets a fault in. It keeps none of the
+/// records that it gave, and takes memory for the octets that came.
 #[derive(Drop)]
 pub struct Records<R: Read> {
     reader: StreamReader<R>,
@@ -37,8 +39,8 @@ pub struct Records<R: Read> {
 }
 
 impl<R: Read> Records<R> {
-    /// The records of what a reader gives, where no field of octets may be longer than a limit.
-    /// Nothing is read yet.
+    /// Creates the reader of the records of what a [`Read`] gives. No field of octets may be longer
+    /// than the limit. Nothing is read yet.
     pub fn new(reader: R, limit: FieldLimit) -> Records<R>
         ensures begins { (file : List ℕ) → R.remaining reader ≡ Some file → Reads (Some limit) result.reader result.state file 0 }
         // No octet was taken.
@@ -51,11 +53,11 @@ impl<R: Read> Records<R> {
         }
     }
 
-    /// The next record, or how the records end. A keytab is refused as [`read`](crate::read) refuses
-    /// it, but that a realm, a component, a key or what stands after the key of an entry is TooLong
-    /// where it is longer than the limit: after Overrun, and before Truncated. After a fault of any
-    /// kind each call answers this fault, and after the end each call answers the end; neither reads any
-    /// more.
+    /// Reads the next record, or how the records end. A keytab is refused as [`read`](crate::read)
+    /// refuses it, but that a realm, a component, a key or what stands after the key of an entry is
+    /// TooLong if it is longer than the limit: after Overrun, and before Truncated. After a fault
+    /// of any kind each call answers this fault, and after the end each call answers the end;
+    /// neither reads any more.
     pub fn next_record(&mut self, alloc: Global) -> Result<Next, FileFault>
         // The records of a file that its reader tells, one after another, and then the stop or the fault.
         ensures next { (file : List ℕ) (limit : ℕ) (given : ℕ) → Reads (Some limit) self.old.reader self.old.state file given → GivesNext (Some limit) file given result self.new.reader self.new.state }
@@ -63,6 +65,8 @@ impl<R: Read> Records<R> {
         ensures refused { (file : List ℕ) (limit : ℕ) (given : ℕ) → Reads (Some limit) self.old.reader self.old.state file given → IfErr result (StandsIn file) }
         // No octet after what is answered was taken, if none was ahead before.
         ensures reach { OnOk result (self.old.reader.ahead ≡ [] → self.new.reader.ahead ≡ []) }
+        // At a fault no octet after those that are announced was taken: after the record, by its length.
+        ensures announced { OnErr result (KeepsTo (announced_in self.old.state) self.old.reader self.new.reader) }
         ensures ends { (stop : StopValue) → result ≡ Ok (nexts.Done stop) → self.new.state ≡ states.Done stop }
         // After the stop or a fault nothing more is read.
         ensures ended { (stop : StopValue) → self.old.state ≡ states.Done stop → (result ≡ Ok (nexts.Done stop)) × (self.new.state ≡ states.Done stop) × (self.new.reader ≡ self.old.reader) }
@@ -103,11 +107,12 @@ impl<R: Read> Records<R> {
         }
     }
 
-    /// The next record after the version.
+    /// Returns the next record after the version.
     fn next_open(&mut self, alloc: Global) -> Result<Next, FileFault>
         ensures next { (file : List ℕ) (limit : ℕ) (given : ℕ) → Reads (Some limit) self.old.reader states.Open file given → GivesNext (Some limit) file given result self.new.reader self.new.state }
         ensures refused { (file : List ℕ) (limit : ℕ) (given : ℕ) → Reads (Some limit) self.old.reader states.Open file given → IfErr result (StandsIn file) }
         ensures stays { OnOk result (Stays self.old.reader self.new.reader) }
+        ensures announced { OnErr result (KeepsTo announced self.old.reader self.new.reader) }
         ensures ends { (stop : StopValue) → result ≡ Ok (nexts.Done stop) → self.new.state ≡ states.Done stop }
         ensures fails { IfErr result (λ fault. self.new.state ≡ states.Failed fault) }
     {

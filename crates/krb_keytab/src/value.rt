@@ -47,7 +47,7 @@ pub struct Entry {
     pub enctype: u16,
     /// The key.
     pub key: Octets,
-    /// What stands after the key: where there are four octets, the first four are the version of
+    /// What stands after the key: if there are four octets, the first four are the version of
     /// the key in 32 bits. Octets after these are kept and not looked into.
     pub rest: Octets,
 }
@@ -76,8 +76,8 @@ ghost use Rattle.krb_keytab.specs.Holes.{IsHoleSize};
 ghost use Rattle.krb_keytab.specs.Spelling.{kvno};
 
 impl Entry {
-    /// The version of the key: the first four octets of `rest`, the highest first, where there are
-    /// four and their number is not 0, else `vno8`.
+    /// Returns the version of the key: the first four octets of `rest`, the highest first, if there
+    /// are four and their number is not 0, else `vno8`.
     pub fn kvno(&self) -> u32
         ensures { result ≡ kvno self.now }
     {
@@ -92,8 +92,8 @@ impl Entry {
 }
 
 impl Hole {
-    /// The hole of `size` octets, and `None` of 0 and of more than 2147483648. It is clean where
-    /// all of them are 00.
+    /// Returns the hole of `size` octets, and `None` of 0 and of more than 2147483648. It is clean
+    /// if all of them are 00.
     pub fn new(size: u32, clean: bool) -> Option<Hole>
         ensures range { IsSome result ↔ IsHoleSize size }
         ensures value { IfSome result (λ hole. hole ≡ record { size = size; clean = clean }) }
@@ -105,7 +105,7 @@ impl Hole {
         }
     }
 
-    /// The hole of `size` octets, which are few enough.
+    /// Returns the hole of `size` octets, which are few enough.
     pub(crate) fn of(size: u32, clean: bool) -> Hole
         requires { IsHoleSize size }
         ensures { result ≡ record { size = size; clean = clean } }
@@ -113,7 +113,7 @@ impl Hole {
         Hole { size, clean }
     }
 
-    /// The number of octets, 1 to 2147483648.
+    /// Returns the number of octets, 1 to 2147483648.
     pub fn size(self) -> u32
         ensures value { result ≡ self.size }
         ensures range { IsHoleSize result }
@@ -121,7 +121,7 @@ impl Hole {
         self.size
     }
 
-    /// Whether all the octets are 00.
+    /// Returns whether all the octets are 00.
     pub fn clean(self) -> bool
         ensures { result ≡ self.clean }
     {

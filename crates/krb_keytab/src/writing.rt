@@ -49,7 +49,7 @@ type EntryLayout<'a> = Then<
 >;
 
 impl Entry {
-    /// What the octets of its content are made of.
+    /// Returns what the octets of its content are made of.
     fn layout(&self) -> EntryLayout<'_>
         ensures octets { ⟦<EntryLayout<'static> as Part>⟧.octets result ≡ content_of self.now }
         ensures is_long { ⟦<EntryLayout<'static> as Part>⟧.is_long result ≡ has_long_part self.now }
@@ -64,7 +64,8 @@ impl Entry {
     }
 }
 
-/// The number of octets of an entry's content; `None` where it is too long, or a part of it is.
+/// Returns the number of octets of an entry's content; `None` if it is too long, or a part of it
+/// is.
 fn content_size(entry: &Entry) -> Option<u32>
     ensures none { IsNone result ↔ (is_long_entry entry.now ≡ true) }
     ensures some { IfSome result (λ size. size ≡ length (content_of entry.now)) }
@@ -78,7 +79,8 @@ fn content_size(entry: &Entry) -> Option<u32>
     }
 }
 
-/// The number of octets of a record; what keeps it from being written where there is something.
+/// Returns the number of octets of a record; what keeps it from being written if there is
+/// something.
 fn record_size(record: &Record) -> Result<u64, KeytabFault>
     ensures fault { MatchResult result (λ _. record_fault «record».now ≡ None) (λ fault. record_fault «record».now ≡ Some fault) }
     ensures size { IfOk result (λ size. size ≡ length (written_record «record».now)) }
@@ -93,8 +95,8 @@ fn record_size(record: &Record) -> Result<u64, KeytabFault>
     Ok(4 + u64::from(size))
 }
 
-/// The number of octets of records, or 2^40 + 1 where there are more than 2^40; the fault of the first
-/// record that has one.
+/// Returns the number of octets of records, or 2^40 + 1 if there are more than 2^40; the fault of
+/// the first record that has one.
 fn records_size(records: &[Record]) -> Result<u64, KeytabFault>
     ensures fault { MatchResult result (λ _. records_fault records.now ≡ None) (λ fault. records_fault records.now ≡ Some fault) }
     ensures size { IfOk result (λ size. size ≡ min (length (flat_map written_record records.now)) (greatest + 1)) }
@@ -107,7 +109,7 @@ fn records_size(records: &[Record]) -> Result<u64, KeytabFault>
     Ok(size)
 }
 
-/// The octets that end the records.
+/// Returns the octets that end the records.
 fn stop_octets(stop: Stop) -> &'static [u8]
     ensures { result.now ≡ stop_octets stop }
 {
@@ -117,8 +119,8 @@ fn stop_octets(stop: Stop) -> &'static [u8]
     }
 }
 
-/// The number of octets of a keytab; what keeps it from being written where there is something: a
-/// fault of a record, and then the size of the file.
+/// Returns the number of octets of a keytab; what keeps it from being written if there is
+/// something: a fault of a record, and then the size of the file.
 fn file_size(keytab: &Keytab) -> Result<u64, KeytabFault>
     ensures fault { MatchResult result (λ _. write_fault keytab.now ≡ None) (λ fault. write_fault keytab.now ≡ Some fault) }
     ensures size { IfOk result (λ size. size ≡ length (written keytab.now)) }
@@ -191,11 +193,11 @@ fn put_records(out: &mut Vec<u8>, records: &[Record])
     }
 }
 
-/// The octets of a keytab. What keeps it from being written is decided first: the records are gone
-/// through in order, and the first that has a fault decides: Dirty for a hole that is not clean,
-/// TooLong for more than 65535 components, for a realm, a component or a key of more than 65535
-/// octets, and for an entry of more than 2147483647. Then TooLong for a file of more than 2^40
-/// octets. Memory is taken last and once, for just as many octets as are written.
+/// Returns the octets of a keytab. What keeps it from being written is decided first: the records
+/// are gone through in order, and the first that has a fault decides: Dirty for a hole that is not
+/// clean, TooLong for more than 65535 components, for a realm, a component or a key of more than
+/// 65535 octets, and for an entry of more than 2147483647. Then TooLong for a file of more than
+/// 2^40 octets. Memory is taken last and once, for just as many octets as are written.
 pub fn write(alloc: Global, keytab: &Keytab) -> Result<Vec<u8>, KeytabFault>
     ensures octets { IfOk result (λ octets. octets.items ≡ written keytab.now) }
     // What is written spells the keytab, and is read back.

@@ -60,7 +60,7 @@ in_year-is (suc fuel) year month days m d f month1 few m1 d1 dm e =
           in_year-next fuel year month days h ∙ in_year-is fuel year (month + 1) (days - days_in_month (pos year) month) m d (omega arith) (omega arith) (rw back (omega (arith, more))) m1 d1 dm (rw back (omega (arith, more)))
     ]
 
--- the date is in the year where its count leads
+-- the date is in the year if its count leads
 year_here : (year later m d days : ℕ) → IsCivilDate (pos later) m d → day_count (pos later) m d ≡ day_count (pos year) 1 1 + days → days < days_in_year (pos year) → later ≡ year
 year_here year later m d days h e few =
     let bound : IsYear (pos year) = by_lt_z (pos later) (pos year)
@@ -94,7 +94,7 @@ civil_date-is year m d days h e =
     from-is days 1970 days year m d (omega arith) h (omega (arith, signed_arith, days_from_civil-day_count (pos year) m d, day_count-epoch))
 
 -- no day from then on is in an earlier year
-pub year-ge : (d : Date) (days : ℕ) → epoch_day d ≡ pos days → pos 1970 ≤ℤ d.year
+year-ge : (d : Date) (days : ℕ) → epoch_day d ≡ pos days → pos 1970 ≤ℤ d.year
 year-ge d days e =
     by_lt_z d.year (pos 1970)
     (λ lt. absurd (omega (arith, signed_arith, day_count-lt_year d.year d.month d.day (pos 1970) 1 1 (d.year_in, d.month_in, d.day_in) (omega arith) lt, days_from_civil-day_count d.year d.month d.day, day_count-epoch)))
@@ -104,12 +104,11 @@ same_abs : (z : ℤ) → pos 1970 ≤ℤ z → z ≡ pos (unsigned_abs z)
 same_abs (pos n) h = refl
 same_abs (negsuc n) h = absurd (omega (arith, signed_arith))
 
+pub year-is : (d : Date) (days : ℕ) → epoch_day d ≡ pos days → d.year ≡ pos (unsigned_abs d.year)
+year-is d days e = same_abs d.year (year-ge d days e)
+
 pub civil_date-of : (d : Date) (days : ℕ) → epoch_day d ≡ pos days → civil_date days ≡ the_date (unsigned_abs d.year) d.month d.day
 civil_date-of d days e =
-    let low = year-ge d days e in
-    let same = same_abs d.year low in
+    let same = year-is d days e in
     let in_year : IsCivilDate d.year d.month d.day = (d.year_in, d.month_in, d.day_in) in
     civil_date-is (unsigned_abs d.year) d.month d.day days (rw same at in_year) (rw same at e)
-
-pub same_date : (year year₂ month month₂ day day₂ : ℕ) → year ≡ year₂ → month ≡ month₂ → day ≡ day₂ → the_date year month day ≡ the_date year₂ month₂ day₂
-same_date year year₂ month month₂ day day₂ e f g = rw (e, f, g)

@@ -11,7 +11,7 @@ use Rattle.krb_msg.specs.Stream.{End, Boundary, Within, Refused}
 use Rattle.krb_list.specs.Laws.{IsOneLine}
 use Rattle.krb_list.specs.Text.{line_feed}
 use Rattle.krb_list.specs.Refusals.{fault_text, file_refused_line, message_refused_line}
-use Rattle.krb_list.specs.Streams.{refused_line, end_line}
+use Rattle.krb_list.specs.Streams.{refused_line, end_line, counted_end_line}
 use Rattle.krb_list.proofs.OneLine.{Prints, word, join, number}
 
 file_name : (reason : FileWhy) → Prints (file_reason_name reason)
@@ -61,3 +61,7 @@ pub end_of_stream : (messages : ℕ) (end : End) → IsOneLine (end_line message
 end_of_stream messages Boundary = ended (join (word (codes "end messages=") refl) (number messages))
 end_of_stream messages (Within present) = refused messages present whys.Truncated
 end_of_stream messages (Refused place reason) = refused messages place reason
+
+pub counted_end : (messages refused : ℕ) → IsOneLine (counted_end_line messages refused)
+counted_end messages refused =
+    ended (join (join (join (word (codes "end messages=") refl) (number messages)) (word (codes " refused=") refl)) (number refused))

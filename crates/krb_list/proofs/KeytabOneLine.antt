@@ -10,10 +10,9 @@ use Rattle.krb_keytab.specs.declared.value.Stop.TheVariants as stops
 use Rattle.krb_keytab.specs.declared.value.Entry.{Entry}
 use Rattle.krb_keytab.specs.Holes.{HoleModel}
 use Rattle.krb_keytab.specs.Spelling.{kvno}
-use Rattle.krb_list.specs.declared.time.CivilDate.{CivilDate}
 use Rattle.krb_list.specs.Laws.{IsPrintable, RecordIsOfOctets}
 use Rattle.krb_list.specs.Text.{yes_or_no}
-use Rattle.krb_list.specs.Time.{date_in_year, date_from, civil_date, two_digits, date_text, clock_text, time_text}
+use Rattle.krb_list.specs.Time.{CivilDate, date_in_year, date_from, civil_date, two_digits, date_text, clock_text, moment_text, time_text}
 use Rattle.krb_list.specs.Keytabs.{name_text, version_text, sizes_text, entry_text, hole_text, record_text, stop_text, keytab_end_text}
 use Rattle.krb_list.proofs.Dates.{in_year-here, in_year-next, from-zero, from-here, from-next}
 use Rattle.krb_list.proofs.OneLine.{Prints, word, join, add, either, number, signed, principal}
@@ -58,10 +57,12 @@ unfolding clock_text
 clock seconds h =
     join (join (join (join (two (seconds / 3600) (omega arith)) (word (codes ":") refl)) (two (seconds / 60 % 60) (omega arith))) (word (codes ":") refl)) (two (seconds % 60) (omega arith))
 
+pub moment : (seconds : ℕ) → seconds < 2 ^ 32 → Prints (moment_text seconds)
+moment seconds h =
+    join (join (join (date (civil_date (seconds / 86400)) (near (seconds / 86400) (omega arith))) (word (codes "T") refl)) (clock (seconds % 86400) (omega arith))) (word (codes "Z") refl)
+
 pub time : (seconds : ℕ) → seconds < 2 ^ 32 → Prints (time_text seconds)
-time seconds h =
-    either (seconds == 0) (word (codes "-") refl)
-    (join (join (join (date (civil_date (seconds / 86400)) (near (seconds / 86400) (omega arith))) (word (codes "T") refl)) (clock (seconds % 86400) (omega arith))) (word (codes "Z") refl))
+time seconds h = either (seconds == 0) (word (codes "-") refl) (moment seconds h)
 
 -- ---- keytabs
 yes_or : (b : Bool) → Prints (yes_or_no b)

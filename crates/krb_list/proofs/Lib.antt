@@ -2,12 +2,15 @@ pub mod Ascii
 pub mod Lines
 pub mod Listed
 pub mod Methods
+pub mod Items
 pub mod Dates
 pub mod Escapes
+pub mod Hexadecimal
 pub mod Masks
 pub mod CcacheMasks
 pub mod OneLine
 pub mod KeytabOneLine
+pub mod Moments
 pub mod CcacheOneLine
 pub mod EndOneLine
 pub mod Counts

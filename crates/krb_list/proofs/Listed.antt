@@ -37,7 +37,7 @@ listed_none holds values i d within e =
     let more : filter holds (take (i + 1) values) ≡ filter holds (take i values) ++ [] = rw e at (filter_more holds values i d within) in
     more ∙ append-nil _
 
--- where nothing stands before the next there is no value, and so the other text
+-- if nothing stands before the next there is no value, and so the other text
 pub none_listed : {A : Type 0} (none : List ℕ) (text : A → List ℕ) (values : List A) → (length (separator_after values) == 0) ≡ true → joined none (codes ",") text values ≡ listed text values ++ none
 none_listed none text [] e = refl
 none_listed none text (first ∷ others) e = cc

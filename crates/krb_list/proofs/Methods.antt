@@ -1,34 +1,49 @@
--- The METHOD-DATA of an error, and its text.
-use Rattle.std.proofs.Common.{◌≡◌, ℕ, ◌^◌, ◌<◌, List, [], ◌∷◌, ◌++◌, length, map, Option, Some, None, refl, sym, ◌∙◌, ap, arith, codes}
-use Rattle.std.specs.List.{flat_map}
-use Rattle.std.specs.Option.{option_map}
-use Rattle.std.specs.Fmt.{signed_decimal}
+-- The METHOD-DATA of an error, as it is viewed.
+use Rattle.std.proofs.Common.{◌≡◌, ℕ, ◌^◌, ◌<◌, nat_lt, ◌==◌, if◌then◌else◌, Bool, false, true, List, [], ◌∷◌, length, Option, Some, None, refl, sym, ◌∙◌, ap, arith}
+use Rattle.std.proofs.lemmas.Bool.Decides.{nat_tests}
+use Rattle.std.specs.Option.{MatchOption}
 use Rattle.krb_msg.specs.Grammar.{method_data}
+use Rattle.krb_msg.specs.Judgement.{term_judgement}
 use Rattle.krb_msg.specs.Reading.{value_read}
 use Rattle.krb_msg.specs.Term.{Value}
-use Rattle.krb_msg.specs.Views.{pa_data_value}
-use Rattle.krb_msg.specs.declared.pa_data.PaData.{PaData}
-use Rattle.krb_msg.proofs.Read.{value_is_read}
-use Rattle.krb_judge.specs.Parses.{method_data_refusal, AreOfMethodData}
-use Rattle.krb_list.specs.Text.{or_dash, list_text}
-use Rattle.krb_list.specs.Messages.{items_unless, padata_text}
+use Rattle.krb_msg.specs.Viewed.{IsViewOf, IsNotWhole}
+use Rattle.krb_msg.proofs.Judged.{value_is_decided}
+use Rattle.krb_der.specs.declared.verdict.Refusal.{Refusal}
+use Rattle.krb_der.specs.declared.verdict.Verdict.{Verdict}
+use Rattle.krb_der.specs.declared.verdict.Verdict.TheVariants as verdict
+use Rattle.krb_judge.specs.Parses.{method_data_refusal, refused}
+use Rattle.krb_list.specs.Messages.{items_unless}
 
-small : (octets other : List ℕ) → octets ≡ other → length other < 2 ^ 31 → length octets < 2 ^ 32
-small octets other e h = omega (arith, ap length e)
+none_unless : (long empty : Bool) (x y : Refusal) (v : Verdict) (octets : List ℕ) → (v ≡ verdict.Whole → ⊥) → (empty ≡ false → v ≡ verdict.Open → ⊥) → items_unless (if long then Some x else if empty then Some y else refused v) octets ≡ None
+none_unless true empty x y v octets not_whole decided = refl
+none_unless false true x y v octets not_whole decided = refl
+none_unless false false x y verdict.Open octets not_whole decided = absurd (decided refl refl)
+none_unless false false x y verdict.Whole octets not_whole decided = absurd (not_whole refl)
+none_unless false false x y (verdict.Refused refusal) octets not_whole decided = refl
 
-pub items-read : (octets : List ℕ) (items : List PaData) → AreOfMethodData octets items → method_data_refusal octets ≡ None → Some (map pa_data_value items) ≡ items_unless (method_data_refusal octets) octets
-items-read octets items are none =
-    rw none (ap Some (sym (ap (value_read method_data) (sym are.form) ∙ value_is_read method_data (map pa_data_value items) refl (small _ octets are.form are.short))))
+some_unless : (long empty : Bool) (x y : Refusal) (v : Verdict) (octets : List ℕ) → long ≡ false → empty ≡ false → v ≡ verdict.Whole → items_unless (if long then Some x else if empty then Some y else refused v) octets ≡ Some (value_read method_data octets)
+some_unless long empty x y v octets l e w = rw (l, e, w) refl
 
-others-text : {A B : Type 0} (f : A → B) (separator : List ℕ) (text : B → List ℕ) (values : List A) → flat_map (λ v. separator ++ text v) (map f values) ≡ flat_map (λ v. separator ++ text (f v)) values
-others-text f separator text [] = refl
-others-text f separator text (v ∷ vs) = ap (λ rest. (separator ++ text (f v)) ++ rest) (others-text f separator text vs)
+some_octets : (octets : List ℕ) → term_judgement method_data (length octets) octets ≡ verdict.Whole → 0 < length octets
+some_octets [] e = absurd cc
+some_octets (octet ∷ octets) e = omega arith
 
-list_text-map : {A B : Type 0} (f : A → B) (text : B → List ℕ) (values : List A) → list_text text (map f values) ≡ list_text (λ v. text (f v)) values
-list_text-map f text [] = refl
-list_text-map f text (v ∷ vs) = rw (others-text f (codes ",") text vs) refl
+-- octets that are not METHOD-DATA
+pub none_seen : (octets : List ℕ) → IsNotWhole method_data octets → items_unless (method_data_refusal octets) octets ≡ None
+none_seen octets none =
+    none_unless (nat_lt 2147483647 (length octets)) (length octets == 0) _ _ (term_judgement method_data (length octets) octets) octets none
+    (λ e. value_is_decided method_data octets (grind (arith, nat_tests, e)))
 
--- the items are shown as what they are read as
-pub methods_shown : (items : Option (List PaData)) (read : Option (Value method_data)) → option_map (map pa_data_value) items ≡ read → or_dash (list_text (λ item. signed_decimal item.0)) read ≡ or_dash (list_text padata_text) items
-methods_shown None read e = rw (← e) refl
-methods_shown (Some items) read e = rw (← e) (list_text-map pa_data_value (λ item. signed_decimal item.0) items)
+-- and octets that are
+pub items_seen : (octets : List ℕ) (value : Value method_data) → length octets < 2 ^ 31 → IsViewOf method_data octets value → items_unless (method_data_refusal octets) octets ≡ Some value
+items_seen octets value short seen =
+    some_unless (nat_lt 2147483647 (length octets)) (length octets == 0) _ _ (term_judgement method_data (length octets) octets) octets
+    (grind (arith, nat_tests, short))
+    (grind (arith, nat_tests, some_octets octets seen.whole))
+    seen.whole
+    ∙ ap Some (sym seen.read)
+
+-- what holds of an option, and what follows of it
+pub match_as : {A : Type 0} (found : Option A) {none other_none : Type 0} {some other_some : A → Type 0} → (none → other_none) → ((a : A) → some a → other_some a) → MatchOption found none some → MatchOption found other_none other_some
+match_as None n s m = n m
+match_as (Some a) n s m = s a m

@@ -50,7 +50,7 @@ times_text c =
     ++ field (codes "end") (time_text c.endtime)
     ++ field (codes "renew") (time_text c.renew_till)
 
--- whether a credential that ends then has ended now, where a now is given
+-- whether a credential that ends then has ended now, if a now is given
 abbrev pub state_text : Option ℕ → ℕ → List ℕ
 state_text None endtime = codes "-"
 state_text (Some now) endtime = if nat_lt now endtime then codes "live" else codes "expired"

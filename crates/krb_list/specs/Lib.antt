@@ -1,4 +1,5 @@
 pub mod Text
+pub mod FileNames
 pub mod Time
 pub mod Refusals
 pub mod Keytabs
@@ -9,3 +10,4 @@ pub mod Streams
 pub mod Laws
 pub mod Examples
 pub mod MessageExamples
+pub mod inner

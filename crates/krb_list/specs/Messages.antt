@@ -32,7 +32,7 @@ use Rattle.krb_list.specs.Text.{field, line_feed, hex, escape, or_dash, list_tex
 abbrev pub in_realm : List ℕ → PrincipalName → List ℕ
 in_realm realm name = principal_text name.name realm
 
--- a client, where its name and its realm are both there
+-- a client, if its name and its realm are both there
 abbrev pub client_text : Option PrincipalName → Option (List ℕ) → List ℕ
 client_text (Some name) (Some realm) = in_realm realm name
 client_text name realm = codes "-"

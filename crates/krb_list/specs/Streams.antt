@@ -18,3 +18,7 @@ abbrev pub end_line : ℕ → End → List ℕ
 end_line messages Boundary = codes "end messages=" ++ decimal messages ++ line_feed
 end_line messages (Within present) = refused_line messages present Truncated
 end_line messages (Refused place reason) = refused_line messages place reason
+
+-- the last line of a listing that goes on after refusals, after n messages
+abbrev pub counted_end_line : ℕ → ℕ → List ℕ
+counted_end_line messages refused = codes "end messages=" ++ decimal messages ++ codes " refused=" ++ decimal refused ++ line_feed

@@ -22,12 +22,12 @@ escape_octet octet = if is_plain octet then octet ∷ [] else codes "\\x" ++ two
 abbrev pub escape : List ℕ → List ℕ
 escape octets = flat_map escape_octet octets
 
--- what each element gives, with a separator between two; another text where there is no element
+-- what each element gives, with a separator between two; another text if there is no element
 abbrev pub joined : {A : Type 0} → List ℕ → List ℕ → (A → List ℕ) → List A → List ℕ
 joined none separator text [] = none
 joined none separator text (first ∷ others) = text first ++ flat_map (λ other. separator ++ text other) others
 
--- the components joined by `/`, or `\-` where there is none
+-- the components joined by `/`, or `\-` if there is none
 abbrev pub components_text : List (List ℕ) → List ℕ
 components_text components = joined (codes "\\-") (codes "/") escape components
 

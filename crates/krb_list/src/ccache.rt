@@ -46,7 +46,7 @@ pub fn put_cache(
     put_field(line, "fields", &header.fields.as_slice().len())
 }
 
-/// The line of a cache with this header and this default principal, without its line feed.
+/// Returns the line of a cache with this header and this default principal, without its line feed.
 pub fn cache_line(
     alloc: Global,
     header: &Header,
@@ -82,7 +82,7 @@ pub fn put_cache_end(line: &mut String, credentials: u64) -> Result<(), AllocErr
     put_field(line, "credentials", &credentials)
 }
 
-/// The line of the end of a cache of this many credentials, without its line feed.
+/// Returns the line of the end of a cache of this many credentials, without its line feed.
 pub fn cache_end_line(alloc: Global, credentials: u64) -> Result<String, Memory>
     ensures { IfOk result (λ line. string_bytes line ≡ cache_end_text credentials) }
 {
@@ -104,9 +104,10 @@ pub fn put_ccache(lines: &mut String, ccache: &Ccache, now: Option<u32>) -> Resu
     lines.push_str("\n")
 }
 
-/// The lines of a cache: [`cache_line`], [`credential_line`](crate::credential_line) of each
-/// credential, in order, and [`cache_end_line`], each with a line feed after it. They show no octet of
-/// a key, which is a law: [`session_keys_are_not_shown`](crate::session_keys_are_not_shown).
+/// Returns the lines of a cache: [`cache_line`], [`credential_line`](crate::credential_line) of
+/// each credential, in order, and [`cache_end_line`], each with a line feed after it. They show no
+/// octet of a key, which is a law:
+/// [`session_keys_are_not_shown`](crate::session_keys_are_not_shown).
 pub fn ccache_lines(alloc: Global, ccache: &Ccache, now: Option<u32>) -> Result<String, Memory>
     ensures { IfOk result (λ text. string_bytes text ≡ ccache_lines now ccache.now) }
 {

@@ -62,7 +62,7 @@ fn put_before_flags(line: &mut String, credential: &Credential) -> Result<(), Al
     put_ascii(line, ending.octets())
 }
 
-/// Whether a credential that ends then has ended now, where a now is given.
+/// Returns whether a credential that ends then has ended now, if a now is given.
 fn state_name(now: Option<u32>, endtime: u32) -> Name
     ensures { result ≡ state_text now endtime }
 {
@@ -211,9 +211,9 @@ pub fn put_credential(
     put_with_state(line, now, credential, &ticket_view_of(credential))
 }
 
-/// The line of a credential, without its line feed. Where a now is given, in seconds since 1970, the
-/// credential is `live` if it ends later, and else `expired`. The line shows no octet of a key, which
-/// is a law: [`session_keys_are_not_shown`](crate::session_keys_are_not_shown).
+/// Returns the line of a credential, without its line feed. If a now is given, in seconds since
+/// 1970, the credential is `live` if it ends later, and else `expired`. The line shows no octet of
+/// a key, which is a law: [`session_keys_are_not_shown`](crate::session_keys_are_not_shown).
 pub fn credential_line(
     alloc: Global,
     credential: &Credential,

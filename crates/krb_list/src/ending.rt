@@ -36,7 +36,7 @@ ghost use Rattle.std.specs.Str.{IsAscii};
 ghost use Rattle.krb_list.specs.Time.{time_text};
 
 impl Ending {
-    /// No text yet.
+    /// Creates an ending without text.
     #[inline(always)]
     pub(crate) fn new() -> Ending
         ensures { result ≡ [] }
@@ -47,7 +47,7 @@ impl Ending {
         }
     }
 
-    /// The text.
+    /// Returns the text.
     #[inline(always)]
     pub(crate) fn octets(&self) -> &[u8]
         ensures text { result.now ≡ self.now }
@@ -138,7 +138,7 @@ impl Ending {
         if seconds == 0 {
             self.label("-");
         } else {
-            self.put(&moment(seconds));
+            self.put(moment(seconds).as_str().as_bytes());
         }
         self.label(label);
     }

@@ -1,13 +1,15 @@
 //! Octets as printable text.
 
-ghost use Rattle.std.specs.Prelude.{◌≡◌, ◌++◌, ◌<◌, false, OnOk, string_bytes};
-ghost use Rattle.std.specs.Fmt.{digit_glyph};
+ghost use Rattle.std.specs.Prelude.{◌≡◌, ◌++◌, ◌≤◌, OnOk, length, string_bytes};
 ghost use Rattle.std.specs.List.{list_all};
 ghost use Rattle.std.specs.Str.{IsAscii};
-ghost use Rattle.krb_list.specs.Text.{is_plain, two_hex, hex, escape_octet, escape};
+ghost use Rattle.krb_list.specs.Text.{is_plain, hex, escape_octet, escape};
 
 use std::alloc::AllocError;
 use std::str;
+
+/// How many octets become hexadecimal digits at once.
+const PIECE: usize = 16;
 
 /// In the table below, an octet that stands for itself.
 const Y: bool = true;
@@ -37,14 +39,14 @@ static PLAIN: [bool; 256] = [
 ];
 
 #[inline(always)]
-fn is_plain(octet: u8) -> bool
+pub(crate) fn is_plain(octet: u8) -> bool
     ensures { result ≡ is_plain octet }
 {
     PLAIN[usize::from(octet)]
 }
 
-/// Whether all octets stand for themselves. Each is looked at, which takes less than to stop at the
-/// first that does not: nearly all do.
+/// Returns whether all octets stand for themselves. Each is looked at, which takes less than to
+/// stop at the first that does not: nearly all do.
 #[inline(always)]
 fn are_plain(octets: &[u8]) -> bool
     ensures { result ≡ list_all is_plain octets.now }
@@ -56,36 +58,6 @@ fn are_plain(octets: &[u8]) -> bool
     plain
 }
 
-/// The hexadecimal digit of a number below 16, in lower case.
-fn hex_digit(number: u8) -> char
-    requires { number < 16 }
-    ensures { result ≡ digit_glyph false number }
-{
-    char::from(if number < 10 {
-        b'0' + number
-    } else {
-        b'a' - 10 + number
-    })
-}
-
-/// Appends an octet in two hexadecimal digits, in lower case.
-pub(crate) fn put_two_hex(line: &mut String, octet: u8) -> Result<(), AllocError>
-    ensures { OnOk result (string_bytes line.new ≡ string_bytes line.old ++ two_hex octet) }
-{
-    line.push(hex_digit(octet / 16))?;
-    line.push(hex_digit(octet % 16))
-}
-
-/// Appends octets in hexadecimal, with digits in lower case.
-pub(crate) fn put_hex(line: &mut String, octets: &[u8]) -> Result<(), AllocError>
-    ensures { OnOk result (string_bytes line.new ≡ string_bytes line.old ++ hex octets.now) }
-{
-    for octet in octets {
-        put_two_hex(line, *octet)?;
-    }
-    Ok(())
-}
-
 /// Appends octets of ASCII as they are.
 pub(crate) fn put_ascii(line: &mut String, octets: &[u8]) -> Result<(), AllocError>
     requires { IsAscii octets.now }
@@ -95,6 +67,29 @@ pub(crate) fn put_ascii(line: &mut String, octets: &[u8]) -> Result<(), AllocErr
     line.push_str(unsafe { str::from_utf8_unchecked(octets) })
 }
 
+/// Appends octets in hexadecimal, with digits in lower case.
+pub(crate) fn put_hex(line: &mut String, octets: &[u8]) -> Result<(), AllocError>
+    ensures { OnOk result (string_bytes line.new ≡ string_bytes line.old ++ hex octets.now) }
+{
+    for piece in octets.chunks(PIECE) {
+        put_hex_piece(line, piece)?;
+    }
+    Ok(())
+}
+
+/// Appends at most sixteen octets in hexadecimal.
+fn put_hex_piece(line: &mut String, octets: &[u8]) -> Result<(), AllocError>
+    requires { length octets.now ≤ PIECE }
+    ensures { OnOk result (string_bytes line.new ≡ string_bytes line.old ++ hex octets.now) }
+{
+    let mut room = [0; 2 * PIECE];
+    let digits = &mut room[..2 * octets.len()];
+    match hex::encode_to_slice(octets, digits) {
+        Ok(()) => put_ascii(line, digits),
+        Err(_) => unreachable!(),
+    }
+}
+
 fn put_octet(line: &mut String, octet: u8) -> Result<(), AllocError>
     ensures { OnOk result (string_bytes line.new ≡ string_bytes line.old ++ escape_octet octet) }
 {
@@ -102,11 +97,11 @@ fn put_octet(line: &mut String, octet: u8) -> Result<(), AllocError>
         line.push(char::from(octet))
     } else {
         line.push_str("\\x")?;
-        put_two_hex(line, octet)
+        put_hex(line, &[octet])
     }
 }
 
-/// Appends octets, each escaped where it does not stand for itself.
+/// Appends octets, each escaped if it does not stand for itself.
 #[inline(never)]
 fn put_each(line: &mut String, octets: &[u8]) -> Result<(), AllocError>
     ensures { OnOk result (string_bytes line.new ≡ string_bytes line.old ++ escape octets.now) }

@@ -95,7 +95,7 @@ impl Shown for Record {
     }
 }
 
-/// The line of a record, without its line feed. It shows no octet of a key, which is a law:
+/// Returns the line of a record, without its line feed. It shows no octet of a key, which is a law:
 /// [`keys_are_not_shown`](crate::keys_are_not_shown).
 pub fn record_line(alloc: Global, record: &Record) -> Result<String, Memory>
     ensures { IfOk result (λ line. string_bytes line ≡ record_text «record».now) }
@@ -105,7 +105,7 @@ pub fn record_line(alloc: Global, record: &Record) -> Result<String, Memory>
     Ok(line)
 }
 
-/// `yes` where a record of length 0 ends the keytab, else `no`.
+/// `yes` if a record of length 0 ends the keytab, else `no`.
 impl Shown for Stop {
     ghost text = { stop_text };
 
@@ -128,7 +128,7 @@ pub fn put_keytab_end(line: &mut String, records: u64, stop: &Stop) -> Result<()
     put_field(line, "zero", stop)
 }
 
-/// The line of the end of a keytab of this many records, without its line feed.
+/// Returns the line of the end of a keytab of this many records, without its line feed.
 pub fn keytab_end_line(alloc: Global, records: u64, stop: &Stop) -> Result<String, Memory>
     ensures { IfOk result (λ line. string_bytes line ≡ keytab_end_text records stop.now) }
 {
@@ -157,9 +157,9 @@ pub fn put_keytab(lines: &mut String, keytab: &Keytab) -> Result<(), AllocError>
     lines.push('\n')
 }
 
-/// The lines of a keytab: [`record_line`] of each record, in order, and [`keytab_end_line`], each
-/// with a line feed after it. They show no octet of a key, which is a law:
-/// [`keys_are_not_shown`](crate::keys_are_not_shown).
+/// Returns the lines of a keytab: [`record_line`] of each record, in order, and
+/// [`keytab_end_line`], each with a line feed after it. They show no octet of a key, which is a
+/// law: [`keys_are_not_shown`](crate::keys_are_not_shown).
 pub fn keytab_lines(alloc: Global, keytab: &Keytab) -> Result<String, Memory>
     ensures { IfOk result (λ text. string_bytes text ≡ keytab_lines keytab.now) }
 {

@@ -1,5 +1,5 @@
 //! Laws of the texts. Each is the contract of a function that does nothing.
-ghost use Rattle.krb_list.specs.Laws.{CacheEndIsOneLine, CacheIsOneLine, CredentialIsOneLine, CredentialKeyIsNotShown, DatesAreTheCalendars, EscapeIsGraphic, FileRefusalIsOneLine, KeysAreNotShown, KeytabEndIsOneLine, MessageIsOneLine, MessageRefusalIsOneLine, PrincipalTextTells, RecordIsOneLine, RecordKeyIsNotShown, SessionKeys3AreNotShown, SessionKeysAreNotShown, StreamEndIsOneLine};
+ghost use Rattle.krb_list.specs.Laws.{CacheEndIsOneLine, CacheIsOneLine, CredentialIsOneLine, CredentialKeyIsNotShown, DatesAreTheCalendars, EscapeIsGraphic, FileRefusalIsOneLine, KeysAreNotShown, KeytabEndIsOneLine, MessageIsOneLine, MessageRefusalIsOneLine, PrincipalTextTells, RecordIsOneLine, RecordKeyIsNotShown, SessionKeys3AreNotShown, SessionKeysAreNotShown, StreamEndIsOneLine, CountedStreamEndIsOneLine};
 
 /// Different components or realms have different texts.
 pub fn principal_text_tells()
@@ -34,6 +34,7 @@ pub fn end_is_one_line()
     ensures file { FileRefusalIsOneLine }
     ensures message { MessageRefusalIsOneLine }
     ensures stream { StreamEndIsOneLine }
+    ensures counted { CountedStreamEndIsOneLine }
 {}
 
 /// The date n days after 1970-01-01, found by counting, is the calendar's.

@@ -3,13 +3,11 @@
 ghost use Rattle.std.specs.Prelude.{◌≡◌, ◌++◌, List, ℕ, OnOk, string_bytes};
 ghost use Rattle.std.specs.List.{flat_map};
 ghost use Rattle.std.specs.Fmt.{decimal, signed_decimal};
-ghost use Rattle.krb_list.specs.Text.{escape, or_dash, list_text, joined, sealed_text, yes_or_no};
-ghost use Rattle.krb_list.specs.Messages.{flags_text, padata_text, address_text, checksum_text};
+ghost use Rattle.krb_list.specs.Text.{escape, or_dash, list_text, joined, yes_or_no};
 
-use crate::escape::{put_ascii, put_escaped, put_hex};
+use crate::escape::put_escaped;
 use itoa::{Buffer, Integer};
-use krb_der::{Flags, Int32, KString, KerberosTime, Many, Micros, Wide32};
-use krb_msg::{Checksum, EncryptedData, HostAddress, PaData};
+use krb_der::KString;
 use std::alloc::AllocError;
 use std::marker::Model;
 
@@ -111,57 +109,12 @@ impl Shown for i64 {
     }
 }
 
-impl Shown for Int32 {
-    ghost text = { signed_decimal };
-
-    fn put(&self, line: &mut String) -> Result<(), AllocError> {
-        put_number(line, self.get())
-    }
-}
-
-impl Shown for Wide32 {
-    ghost text = { signed_decimal };
-
-    fn put(&self, line: &mut String) -> Result<(), AllocError> {
-        put_number(line, self.get())
-    }
-}
-
-impl Shown for Micros {
-    ghost text = { decimal };
-
-    fn put(&self, line: &mut String) -> Result<(), AllocError> {
-        put_number(line, self.get())
-    }
-}
-
 /// `yes` or `no`.
 impl Shown for bool {
     ghost text = { yes_or_no };
 
     fn put(&self, line: &mut String) -> Result<(), AllocError> {
         line.push_str(if *self { "yes" } else { "no" })
-    }
-}
-
-/// Its fifteen characters.
-impl Shown for KerberosTime {
-    ghost text = { λ time. time };
-
-    fn put(&self, line: &mut String) -> Result<(), AllocError> {
-        put_ascii(line, self.octets())
-    }
-}
-
-/// The number of bits, `:` and the octets in hexadecimal.
-impl Shown for Flags {
-    ghost text = { flags_text };
-
-    fn put(&self, line: &mut String) -> Result<(), AllocError> {
-        let bits = 8 * self.octets().len() as u128 - u128::from(self.unused());
-        put_number(line, bits)?;
-        line.push(':')?;
-        put_hex(line, self.octets())
     }
 }
 
@@ -174,7 +127,7 @@ impl Shown for KString {
     }
 }
 
-/// `-` where there is none.
+/// `-` if there is none.
 impl<T: Shown> Shown for Option<T> {
     ghost text = { or_dash T.text };
 
@@ -183,59 +136,6 @@ impl<T: Shown> Shown for Option<T> {
             None => line.push('-'),
             Some(value) => value.put(line),
         }
-    }
-}
-
-/// The values in brackets, with commas between them.
-impl<T: Shown> Shown for Many<T> {
-    ghost text = { list_text T.text };
-
-    fn put(&self, line: &mut String) -> Result<(), AllocError> {
-        put_list(line, self.as_slice())
-    }
-}
-
-/// Its type alone.
-impl Shown for PaData {
-    ghost text = { padata_text };
-
-    fn put(&self, line: &mut String) -> Result<(), AllocError> {
-        self.padata_type.put(line)
-    }
-}
-
-/// The encryption type, the key version or `-`, and the number of cipher octets, with `:` between.
-impl Shown for EncryptedData {
-    ghost text = { sealed_text };
-
-    fn put(&self, line: &mut String) -> Result<(), AllocError> {
-        self.etype.put(line)?;
-        line.push(':')?;
-        self.kvno.put(line)?;
-        line.push(':')?;
-        put_number(line, self.cipher.as_slice().len())
-    }
-}
-
-/// The address type, `:` and the octets in hexadecimal.
-impl Shown for HostAddress {
-    ghost text = { address_text };
-
-    fn put(&self, line: &mut String) -> Result<(), AllocError> {
-        self.addr_type.put(line)?;
-        line.push(':')?;
-        put_hex(line, self.address.as_slice())
-    }
-}
-
-/// The checksum type, `:` and the number of octets.
-impl Shown for Checksum {
-    ghost text = { checksum_text };
-
-    fn put(&self, line: &mut String) -> Result<(), AllocError> {
-        self.cksumtype.put(line)?;
-        line.push(':')?;
-        put_number(line, self.checksum.as_slice().len())
     }
 }
 
@@ -251,7 +151,7 @@ fn put_others<T: Shown>(line: &mut String, separator: &str, values: &[T]) -> Res
     Ok(())
 }
 
-/// Appends the texts of the values, with the separator between two, or another text where there are none.
+/// Appends the texts of the values, with the separator between two, or another text if there are none.
 #[inline(always)]
 pub fn put_joined<T: Shown>(
     line: &mut String,

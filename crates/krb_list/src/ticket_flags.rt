@@ -3,7 +3,7 @@
 ghost use Rattle.std.specs.Prelude.{⊤, ◌≡◌, ◌∷◌, ◌++◌, [], OnOk, codes, string_bytes};
 ghost use Rattle.krb_list.specs.TicketFlags.{eight_hex, flag_name, names_text, others_text, ticket_flags_text};
 
-use crate::escape::put_two_hex;
+use crate::escape::put_hex;
 use crate::shown::Shown;
 use bitflags::{Flag, Flags, bitflag_items};
 use std::alloc::AllocError;
@@ -76,7 +76,7 @@ const NAMED: [u32; 13] = [
     TicketFlags::OK_AS_DELEGATE.0,
 ];
 
-/// The name of a flag.
+/// Returns the name of a flag.
 #[tactic(auto, unfolding(crate::specs::TicketFlags::flag_name))]
 fn flag_name(flag: u32) -> &'static str
     ensures { result.now ≡ flag_name flag }
@@ -99,7 +99,7 @@ fn flag_name(flag: u32) -> &'static str
 }
 
 /// Appends the names of the flags that are set, in order of bit number, with `,` between them, or `-`
-/// where there is none.
+/// if there is none.
 fn put_names(line: &mut String, flags: TicketFlags) -> Result<(), AllocError>
     ensures { OnOk result (string_bytes line.new ≡ string_bytes line.old ++ names_text flags.0) }
 {
@@ -117,14 +117,11 @@ fn put_names(line: &mut String, flags: TicketFlags) -> Result<(), AllocError>
     Ok(())
 }
 
-#[tactic(auto, unfolding(crate::specs::TicketFlags::eight_hex))]
+/// Appends a number in eight hexadecimal digits.
 fn put_eight_hex(line: &mut String, number: u32) -> Result<(), AllocError>
     ensures { OnOk result (string_bytes line.new ≡ string_bytes line.old ++ eight_hex number) }
 {
-    put_two_hex(line, (number / 16_777_216) as u8)?;
-    put_two_hex(line, (number / 65_536 % 256) as u8)?;
-    put_two_hex(line, (number / 256 % 256) as u8)?;
-    put_two_hex(line, (number % 256) as u8)
+    put_hex(line, &number.to_be_bytes())
 }
 
 fn put_others(line: &mut String, others: u32) -> Result<(), AllocError>
@@ -138,8 +135,8 @@ fn put_others(line: &mut String, others: u32) -> Result<(), AllocError>
     }
 }
 
-/// The names of the flags that are set, with `,` between them, or `-` where there is none; then `+`
-/// and eight hexadecimal digits where bits without a name are set.
+/// The names of the flags that are set, with `,` between them, or `-` if there is none; then `+`
+/// and eight hexadecimal digits if bits without a name are set.
 impl Shown for TicketFlags {
     ghost text = { λ flags. ticket_flags_text flags.0 };
 

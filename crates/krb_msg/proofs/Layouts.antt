@@ -101,12 +101,12 @@ fixed_taken number f p = record {
 }
 
 -- ---- a field that may be left out
--- what stands first, where more octets are there than those that follow
+-- what stands first, if more octets are there than those that follow
 first_of_part : (part rest : List ℕ) (octets : List ℕ) (octet : ℕ) → octets ≡ part ++ rest → length rest < length octets → get_or octets 0 0 ≡ octet → (more : List ℕ) × (part ≡ octet ∷ more)
 first_of_part [] rest octets octet e some first = absurd (omega (arith, some, ap length e))
 first_of_part (other ∷ part) rest octets octet e some first = (part, ap (λ o. o ∷ part) (sym (ap (λ (l : List ℕ). get_or l 0 0) e) ∙ first))
 
--- where its tag stands first, it is there
+-- if its tag stands first, it is there
 there : {octets : List ℕ} (index : ℕ) (term : Term) (fields : Fields) (rest : List ℕ) → not (may_begin (0xA0 + index) fields) ≡ true → length rest < length octets → get_or octets 0 0 ≡ 0xA0 + index → (value : Option (Value term)) (values : Values fields) → octets ≡ der_of_fields (Optional (Tagged index term) fields) (value, values) ++ rest → (that : Value term) × (value ≡ Some that)
 there index term fields rest apart some first (Some that) values e = (that, refl)
 there {octets = octets} index term fields rest apart some first None values e =
@@ -134,7 +134,7 @@ optional_taken index term fields apart (some, first) value values r = record {
   rest_within = r.rest_within;
 }
 
--- where another tag stands first, or none, it is left out
+-- if another tag stands first, or none, it is left out
 left_out : {octets : List ℕ} {after : ℕ} (index : ℕ) (term : Term) (fields : Fields) (rest : List ℕ) → (HasTag (0xA0 + index) octets after → ⊥) → length rest ≡ after → (value : Option (Value term)) (values : Values fields) → octets ≡ der_of_fields (Optional (Tagged index term) fields) (value, values) ++ rest → (value ≡ None) × (octets ≡ der_of_fields fields values ++ rest)
 left_out index term fields rest other left None values e = (refl, e)
 left_out index term fields rest other left (Some value) values e =
@@ -184,7 +184,7 @@ pub record Reads (term : Term) (octets : List ℕ) (after : ℕ) (taken : List (
 pub reads_none : {octets : List ℕ} {after : ℕ} (term : Term) → ItemsBegin term octets after → (taken : List (Value term)) → taken ≡ [] → Reads term octets after taken octets
 reads_none term f taken none = record { left = f; form = λ those end e l. (those, ap (λ l. l ++ those) (sym none), e); within = omega arith }
 
--- the first, where more octets are there than those that follow
+-- the first, if more octets are there than those that follow
 first_of : {octets : List ℕ} {after : ℕ} (term : Term) (values : List (Value term)) (end : List ℕ) → after < length octets → length end ≡ after → octets ≡ flat_map (der term) values ++ end → (value : Value term) × (more : List (Value term)) × (values ≡ value ∷ more) × (octets ≡ der term value ++ (flat_map (der term) more ++ end))
 first_of term [] end some left e = absurd (omega (arith, some, left, ap length e))
 first_of term (value ∷ values) end some left e = (value, values, refl, e ∙ append_assoc (der term value) (flat_map (der term) values) end)

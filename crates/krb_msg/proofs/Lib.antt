@@ -27,3 +27,10 @@ pub mod MessageRead
 pub mod Puts
 pub mod EachOctet
 pub mod Reasons
+pub mod Lengths
+pub mod FieldViews
+pub mod ItemViews
+pub mod WholeViews
+pub mod ShapeViews
+pub mod NotedViews
+pub mod MessageViews

@@ -16,7 +16,7 @@ use Rattle.krb_msg.specs.declared.krb_safe.KrbSafe.{KrbSafe}
 use Rattle.krb_msg.specs.declared.krb_cred.KrbCred.{KrbCred}
 use Rattle.krb_msg.specs.declared.krb_error.KrbError.{KrbError}
 
--- The notes by two tests are the same where the tests are.
+-- The notes by two tests are the same if the tests are.
 pub same_notes : {test other : Note → Bool} → ((note : Note) → test note ≡ other note) → notes_by test ≡ notes_by other
 same_notes same = rw (same HighOctet, same FewFlags, same Negative, same EmptyList) refl
 
@@ -36,7 +36,7 @@ any_none : {A : Type 0} (xs : List A) → list_any (λ (x : A). false) xs ≡ fa
 any_none [] = refl
 any_none (x ∷ xs) = any_none xs
 
-list_has-map : {A B : Type 0} (n : Note) (f : A → B) (xs : List A) → list_has n (map f xs) ≡ list_has n xs
+pub list_has-map : {A B : Type 0} (n : Note) (f : A → B) (xs : List A) → list_has n (map f xs) ≡ list_has n xs
 list_has-map EmptyList f [] = refl
 list_has-map EmptyList f (x ∷ xs) = refl
 list_has-map HighOctet f xs = refl

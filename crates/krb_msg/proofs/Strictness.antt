@@ -1,4 +1,4 @@
--- A value keeps the strict rules exactly where no note holds of it.
+-- A value keeps the strict rules exactly if no note holds of it.
 use Rattle.std.proofs.Common.{◌≡◌, ℕ, zero, suc, ◌+◌, ◌-◌, ◌*◌, ◌≤◌, ◌⊎◌, ◌↔◌, inl, inr, Bool, true, false, not, ◌&&◌, ◌||◌, ltb, leb, ℤ, pos, negsuc, List, [], ◌∷◌, length, Option, Some, None, refl, sym, ◌∙◌, ap, arith, leb-true, le-leb, lt-ltb}
 use Rattle.std.proofs.lemmas.Bool.{cases_Bool, and_parts, and_from, or_parts, le-ltb, ltb-false}
 use Rattle.std.specs.List.{list_all, list_any}

@@ -19,7 +19,7 @@ row_from terms (row ∷ rows) [] k none absent h le = absurd h
 row_from terms (row ∷ rows) (term ∷ others) zero none absent h le = h.0
 row_from terms (row ∷ rows) (term ∷ others) (suc k) none absent h le = row_from terms rows others k none absent h.1 (omega arith)
 
--- the row of a node, where the rows are those of the terms
+-- the row of a node, if the rows are those of the terms
 pub row_of : (rows : List Node) (node : ℕ) (none : Node) → RowsAre nodes rows nodes → node < length rows → IsRowOf nodes (get_or rows node none) (term_at node)
 unfolding term_in
 row_of rows node none h le = row_from nodes rows nodes node none _ h le

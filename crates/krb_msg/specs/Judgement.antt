@@ -22,7 +22,7 @@ after before Open = Open
 after before (Bad offset reason) = Bad (before + offset) reason
 after before (Done count) = Done (before + count)
 
--- where the part that comes after a number of octets is done, goes on with its count of octets
+-- if the part that comes after a number of octets is done, goes on with its count of octets
 abbrev pub then_after : ℕ → Outcome → (ℕ → Outcome) → Outcome
 then_after before Open next = Open
 then_after before (Bad offset reason) next = Bad (before + offset) reason

@@ -127,11 +127,11 @@ RefusalIsRight = (profile : Profile) (n : ℕ) (octets : List ℕ) (place : ℕ)
 abbrev pub DerIsPrefixFree : Type 0
 DerIsPrefixFree = (m other : Message) (x y : List ℕ) → message_der m ++ x ≡ message_der other ++ y → (m ≡ other) × (x ≡ y)
 
--- A message is in the strict profile exactly where it is in the lenient one and keeps the strict rules.
+-- A message is in the strict profile exactly if it is in the lenient one and keeps the strict rules.
 abbrev pub StrictIsNarrower : Type 0
 StrictIsNarrower = (m : Message) → IsInProfile Strict m ↔ (IsInProfile Lenient m × (is_strict m ≡ true))
 
--- A message keeps the strict rules exactly where none of the notes 1 to 4 holds.
+-- A message keeps the strict rules exactly if none of the notes 1 to 4 holds.
 abbrev pub StrictHasNoNotes : Type 0
 StrictHasNoNotes = (m : Message) → (is_strict m ≡ true) ↔ ((number : ℕ) → 1 ≤ number → number ≤ 4 → notes_have (notes_of m) number ≡ false)
 

@@ -13,4 +13,6 @@ pub mod Nodes
 pub mod Table
 pub mod Examples
 pub mod Reads
+pub mod Viewed
+pub mod Seen
 pub mod inner

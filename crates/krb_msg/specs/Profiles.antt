@@ -1,4 +1,4 @@
--- Profiles. A profile is a grammar: the terms of the strict one are those of the lenient one, narrowed. A value of a term is one of the narrowed term where it keeps the strict rules.
+-- Profiles. A profile is a grammar: the terms of the strict one are those of the lenient one, narrowed. A value of a term is one of the narrowed term if it keeps the strict rules.
 use Rattle.std.specs.Prelude.{ℤ, pos, negsuc, ◌+◌, ◌*◌, min, max, nat_lt, nat_le, Bool, true, false, not, ◌&&◌, ◌||◌, ◌==◌, if◌then◌else◌, length, map, Option, Some, None}
 use Rattle.std.specs.List.{list_all}
 use Rattle.std.specs.Option.{option_map}
@@ -20,7 +20,7 @@ not_negative (pos number) = pos number
 not_negative (negsuc number) = pos 0
 
 abbrev mutual
-  -- A term narrowed, of a field that is OPTIONAL or not. A UInt32 is not negative; a GeneralString has octets up to 7F (5.2.1); flags are 32 at least (5.2.8); a SEQUENCE OF that is OPTIONAL is not empty where it is there (5.4.1, 5.4.2).
+  -- A term narrowed, of a field that is OPTIONAL or not. A UInt32 is not negative; a GeneralString has octets up to 7F (5.2.1); flags are 32 at least (5.2.8); a SEQUENCE OF that is OPTIONAL is not empty if it is there (5.4.1, 5.4.2).
   pub narrowed : (optional : Bool) → Term → Term
   narrowed optional (Integer low high) = Integer (if is_unsigned high then not_negative low else low) high
   narrowed optional (Text greatest) = Text (min greatest 0x7F)

@@ -298,7 +298,7 @@ kind_term kind.KrbPriv = krb_priv
 kind_term kind.KrbCred = krb_cred
 kind_term kind.KrbError = krb_error
 
--- the kind whose messages begin with a tag, and any where none do
+-- the kind whose messages begin with a tag, and any if none do
 abbrev pub kind_of_tag : ℕ → Kind
 kind_of_tag tag = unwrap_or (kind_with_tag tag) kind.KrbError
 

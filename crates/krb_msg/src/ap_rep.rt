@@ -1,13 +1,17 @@
 //! AP-REP.
 
-ghost use Rattle.std.specs.Prelude.{◌≡◌, refl};
-ghost use Rattle.krb_msg.specs.Term.{der, Fits};
+ghost use Rattle.std.specs.Prelude.{◌≡◌, refl, ◌^◌, ◌<◌, true, length, MatchOption};
+ghost use Rattle.krb_msg.specs.Term.{der, Fits, tag_of};
 ghost use Rattle.krb_msg.specs.Grammar.{ap_rep};
 ghost use Rattle.krb_msg.specs.Views.{ap_rep_value, ap_rep_of};
 ghost use Rattle.krb_msg.specs.inner.Told.{begins, told};
+ghost use Rattle.krb_msg.specs.Seen.{ApRepLists, ap_rep_view_value};
+ghost use Rattle.krb_msg.specs.Viewed.{AreContents, AreNoContents};
 
-use crate::encrypted_data::EncryptedData;
-use crate::fields::{Application, Borrowed, Encode, End, Fixed, Held, Owned, Required, Sequence};
+use crate::encrypted_data::{EncryptedData, EncryptedDataView};
+use crate::fields::{
+    Application, Borrowed, Encode, End, Fixed, Held, Owned, Required, Sequence, View,
+};
 use crate::item::{Decode, Item};
 use crate::source::Source;
 use krb_der::Der;
@@ -21,6 +25,13 @@ pub struct ApRep {
     pub enc_part: EncryptedData,
 }
 
+/// A view of an AP-REP, whose strings and lists stay where they stand.
+#[derive(Clone, Copy)]
+pub struct ApRepView<'a> {
+    /// The sealed EncAPRepPart.
+    pub enc_part: EncryptedDataView<'a>,
+}
+
 /// Its fields.
 type Layout<H> = Application<
     15,
@@ -28,14 +39,14 @@ type Layout<H> = Application<
 >;
 
 impl ApRep {
-    /// The fields, borrowed.
+    /// Returns the fields, borrowed.
     fn layout(&self) -> Layout<Borrowed<'_>>
         ensures { ⟦<Layout<Borrowed<'static>> as Encode>⟧.value result ≡ ap_rep_value self.now }
     {
         Application(Sequence(Fixed(Fixed(Required(&self.enc_part, End)))))
     }
 
-    /// The value of its fields.
+    /// Returns the value of its fields.
     fn from_layout(layout: Layout<Owned>) -> ApRep
         ensures { ap_rep_value result ≡ ⟦<Layout<Owned> as Decode>⟧.value layout }
     {
@@ -77,4 +88,43 @@ impl Item for ApRep {
     ghost form = { λ it. refl };
 
     ghost fits = { λ it fits. fits };
+}
+
+/// What is seen of its fields.
+type Seen<'a> = (EncryptedDataView<'a>, ());
+
+impl<'a> ApRepView<'a> {
+    /// Returns the view of the fields that are seen.
+    #[inline(always)]
+    fn of_fields(seen: &Seen<'a>) -> ApRepView<'a>
+        ensures value { ap_rep_view_value result ≡ ⟦<Layout<Owned> as View<'static>>⟧.value seen.now }
+        ensures lists { ⟦<Layout<Owned> as View<'static>>⟧.Lists seen.now → ApRepLists result }
+    {
+        ApRepView { enc_part: seen.0 }
+    }
+}
+
+impl<'a> View<'a> for ApRep {
+    type Of = ApRepView<'a>;
+
+    ghost term = { ap_rep };
+
+    ghost value = { ap_rep_view_value };
+
+    ghost Lists = { ApRepLists };
+
+    #[inline(always)]
+    fn tag() -> u8
+        ensures { result ≡ tag_of ap_rep }
+    {
+        0x6F
+    }
+
+    #[inline(always)]
+    fn view(contents: &'a [u8]) -> Option<ApRepView<'a>> {
+        match Layout::<Owned>::view(contents) {
+            Some(seen) => Some(ApRepView::of_fields(&seen)),
+            None => None,
+        }
+    }
 }

@@ -1,16 +1,21 @@
 //! AP-REQ.
 
-ghost use Rattle.std.specs.Prelude.{◌≡◌, refl};
-ghost use Rattle.krb_msg.specs.Term.{der, Fits};
+ghost use Rattle.std.specs.Prelude.{◌≡◌, refl, ◌^◌, ◌<◌, true, length, MatchOption};
+ghost use Rattle.krb_msg.specs.Term.{der, Fits, tag_of};
 ghost use Rattle.krb_msg.specs.Grammar.{ap_req};
 ghost use Rattle.krb_msg.specs.Views.{ap_req_value, ap_req_of};
 ghost use Rattle.krb_msg.specs.inner.Told.{begins, told};
+ghost use Rattle.krb_msg.specs.Seen.{ap_req_view_value, ApReqLists};
+ghost use Rattle.krb_msg.specs.Viewed.{AreContents, AreNoContents};
 
-use crate::encrypted_data::EncryptedData;
-use crate::fields::{Application, Borrowed, Encode, End, Fixed, Held, Owned, Required, Sequence};
+use crate::encrypted_data::{EncryptedData, EncryptedDataView};
+use crate::fields::{
+    Application, Borrowed, Encode, End, Fixed, Held, Owned, Required, Sequence, View,
+};
 use crate::item::{Decode, Item};
 use crate::source::Source;
-use crate::ticket::Ticket;
+use crate::ticket::{Ticket, TicketView};
+use crate::view::scalars::FlagsView;
 use krb_der::{Der, Flags};
 use std::alloc::{AllocError, Global};
 
@@ -24,6 +29,17 @@ pub struct ApReq {
     pub ticket: Ticket,
     /// The sealed Authenticator.
     pub authenticator: EncryptedData,
+}
+
+/// A view of an AP-REQ, whose strings and lists stay where they stand.
+#[derive(Clone, Copy)]
+pub struct ApReqView<'a> {
+    /// APOptions.
+    pub ap_options: FlagsView<'a>,
+    /// The ticket for the server.
+    pub ticket: TicketView<'a>,
+    /// The sealed Authenticator.
+    pub authenticator: EncryptedDataView<'a>,
 }
 
 /// Its fields.
@@ -47,7 +63,7 @@ type Layout<H> = Application<
 >;
 
 impl ApReq {
-    /// The fields, borrowed.
+    /// Returns the fields, borrowed.
     fn layout(&self) -> Layout<Borrowed<'_>>
         ensures { ⟦<Layout<Borrowed<'static>> as Encode>⟧.value result ≡ ap_req_value self.now }
     {
@@ -57,7 +73,7 @@ impl ApReq {
         )))))
     }
 
-    /// The value of its fields.
+    /// Returns the value of its fields.
     fn from_layout(layout: Layout<Owned>) -> ApReq
         ensures { ap_req_value result ≡ ⟦<Layout<Owned> as Decode>⟧.value layout }
     {
@@ -107,4 +123,47 @@ impl Item for ApReq {
     ghost form = { λ it. refl };
 
     ghost fits = { λ it fits. fits };
+}
+
+/// What is seen of its fields.
+type Seen<'a> = (FlagsView<'a>, (TicketView<'a>, (EncryptedDataView<'a>, ())));
+
+impl<'a> ApReqView<'a> {
+    /// Returns the view of the fields that are seen.
+    #[inline(always)]
+    fn of_fields(seen: &Seen<'a>) -> ApReqView<'a>
+        ensures value { ap_req_view_value result ≡ ⟦<Layout<Owned> as View<'static>>⟧.value seen.now }
+        ensures lists { ⟦<Layout<Owned> as View<'static>>⟧.Lists seen.now → ApReqLists result }
+    {
+        ApReqView {
+            ap_options: seen.0,
+            ticket: seen.1.0,
+            authenticator: seen.1.1.0,
+        }
+    }
+}
+
+impl<'a> View<'a> for ApReq {
+    type Of = ApReqView<'a>;
+
+    ghost term = { ap_req };
+
+    ghost value = { ap_req_view_value };
+
+    ghost Lists = { ApReqLists };
+
+    #[inline(always)]
+    fn tag() -> u8
+        ensures { result ≡ tag_of ap_req }
+    {
+        0x6E
+    }
+
+    #[inline(always)]
+    fn view(contents: &'a [u8]) -> Option<ApReqView<'a>> {
+        match Layout::<Owned>::view(contents) {
+            Some(seen) => Some(ApReqView::of_fields(&seen)),
+            None => None,
+        }
+    }
 }

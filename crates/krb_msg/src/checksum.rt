@@ -1,12 +1,14 @@
 //! Checksum.
 
-ghost use Rattle.std.specs.Prelude.{◌≡◌, refl};
-ghost use Rattle.krb_msg.specs.Term.{der, Fits};
+ghost use Rattle.std.specs.Prelude.{◌≡◌, refl, ◌^◌, ◌<◌, true, length, MatchOption};
+ghost use Rattle.krb_msg.specs.Term.{der, Fits, tag_of};
 ghost use Rattle.krb_msg.specs.Grammar.{checksum as checksum_term};
 ghost use Rattle.krb_msg.specs.Views.{checksum_value, checksum_of};
 ghost use Rattle.krb_msg.specs.inner.Told.{begins, told};
+ghost use Rattle.krb_msg.specs.Seen.{ChecksumLists, checksum_view_value};
+ghost use Rattle.krb_msg.specs.Viewed.{AreContents, AreNoContents};
 
-use crate::fields::{Borrowed, Encode, End, Held, Owned, Required, Sequence};
+use crate::fields::{Borrowed, Encode, End, Held, Owned, Required, Sequence, View};
 use crate::item::{Decode, Item};
 use crate::source::Source;
 use krb_der::{Der, Int32, Octets};
@@ -21,18 +23,27 @@ pub struct Checksum {
     pub checksum: Octets,
 }
 
+/// A view of a Checksum, whose strings and lists stay where they stand.
+#[derive(Clone, Copy)]
+pub struct ChecksumView<'a> {
+    /// How it is made.
+    pub cksumtype: i64,
+    /// Its octets.
+    pub checksum: &'a [u8],
+}
+
 /// Its fields.
 type Layout<H> = Sequence<Required<0, Held<H, Int32>, Required<1, Held<H, Octets>, End>>>;
 
 impl Checksum {
-    /// The fields, borrowed.
+    /// Returns the fields, borrowed.
     fn layout(&self) -> Layout<Borrowed<'_>>
         ensures { ⟦<Layout<Borrowed<'static>> as Encode>⟧.value result ≡ checksum_value self.now }
     {
         Sequence(Required(&self.cksumtype, Required(&self.checksum, End)))
     }
 
-    /// The value of its fields.
+    /// Returns the value of its fields.
     fn from_layout(layout: Layout<Owned>) -> Checksum
         ensures { checksum_value result ≡ ⟦<Layout<Owned> as Decode>⟧.value layout }
     {
@@ -77,4 +88,32 @@ impl Item for Checksum {
     ghost form = { λ it. refl };
 
     ghost fits = { λ it fits. fits };
+}
+
+impl<'a> View<'a> for Checksum {
+    type Of = ChecksumView<'a>;
+
+    ghost term = { checksum_term };
+
+    ghost value = { checksum_view_value };
+
+    ghost Lists = { ChecksumLists };
+
+    #[inline(always)]
+    fn tag() -> u8
+        ensures { result ≡ tag_of checksum_term }
+    {
+        0x30
+    }
+
+    #[inline(always)]
+    fn view(contents: &'a [u8]) -> Option<ChecksumView<'a>> {
+        match Layout::<Owned>::view(contents) {
+            Some((cksumtype, (checksum, ()))) => Some(ChecksumView {
+                cksumtype,
+                checksum,
+            }),
+            None => None,
+        }
+    }
 }

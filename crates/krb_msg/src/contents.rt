@@ -4,8 +4,8 @@ ghost use Rattle.std.specs.Prelude.{◌≡◌};
 ghost use Rattle.krb_msg.specs.Term.{Bits};
 ghost use Rattle.krb_msg.specs.Judgement.{time_octet, has_size, is_padded as padded};
 
-/// Whether the first nine bits are equal, as they are not in an INTEGER of the fewest octets (X.690,
-/// 8.3.2).
+/// Returns whether the first nine bits are equal, as they are not in an INTEGER of the fewest
+/// octets (X.690, 8.3.2).
 #[inline(always)]
 pub fn is_padded(octets: &[u8]) -> bool
     ensures { result ≡ padded octets.now }
@@ -16,8 +16,8 @@ pub fn is_padded(octets: &[u8]) -> bool
     }
 }
 
-/// Whether an octet may stand at a place of a KerberosTime, 0 to 14: a digit, and at the last a Z
-/// (RFC 4120, 5.2.3).
+/// Returns whether an octet may stand at a place of a KerberosTime, 0 to 14: a digit, and at the
+/// last a Z (RFC 4120, 5.2.3).
 #[inline(always)]
 pub fn is_time_octet(place: usize, octet: u8) -> bool
     ensures { result ≡ time_octet place octet }
@@ -29,8 +29,8 @@ pub fn is_time_octet(place: usize, octet: u8) -> bool
     }
 }
 
-/// Whether contents of a size can hold `least` bits, after the count of the unused ones (X.690,
-/// 8.6.2).
+/// Returns whether contents of a size can hold `least` bits, after the count of the unused ones
+/// (X.690, 8.6.2).
 #[inline(always)]
 pub fn has_bits(least: u8, size: u32) -> bool
     ensures { result ≡ has_size (Bits least) size }

@@ -19,7 +19,7 @@ use crate::message::{Kind, Message};
 use crate::source::Source;
 use std::alloc::{AllocError, Global};
 
-/// The message of a kind whose octets these are. Nothing is judged again.
+/// Returns the message of a kind whose octets these are. Nothing is judged again.
 pub fn decode<S: Source>(alloc: Global, kind: Kind, octets: S) -> Result<Message, AllocError>
     requires short { length (S.octets octets) < 2 ^ 31 }
     requires form { IsDer (kind_term kind) (S.octets octets) }
@@ -39,7 +39,8 @@ pub fn decode<S: Source>(alloc: Global, kind: Kind, octets: S) -> Result<Message
     }
 }
 
-/// The kind of the message whose octets these are, which are judged whole. It takes no memory.
+/// Returns the kind of the message whose octets these are, which are judged whole. It takes no
+/// memory.
 pub fn whole_kind(octets: &[u8]) -> Kind
     requires short { length octets.now < 2 ^ 31 }
     requires whole { judgement Lenient (length octets.now) octets.now ≡ Whole }
@@ -48,14 +49,14 @@ pub fn whole_kind(octets: &[u8]) -> Kind
     kind(octets[0])
 }
 
-/// The kind of the messages that begin with a tag octet (RFC 4120, 5.10).
+/// Returns the kind of the messages that begin with a tag octet (RFC 4120, 5.10).
 fn kind(tag: u8) -> Kind
     ensures { result ≡ kind_of_tag tag }
 {
     Kind::of_tag(tag).unwrap_or(Kind::KrbError)
 }
 
-/// The value whose octets these are. Nothing is judged again.
+/// Returns the value whose octets these are. Nothing is judged again.
 pub fn decode_whole<T: Decode, S: Source>(alloc: Global, octets: S) -> Result<T, AllocError>
     requires short { length (S.octets octets) < 2 ^ 31 }
     requires unambiguous { is_unambiguous T.term ≡ true }

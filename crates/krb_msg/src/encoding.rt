@@ -34,7 +34,7 @@ impl From<AllocError> for EncodeFault {
     }
 }
 
-/// The number of DER octets of a message, and `None` where they are more than 2147483647.
+/// Returns the number of DER octets of a message, and `None` if they are more than 2147483647.
 pub fn size(message: &Message) -> Option<u32>
     ensures value { IfSome result (λ size. size ≡ length (message_der message.now)) }
     ensures in_profile { IfSome result (λ _. IsInProfile Lenient message.now) }
@@ -48,8 +48,8 @@ pub fn size(message: &Message) -> Option<u32>
     }
 }
 
-/// The DER octets of a message, in a vector of exactly that capacity. `TooLong` is decided first;
-/// then memory is taken once.
+/// Returns the DER octets of a message, in a vector of exactly that capacity. `TooLong` is decided
+/// first; then memory is taken once.
 pub fn encode(alloc: Global, message: &Message) -> Result<Vec<u8>, EncodeFault>
     ensures octets { IfOk result (λ octets. octets.items ≡ message_der message.now) }
     ensures in_profile { IfOk result (λ _. IsInProfile Lenient message.now) }

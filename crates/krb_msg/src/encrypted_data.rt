@@ -1,12 +1,14 @@
 //! EncryptedData.
 
-ghost use Rattle.std.specs.Prelude.{◌≡◌, refl};
-ghost use Rattle.krb_msg.specs.Term.{der, Fits};
+ghost use Rattle.std.specs.Prelude.{◌≡◌, refl, ◌^◌, ◌<◌, true, length, MatchOption};
+ghost use Rattle.krb_msg.specs.Term.{der, Fits, tag_of};
 ghost use Rattle.krb_msg.specs.Grammar.{encrypted_data};
 ghost use Rattle.krb_msg.specs.Views.{encrypted_data_value, encrypted_data_of};
 ghost use Rattle.krb_msg.specs.inner.Told.{begins, told};
+ghost use Rattle.krb_msg.specs.Seen.{EncryptedDataLists, encrypted_data_view_value};
+ghost use Rattle.krb_msg.specs.Viewed.{AreContents, AreNoContents};
 
-use crate::fields::{Borrowed, Encode, End, Held, Optional, Owned, Required, Sequence};
+use crate::fields::{Borrowed, Encode, End, Held, Optional, Owned, Required, Sequence, View};
 use crate::item::{Decode, Item};
 use crate::source::Source;
 use krb_der::{Der, Int32, Octets, Wide32};
@@ -17,10 +19,21 @@ use std::alloc::{AllocError, Global};
 pub struct EncryptedData {
     /// The encryption type (RFC 3961), of which none is refused.
     pub etype: Int32,
-    /// The version of the key, where it is said.
+    /// The version of the key, if it is said.
     pub kvno: Option<Wide32>,
     /// The sealed octets.
     pub cipher: Octets,
+}
+
+/// A view of an EncryptedData, whose strings and lists stay where they stand.
+#[derive(Clone, Copy)]
+pub struct EncryptedDataView<'a> {
+    /// The encryption type (RFC 3961), of which none is refused.
+    pub etype: i64,
+    /// The version of the key, if it is said.
+    pub kvno: Option<i64>,
+    /// The sealed octets.
+    pub cipher: &'a [u8],
 }
 
 /// Its fields.
@@ -29,7 +42,7 @@ type Layout<H> = Sequence<
 >;
 
 impl EncryptedData {
-    /// The fields, borrowed.
+    /// Returns the fields, borrowed.
     fn layout(&self) -> Layout<Borrowed<'_>>
         ensures { ⟦<Layout<Borrowed<'static>> as Encode>⟧.value result ≡ encrypted_data_value self.now }
     {
@@ -39,7 +52,7 @@ impl EncryptedData {
         ))
     }
 
-    /// The value of its fields.
+    /// Returns the value of its fields.
     fn from_layout(layout: Layout<Owned>) -> EncryptedData
         ensures { encrypted_data_value result ≡ ⟦<Layout<Owned> as Decode>⟧.value layout }
     {
@@ -85,4 +98,33 @@ impl Item for EncryptedData {
     ghost form = { λ it. refl };
 
     ghost fits = { λ it fits. fits };
+}
+
+impl<'a> View<'a> for EncryptedData {
+    type Of = EncryptedDataView<'a>;
+
+    ghost term = { encrypted_data };
+
+    ghost value = { encrypted_data_view_value };
+
+    ghost Lists = { EncryptedDataLists };
+
+    #[inline(always)]
+    fn tag() -> u8
+        ensures { result ≡ tag_of encrypted_data }
+    {
+        0x30
+    }
+
+    #[inline(always)]
+    fn view(contents: &'a [u8]) -> Option<EncryptedDataView<'a>> {
+        match Layout::<Owned>::view(contents) {
+            Some((etype, (kvno, (cipher, ())))) => Some(EncryptedDataView {
+                etype,
+                kvno,
+                cipher,
+            }),
+            None => None,
+        }
+    }
 }

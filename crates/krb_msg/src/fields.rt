@@ -1,13 +1,15 @@
 //! The fields of a type, said once as a type like
-//! `Sequence<Required<0, Int32, Optional<1, Wide32, End>>>`, by which its values are encoded and decoded
-//! (X.690, 8.9 and 8.14).
+//! `Sequence<Required<0, Int32, Optional<1, Wide32, End>>>`, by which its values are encoded, decoded
+//! and viewed (X.690, 8.9 and 8.14).
 
 mod decode;
 mod encode;
+mod view;
 
 pub use decode::DecodeFields;
 pub use encode::{Encode, EncodeFields};
 use std::marker::PhantomData;
+pub use view::{View, ViewFields};
 
 /// The end of a list of fields.
 #[derive(Drop)]

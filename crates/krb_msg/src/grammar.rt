@@ -459,7 +459,7 @@ pub fn tables()
     ensures strict { map term_at STRICT ≡ messages Profile.Strict }
 {}
 
-/// The rows of [`GRAMMAR`]: each is that of the term at its place.
+/// Returns the rows of [`GRAMMAR`]: each is that of the term at its place.
 #[inline(always)]
 pub fn rows() -> &'static [Node]
     ensures { RowsAre nodes result.now nodes }
@@ -467,7 +467,7 @@ pub fn rows() -> &'static [Node]
     &GRAMMAR
 }
 
-/// The row of a node, in rows that are those of the terms.
+/// Returns the row of a node, in rows that are those of the terms.
 #[inline(always)]
 fn row_in(rows: &[Node], node: u16) -> Node
     requires known { IsNode node }
@@ -477,7 +477,7 @@ fn row_in(rows: &[Node], node: u16) -> Node
     rows[node as usize]
 }
 
-/// The row of a node in [`GRAMMAR`], which is that of its term.
+/// Returns the row of a node in [`GRAMMAR`], which is that of its term.
 #[inline(always)]
 pub fn row_at(node: u16) -> Node
     requires { IsNode node }
@@ -486,7 +486,7 @@ pub fn row_at(node: u16) -> Node
     row_in(rows(), node)
 }
 
-/// The tag octet of a node's term.
+/// Returns the tag octet of a node's term.
 pub fn tag_of(node: u16) -> u8
     requires { IsNode node }
     ensures { result ≡ term_tag (term_at node) }
@@ -494,7 +494,7 @@ pub fn tag_of(node: u16) -> u8
     row_at(node).tag
 }
 
-/// What the contents of a node's term are.
+/// Returns what the contents of a node's term are.
 pub fn form_of(node: u16) -> Form
     requires { IsNode node }
     ensures { IsFormOf nodes result (term_at node) }
@@ -502,7 +502,7 @@ pub fn form_of(node: u16) -> Form
     row_at(node).form
 }
 
-/// The node of the message of a profile that begins with a tag octet.
+/// Returns the node of the message of a profile that begins with a tag octet.
 pub fn message_of(profile: Profile, tag: u8) -> Option<u16>
     ensures { IsMessageOf (messages profile) tag result }
 {
@@ -512,7 +512,7 @@ pub fn message_of(profile: Profile, tag: u8) -> Option<u16>
     }
 }
 
-/// The node of the message that begins with a tag octet, of those of some nodes.
+/// Returns the node of the message that begins with a tag octet, of those of some nodes.
 fn message_among(chosen: &[u16], tag: u8) -> Option<u16>
     requires { AllByRecursion IsNode chosen.now }
     ensures { IsMessageOf (map term_at chosen.now) tag result }

@@ -1,12 +1,14 @@
 //! HostAddress.
 
-ghost use Rattle.std.specs.Prelude.{◌≡◌, refl};
-ghost use Rattle.krb_msg.specs.Term.{der, Fits};
+ghost use Rattle.std.specs.Prelude.{◌≡◌, refl, ◌^◌, ◌<◌, true, length, MatchOption};
+ghost use Rattle.krb_msg.specs.Term.{der, Fits, tag_of};
 ghost use Rattle.krb_msg.specs.Grammar.{host_address};
 ghost use Rattle.krb_msg.specs.Views.{host_address_value, host_address_of};
 ghost use Rattle.krb_msg.specs.inner.Told.{begins, told};
+ghost use Rattle.krb_msg.specs.Seen.{HostAddressLists, host_address_view_value};
+ghost use Rattle.krb_msg.specs.Viewed.{AreContents, AreNoContents};
 
-use crate::fields::{Borrowed, Encode, End, Held, Owned, Required, Sequence};
+use crate::fields::{Borrowed, Encode, End, Held, Owned, Required, Sequence, View};
 use crate::item::{Decode, Item};
 use crate::source::Source;
 use krb_der::{Der, Int32, Octets};
@@ -21,18 +23,27 @@ pub struct HostAddress {
     pub address: Octets,
 }
 
+/// A view of a HostAddress, whose strings and lists stay where they stand.
+#[derive(Clone, Copy)]
+pub struct HostAddressView<'a> {
+    /// What kind of address it is (7.5.3).
+    pub addr_type: i64,
+    /// The address.
+    pub address: &'a [u8],
+}
+
 /// Its fields.
 type Layout<H> = Sequence<Required<0, Held<H, Int32>, Required<1, Held<H, Octets>, End>>>;
 
 impl HostAddress {
-    /// The fields, borrowed.
+    /// Returns the fields, borrowed.
     fn layout(&self) -> Layout<Borrowed<'_>>
         ensures { ⟦<Layout<Borrowed<'static>> as Encode>⟧.value result ≡ host_address_value self.now }
     {
         Sequence(Required(&self.addr_type, Required(&self.address, End)))
     }
 
-    /// The value of its fields.
+    /// Returns the value of its fields.
     fn from_layout(layout: Layout<Owned>) -> HostAddress
         ensures { host_address_value result ≡ ⟦<Layout<Owned> as Decode>⟧.value layout }
     {
@@ -74,4 +85,29 @@ impl Item for HostAddress {
     ghost form = { λ it. refl };
 
     ghost fits = { λ it fits. fits };
+}
+
+impl<'a> View<'a> for HostAddress {
+    type Of = HostAddressView<'a>;
+
+    ghost term = { host_address };
+
+    ghost value = { host_address_view_value };
+
+    ghost Lists = { HostAddressLists };
+
+    #[inline(always)]
+    fn tag() -> u8
+        ensures { result ≡ tag_of host_address }
+    {
+        0x30
+    }
+
+    #[inline(always)]
+    fn view(contents: &'a [u8]) -> Option<HostAddressView<'a>> {
+        match Layout::<Owned>::view(contents) {
+            Some((addr_type, (address, ()))) => Some(HostAddressView { addr_type, address }),
+            None => None,
+        }
+    }
 }

@@ -17,8 +17,8 @@ pub trait Decode: Drop {
     /// A value of the type, as one of the term.
     ghost value: { Self → Value term };
 
-    /// The value whose DER stands first, and what follows it. Nothing is judged again, and each
-    /// string of octets is copied once.
+    /// Returns the value whose DER stands first, and what follows it. Nothing is judged again, and
+    /// each string of octets is copied once.
     fn decode<S: Source>(alloc: Global, front: S) -> Result<(Self, S), AllocError>
         requires short { length (S.octets front) < 2 ^ 31 }
         requires unambiguous { is_unambiguous term ≡ true }

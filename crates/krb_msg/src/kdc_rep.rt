@@ -1,6 +1,6 @@
 //! KDC-REP.
 
-ghost use Rattle.std.specs.Prelude.{◌≡◌, ◌+◌, ◌^◌, ◌<◌, ◌≤◌, ◌++◌, true, IfOk, length};
+ghost use Rattle.std.specs.Prelude.{◌≡◌, ◌+◌, ◌^◌, ◌<◌, ◌≤◌, ◌++◌, true, IfOk, length, MatchOption};
 ghost use Rattle.std.specs.Vec.{vec_len, vec_capacity};
 ghost use Rattle.krb_der.specs.Puts.{Puts};
 ghost use Rattle.krb_msg.specs.Shape.{has_octet_tags};
@@ -9,17 +9,21 @@ ghost use Rattle.krb_msg.specs.Grammar.{kdc_rep};
 ghost use Rattle.krb_msg.specs.Reads.{IsDer};
 ghost use Rattle.krb_msg.specs.inner.Fitting.{IsSized};
 ghost use Rattle.krb_msg.specs.Views.{kdc_rep_value};
+ghost use Rattle.krb_msg.specs.Seen.{kdc_rep_view_value, KdcRepLists};
+ghost use Rattle.krb_msg.specs.Viewed.{IsNotWhole, IsViewOf};
 
 use crate::decoding::decode_whole;
-use crate::encrypted_data::EncryptedData;
+use crate::encrypted_data::{EncryptedData, EncryptedDataView};
 use crate::fields::{
-    Application, Borrowed, Encode, End, Fixed, Held, Optional, Owned, Required, Sequence,
+    Application, Borrowed, Encode, End, Fixed, Held, Optional, Owned, Required, Sequence, View,
 };
 use crate::item::Decode;
 use crate::pa_data::PaData;
-use crate::principal_name::PrincipalName;
+use crate::principal_name::{PrincipalName, PrincipalNameView};
 use crate::source::Source;
-use crate::ticket::Ticket;
+use crate::ticket::{Ticket, TicketView};
+use crate::view::items::ItemsView;
+use crate::view::view_whole;
 use krb_der::{KString, Many};
 use std::alloc::{AllocError, Global};
 
@@ -27,7 +31,7 @@ use std::alloc::{AllocError, Global};
 /// their message type are fixed, and so not kept; so a KDC-REP has octets only as one or the other.
 #[derive(PartialEq, Eq, Debug, Drop)]
 pub struct KdcRep {
-    /// Pre-authentication data, where there is some.
+    /// Pre-authentication data, if there is some.
     pub padata: Option<Many<PaData>>,
     /// The realm of the client.
     pub crealm: KString,
@@ -37,6 +41,21 @@ pub struct KdcRep {
     pub ticket: Ticket,
     /// The sealed EncASRepPart or EncTGSRepPart.
     pub enc_part: EncryptedData,
+}
+
+/// A view of a KDC-REP, whose strings and lists stay where they stand.
+#[derive(Clone, Copy)]
+pub struct KdcRepView<'a> {
+    /// Pre-authentication data, if there is some.
+    pub padata: Option<ItemsView<'a>>,
+    /// The realm of the client.
+    pub crealm: &'a [u8],
+    /// The client.
+    pub cname: PrincipalNameView<'a>,
+    /// The ticket that is issued.
+    pub ticket: TicketView<'a>,
+    /// The sealed EncASRepPart or EncTGSRepPart.
+    pub enc_part: EncryptedDataView<'a>,
 }
 
 /// Its fields, in a message whose number and whose message type are `N`.
@@ -68,7 +87,7 @@ type Layout<H, const N: u8> = Application<
 >;
 
 impl KdcRep {
-    /// The fields, borrowed.
+    /// Returns the fields, borrowed.
     fn layout<const N: u8>(&self) -> Layout<Borrowed<'_>, N>
         ensures { ⟦<Layout<Borrowed<'static>, N> as Encode>⟧.value result ≡ kdc_rep_value N self.now }
     {
@@ -84,7 +103,7 @@ impl KdcRep {
         )))))
     }
 
-    /// The value of its fields.
+    /// Returns the value of its fields.
     fn from_layout<const N: u8>(layout: Layout<Owned, N>) -> KdcRep
         ensures { kdc_rep_value N result ≡ ⟦<Layout<Owned, N> as Decode>⟧.value layout.entry }
     {
@@ -112,7 +131,7 @@ impl KdcRep {
         }
     }
 
-    /// The number of DER octets in a message; 2147483648 where there are more. Its value fits
+    /// Returns the number of DER octets in a message; 2147483648 if there are more. Its value fits
     /// the term.
     pub(crate) fn size<const N: u8>(&self) -> u64
         ensures { IsSized (ApplicationTerm N (kdc_rep N)) (kdc_rep_value N self.now) result }
@@ -131,7 +150,7 @@ impl KdcRep {
         self.layout::<N>().put(out);
     }
 
-    /// The value in the message of a number and a message type whose octets these are.
+    /// Returns the value in the message of a number and a message type whose octets these are.
     pub(crate) fn decode<const N: u8, S: Source>(
         alloc: Global,
         octets: S,
@@ -142,5 +161,47 @@ impl KdcRep {
     {
         let layout = decode_whole::<Layout<Owned, N>, S>(alloc, octets)?;
         Ok(KdcRep::from_layout(layout))
+    }
+
+    /// Returns a view of the message of a number and a message type that octets are, if they are one.
+    #[inline(always)]
+    pub(crate) fn view<const N: u8>(octets: &[u8]) -> Option<KdcRepView<'_>>
+        requires short { length octets.now < 2 ^ 31 }
+        requires tags { has_octet_tags (ApplicationTerm N (kdc_rep N)) ≡ true }
+        ensures { MatchOption result (IsNotWhole (ApplicationTerm N (kdc_rep N)) octets.now) (λ seen. IsViewOf (ApplicationTerm N (kdc_rep N)) octets.now (kdc_rep_view_value N seen) × KdcRepLists seen) }
+    {
+        match view_whole::<Layout<Owned, N>>(octets) {
+            Some(seen) => Some(KdcRepView::of_fields::<N>(&seen)),
+            None => None,
+        }
+    }
+}
+
+/// What is seen of its fields.
+type Seen<'a> = (
+    Option<ItemsView<'a>>,
+    (
+        &'a [u8],
+        (
+            PrincipalNameView<'a>,
+            (TicketView<'a>, (EncryptedDataView<'a>, ())),
+        ),
+    ),
+);
+
+impl<'a> KdcRepView<'a> {
+    /// Returns the view of the fields that are seen.
+    #[inline(always)]
+    fn of_fields<const N: u8>(seen: &Seen<'a>) -> KdcRepView<'a>
+        ensures value { kdc_rep_view_value N result ≡ ⟦<Layout<Owned, N> as View<'static>>⟧.value seen.now }
+        ensures lists { ⟦<Layout<Owned, N> as View<'static>>⟧.Lists seen.now → KdcRepLists result }
+    {
+        KdcRepView {
+            padata: seen.0,
+            crealm: seen.1.0,
+            cname: seen.1.1.0,
+            ticket: seen.1.1.1.0,
+            enc_part: seen.1.1.1.1.0,
+        }
     }
 }

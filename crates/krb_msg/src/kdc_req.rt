@@ -1,6 +1,6 @@
 //! KDC-REQ.
 
-ghost use Rattle.std.specs.Prelude.{◌≡◌, ◌+◌, ◌^◌, ◌<◌, ◌≤◌, ◌++◌, true, IfOk, length};
+ghost use Rattle.std.specs.Prelude.{◌≡◌, ◌+◌, ◌^◌, ◌<◌, ◌≤◌, ◌++◌, true, IfOk, length, MatchOption};
 ghost use Rattle.std.specs.Vec.{vec_len, vec_capacity};
 ghost use Rattle.krb_der.specs.Puts.{Puts};
 ghost use Rattle.krb_msg.specs.Shape.{has_octet_tags};
@@ -9,15 +9,19 @@ ghost use Rattle.krb_msg.specs.Grammar.{kdc_req};
 ghost use Rattle.krb_msg.specs.Reads.{IsDer};
 ghost use Rattle.krb_msg.specs.inner.Fitting.{IsSized};
 ghost use Rattle.krb_msg.specs.Views.{kdc_req_value};
+ghost use Rattle.krb_msg.specs.Seen.{kdc_req_view_value, KdcReqLists};
+ghost use Rattle.krb_msg.specs.Viewed.{IsNotWhole, IsViewOf};
 
 use crate::decoding::decode_whole;
 use crate::fields::{
-    Application, Borrowed, Encode, End, Fixed, Held, Optional, Owned, Required, Sequence,
+    Application, Borrowed, Encode, End, Fixed, Held, Optional, Owned, Required, Sequence, View,
 };
 use crate::item::Decode;
-use crate::kdc_req_body::KdcReqBody;
+use crate::kdc_req_body::{KdcReqBody, KdcReqBodyView};
 use crate::pa_data::PaData;
 use crate::source::Source;
+use crate::view::items::ItemsView;
+use crate::view::view_whole;
 use krb_der::Many;
 use std::alloc::{AllocError, Global};
 
@@ -26,10 +30,19 @@ use std::alloc::{AllocError, Global};
 /// the other.
 #[derive(PartialEq, Eq, Debug, Drop)]
 pub struct KdcReq {
-    /// Pre-authentication data, where there is some.
+    /// Pre-authentication data, if there is some.
     pub padata: Option<Many<PaData>>,
     /// What is asked for.
     pub body: KdcReqBody,
+}
+
+/// A view of a KDC-REQ, whose strings and lists stay where they stand.
+#[derive(Clone, Copy)]
+pub struct KdcReqView<'a> {
+    /// Pre-authentication data, if there is some.
+    pub padata: Option<ItemsView<'a>>,
+    /// What is asked for.
+    pub body: KdcReqBodyView<'a>,
 }
 
 /// Its fields, in a message whose number and whose message type are `N`.
@@ -45,7 +58,7 @@ type Layout<H, const N: u8> = Application<
 >;
 
 impl KdcReq {
-    /// The fields, borrowed.
+    /// Returns the fields, borrowed.
     fn layout<const N: u8>(&self) -> Layout<Borrowed<'_>, N>
         ensures { ⟦<Layout<Borrowed<'static>, N> as Encode>⟧.value result ≡ kdc_req_value N self.now }
     {
@@ -55,7 +68,7 @@ impl KdcReq {
         )))))
     }
 
-    /// The value of its fields.
+    /// Returns the value of its fields.
     fn from_layout<const N: u8>(layout: Layout<Owned, N>) -> KdcReq
         ensures { kdc_req_value N result ≡ ⟦<Layout<Owned, N> as Decode>⟧.value layout.entry }
     {
@@ -63,7 +76,7 @@ impl KdcReq {
         KdcReq { padata, body }
     }
 
-    /// The number of DER octets in a message; 2147483648 where there are more. Its value fits
+    /// Returns the number of DER octets in a message; 2147483648 if there are more. Its value fits
     /// the term.
     pub(crate) fn size<const N: u8>(&self) -> u64
         ensures { IsSized (ApplicationTerm N (kdc_req N)) (kdc_req_value N self.now) result }
@@ -82,7 +95,7 @@ impl KdcReq {
         self.layout::<N>().put(out);
     }
 
-    /// The value in the message of a number and a message type whose octets these are.
+    /// Returns the value in the message of a number and a message type whose octets these are.
     pub(crate) fn decode<const N: u8, S: Source>(
         alloc: Global,
         octets: S,
@@ -93,5 +106,35 @@ impl KdcReq {
     {
         let layout = decode_whole::<Layout<Owned, N>, S>(alloc, octets)?;
         Ok(KdcReq::from_layout(layout))
+    }
+
+    /// Returns a view of the message of a number and a message type that octets are, if they are one.
+    #[inline(always)]
+    pub(crate) fn view<const N: u8>(octets: &[u8]) -> Option<KdcReqView<'_>>
+        requires short { length octets.now < 2 ^ 31 }
+        requires tags { has_octet_tags (ApplicationTerm N (kdc_req N)) ≡ true }
+        ensures { MatchOption result (IsNotWhole (ApplicationTerm N (kdc_req N)) octets.now) (λ seen. IsViewOf (ApplicationTerm N (kdc_req N)) octets.now (kdc_req_view_value N seen) × KdcReqLists seen) }
+    {
+        match view_whole::<Layout<Owned, N>>(octets) {
+            Some(seen) => Some(KdcReqView::of_fields::<N>(&seen)),
+            None => None,
+        }
+    }
+}
+
+/// What is seen of its fields.
+type Seen<'a> = (Option<ItemsView<'a>>, (KdcReqBodyView<'a>, ()));
+
+impl<'a> KdcReqView<'a> {
+    /// Returns the view of the fields that are seen.
+    #[inline(always)]
+    fn of_fields<const N: u8>(seen: &Seen<'a>) -> KdcReqView<'a>
+        ensures value { kdc_req_view_value N result ≡ ⟦<Layout<Owned, N> as View<'static>>⟧.value seen.now }
+        ensures lists { ⟦<Layout<Owned, N> as View<'static>>⟧.Lists seen.now → KdcReqLists result }
+    {
+        KdcReqView {
+            padata: seen.0,
+            body: seen.1.0,
+        }
     }
 }

@@ -1,22 +1,26 @@
 //! KDC-REQ-BODY.
 
-ghost use Rattle.std.specs.Prelude.{◌≡◌, refl};
-ghost use Rattle.krb_msg.specs.Term.{der, Fits};
+ghost use Rattle.std.specs.Prelude.{◌≡◌, refl, ◌^◌, ◌<◌, true, length, MatchOption};
+ghost use Rattle.krb_msg.specs.Term.{der, Fits, tag_of};
 ghost use Rattle.krb_msg.specs.Grammar.{kdc_req_body};
 ghost use Rattle.krb_msg.specs.Views.{kdc_req_body_value, kdc_req_body_of};
 ghost use Rattle.krb_msg.specs.inner.RoundTrips.{kdc_req_body-back};
 ghost use Rattle.krb_msg.specs.inner.Told.{begins, told};
+ghost use Rattle.krb_msg.specs.Seen.{kdc_req_body_view_value, KdcReqBodyLists};
+ghost use Rattle.krb_msg.specs.Viewed.{AreContents, AreNoContents};
 
-use crate::encrypted_data::EncryptedData;
+use crate::encrypted_data::{EncryptedData, EncryptedDataView};
 use crate::fields::{
     Borrowed, Cut, DecodeFields, Encode, EncodeFields, End, Held, Optional, Owned, Required,
-    Sequence,
+    Sequence, View, ViewFields,
 };
 use crate::host_address::HostAddress;
 use crate::item::{Decode, Item};
-use crate::principal_name::PrincipalName;
+use crate::principal_name::{PrincipalName, PrincipalNameView};
 use crate::source::Source;
 use crate::ticket::Ticket;
+use crate::view::items::ItemsView;
+use crate::view::scalars::FlagsView;
 use krb_der::{Der, Flags, Int32, KString, KerberosTime, Many, Wide32};
 use std::alloc::{AllocError, Global};
 
@@ -47,6 +51,35 @@ pub struct KdcReqBody {
     pub enc_authorization_data: Option<EncryptedData>,
     /// Further tickets, which some options ask for.
     pub additional_tickets: Option<Many<Ticket>>,
+}
+
+/// A view of a KDC-REQ-BODY, whose strings and lists stay where they stand.
+#[derive(Clone, Copy)]
+pub struct KdcReqBodyView<'a> {
+    /// KDCOptions.
+    pub kdc_options: FlagsView<'a>,
+    /// The client, in an AS-REQ.
+    pub cname: Option<PrincipalNameView<'a>>,
+    /// The realm of the server, and in an AS-REQ that of the client.
+    pub realm: &'a [u8],
+    /// The server, which only a request with ENC-TKT-IN-SKEY may leave out.
+    pub sname: Option<PrincipalNameView<'a>>,
+    /// From when on the ticket is to serve.
+    pub from: Option<&'a [u8]>,
+    /// Until when it is to serve.
+    pub till: &'a [u8],
+    /// Until when it is to be renewable.
+    pub rtime: Option<&'a [u8]>,
+    /// A number that the answer has to repeat.
+    pub nonce: i64,
+    /// The encryption types (RFC 3961) that the client takes, the best first.
+    pub etype: ItemsView<'a>,
+    /// The addresses from which the ticket is to serve.
+    pub addresses: Option<ItemsView<'a>>,
+    /// The sealed AuthorizationData.
+    pub enc_authorization_data: Option<EncryptedDataView<'a>>,
+    /// Further tickets, which some options ask for.
+    pub additional_tickets: Option<ItemsView<'a>>,
 }
 
 /// Its fields.
@@ -94,7 +127,7 @@ type Rest<H> = Optional<
 >;
 
 impl KdcReqBody {
-    /// The fields, borrowed.
+    /// Returns the fields, borrowed.
     fn layout(&self) -> Layout<Borrowed<'_>>
         ensures { ⟦<Layout<Borrowed<'static>> as Encode>⟧.value result ≡ kdc_req_body_value self.now }
     {
@@ -129,7 +162,7 @@ impl KdcReqBody {
         ))
     }
 
-    /// The value of its fields.
+    /// Returns the value of its fields.
     fn from_layout(layout: Layout<Owned>) -> KdcReqBody
         ensures { kdc_req_body_value result ≡ ⟦<Layout<Owned> as Decode>⟧.value layout }
     {
@@ -234,4 +267,137 @@ impl Item for KdcReqBody {
     ghost form = { λ it. refl };
 
     ghost fits = { λ it fits. fits };
+}
+
+/// A view of its fields from the end of the renewable life on.
+#[derive(Clone, Copy)]
+pub struct RestView<'a> {
+    /// Until when it is to be renewable.
+    rtime: Option<&'a [u8]>,
+    /// A number that the answer has to repeat.
+    nonce: i64,
+    /// The encryption types that the client takes, the best first.
+    etype: ItemsView<'a>,
+    /// The addresses from which the ticket is to serve.
+    addresses: Option<ItemsView<'a>>,
+    /// The sealed AuthorizationData.
+    enc_authorization_data: Option<EncryptedDataView<'a>>,
+    /// Further tickets, which some options ask for.
+    additional_tickets: Option<ItemsView<'a>>,
+}
+
+/// What is seen of these fields.
+type RestSeen<'a> = (
+    Option<&'a [u8]>,
+    (
+        i64,
+        (
+            ItemsView<'a>,
+            (
+                Option<ItemsView<'a>>,
+                (Option<EncryptedDataView<'a>>, (Option<ItemsView<'a>>, ())),
+            ),
+        ),
+    ),
+);
+
+/// What is seen of all fields.
+type Seen<'a> = (
+    FlagsView<'a>,
+    (
+        Option<PrincipalNameView<'a>>,
+        (
+            &'a [u8],
+            (
+                Option<PrincipalNameView<'a>>,
+                (Option<&'a [u8]>, (&'a [u8], RestView<'a>)),
+            ),
+        ),
+    ),
+);
+
+impl<'a> RestView<'a> {
+    /// Returns the view of the fields that are seen.
+    #[inline(always)]
+    fn of_fields(seen: &RestSeen<'a>) -> RestView<'a>
+        ensures values { ⟦<Cut<Rest<Owned>> as ViewFields<'static>>⟧.values result ≡ ⟦<Rest<Owned> as ViewFields<'static>>⟧.values seen.now }
+        ensures lists { ⟦<Rest<Owned> as ViewFields<'static>>⟧.Lists seen.now → ⟦<Cut<Rest<Owned>> as ViewFields<'static>>⟧.Lists result }
+    {
+        RestView {
+            rtime: seen.0,
+            nonce: seen.1.0,
+            etype: seen.1.1.0,
+            addresses: seen.1.1.1.0,
+            enc_authorization_data: seen.1.1.1.1.0,
+            additional_tickets: seen.1.1.1.1.1.0,
+        }
+    }
+}
+
+impl<'a> ViewFields<'a> for Cut<Rest<Owned>> {
+    type Of = RestView<'a>;
+
+    ghost fields = { ⟦<Rest<Owned> as ViewFields<'static>>⟧.fields };
+
+    ghost values = { λ seen. ⟦<Rest<Owned> as ViewFields<'static>>⟧.values (seen.rtime, (seen.nonce, (seen.etype, (seen.addresses, (seen.enc_authorization_data, (seen.additional_tickets, tt)))))) };
+
+    ghost Lists = { λ seen. ⟦<Rest<Owned> as ViewFields<'static>>⟧.Lists (seen.rtime, (seen.nonce, (seen.etype, (seen.addresses, (seen.enc_authorization_data, (seen.additional_tickets, tt)))))) };
+
+    #[inline(always)]
+    fn view_fields(octets: &'a [u8]) -> Option<RestView<'a>> {
+        match Rest::<Owned>::view_fields(octets) {
+            Some(seen) => Some(RestView::of_fields(&seen)),
+            None => None,
+        }
+    }
+}
+
+impl<'a> KdcReqBodyView<'a> {
+    /// Returns the view of the fields that are seen.
+    #[inline(always)]
+    fn of_fields(seen: &Seen<'a>) -> KdcReqBodyView<'a>
+        ensures value { kdc_req_body_view_value result ≡ ⟦<Layout<Owned> as View<'static>>⟧.value seen.now }
+        ensures lists { ⟦<Layout<Owned> as View<'static>>⟧.Lists seen.now → KdcReqBodyLists result }
+    {
+        let rest = &seen.1.1.1.1.1.1;
+        KdcReqBodyView {
+            kdc_options: seen.0,
+            cname: seen.1.0,
+            realm: seen.1.1.0,
+            sname: seen.1.1.1.0,
+            from: seen.1.1.1.1.0,
+            till: seen.1.1.1.1.1.0,
+            rtime: rest.rtime,
+            nonce: rest.nonce,
+            etype: rest.etype,
+            addresses: rest.addresses,
+            enc_authorization_data: rest.enc_authorization_data,
+            additional_tickets: rest.additional_tickets,
+        }
+    }
+}
+
+impl<'a> View<'a> for KdcReqBody {
+    type Of = KdcReqBodyView<'a>;
+
+    ghost term = { kdc_req_body };
+
+    ghost value = { kdc_req_body_view_value };
+
+    ghost Lists = { KdcReqBodyLists };
+
+    #[inline(always)]
+    fn tag() -> u8
+        ensures { result ≡ tag_of kdc_req_body }
+    {
+        0x30
+    }
+
+    #[inline(always)]
+    fn view(contents: &'a [u8]) -> Option<KdcReqBodyView<'a>> {
+        match Layout::<Owned>::view(contents) {
+            Some(seen) => Some(KdcReqBodyView::of_fields(&seen)),
+            None => None,
+        }
+    }
 }

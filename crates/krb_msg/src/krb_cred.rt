@@ -1,17 +1,22 @@
 //! KRB-CRED.
 
-ghost use Rattle.std.specs.Prelude.{◌≡◌, refl};
-ghost use Rattle.krb_msg.specs.Term.{der, Fits};
+ghost use Rattle.std.specs.Prelude.{◌≡◌, refl, ◌^◌, ◌<◌, true, length, MatchOption};
+ghost use Rattle.krb_msg.specs.Term.{der, Fits, tag_of};
 ghost use Rattle.krb_msg.specs.Grammar.{krb_cred};
 ghost use Rattle.krb_msg.specs.Views.{krb_cred_value, krb_cred_of};
 ghost use Rattle.krb_msg.specs.inner.RoundTrips.{krb_cred-back};
 ghost use Rattle.krb_msg.specs.inner.Told.{begins, told};
+ghost use Rattle.krb_msg.specs.Seen.{krb_cred_view_value, KrbCredLists};
+ghost use Rattle.krb_msg.specs.Viewed.{AreContents, AreNoContents};
 
-use crate::encrypted_data::EncryptedData;
-use crate::fields::{Application, Borrowed, Encode, End, Fixed, Held, Owned, Required, Sequence};
+use crate::encrypted_data::{EncryptedData, EncryptedDataView};
+use crate::fields::{
+    Application, Borrowed, Encode, End, Fixed, Held, Owned, Required, Sequence, View,
+};
 use crate::item::{Decode, Item};
 use crate::source::Source;
 use crate::ticket::Ticket;
+use crate::view::items::ItemsView;
 use krb_der::{Der, Many};
 use std::alloc::{AllocError, Global};
 
@@ -23,6 +28,15 @@ pub struct KrbCred {
     pub tickets: Many<Ticket>,
     /// The sealed EncKrbCredPart.
     pub enc_part: EncryptedData,
+}
+
+/// A view of a KRB-CRED, whose strings and lists stay where they stand.
+#[derive(Clone, Copy)]
+pub struct KrbCredView<'a> {
+    /// The tickets.
+    pub tickets: ItemsView<'a>,
+    /// The sealed EncKrbCredPart.
+    pub enc_part: EncryptedDataView<'a>,
 }
 
 /// Its fields.
@@ -42,14 +56,14 @@ type Layout<H> = Application<
 >;
 
 impl KrbCred {
-    /// The fields, borrowed.
+    /// Returns the fields, borrowed.
     fn layout(&self) -> Layout<Borrowed<'_>>
         ensures { ⟦<Layout<Borrowed<'static>> as Encode>⟧.value result ≡ krb_cred_value self.now }
     {
         Application(Sequence(Fixed(Fixed(Required(&self.tickets, Required(&self.enc_part, End))))))
     }
 
-    /// The value of its fields.
+    /// Returns the value of its fields.
     fn from_layout(layout: Layout<Owned>) -> KrbCred
         ensures { krb_cred_value result ≡ ⟦<Layout<Owned> as Decode>⟧.value layout }
     {
@@ -92,4 +106,46 @@ impl Item for KrbCred {
     ghost form = { λ it. refl };
 
     ghost fits = { λ it fits. fits };
+}
+
+/// What is seen of its fields.
+type Seen<'a> = (ItemsView<'a>, (EncryptedDataView<'a>, ()));
+
+impl<'a> KrbCredView<'a> {
+    /// Returns the view of the fields that are seen.
+    #[inline(always)]
+    fn of_fields(seen: &Seen<'a>) -> KrbCredView<'a>
+        ensures value { krb_cred_view_value result ≡ ⟦<Layout<Owned> as View<'static>>⟧.value seen.now }
+        ensures lists { ⟦<Layout<Owned> as View<'static>>⟧.Lists seen.now → KrbCredLists result }
+    {
+        KrbCredView {
+            tickets: seen.0,
+            enc_part: seen.1.0,
+        }
+    }
+}
+
+impl<'a> View<'a> for KrbCred {
+    type Of = KrbCredView<'a>;
+
+    ghost term = { krb_cred };
+
+    ghost value = { krb_cred_view_value };
+
+    ghost Lists = { KrbCredLists };
+
+    #[inline(always)]
+    fn tag() -> u8
+        ensures { result ≡ tag_of krb_cred }
+    {
+        0x76
+    }
+
+    #[inline(always)]
+    fn view(contents: &'a [u8]) -> Option<KrbCredView<'a>> {
+        match Layout::<Owned>::view(contents) {
+            Some(seen) => Some(KrbCredView::of_fields(&seen)),
+            None => None,
+        }
+    }
 }

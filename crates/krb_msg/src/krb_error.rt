@@ -1,18 +1,20 @@
 //! KRB-ERROR.
 
-ghost use Rattle.std.specs.Prelude.{◌≡◌, refl};
-ghost use Rattle.krb_msg.specs.Term.{der, Fits};
+ghost use Rattle.std.specs.Prelude.{◌≡◌, refl, ◌^◌, ◌<◌, true, length, MatchOption};
+ghost use Rattle.krb_msg.specs.Term.{der, Fits, tag_of};
 ghost use Rattle.krb_msg.specs.Grammar.{krb_error};
 ghost use Rattle.krb_msg.specs.Views.{krb_error_value, krb_error_of};
 ghost use Rattle.krb_msg.specs.inner.RoundTrips.{krb_error-back};
 ghost use Rattle.krb_msg.specs.inner.Told.{begins, told};
+ghost use Rattle.krb_msg.specs.Seen.{krb_error_view_value, KrbErrorLists};
+ghost use Rattle.krb_msg.specs.Viewed.{AreContents, AreNoContents};
 
 use crate::fields::{
     Application, Borrowed, Cut, DecodeFields, Encode, EncodeFields, End, Fixed, Held, Optional,
-    Owned, Required, Sequence,
+    Owned, Required, Sequence, View, ViewFields,
 };
 use crate::item::{Decode, Item};
-use crate::principal_name::PrincipalName;
+use crate::principal_name::{PrincipalName, PrincipalNameView};
 use crate::source::Source;
 use krb_der::{Der, Int32, KString, KerberosTime, Micros, Octets};
 use std::alloc::{AllocError, Global};
@@ -41,8 +43,35 @@ pub struct KrbError {
     pub sname: PrincipalName,
     /// What a person may be told.
     pub e_text: Option<KString>,
-    /// What a program may be told: METHOD-DATA where the code is 25. It is not judged.
+    /// What a program may be told: METHOD-DATA if the code is 25. It is not judged.
     pub e_data: Option<Octets>,
+}
+
+/// A view of a KRB-ERROR, whose strings and lists stay where they stand.
+#[derive(Clone, Copy)]
+pub struct KrbErrorView<'a> {
+    /// The time of the client.
+    pub ctime: Option<&'a [u8]>,
+    /// The microseconds of the time of the client.
+    pub cusec: Option<i64>,
+    /// The time of the server.
+    pub stime: &'a [u8],
+    /// The microseconds of the time of the server.
+    pub susec: i64,
+    /// What went wrong (7.5.9).
+    pub error_code: i64,
+    /// The realm of the client.
+    pub crealm: Option<&'a [u8]>,
+    /// The client.
+    pub cname: Option<PrincipalNameView<'a>>,
+    /// The realm of the service.
+    pub realm: &'a [u8],
+    /// The service.
+    pub sname: PrincipalNameView<'a>,
+    /// What a person may be told.
+    pub e_text: Option<&'a [u8]>,
+    /// What a program may be told: METHOD-DATA if the code is 25. It is not judged.
+    pub e_data: Option<&'a [u8]>,
 }
 
 /// Its fields.
@@ -97,7 +126,7 @@ type Names<H> = Optional<
 >;
 
 impl KrbError {
-    /// The fields, borrowed.
+    /// Returns the fields, borrowed.
     fn layout(&self) -> Layout<Borrowed<'_>>
         ensures { ⟦<Layout<Borrowed<'static>> as Encode>⟧.value result ≡ krb_error_value self.now }
     {
@@ -126,7 +155,7 @@ impl KrbError {
         )))))
     }
 
-    /// The value of its fields.
+    /// Returns the value of its fields.
     fn from_layout(layout: Layout<Owned>) -> KrbError
         ensures { krb_error_value result ≡ ⟦<Layout<Owned> as Decode>⟧.value layout }
     {
@@ -230,4 +259,127 @@ impl Item for KrbError {
     ghost form = { λ it. refl };
 
     ghost fits = { λ it fits. fits };
+}
+
+/// A view of its fields from the names on.
+#[derive(Clone, Copy)]
+pub struct NamesView<'a> {
+    /// The realm of the client.
+    crealm: Option<&'a [u8]>,
+    /// The client.
+    cname: Option<PrincipalNameView<'a>>,
+    /// The realm of the service.
+    realm: &'a [u8],
+    /// The service.
+    sname: PrincipalNameView<'a>,
+    /// What a person may be told.
+    e_text: Option<&'a [u8]>,
+    /// What a program may be told.
+    e_data: Option<&'a [u8]>,
+}
+
+/// What is seen of these fields.
+type NamesSeen<'a> = (
+    Option<&'a [u8]>,
+    (
+        Option<PrincipalNameView<'a>>,
+        (
+            &'a [u8],
+            (
+                PrincipalNameView<'a>,
+                (Option<&'a [u8]>, (Option<&'a [u8]>, ())),
+            ),
+        ),
+    ),
+);
+
+/// What is seen of all fields.
+type Seen<'a> = (
+    Option<&'a [u8]>,
+    (Option<i64>, (&'a [u8], (i64, (i64, NamesView<'a>)))),
+);
+
+impl<'a> NamesView<'a> {
+    /// Returns the view of the fields that are seen.
+    #[inline(always)]
+    fn of_fields(seen: &NamesSeen<'a>) -> NamesView<'a>
+        ensures values { ⟦<Cut<Names<Owned>> as ViewFields<'static>>⟧.values result ≡ ⟦<Names<Owned> as ViewFields<'static>>⟧.values seen.now }
+        ensures lists { ⟦<Names<Owned> as ViewFields<'static>>⟧.Lists seen.now → ⟦<Cut<Names<Owned>> as ViewFields<'static>>⟧.Lists result }
+    {
+        NamesView {
+            crealm: seen.0,
+            cname: seen.1.0,
+            realm: seen.1.1.0,
+            sname: seen.1.1.1.0,
+            e_text: seen.1.1.1.1.0,
+            e_data: seen.1.1.1.1.1.0,
+        }
+    }
+}
+
+impl<'a> ViewFields<'a> for Cut<Names<Owned>> {
+    type Of = NamesView<'a>;
+
+    ghost fields = { ⟦<Names<Owned> as ViewFields<'static>>⟧.fields };
+
+    ghost values = { λ seen. ⟦<Names<Owned> as ViewFields<'static>>⟧.values (seen.crealm, (seen.cname, (seen.realm, (seen.sname, (seen.e_text, (seen.e_data, tt)))))) };
+
+    ghost Lists = { λ seen. ⟦<Names<Owned> as ViewFields<'static>>⟧.Lists (seen.crealm, (seen.cname, (seen.realm, (seen.sname, (seen.e_text, (seen.e_data, tt)))))) };
+
+    #[inline(always)]
+    fn view_fields(octets: &'a [u8]) -> Option<NamesView<'a>> {
+        match Names::<Owned>::view_fields(octets) {
+            Some(seen) => Some(NamesView::of_fields(&seen)),
+            None => None,
+        }
+    }
+}
+
+impl<'a> KrbErrorView<'a> {
+    /// Returns the view of the fields that are seen.
+    #[inline(always)]
+    fn of_fields(seen: &Seen<'a>) -> KrbErrorView<'a>
+        ensures value { krb_error_view_value result ≡ ⟦<Layout<Owned> as View<'static>>⟧.value seen.now }
+        ensures lists { ⟦<Layout<Owned> as View<'static>>⟧.Lists seen.now → KrbErrorLists result }
+    {
+        let names = &seen.1.1.1.1.1;
+        KrbErrorView {
+            ctime: seen.0,
+            cusec: seen.1.0,
+            stime: seen.1.1.0,
+            susec: seen.1.1.1.0,
+            error_code: seen.1.1.1.1.0,
+            crealm: names.crealm,
+            cname: names.cname,
+            realm: names.realm,
+            sname: names.sname,
+            e_text: names.e_text,
+            e_data: names.e_data,
+        }
+    }
+}
+
+impl<'a> View<'a> for KrbError {
+    type Of = KrbErrorView<'a>;
+
+    ghost term = { krb_error };
+
+    ghost value = { krb_error_view_value };
+
+    ghost Lists = { KrbErrorLists };
+
+    #[inline(always)]
+    fn tag() -> u8
+        ensures { result ≡ tag_of krb_error }
+    {
+        0x7E
+    }
+
+    #[inline(always)]
+    fn view(contents: &'a [u8]) -> Option<KrbErrorView<'a>> {
+        match Layout::<Owned>::view(contents) {
+            Some(seen) => Some(KrbErrorView::of_fields(&seen)),
+            None => None,
+        }
+    }
 }

@@ -1,13 +1,17 @@
 //! KRB-PRIV.
 
-ghost use Rattle.std.specs.Prelude.{◌≡◌, refl};
-ghost use Rattle.krb_msg.specs.Term.{der, Fits};
+ghost use Rattle.std.specs.Prelude.{◌≡◌, refl, ◌^◌, ◌<◌, true, length, MatchOption};
+ghost use Rattle.krb_msg.specs.Term.{der, Fits, tag_of};
 ghost use Rattle.krb_msg.specs.Grammar.{krb_priv};
 ghost use Rattle.krb_msg.specs.Views.{krb_priv_value, krb_priv_of};
 ghost use Rattle.krb_msg.specs.inner.Told.{begins, told};
+ghost use Rattle.krb_msg.specs.Seen.{KrbPrivLists, krb_priv_view_value};
+ghost use Rattle.krb_msg.specs.Viewed.{AreContents, AreNoContents};
 
-use crate::encrypted_data::EncryptedData;
-use crate::fields::{Application, Borrowed, Encode, End, Fixed, Held, Owned, Required, Sequence};
+use crate::encrypted_data::{EncryptedData, EncryptedDataView};
+use crate::fields::{
+    Application, Borrowed, Encode, End, Fixed, Held, Owned, Required, Sequence, View,
+};
 use crate::item::{Decode, Item};
 use crate::source::Source;
 use krb_der::Der;
@@ -21,6 +25,13 @@ pub struct KrbPriv {
     pub enc_part: EncryptedData,
 }
 
+/// A view of a KRB-PRIV, whose strings and lists stay where they stand.
+#[derive(Clone, Copy)]
+pub struct KrbPrivView<'a> {
+    /// The sealed EncKrbPrivPart.
+    pub enc_part: EncryptedDataView<'a>,
+}
+
 /// Its fields.
 type Layout<H> = Application<
     21,
@@ -28,14 +39,14 @@ type Layout<H> = Application<
 >;
 
 impl KrbPriv {
-    /// The fields, borrowed.
+    /// Returns the fields, borrowed.
     fn layout(&self) -> Layout<Borrowed<'_>>
         ensures { ⟦<Layout<Borrowed<'static>> as Encode>⟧.value result ≡ krb_priv_value self.now }
     {
         Application(Sequence(Fixed(Fixed(Required(&self.enc_part, End)))))
     }
 
-    /// The value of its fields.
+    /// Returns the value of its fields.
     fn from_layout(layout: Layout<Owned>) -> KrbPriv
         ensures { krb_priv_value result ≡ ⟦<Layout<Owned> as Decode>⟧.value layout }
     {
@@ -77,4 +88,43 @@ impl Item for KrbPriv {
     ghost form = { λ it. refl };
 
     ghost fits = { λ it fits. fits };
+}
+
+/// What is seen of its fields.
+type Seen<'a> = (EncryptedDataView<'a>, ());
+
+impl<'a> KrbPrivView<'a> {
+    /// Returns the view of the fields that are seen.
+    #[inline(always)]
+    fn of_fields(seen: &Seen<'a>) -> KrbPrivView<'a>
+        ensures value { krb_priv_view_value result ≡ ⟦<Layout<Owned> as View<'static>>⟧.value seen.now }
+        ensures lists { ⟦<Layout<Owned> as View<'static>>⟧.Lists seen.now → KrbPrivLists result }
+    {
+        KrbPrivView { enc_part: seen.0 }
+    }
+}
+
+impl<'a> View<'a> for KrbPriv {
+    type Of = KrbPrivView<'a>;
+
+    ghost term = { krb_priv };
+
+    ghost value = { krb_priv_view_value };
+
+    ghost Lists = { KrbPrivLists };
+
+    #[inline(always)]
+    fn tag() -> u8
+        ensures { result ≡ tag_of krb_priv }
+    {
+        0x75
+    }
+
+    #[inline(always)]
+    fn view(contents: &'a [u8]) -> Option<KrbPrivView<'a>> {
+        match Layout::<Owned>::view(contents) {
+            Some(seen) => Some(KrbPrivView::of_fields(&seen)),
+            None => None,
+        }
+    }
 }

@@ -1,16 +1,20 @@
 //! KRB-SAFE.
 
-ghost use Rattle.std.specs.Prelude.{◌≡◌, refl};
-ghost use Rattle.krb_msg.specs.Term.{der, Fits};
+ghost use Rattle.std.specs.Prelude.{◌≡◌, refl, ◌^◌, ◌<◌, true, length, MatchOption};
+ghost use Rattle.krb_msg.specs.Term.{der, Fits, tag_of};
 ghost use Rattle.krb_msg.specs.Grammar.{krb_safe};
 ghost use Rattle.krb_msg.specs.Views.{krb_safe_value, krb_safe_of};
 ghost use Rattle.krb_msg.specs.inner.RoundTrips.{krb_safe-back};
 ghost use Rattle.krb_msg.specs.inner.Told.{begins, told};
+ghost use Rattle.krb_msg.specs.Seen.{KrbSafeLists, krb_safe_view_value};
+ghost use Rattle.krb_msg.specs.Viewed.{AreContents, AreNoContents};
 
-use crate::checksum::Checksum;
-use crate::fields::{Application, Borrowed, Encode, End, Fixed, Held, Owned, Required, Sequence};
+use crate::checksum::{Checksum, ChecksumView};
+use crate::fields::{
+    Application, Borrowed, Encode, End, Fixed, Held, Owned, Required, Sequence, View,
+};
 use crate::item::{Decode, Item};
-use crate::krb_safe_body::KrbSafeBody;
+use crate::krb_safe_body::{KrbSafeBody, KrbSafeBodyView};
 use crate::source::Source;
 use krb_der::Der;
 use std::alloc::{AllocError, Global};
@@ -23,6 +27,15 @@ pub struct KrbSafe {
     pub body: KrbSafeBody,
     /// The checksum that protects it.
     pub cksum: Checksum,
+}
+
+/// A view of a KRB-SAFE, whose strings and lists stay where they stand.
+#[derive(Clone, Copy)]
+pub struct KrbSafeView<'a> {
+    /// What is protected.
+    pub body: KrbSafeBodyView<'a>,
+    /// The checksum that protects it.
+    pub cksum: ChecksumView<'a>,
 }
 
 /// Its fields.
@@ -38,14 +51,14 @@ type Layout<H> = Application<
 >;
 
 impl KrbSafe {
-    /// The fields, borrowed.
+    /// Returns the fields, borrowed.
     fn layout(&self) -> Layout<Borrowed<'_>>
         ensures { ⟦<Layout<Borrowed<'static>> as Encode>⟧.value result ≡ krb_safe_value self.now }
     {
         Application(Sequence(Fixed(Fixed(Required(&self.body, Required(&self.cksum, End))))))
     }
 
-    /// The value of its fields.
+    /// Returns the value of its fields.
     fn from_layout(layout: Layout<Owned>) -> KrbSafe
         ensures { krb_safe_value result ≡ ⟦<Layout<Owned> as Decode>⟧.value layout }
     {
@@ -87,4 +100,46 @@ impl Item for KrbSafe {
     ghost form = { λ it. refl };
 
     ghost fits = { λ it fits. fits };
+}
+
+/// What is seen of its fields.
+type Seen<'a> = (KrbSafeBodyView<'a>, (ChecksumView<'a>, ()));
+
+impl<'a> KrbSafeView<'a> {
+    /// Returns the view of the fields that are seen.
+    #[inline(always)]
+    fn of_fields(seen: &Seen<'a>) -> KrbSafeView<'a>
+        ensures value { krb_safe_view_value result ≡ ⟦<Layout<Owned> as View<'static>>⟧.value seen.now }
+        ensures lists { ⟦<Layout<Owned> as View<'static>>⟧.Lists seen.now → KrbSafeLists result }
+    {
+        KrbSafeView {
+            body: seen.0,
+            cksum: seen.1.0,
+        }
+    }
+}
+
+impl<'a> View<'a> for KrbSafe {
+    type Of = KrbSafeView<'a>;
+
+    ghost term = { krb_safe };
+
+    ghost value = { krb_safe_view_value };
+
+    ghost Lists = { KrbSafeLists };
+
+    #[inline(always)]
+    fn tag() -> u8
+        ensures { result ≡ tag_of krb_safe }
+    {
+        0x74
+    }
+
+    #[inline(always)]
+    fn view(contents: &'a [u8]) -> Option<KrbSafeView<'a>> {
+        match Layout::<Owned>::view(contents) {
+            Some(seen) => Some(KrbSafeView::of_fields(&seen)),
+            None => None,
+        }
+    }
 }

@@ -1,14 +1,16 @@
 //! KRB-SAFE-BODY.
 
-ghost use Rattle.std.specs.Prelude.{◌≡◌, refl};
-ghost use Rattle.krb_msg.specs.Term.{der, Fits};
+ghost use Rattle.std.specs.Prelude.{◌≡◌, refl, ◌^◌, ◌<◌, true, length, MatchOption};
+ghost use Rattle.krb_msg.specs.Term.{der, Fits, tag_of};
 ghost use Rattle.krb_msg.specs.Grammar.{krb_safe_body};
 ghost use Rattle.krb_msg.specs.Views.{krb_safe_body_value, krb_safe_body_of};
 ghost use Rattle.krb_msg.specs.inner.RoundTrips.{krb_safe_body-back};
 ghost use Rattle.krb_msg.specs.inner.Told.{begins, told};
+ghost use Rattle.krb_msg.specs.Seen.{KrbSafeBodyLists, krb_safe_body_view_value};
+ghost use Rattle.krb_msg.specs.Viewed.{AreContents, AreNoContents};
 
-use crate::fields::{Borrowed, Encode, End, Held, Optional, Owned, Required, Sequence};
-use crate::host_address::HostAddress;
+use crate::fields::{Borrowed, Encode, End, Held, Optional, Owned, Required, Sequence, View};
+use crate::host_address::{HostAddress, HostAddressView};
 use crate::item::{Decode, Item};
 use crate::source::Source;
 use krb_der::{Der, KerberosTime, Micros, Octets, Wide32};
@@ -29,6 +31,23 @@ pub struct KrbSafeBody {
     pub s_address: HostAddress,
     /// The recipient's address.
     pub r_address: Option<HostAddress>,
+}
+
+/// A view of a KRB-SAFE-BODY, whose strings and lists stay where they stand.
+#[derive(Clone, Copy)]
+pub struct KrbSafeBodyView<'a> {
+    /// What the sender has to say.
+    pub user_data: &'a [u8],
+    /// When the sender said it.
+    pub timestamp: Option<&'a [u8]>,
+    /// The microseconds of this time.
+    pub usec: Option<i64>,
+    /// Its number among the messages of its sender.
+    pub seq_number: Option<i64>,
+    /// The sender's address.
+    pub s_address: HostAddressView<'a>,
+    /// The recipient's address.
+    pub r_address: Option<HostAddressView<'a>>,
 }
 
 /// Its fields.
@@ -53,7 +72,7 @@ type Layout<H> = Sequence<
 >;
 
 impl KrbSafeBody {
-    /// The fields, borrowed.
+    /// Returns the fields, borrowed.
     fn layout(&self) -> Layout<Borrowed<'_>>
         ensures { ⟦<Layout<Borrowed<'static>> as Encode>⟧.value result ≡ krb_safe_body_value self.now }
     {
@@ -72,7 +91,7 @@ impl KrbSafeBody {
         ))
     }
 
-    /// The value of its fields.
+    /// Returns the value of its fields.
     fn from_layout(layout: Layout<Owned>) -> KrbSafeBody
         ensures { krb_safe_body_value result ≡ ⟦<Layout<Owned> as Decode>⟧.value layout }
     {
@@ -132,4 +151,62 @@ impl Item for KrbSafeBody {
     ghost form = { λ it. refl };
 
     ghost fits = { λ it fits. fits };
+}
+
+/// What is seen of its fields.
+type Seen<'a> = (
+    &'a [u8],
+    (
+        Option<&'a [u8]>,
+        (
+            Option<i64>,
+            (
+                Option<i64>,
+                (HostAddressView<'a>, (Option<HostAddressView<'a>>, ())),
+            ),
+        ),
+    ),
+);
+
+impl<'a> KrbSafeBodyView<'a> {
+    /// Returns the view of the fields that are seen.
+    #[inline(always)]
+    fn of_fields(seen: &Seen<'a>) -> KrbSafeBodyView<'a>
+        ensures value { krb_safe_body_view_value result ≡ ⟦<Layout<Owned> as View<'static>>⟧.value seen.now }
+        ensures lists { ⟦<Layout<Owned> as View<'static>>⟧.Lists seen.now → KrbSafeBodyLists result }
+    {
+        KrbSafeBodyView {
+            user_data: seen.0,
+            timestamp: seen.1.0,
+            usec: seen.1.1.0,
+            seq_number: seen.1.1.1.0,
+            s_address: seen.1.1.1.1.0,
+            r_address: seen.1.1.1.1.1.0,
+        }
+    }
+}
+
+impl<'a> View<'a> for KrbSafeBody {
+    type Of = KrbSafeBodyView<'a>;
+
+    ghost term = { krb_safe_body };
+
+    ghost value = { krb_safe_body_view_value };
+
+    ghost Lists = { KrbSafeBodyLists };
+
+    #[inline(always)]
+    fn tag() -> u8
+        ensures { result ≡ tag_of krb_safe_body }
+    {
+        0x30
+    }
+
+    #[inline(always)]
+    fn view(contents: &'a [u8]) -> Option<KrbSafeBodyView<'a>> {
+        match Layout::<Owned>::view(contents) {
+            Some(seen) => Some(KrbSafeBodyView::of_fields(&seen)),
+            None => None,
+        }
+    }
 }

@@ -100,13 +100,13 @@ pub fn der_is_prefix_free()
     ensures { DerIsPrefixFree }
 {}
 
-/// A message is in the strict profile exactly where it is in the lenient one and keeps the strict
+/// A message is in the strict profile exactly if it is in the lenient one and keeps the strict
 /// rules.
 pub fn strict_is_narrower()
     ensures { StrictIsNarrower }
 {}
 
-/// A message keeps the strict rules exactly where none of the notes 1 to 4 holds in it.
+/// A message keeps the strict rules exactly if none of the notes 1 to 4 holds in it.
 pub fn strict_has_no_notes()
     ensures { StrictHasNoNotes }
 {}

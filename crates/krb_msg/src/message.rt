@@ -63,7 +63,7 @@ pub enum Kind {
 }
 
 impl Message {
-    /// The kind of the message.
+    /// Returns the kind of the message.
     pub fn kind(&self) -> Kind
         ensures { result ≡ kind_of self.now }
     {
@@ -83,7 +83,8 @@ impl Message {
 }
 
 impl Kind {
-    /// The number of the kind: its msg-type, and that of its `[APPLICATION]` (RFC 4120, 5.10).
+    /// Returns the number of the kind: its msg-type, and that of its `[APPLICATION]` (RFC 4120,
+    /// 5.10).
     pub fn number(self) -> u8
         ensures { result ≡ kind_number self }
     {
@@ -101,14 +102,14 @@ impl Kind {
         }
     }
 
-    /// The tag octet with which its messages begin.
+    /// Returns the tag octet with which its messages begin.
     pub fn tag(self) -> u8
         ensures { result ≡ kind_tag self }
     {
         0x60 + self.number()
     }
 
-    /// Its name in RFC 4120.
+    /// Returns its name in RFC 4120.
     pub fn name(self) -> &'static str
         ensures { result.now ≡ kind_name self }
     {
@@ -126,7 +127,7 @@ impl Kind {
         }
     }
 
-    /// The kind whose messages begin with a tag octet.
+    /// Returns the kind whose messages begin with a tag octet.
     pub fn of_tag(tag: u8) -> Option<Kind>
         ensures { result ≡ kind_with_tag tag }
     {

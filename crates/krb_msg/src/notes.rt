@@ -6,6 +6,8 @@ ghost use Rattle.krb_msg.specs.Grammar.{principal_name, encrypted_data, ticket, 
 ghost use Rattle.krb_msg.specs.Views.{principal_name_value, encrypted_data_value, ticket_value, kdc_req_body_value, kdc_req_value, kdc_rep_value, ap_req_value, ap_rep_value, krb_safe_body_value, krb_safe_value, krb_priv_value, krb_cred_value, krb_error_value, is_strict};
 ghost use Rattle.krb_msg.specs.Notes.{text_has, flags_have, number_has, list_has, option_any, has, notes_by, notes_of, notes_have, either};
 
+mod view;
+
 use crate::ap_rep::ApRep;
 use crate::ap_req::ApReq;
 use crate::encrypted_data::EncryptedData;
@@ -21,6 +23,7 @@ use crate::message::Message;
 use crate::principal_name::PrincipalName;
 use crate::ticket::Ticket;
 use krb_der::{Flags, KString, Many, Wide32};
+pub use view::notes_of_view;
 
 /// The notes that hold in a message or in a part of it, Tickets inside included: not faults, but
 /// what a reader of messages may stumble over. They have numbers:
@@ -38,7 +41,7 @@ pub struct Notes {
 }
 
 impl Notes {
-    /// Whether the note of this number holds. None has another number than 1 to 4.
+    /// Returns whether the note of this number holds. None has another number than 1 to 4.
     pub fn has(&self, number: u8) -> bool
         ensures { result ≡ notes_have self.now number }
     {
@@ -51,7 +54,7 @@ impl Notes {
         }
     }
 
-    /// No notes.
+    /// Returns no notes.
     fn none() -> Notes
         ensures { result ≡ notes_by (λ note. false) }
     {
@@ -63,7 +66,7 @@ impl Notes {
         }
     }
 
-    /// The notes that hold in one or the other.
+    /// Returns the notes that hold in one or the other.
     fn or(self, other: Notes) -> Notes
         ensures { result ≡ either self other }
     {
@@ -82,7 +85,7 @@ trait Noted {
 
     ghost noted: { Note → Self → Bool };
 
-    /// The notes that hold in the value.
+    /// Returns the notes that hold in the value.
     fn notes(&self) -> Notes
         ensures { result ≡ notes_by (λ note. noted note self.now) };
 }
@@ -176,7 +179,7 @@ impl Noted for Ticket {
     }
 }
 
-/// The note of a list that may be left out, where it is there and empty.
+/// Returns the note of a list that may be left out, if it is there and empty.
 fn list_notes<T>(values: &Option<Many<T>>) -> Notes
     ensures { result ≡ notes_by (λ note. option_any (list_has note) values.now) }
 {
@@ -293,7 +296,7 @@ impl Noted for KrbError {
     }
 }
 
-/// The notes that hold in a message. It takes no memory.
+/// Returns the notes that hold in a message. It takes no memory.
 pub fn notes_of(message: &Message) -> Notes
     ensures { result ≡ notes_of message.now }
 {
@@ -311,8 +314,8 @@ pub fn notes_of(message: &Message) -> Notes
     }
 }
 
-/// Whether a message keeps the strict rules (`Profile::Strict`): none of the notes 1 to 4 holds in
-/// it. It takes no memory.
+/// Returns whether a message keeps the strict rules (`Profile::Strict`): none of the notes 1 to 4
+/// holds in it. It takes no memory.
 pub fn is_strict(message: &Message) -> bool
     ensures { result ≡ is_strict message.now }
 {

@@ -1,12 +1,14 @@
 //! PA-DATA.
 
-ghost use Rattle.std.specs.Prelude.{◌≡◌, refl};
-ghost use Rattle.krb_msg.specs.Term.{der, Fits};
+ghost use Rattle.std.specs.Prelude.{◌≡◌, refl, ◌^◌, ◌<◌, true, length, MatchOption};
+ghost use Rattle.krb_msg.specs.Term.{der, Fits, tag_of};
 ghost use Rattle.krb_msg.specs.Grammar.{pa_data};
 ghost use Rattle.krb_msg.specs.Views.{pa_data_value, pa_data_of};
 ghost use Rattle.krb_msg.specs.inner.Told.{begins, told};
+ghost use Rattle.krb_msg.specs.Seen.{PaDataLists, pa_data_view_value};
+ghost use Rattle.krb_msg.specs.Viewed.{AreContents, AreNoContents};
 
-use crate::fields::{Borrowed, Encode, End, Held, Owned, Required, Sequence};
+use crate::fields::{Borrowed, Encode, End, Held, Owned, Required, Sequence, View};
 use crate::item::{Decode, Item};
 use crate::source::Source;
 use krb_der::{Der, Int32, Octets};
@@ -21,18 +23,27 @@ pub struct PaData {
     pub padata_value: Octets,
 }
 
+/// A view of a PA-DATA, whose strings and lists stay where they stand.
+#[derive(Clone, Copy)]
+pub struct PaDataView<'a> {
+    /// What kind of data it is (7.5.2).
+    pub padata_type: i64,
+    /// The data.
+    pub padata_value: &'a [u8],
+}
+
 /// Its fields.
 type Layout<H> = Sequence<Required<1, Held<H, Int32>, Required<2, Held<H, Octets>, End>>>;
 
 impl PaData {
-    /// The fields, borrowed.
+    /// Returns the fields, borrowed.
     fn layout(&self) -> Layout<Borrowed<'_>>
         ensures { ⟦<Layout<Borrowed<'static>> as Encode>⟧.value result ≡ pa_data_value self.now }
     {
         Sequence(Required(&self.padata_type, Required(&self.padata_value, End)))
     }
 
-    /// The value of its fields.
+    /// Returns the value of its fields.
     fn from_layout(layout: Layout<Owned>) -> PaData
         ensures { pa_data_value result ≡ ⟦<Layout<Owned> as Decode>⟧.value layout }
     {
@@ -77,4 +88,32 @@ impl Item for PaData {
     ghost form = { λ it. refl };
 
     ghost fits = { λ it fits. fits };
+}
+
+impl<'a> View<'a> for PaData {
+    type Of = PaDataView<'a>;
+
+    ghost term = { pa_data };
+
+    ghost value = { pa_data_view_value };
+
+    ghost Lists = { PaDataLists };
+
+    #[inline(always)]
+    fn tag() -> u8
+        ensures { result ≡ tag_of pa_data }
+    {
+        0x30
+    }
+
+    #[inline(always)]
+    fn view(contents: &'a [u8]) -> Option<PaDataView<'a>> {
+        match Layout::<Owned>::view(contents) {
+            Some((padata_type, (padata_value, ()))) => Some(PaDataView {
+                padata_type,
+                padata_value,
+            }),
+            None => None,
+        }
+    }
 }

@@ -1,14 +1,17 @@
 //! PrincipalName.
 
-ghost use Rattle.std.specs.Prelude.{◌≡◌, refl};
-ghost use Rattle.krb_msg.specs.Term.{der, Fits};
+ghost use Rattle.std.specs.Prelude.{◌≡◌, refl, ◌^◌, ◌<◌, true, length, MatchOption};
+ghost use Rattle.krb_msg.specs.Term.{der, Fits, tag_of};
 ghost use Rattle.krb_msg.specs.Grammar.{principal_name};
 ghost use Rattle.krb_msg.specs.Views.{principal_name_value, principal_name_of};
 ghost use Rattle.krb_msg.specs.inner.Told.{begins, told};
+ghost use Rattle.krb_msg.specs.Seen.{principal_name_view_value, PrincipalNameLists};
+ghost use Rattle.krb_msg.specs.Viewed.{AreContents, AreNoContents};
 
-use crate::fields::{Borrowed, Encode, End, Held, Owned, Required, Sequence};
+use crate::fields::{Borrowed, Encode, End, Held, Owned, Required, Sequence, View};
 use crate::item::{Decode, Item};
 use crate::source::Source;
+use crate::view::items::ItemsView;
 use krb_der::{Der, Int32, KString, Many};
 use std::alloc::{AllocError, Global};
 
@@ -21,18 +24,27 @@ pub struct PrincipalName {
     pub name: Many<KString>,
 }
 
+/// A view of a PrincipalName, whose strings and lists stay where they stand.
+#[derive(Clone, Copy)]
+pub struct PrincipalNameView<'a> {
+    /// How the name is meant (6.2). Two names that differ in this alone name one principal.
+    pub name_type: i64,
+    /// The components of the name, in order.
+    pub name: ItemsView<'a>,
+}
+
 /// Its fields.
 type Layout<H> = Sequence<Required<0, Held<H, Int32>, Required<1, Held<H, Many<KString>>, End>>>;
 
 impl PrincipalName {
-    /// The fields, borrowed.
+    /// Returns the fields, borrowed.
     fn layout(&self) -> Layout<Borrowed<'_>>
         ensures { ⟦<Layout<Borrowed<'static>> as Encode>⟧.value result ≡ principal_name_value self.now }
     {
         Sequence(Required(&self.name_type, Required(&self.name, End)))
     }
 
-    /// The value of its fields.
+    /// Returns the value of its fields.
     fn from_layout(layout: Layout<Owned>) -> PrincipalName
         ensures { principal_name_value result ≡ ⟦<Layout<Owned> as Decode>⟧.value layout }
     {
@@ -74,4 +86,29 @@ impl Item for PrincipalName {
     ghost form = { λ it. refl };
 
     ghost fits = { λ it fits. fits };
+}
+
+impl<'a> View<'a> for PrincipalName {
+    type Of = PrincipalNameView<'a>;
+
+    ghost term = { principal_name };
+
+    ghost value = { principal_name_view_value };
+
+    ghost Lists = { PrincipalNameLists };
+
+    #[inline(always)]
+    fn tag() -> u8
+        ensures { result ≡ tag_of principal_name }
+    {
+        0x30
+    }
+
+    #[inline(always)]
+    fn view(contents: &'a [u8]) -> Option<PrincipalNameView<'a>> {
+        match Layout::<Owned>::view(contents) {
+            Some((name_type, (name, ()))) => Some(PrincipalNameView { name_type, name }),
+            None => None,
+        }
+    }
 }

@@ -147,7 +147,7 @@ impl Item for Flags {
 }
 
 /// A SEQUENCE OF (X.690, 8.10). The list has room for as many items as the source can tell, and
-/// grows where there are more.
+/// grows if there are more.
 impl<T: Item> Decode for Many<T> {
     ghost term = { sequence_of T.term };
 
@@ -165,8 +165,8 @@ impl<T: Item> Item for Many<T> {
     ghost fits = { many_fit T.Fits T.term T.value T.Item.fits };
 }
 
-/// The values of items, one after another, that stand before the last `after` octets, and what
-/// follows them.
+/// Returns the values of items, one after another, that stand before the last `after` octets, and
+/// what follows them.
 fn items<T: Item, S: Source>(
     alloc: Global,
     front: S,

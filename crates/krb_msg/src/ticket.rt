@@ -1,15 +1,19 @@
 //! Ticket.
 
-ghost use Rattle.std.specs.Prelude.{◌≡◌, refl};
-ghost use Rattle.krb_msg.specs.Term.{der, Fits};
+ghost use Rattle.std.specs.Prelude.{◌≡◌, refl, ◌^◌, ◌<◌, true, length, MatchOption};
+ghost use Rattle.krb_msg.specs.Term.{der, Fits, tag_of};
 ghost use Rattle.krb_msg.specs.Grammar.{ticket as ticket_term};
 ghost use Rattle.krb_msg.specs.Views.{ticket_value, ticket_of};
 ghost use Rattle.krb_msg.specs.inner.Told.{begins, told};
+ghost use Rattle.krb_msg.specs.Seen.{ticket_view_value, TicketLists};
+ghost use Rattle.krb_msg.specs.Viewed.{AreContents, AreNoContents};
 
-use crate::encrypted_data::EncryptedData;
-use crate::fields::{Application, Borrowed, Encode, End, Fixed, Held, Owned, Required, Sequence};
+use crate::encrypted_data::{EncryptedData, EncryptedDataView};
+use crate::fields::{
+    Application, Borrowed, Encode, End, Fixed, Held, Owned, Required, Sequence, View,
+};
 use crate::item::{Decode, Item};
-use crate::principal_name::PrincipalName;
+use crate::principal_name::{PrincipalName, PrincipalNameView};
 use crate::source::Source;
 use krb_der::{Der, KString};
 use std::alloc::{AllocError, Global};
@@ -23,6 +27,17 @@ pub struct Ticket {
     pub sname: PrincipalName,
     /// The sealed EncTicketPart.
     pub enc_part: EncryptedData,
+}
+
+/// A view of a Ticket, whose strings and lists stay where they stand.
+#[derive(Clone, Copy)]
+pub struct TicketView<'a> {
+    /// The realm that issued it, and that of its server.
+    pub realm: &'a [u8],
+    /// The server.
+    pub sname: PrincipalNameView<'a>,
+    /// The sealed EncTicketPart.
+    pub enc_part: EncryptedDataView<'a>,
 }
 
 /// Its fields.
@@ -42,7 +57,7 @@ type Layout<H> = Application<
 >;
 
 impl Ticket {
-    /// The fields, borrowed.
+    /// Returns the fields, borrowed.
     fn layout(&self) -> Layout<Borrowed<'_>>
         ensures { ⟦<Layout<Borrowed<'static>> as Encode>⟧.value result ≡ ticket_value self.now }
     {
@@ -52,7 +67,7 @@ impl Ticket {
         ))))
     }
 
-    /// The value of its fields.
+    /// Returns the value of its fields.
     fn from_layout(layout: Layout<Owned>) -> Ticket
         ensures { ticket_value result ≡ ⟦<Layout<Owned> as Decode>⟧.value layout }
     {
@@ -100,4 +115,50 @@ impl Item for Ticket {
     ghost form = { λ it. refl };
 
     ghost fits = { λ it fits. fits };
+}
+
+/// What is seen of its fields.
+type Seen<'a> = (
+    &'a [u8],
+    (PrincipalNameView<'a>, (EncryptedDataView<'a>, ())),
+);
+
+impl<'a> TicketView<'a> {
+    /// Returns the view of the fields that are seen.
+    #[inline(always)]
+    fn of_fields(seen: &Seen<'a>) -> TicketView<'a>
+        ensures value { ticket_view_value result ≡ ⟦<Layout<Owned> as View<'static>>⟧.value seen.now }
+        ensures lists { ⟦<Layout<Owned> as View<'static>>⟧.Lists seen.now → TicketLists result }
+    {
+        TicketView {
+            realm: seen.0,
+            sname: seen.1.0,
+            enc_part: seen.1.1.0,
+        }
+    }
+}
+
+impl<'a> View<'a> for Ticket {
+    type Of = TicketView<'a>;
+
+    ghost term = { ticket_term };
+
+    ghost value = { ticket_view_value };
+
+    ghost Lists = { TicketLists };
+
+    #[inline(always)]
+    fn tag() -> u8
+        ensures { result ≡ tag_of ticket_term }
+    {
+        0x61
+    }
+
+    #[inline(always)]
+    fn view(contents: &'a [u8]) -> Option<TicketView<'a>> {
+        match Layout::<Owned>::view(contents) {
+            Some(seen) => Some(TicketView::of_fields(&seen)),
+            None => None,
+        }
+    }
 }

@@ -143,7 +143,7 @@ then_taken before octets rest used count e =
 pub then_at : {profile : Profile} (path : Path) (decided : Verdict) (n : ℕ) (before octets rest : List ℕ) (used count : ℕ) → rest ≡ drop used octets → IsAt profile path decided n ((before ++ take used octets) ++ take count rest) → IsAt profile path decided n (before ++ take (used + count) octets)
 then_at {profile = profile} path decided n before octets rest used count e at = subst (IsAt profile path decided n) (then_taken before octets rest used count e) at
 
--- where neither some octets nor those after them decide anything sooner, all of them do not
+-- if neither some octets nor those after them decide anything sooner, all of them do not
 pub then_sooner : (profile : Profile) (n : ℕ) (before octets rest : List ℕ) (used count k : ℕ) → rest ≡ drop used octets → (k < used → judgement profile n (before ++ take k octets) ≡ verdict.Open) →
     ((j : ℕ) → j < count → judgement profile n ((before ++ take used octets) ++ take j rest) ≡ verdict.Open) → k < used + count → judgement profile n (before ++ take k octets) ≡ verdict.Open
 then_sooner profile n before octets rest used count k e first then lt = by_place (cases_lt k used)
@@ -235,7 +235,7 @@ pub so_far_decided : (old now : Path) (octets : List ℕ) (it : Accepted) → (i
 so_far_decided old now octets it closed (inl none) = absurd (closed (ap (λ (all : Accepted). all.verdict) none.1))
 so_far_decided old now octets it closed (inr is) = is
 
--- where none are taken nothing has changed
+-- if none are taken nothing has changed
 pub so_far_none : (old now : Path) (octets : List ℕ) (it : Accepted) → IsReached old → it.count ≤ 0 → IsSoFar old now octets it → now ≡ old
 so_far_none old now octets it r few (inl none) = none.0
 so_far_none old now octets it r few (inr is) = absurd (omega (arith, few, (accepted_there old now octets it r is).0))

@@ -351,7 +351,7 @@ tag_reading {profile = profile} path before octets it only k f row only_row firs
     done : leaf_outcome g.picked.item only.size leaf ≡ Done only.size
     done = ap (λ size. leaf_outcome g.picked.item size leaf) (sym long) ∙ are_leaf.done ∙ ap Done long
 
--- ---- where the items end, and what is open after one
+-- ---- if the items end, and what is open after one
 pub short_end : (path : Path) → IsReached path → path.tip ≡ tip.Between → path.inner.end < 2 ^ 31
 short_end path r e = ∥∥₁_elim r le_prop (λ (s : (octets : List ℕ) × (profile : Profile) × StandsFor profile path octets). let k : Stood s.1 path s.0 = stood path s.0 s.2 e in omega (arith, k.within, s.2.short))
 

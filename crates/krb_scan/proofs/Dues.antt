@@ -15,7 +15,7 @@ row_from (row ∷ rows) [] k none absent h le = absurd h
 row_from (row ∷ rows) (due ∷ others) zero none absent h le = h.0
 row_from (row ∷ rows) (due ∷ others) (suc k) none absent h le = row_from rows others k none absent h.1 (omega arith)
 
--- the row of a place, where the rows are those of what is due
+-- the row of a place, if the rows are those of what is due
 pub row_of : (rows : List Place) (place : ℕ) (none : Place) → ArePlaces rows dues → place < length rows → IsPlaceOf (get_or rows place none) (due_at place)
 unfolding due_in
 row_of rows place none h le = row_from rows dues place none _ h le
@@ -53,7 +53,7 @@ others (Listed fields) = others_in fields
 others (Each term) = 0
 others (OneOf terms) = length terms
 
--- where the tag of what is due at a row is not the octet, what may come instead decides
+-- if the tag of what is due at a row is not the octet, what may come instead decides
 pub record PassesTo (octet : ℕ) (due : Due) (row : Place) : Type 0 where
   pub known : IsPlace row.otherwise
   pub picks : pick octet due ≡ pick octet (due_at row.otherwise)
@@ -80,7 +80,7 @@ passes octet row (OneOf (term ∷ terms)) is n e =
     let t : eqb octet (tag_of term) ≡ false = ne_eqb octet (tag_of term) (λ f. n (is.offer.tag ∙ sym f)) in
     passes_by octet row (OneOf (term ∷ terms)) (OneOf terms) is.other (rw t refl) refl (omega arith)
 
--- where nothing may come instead, the octet begins nothing
+-- if nothing may come instead, the octet begins nothing
 pub picks_none : (octet : ℕ) (row : Place) (due : Due) → IsPlaceOf row due → (row.tag ≡ octet → ⊥) → row.optional ≡ false → pick octet due ≡ None
 picks_none octet row (Listed End) is n e = refl
 picks_none octet row (Listed (Required term fields)) is n e =
@@ -93,7 +93,7 @@ picks_none octet row (Each term) is n e =
 picks_none octet row (OneOf []) is n e = refl
 picks_none octet row (OneOf (term ∷ terms)) is n e = absurd (true≢false (sym is.other.0 ∙ e))
 
--- where the tag is the octet, the item that is due at the row begins
+-- if the tag is the octet, the item that is due at the row begins
 pub picks_here : (octet place : ℕ) (row : Place) → IsPlace place → octet < 256 → IsPlaceOf row (due_at place) → row.tag ≡ octet → IsPicked octet (due_at place) place
 picks_here octet place row known small is e = by_due (due_at place) refl
   where

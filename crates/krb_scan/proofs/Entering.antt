@@ -68,7 +68,7 @@ whole_taken old mid new node stack marks known e closes pushed closed =
       };
     })
 
--- where memory is refused, the octet ends a length
+-- if memory is refused, the octet ends a length
 pub stays_refused : (old new : Path) (node : ℕ) (inner : Open) (left : ℕ) (stack : List Frame) (marks : List Marked) (memory : Memory) → AreMarks old.marks.items marks →
     StaysOpen old.outer.items (with_mark marks (term_at node) (old.looked + 1) 0) (old.looked + 1) inner left (settle stack (with_mark marks (term_at node) (old.looked + 1) 0) (old.looked + 1)) →
     IsUnchanged old new → IsTaken old new (Err memory) (settle stack (with_mark marks (term_at node) (old.looked + 1) 0) (old.looked + 1))

@@ -197,7 +197,7 @@ has_mark octets place mark marks tag inner more s here =
       after = omega (arith, start, p.1, all_octets octets place tag inner more s.within here);
     }
 
--- there is one where an item stands
+-- there is one if an item stands
 pub some_mark : (octets : List ℕ) (place : ℕ) (marks : List Mark) (tag : ℕ) (inner more : List ℕ) → StandsAt octets place marks → drop place octets ≡ item tag inner ++ more → 0 < length marks
 some_mark octets place [] tag inner more s here = let none : item tag inner ++ more ≡ [] = sym here ∙ s.left in absurd cc
 some_mark octets place (mark ∷ marks) tag inner more s here = omega arith

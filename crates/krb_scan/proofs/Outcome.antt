@@ -279,7 +279,7 @@ item_agree term right stack marks from octets room_pos = by_one (limit stack - f
 
 -- ---- what follows an item
 
--- where what follows agrees after the item, it agrees after what came before the item
+-- if what follows agrees after the item, it agrees after what came before the item
 shift_agree : (base before count whole room : ℕ) (octets rest : List ℕ) (seen : Seen) (outcome : Outcome) → count + room ≡ whole → rest ≡ drop count octets →
     ContentsAgree base (before + count) room rest seen outcome → ContentsAgree base before whole octets seen outcome
 shift_agree base before count whole room octets rest (Within state) Open e f h = contents_open base before whole octets state

@@ -81,7 +81,7 @@ some_begins old new octet place row stack marks h m p of_row room at_tip at_mark
 
 -- ---- length octets that are whole
 
--- the item fills its room where it must
+-- the item fills its room if it must
 not_loose : (sole : Bool) (from header count taken limit : ℕ) → from + header ≡ taken → taken + count ≤ limit → (sole ≡ true → limit ≤ taken + count) → (sole && nat_lt (header + count) (limit - from)) ≡ false
 not_loose false from header count taken limit e le full = refl
 not_loose true from header count taken limit e le full = let h : limit ≤ taken + count = full refl in le-ltb (header + count) (limit - from) (omega arith)

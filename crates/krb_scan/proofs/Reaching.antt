@@ -82,7 +82,7 @@ same_lengths path taken state h =
     let same : length path.outer.items ≡ length state.stack - 1 = omega arith in
     same_tip taken path.tip state.tip (length path.outer.items) h.tip ∙ ap (lengths_at state.tip) same
 
--- where memory was refused, the octets are the same
+-- if memory was refused, the octets are the same
 pub unchanged_at : {profile : Profile} (old new : Path) (decided : Verdict) (n : ℕ) (octets : List ℕ) → IsAt profile old decided n octets → IsUnchanged old new → new.size ≡ old.size → new.looked ≡ old.looked → IsAt profile new decided n octets
 unchanged_at {profile = profile} old new decided n octets at same size looked = record {
   are_octets = at.are_octets;
@@ -258,7 +258,7 @@ enough {profile = profile} (Err error) path decided n octets longer room at unde
     by (inl h) = omega (arith, marks_are_few profile n longer at.some, length_values path.marks.items (Marks profile n octets) at.marks, h, one, ends, full, much)
     by (inr h) = all_is_decided (messages profile) n octets at.some (omega (arith, at.fits, h)) (sym at.decides ∙ undecided)
 
--- where memory was refused, the octet ends a length
+-- if memory was refused, the octet ends a length
 pub ends_length : {profile : Profile} (old new : Path) (decided : Verdict) (n : ℕ) (octets : List ℕ) (octet : ℕ) (memory : Memory) → IsAt profile old decided n octets → IsTaken old new (Err memory) (reading.reading (messages profile) old.size (octets ++ octet ∷ [])) → length (Marks profile n (octets ++ octet ∷ [])) ≡ length (Marks profile n octets) + 1
 ends_length {profile = profile} old new decided n octets octet memory at is =
     by_answer (reading.reading (messages profile) n (octets ++ octet ∷ [])) (subst (λ k. AddsMark (length old.marks.items) (reading.reading (messages profile) k (octets ++ octet ∷ []))) at.size is.takes.1)

@@ -164,7 +164,7 @@ time_size (SequenceOf empty term) count is h = absurd is
 time_size (Tagged index term) count is h = absurd is
 time_size (Application number term) count is h = absurd is
 
--- where the octet completes a leaf, it ends there
+-- if the octet completes a leaf, it ends there
 pub reads_end : (term : Term) (start count taken : ℕ) (octets : List ℕ) (number : ℤ) → has_size term count ≡ true → leaf_outcome term count octets ≡ OpenOutcome → (octet : ℕ) → taken ≡ start + length octets + 1 → number ≡ leaf_value term (octets ++ octet ∷ []) → LeafEnds term start count taken (octets ++ octet ∷ []) number (leaf_outcome term count (octets ++ octet ∷ []))
 reads_end term start count taken octets number size still octet at e =
     by_outcome (leaf_outcome term count (octets ++ octet ∷ [])) (leaf_counts term count (octets ++ octet ∷ []) size)

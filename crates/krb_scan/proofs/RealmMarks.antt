@@ -342,7 +342,7 @@ module _ (profile : Profile) (octets : List ℕ) (k : Kind) (marks : List Kept) 
   of_realm : (realm : Option (List ℕ)) → realm_of w.message ≡ realm → AreOfRealm profiles.Lenient octets realm
   of_realm realm e = record { message = w.message; in_profile = lenient_message profile w.message w.in_profile; form = w.form; same_realm = e }
 
-  -- where no mark is found there is no realm
+  -- if no mark is found there is no realm
   pub no_realm : None ≡ mark_after (is_realm k) false (map mark_value marks) → AreOfRealm profiles.Lenient octets None
   no_realm e = by (realm_of w.message) refl (told None e)
     where

@@ -82,7 +82,7 @@ standing_at {profile = profile} path octets s =
       keeps = subst (Keeps path) (sym s.reads) (s.holds.containers, s.holds.tip);
     }
 
--- where something is decided, no string is open
+-- if something is decided, no string is open
 pub none_left : {profile : Profile} (path : Path) (decided : Verdict) (n : ℕ) (octets : List ℕ) → IsAt profile path decided n octets → (decided ≡ verdict.Open → ⊥) → string_left (messages profile) n octets ≡ 0
 none_left {profile = profile} path decided n octets at not = by_answer (reading.reading (messages profile) n octets) refl
   where
@@ -113,7 +113,7 @@ leaf_some {profile = profile} path octets place start end value unused s e =
     let lt : length leaf.present < leaf.count = leaf.at.roomy.1 in
     omega (arith, leaf.looked, leaf.ends)
 
--- no string is open where no leaf is
+-- no string is open if no leaf is
 pub none_open : {profile : Profile} (path : Path) (octets : List ℕ) → StandsFor profile path octets → ((place start end : ℕ) (value : ℤ) (unused : ℕ) → path.tip ≡ tip.Leaf place start end value unused → ⊥) → string_left (messages profile) path.size octets ≡ 0
 none_open path octets s not = ap left_of s.reads ∙ by_tips path.tip s.state.tip refl s.holds.tip
   where

@@ -12,7 +12,7 @@ use Rattle.krb_scan.proofs.Basics.{then_assoc}
 use Rattle.krb_scan.proofs.Resume.{due_seen, rest_seen, pick_seen, resume, run, due_pick, settle_right, enter_right, resume_none, run_right, go_on_same, go_on_none, settle_reached}
 use Rattle.krb_scan.proofs.Prefix.{run_append, reading_append}
 
--- an item that begins where something is due in a container: what is picked by its tag, and what its tag and length octets say
+-- an item that begins if something is due in a container: what is picked by its tag, and what its tag and length octets say
 pub record Begins (due : Due) (end place tag : ℕ) (octets : List ℕ) (term : Term) (left : Due) (header count : ℕ) : Type 0 where
   pub picks : pick tag due ≡ Some (term, left)
   pub got : head (end - place) (tag ∷ octets) ≡ Got header count

@@ -67,7 +67,7 @@ due_in some place = get_or some place (OneOf [])
 abbrev pub due_at : ℕ → Due
 due_at = due_in dues
 
--- the item that may come where something is due, and what is due after it
+-- the item that may come if something is due, and what is due after it
 abbrev pub offered : Due → Option (Term × Due)
 offered (Listed End) = None
 offered (Listed (Required term fields)) = Some (term, Listed fields)

@@ -37,8 +37,8 @@ pub(crate) struct Accepted {
     pub(crate) verdict: Verdict,
 }
 
-/// The item at the front of octets that come in a container at `from`, if its tag and length are
-/// there and it may stand there, and the row of its place.
+/// Returns the item at the front of octets that come in a container at `from`, if its tag and
+/// length are there and it may stand there, and the row of its place.
 #[inline(always)]
 fn find_item(container: Open, from: u32, octets: &[u8]) -> Option<(Found, &'static Place)>
     requires known { IsPlace container.due }
@@ -62,8 +62,8 @@ fn find_item(container: Open, from: u32, octets: &[u8]) -> Option<(Found, &'stat
     Some((found, row))
 }
 
-/// The one item of a container that begins at `from` with octets, if its tag and length are there and
-/// it fills the container.
+/// Returns the one item of a container that begins at `from` with octets, if its tag and length are
+/// there and it fills the container.
 #[inline(always)]
 fn find_only(container: Open, row: &Place, from: u32, octets: &[u8]) -> Option<Found>
     requires known { IsPlace container.due }
@@ -82,7 +82,7 @@ fn find_only(container: Open, row: &Place, from: u32, octets: &[u8]) -> Option<F
 }
 
 impl Path {
-    /// Closes the containers that end at a place, where `next` is due after an item in the innermost,
+    /// Closes the containers that end at a place, if `next` is due after an item in the innermost,
     /// unless one of them lacks an item.
     #[inline(always)]
     fn close_at(&mut self, next: u16, place: u32) -> Option<Verdict>
@@ -186,7 +186,7 @@ impl Path {
         }
     }
 
-    /// Takes the tags and lengths of a tag and of its one item, which holds items itself, where they are
+    /// Takes the tags and lengths of a tag and of its one item, which holds items itself, if they are
     /// there.
     #[inline(always)]
     fn take_heads(
@@ -231,7 +231,7 @@ impl Path {
         })
     }
 
-    /// Takes a tag and its one item, which holds no items, where both are there whole at the front of
+    /// Takes a tag and its one item, which holds no items, if both are there whole at the front of
     /// octets.
     #[inline(always)]
     fn take_tag(
@@ -287,7 +287,7 @@ impl Path {
         })
     }
 
-    /// Takes the item at the front of octets, or a container's tag and length, where they are there
+    /// Takes the item at the front of octets, or a container's tag and length, if they are there
     /// and nothing is odd.
     #[inline(always)]
     fn take_item(&mut self, octets: &[u8]) -> Option<Accepted>

@@ -10,8 +10,8 @@ use krb_der::{Memory, Room};
 use krb_msg::{Message, decode, whole_kind};
 use std::alloc::Global;
 
-/// The message whose octets these are, by the marks of a scanner that took them all. Nothing is
-/// judged again: numbers come from the marks, and each string of octets is copied once.
+/// Returns the message whose octets these are, by the marks of a scanner that took them all.
+/// Nothing is judged again: numbers come from the marks, and each string of octets is copied once.
 pub fn build(alloc: Global, marks: &[Mark], octets: &[u8]) -> Result<Message, Memory>
     requires short { length octets.now < 2 ^ 31 }
     requires whole { AreWhole marks.now octets.now }
@@ -20,8 +20,8 @@ pub fn build(alloc: Global, marks: &[Mark], octets: &[u8]) -> Result<Message, Me
     build_in(alloc, &mut Room::new(), marks, octets)
 }
 
-/// The message that [`build`] gives. Its strings of octets take room that others left where there is
-/// some.
+/// Returns the message that [`build`] gives. Its strings of octets take room that others left if
+/// there is some.
 pub fn build_in(
     alloc: Global,
     room: &mut Room,

@@ -18,7 +18,7 @@ pub(crate) enum Head {
     Got { size: u32 },
 }
 
-/// An item with octets of header and of contents, in a room.
+/// Returns an item with octets of header and of contents, in a room.
 fn fitting(room: u32, header: u32, size: u32) -> Head
     ensures { HeadIs result (fits room header size) }
 {
@@ -29,7 +29,7 @@ fn fitting(room: u32, header: u32, size: u32) -> Head
     }
 }
 
-/// The first length octet of an item in a room.
+/// Judges the first length octet of an item in a room.
 pub(crate) fn first_head(room: u32, octet: u8) -> Head
     ensures { HeadIs result (first_decides room octet) }
 {
@@ -46,7 +46,7 @@ pub(crate) fn first_head(room: u32, octet: u8) -> Head
     }
 }
 
-/// The next of the octets of a long length, after some that spell a number.
+/// Judges the next octet of a length of the long form, after some that spell a number.
 pub(crate) fn next_head(room: u32, digits: u32, seen: u32, value: u32, octet: u8) -> Head
     requires narrow { digits ≤ 4 }
     requires some { seen < digits }

@@ -20,7 +20,7 @@ pub(crate) enum Leaf {
     Done,
 }
 
-/// The number of an INTEGER's octets and one more, after `seen` of them.
+/// Returns the number of an INTEGER's octets and one more, after `seen` of them.
 pub(crate) fn extend(seen: u32, value: i64, octet: u8) -> i64
     requires above { negsuc 549755813887 ≤ℤ value }
     requires below { value <ℤ pos 549755813888 }
@@ -35,14 +35,14 @@ pub(crate) fn extend(seen: u32, value: i64, octet: u8) -> i64
     }
 }
 
-/// The octet repeats the sign of the one before it.
+/// Returns whether an octet repeats the sign of the one before it.
 fn is_pad(value: i64, octet: u8) -> bool
     ensures { result ≡ pads value octet }
 {
     if octet < 128 { value == 0 } else { value == -1 }
 }
 
-/// The second octet repeats the sign of the first.
+/// Returns whether the second octet repeats the sign of the first.
 fn is_padded(seen: u32, value: i64, octet: u8) -> bool
     ensures { result ≡ ((seen == 1) && pads value octet) }
 {
@@ -53,7 +53,7 @@ fn is_padded(seen: u32, value: i64, octet: u8) -> bool
     }
 }
 
-/// The number is in the range of contents that have one.
+/// Returns whether a number is in the range of contents that have one.
 pub(crate) fn is_within(contents: Contents, value: i64) -> bool
     ensures { (low high : ℤ) (widest : ℕ) → contents ≡ Contents.Integer low high widest → result ≡ in_range low high value }
 {
@@ -63,8 +63,8 @@ pub(crate) fn is_within(contents: Contents, value: i64) -> bool
     }
 }
 
-/// An INTEGER's next octet, after `seen` of its `size`, which are `value`; with it they are a number
-/// that is `within` its range, or not.
+/// Judges an INTEGER's next octet, after `seen` of its `size`, which are `value`; with it they are a
+/// number that is `within` its range, or not.
 pub(crate) fn integer_next(within: bool, size: u32, seen: u32, value: i64, octet: u8) -> Leaf
     requires { seen < size }
     ensures { LeafIs result (integer_with within size seen value octet) }
@@ -81,7 +81,7 @@ pub(crate) fn integer_next(within: bool, size: u32, seen: u32, value: i64, octet
     }
 }
 
-/// The next octet of a time.
+/// Judges the next octet of a KerberosTime.
 pub(crate) fn time_next(seen: u32, octet: u8) -> Leaf
     requires { seen < 15 }
     ensures { LeafIs result (each_next time_octet why.Time 15 seen octet) }
@@ -100,15 +100,15 @@ pub(crate) fn time_next(seen: u32, octet: u8) -> Leaf
     }
 }
 
-/// A BIT STRING's count of unused bits with one more octet, after `seen` of them.
+/// Returns a BIT STRING's count of unused bits with one more octet, after `seen` of them.
 pub(crate) fn first_octet(seen: u32, unused: u8, octet: u8) -> u8
     ensures { result ≡ (if seen == 0 then octet else unused) }
 {
     if seen == 0 { octet } else { unused }
 }
 
-/// The next octet of a BIT STRING of `least` bits or more, after `seen` of its `size`; the first of
-/// them is `unused`.
+/// Judges the next octet of a BIT STRING of `least` bits or more, after `seen` of its `size`; the
+/// first of them is `unused`.
 pub(crate) fn bits_next(least: u8, size: u32, seen: u32, unused: u8, octet: u8) -> Leaf
     requires some { seen < size }
     requires few { unused < 8 }
@@ -131,7 +131,7 @@ pub(crate) fn bits_next(least: u8, size: u32, seen: u32, unused: u8, octet: u8) 
     }
 }
 
-/// The next octet of a string of octets up to the `greatest`.
+/// Judges the next octet of a string of octets up to the `greatest`.
 pub(crate) fn text_next(greatest: u8, size: u32, seen: u32, octet: u8) -> Leaf
     requires { seen < size }
     ensures { LeafIs result (each_next (text_octet greatest) why.Charset size seen octet) }
@@ -145,7 +145,7 @@ pub(crate) fn text_next(greatest: u8, size: u32, seen: u32, octet: u8) -> Leaf
     }
 }
 
-/// The next octet of a string, whatever it is.
+/// Judges the next octet of a string that may have any octets.
 pub(crate) fn any_next(size: u32, seen: u32) -> Leaf
     requires { seen < size }
     ensures { LeafIs result (any_decides size seen) }

@@ -17,14 +17,14 @@ impl Model for Ledger {
 }
 
 impl Ledger {
-    /// A ledger of some number, which the clause leaves open.
+    /// Creates a ledger of some number, which the clause leaves open.
     pub(crate) fn new() -> Ledger
         ensures { result.looks ≡ result.looks }
     {
         Ledger {}
     }
 
-    /// The ledger after a number of more looks.
+    /// Returns the ledger after a number of more looks.
     #[inline(always)]
     pub(crate) fn raised(&self, _looks: &u32) -> Ledger
         ensures { result.looks ≡ self.now.looks + _looks.now }

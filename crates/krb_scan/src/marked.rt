@@ -34,7 +34,7 @@ ghost use Rattle.krb_scan.specs.inner.Marked.{IsMarked};
 ghost use Rattle.krb_scan.specs.inner.MarksCounted.{counted};
 
 impl<'a, 'b> Marked<'a, 'b> {
-    /// All the octets of a message, with its marks.
+    /// Returns all the octets of a message, with its marks.
     pub(crate) fn new(marks: &'a [Mark], octets: &'a [u8], room: &'b mut Room) -> Marked<'a, 'b>
         requires { IsMarked octets.now 0 marks.now }
         ensures { result ≡ octets.now }
@@ -127,7 +127,7 @@ impl<'a, 'b> Source for Marked<'a, 'b> {
     }
 }
 
-/// The first mark, and those after it.
+/// Returns the first mark, and those after it.
 fn next(marks: &[Mark]) -> (Mark, &[Mark])
     requires { 0 < length marks.now }
     ensures { marks.now ≡ result.0 ∷ result.1.now }
@@ -135,7 +135,7 @@ fn next(marks: &[Mark]) -> (Mark, &[Mark])
     (marks[0], &marks[1..])
 }
 
-/// How many of the items whose marks these are stand one after another between two places.
+/// Returns how many of the items whose marks these are stand one after another between two places.
 fn count_items(marks: &[Mark], from: usize, to: usize) -> usize
     ensures exact { result ≡ counted from to (map mark_value marks.now) }
     ensures within { result ≤ to - from }

@@ -58,7 +58,7 @@ pub(crate) enum Sized {
     Items { first: u16 },
 }
 
-/// What contents of `len` octets of the item of a place are.
+/// Returns what contents of `len` octets of the item of a place are.
 fn sized_contents(place: u16, len: u32) -> Sized
     requires { IsItemPlace place }
     ensures { IsSized (item_at place) len result }
@@ -84,7 +84,7 @@ fn sized_contents(place: u16, len: u32) -> Sized
     }
 }
 
-/// The row in `krb_msg::grammar` of the item of a place.
+/// Returns the row in `krb_msg::grammar` of the item of a place.
 fn node_of(place: u16) -> u16
     requires { IsItemPlace place }
     ensures known { IsNode result }
@@ -94,7 +94,7 @@ fn node_of(place: u16) -> u16
 }
 
 impl Path {
-    /// Whether the next item fills its container.
+    /// Returns whether the next item fills its container.
     fn is_sole(&self) -> bool
         requires { HasFrames self.now.inner self.now.outer.items }
         ensures { (stack : List Frame) → AreOpen self.now.inner self.now.outer.items stack → result ≡ sole_in stack }
@@ -102,7 +102,7 @@ impl Path {
         place_at(self.inner.due).sole
     }
 
-    /// The next octet is refused.
+    /// Refuses the next octet.
     fn refused(&self, why: Why) -> Verdict
         ensures { result ≡ Verdict.Refused (record { place = self.now.looked; why = why }) }
     {
@@ -112,7 +112,7 @@ impl Path {
         })
     }
 
-    /// A mark for a length that ends with the next octet.
+    /// Adds the mark of a length that ends with the next octet.
     fn mark(&mut self, node: u16, len: u32) -> Result<(), Memory>
         requires { self.old.looked + 1 < 2 ^ 32 }
         ensures ok { OnOk result (self.new.marks.items ≡ self.old.marks.items ++ record { node = node; start = self.old.looked + 1; len = len; value = pos 0 } ∷ []) }
@@ -147,7 +147,7 @@ impl Path {
         self.tip = Tip::Between;
     }
 
-    /// The last mark gets its number.
+    /// Gives the last mark its number.
     fn complete(&mut self, value: i64)
         requires { 0 < length self.old.marks.items }
         ensures items { self.new.marks.items ≡ with_value self.old.marks.items value }
@@ -158,7 +158,7 @@ impl Path {
         self.marks[last].value = value;
     }
 
-    /// An item whose contents are none ends with the next octet.
+    /// Takes the last length octet of an item without contents octets.
     fn close_empty(&mut self, node: u16) -> Result<Verdict, Memory>
         requires known { IsNode node }
         requires short { self.old.looked + 1 < 2 ^ 31 }
@@ -184,7 +184,7 @@ impl Path {
         }
     }
 
-    /// An item without items, whose length ends with the next octet.
+    /// Takes the last length octet of an item without items in it.
     #[inline(always)]
     fn enter_leaf(&mut self, place: u16, len: u32) -> Result<Verdict, Memory>
         requires known { IsItemPlace place }
@@ -213,7 +213,7 @@ impl Path {
         Ok(Verdict::Open)
     }
 
-    /// An item with items, whose length ends with the next octet.
+    /// Takes the last length octet of an item with items in it.
     #[inline(always)]
     fn enter_items(&mut self, place: u16, len: u32, first: u16) -> Result<Verdict, Memory>
         requires known { IsItemPlace place }
@@ -245,7 +245,7 @@ impl Path {
         Ok(Verdict::Open)
     }
 
-    /// An item whose length ends with the next octet.
+    /// Takes the last length octet of an item.
     #[inline(always)]
     fn enter(&mut self, place: u16, len: u32) -> Result<Verdict, Memory>
         requires known { IsItemPlace place }
@@ -265,7 +265,7 @@ impl Path {
         }
     }
 
-    /// An item whose tag and length octets came to this.
+    /// Takes an octet of the length of an item, whose tag and length octets came to this.
     #[inline(always)]
     fn headed(&mut self, head: Head, partial: Tip, place: u16) -> Result<Verdict, Memory>
         requires known { IsItemPlace place }
@@ -293,7 +293,7 @@ impl Path {
         }
     }
 
-    /// The tag octet of an item.
+    /// Returns the tag octet of an item.
     #[inline(always)]
     fn begin(&mut self, octet: u8) -> Verdict
         requires short { self.old.looked + 1 < 2 ^ 31 }
@@ -316,7 +316,7 @@ impl Path {
         }
     }
 
-    /// The contents of a leaf, of which the next octet came to this.
+    /// Returns the contents of a leaf, of which the next octet came to this.
     #[inline(always)]
     fn leafed(&mut self, next: Leaf, partial: Tip, value: i64) -> Verdict
         requires short { self.old.looked + 1 < 2 ^ 31 }
@@ -348,7 +348,7 @@ impl Path {
         }
     }
 
-    /// An octet of the contents of a leaf.
+    /// Takes a contents octet of an item without items in it.
     #[inline(always)]
     fn content(
         &mut self,
@@ -418,7 +418,7 @@ impl Path {
         }
     }
 
-    /// Takes an octet. Where memory is refused, nothing changes but the room for marks.
+    /// Takes an octet. If memory is refused, nothing changes but the room for marks.
     #[inline(always)]
     pub(crate) fn take(&mut self, octet: u8) -> Result<Verdict, Memory>
         requires { IsReached self.old }
@@ -517,7 +517,7 @@ impl Path {
     }
 }
 
-/// A message of a profile of `size` octets, of which none is taken.
+/// Returns a message of a profile of `size` octets, of which none is taken.
 pub(crate) fn message(profile: Profile, size: u32) -> Open
     ensures end { result.end ≡ size }
     ensures known { IsPlace result.due }
@@ -529,7 +529,7 @@ pub(crate) fn message(profile: Profile, size: u32) -> Open
     }
 }
 
-/// The number of octets, if it is not more than this.
+/// Returns the number of octets, if it is not more than this.
 fn shorter(octets: &[u8], most: u32) -> u32
     ensures { result ≡ min (length octets.now) most }
 {
@@ -540,7 +540,8 @@ fn shorter(octets: &[u8], most: u32) -> u32
     }
 }
 
-/// Whether the item of a place is an OCTET STRING, or a GeneralString that may have any octets.
+/// Returns whether the item of a place is an OCTET STRING, or a GeneralString that may have any
+/// octets.
 fn is_string(place: u16) -> bool
     requires { IsItemPlace place }
     ensures { result ≡ string_term (item_at place) }

@@ -192,7 +192,7 @@ pub(crate) enum PlaceName {
 pub(crate) enum Contents {
     /// An INTEGER from `low` to `high`, which has at most `widest` octets.
     Integer { low: i64, high: i64, widest: u32 },
-    /// A KerberosString of octets up to the `greatest`.
+    /// Judges a KerberosString of octets up to the `greatest`.
     Text { greatest: u8 },
     /// An OCTET STRING.
     Octets,
@@ -207,7 +207,7 @@ pub(crate) enum Contents {
 /// The item that may come at a place.
 #[derive(Clone, Copy)]
 pub(crate) struct Place {
-    /// Its tag octet, or [`NO_TAG`] where no item may come.
+    /// Its tag octet, or [`NO_TAG`] if no item may come.
     pub(crate) tag: u16,
     /// Its node in `krb_msg::grammar`.
     pub(crate) node: u16,
@@ -539,7 +539,7 @@ static TABLE: [Place; PLACES] = both![
     (none, TagEnd, true),
 ];
 
-/// The place of a message of a profile.
+/// Returns the place of a message of a profile.
 pub(crate) fn message_place(profile: Profile) -> u16
     ensures known { IsPlace result }
     ensures due { due_at result ≡ OneOf (messages profile) }
@@ -550,7 +550,7 @@ pub(crate) fn message_place(profile: Profile) -> u16
     }
 }
 
-/// The row of a place, in rows that are those of what is due.
+/// Returns the row of a place, in rows that are those of what is due.
 #[inline(always)]
 fn place_in(rows: &[Place], place: u16) -> &Place
     requires known { IsPlace place }
@@ -560,7 +560,7 @@ fn place_in(rows: &[Place], place: u16) -> &Place
     &rows[place as usize]
 }
 
-/// The row of a place.
+/// Returns the row of a place.
 #[inline(always)]
 pub(crate) fn place_at(place: u16) -> &'static Place
     requires { IsPlace place }
@@ -569,7 +569,8 @@ pub(crate) fn place_at(place: u16) -> &'static Place
     place_in(&TABLE, place)
 }
 
-/// The place of the item that a tag octet begins, where something is due at a place, and its row.
+/// Returns the place of the item that a tag octet begins, if something is due at a place, and its
+/// row.
 #[inline(always)]
 pub(crate) fn pick_row(octet: u8, due: u16) -> Option<(u16, &'static Place)>
     requires { IsPlace due }
@@ -590,7 +591,7 @@ pub(crate) fn pick_row(octet: u8, due: u16) -> Option<(u16, &'static Place)>
     }
 }
 
-/// The place of the item that a tag octet begins, where something is due at a place.
+/// Returns the place of the item that a tag octet begins, if something is due at a place.
 #[inline(always)]
 pub(crate) fn pick(octet: u8, due: u16) -> Option<u16>
     requires { IsPlace due }

@@ -30,10 +30,10 @@ const TICKET_REALM: u16 = Row::TicketRealm as u16;
 /// The node of the realm of the server in a KRB-ERROR.
 const ERROR_REALM: u16 = Row::KrbErrorRealm as u16;
 
-/// The realm of the message whose octets these are, borrowed from them, by the marks of a scanner
-/// that took them all: of an AS-REQ or a TGS-REQ the realm that its body names, of an AS-REP or a
-/// TGS-REP the client's, of an AP-REQ the ticket's, of a KRB-ERROR the server's. The other
-/// messages name none. It takes no memory.
+/// Returns the realm of the message whose octets these are, borrowed from them, by the marks of a
+/// scanner that took them all: of an AS-REQ or a TGS-REQ the realm that its body names, of an
+/// AS-REP or a TGS-REP the client's, of an AP-REQ the ticket's, of a KRB-ERROR the server's. The
+/// other messages name none. It takes no memory.
 pub fn realm<'a>(marks: &[Mark], octets: &'a [u8]) -> Option<&'a [u8]>
     requires short { length octets.now < 2 ^ 31 }
     requires whole { AreWhole marks.now octets.now }
@@ -44,8 +44,8 @@ pub fn realm<'a>(marks: &[Mark], octets: &'a [u8]) -> Option<&'a [u8]>
     Some(&octets[start..start + mark.len as usize])
 }
 
-/// The mark of the string that is the realm of a message of a kind: the one after the mark of the
-/// first field that is the realm.
+/// Returns the mark of the string that is the realm of a message of a kind: the one after the mark
+/// of the first field that is the realm.
 fn realm_mark(kind: Kind, marks: &[Mark]) -> Option<Mark>
     requires { AllByRecursion (λ mark. IsNode mark.node) marks.now }
     ensures { option_map mark_value result ≡ mark_after (is_realm_field kind) false (map mark_value marks.now) }
@@ -60,8 +60,8 @@ fn realm_mark(kind: Kind, marks: &[Mark]) -> Option<Mark>
     None
 }
 
-/// Whether a node is the field that is the realm of a message of a kind. That of an AS-REP and that
-/// of a TGS-REP are one term, and so each may stand for the other.
+/// Returns whether a node is the field that is the realm of a message of a kind. That of an AS-REP
+/// and that of a TGS-REP are one term, and so each may stand for the other.
 fn is_realm(kind: Kind, node: u16) -> bool
     requires { IsNode node }
     ensures { result ≡ is_realm_field kind (term_at node) }
@@ -75,7 +75,7 @@ fn is_realm(kind: Kind, node: u16) -> bool
     }
 }
 
-/// Whether a node is that of a row, in one profile or the other.
+/// Returns whether a node is that of a row, in one profile or the other.
 fn is_row(node: u16, row: u16) -> bool
     requires { row < ROWS }
     ensures { result ≡ is_row_of node row }

@@ -33,7 +33,8 @@ impl Scanner {
     ghost use Rattle.krb_scan.specs.Runs.{string_left};
     ghost use Rattle.krb_scan.specs.Scanner.{At, profile_of, verdict_of, ledger_of, looked_of, marks_of, room_of};
 
-    /// A scanner of a message of `n` octets, of which none is taken, by the lenient profile.
+    /// Creates a scanner of a message of `n` octets, of which none is taken, by the lenient
+    /// profile.
     pub fn new(alloc: Global, n: u32) -> Scanner
         requires some { 0 < n }
         requires short { n < 2 ^ 31 }
@@ -43,7 +44,8 @@ impl Scanner {
         Scanner::with_profile(alloc, Profile::Lenient, n)
     }
 
-    /// A scanner of a message of `n` octets, of which none is taken, by a profile. It takes no memory.
+    /// Creates a scanner of a message of `n` octets, of which none is taken, by a profile. It takes
+    /// no memory.
     pub fn with_profile(alloc: Global, profile: Profile, n: u32) -> Scanner
         requires some { 0 < n }
         requires short { n < 2 ^ 31 }
@@ -65,15 +67,22 @@ impl Scanner {
         }
     }
 
-    /// What the octets taken decide.
+    /// Returns the profile that it judges by.
+    pub fn profile(&self) -> Profile
+        ensures { result ≡ profile_of self.now }
+    {
+        self.profile
+    }
+
+    /// Returns what the octets taken decide.
     pub fn verdict(&self) -> Verdict
         ensures { result ≡ verdict_of self.now }
     {
         self.verdict
     }
 
-    /// Takes an octet. Where memory is refused, it stays as it was and the octet may be taken again.
-    /// None is taken where there is room for half as many marks as the message has octets.
+    /// Takes an octet. If memory is refused, it stays as it was and the octet may be taken again.
+    /// None is taken if there is room for half as many marks as the message has octets.
     #[inline(always)]
     pub fn step(&mut self, octet: u8) -> Result<Verdict, Memory>
         requires { verdict_of self.old ≡ Verdict.Open }
@@ -96,7 +105,7 @@ impl Scanner {
     }
 
     /// Takes octets as `run` and `step` would, one after another, until something is decided or none
-    /// is left. Where memory is refused, it stays as it was before the octet that was not taken.
+    /// is left. If memory is refused, it stays as it was before the octet that was not taken.
     pub fn take(&mut self, octets: &[u8]) -> Taken
         requires { verdict_of self.old ≡ Verdict.Open }
         ensures at { (profile : Profile) (n : ℕ) (before : List ℕ) → At profile self.old n before → At profile self.new n (before ++ take result.used octets.now) }
@@ -192,14 +201,14 @@ impl Scanner {
         Some(items)
     }
 
-    /// The number of octets taken.
+    /// Returns the number of octets taken.
     pub fn looked(&self) -> u32
         ensures { (profile : Profile) (n : ℕ) (octets : List ℕ) → At profile self.now n octets → result ≡ length octets }
     {
         self.path.looked
     }
 
-    /// The number of lengths that are whole and whose contents are not complete.
+    /// Returns the number of lengths that are whole and whose contents are not complete.
     pub fn open_lengths(&self) -> usize
         ensures count { (profile : Profile) (n : ℕ) (octets : List ℕ) → At profile self.now n octets → result ≡ open_count profile n octets }
         ensures few { result ≤ 13 }
@@ -210,7 +219,7 @@ impl Scanner {
         }
     }
 
-    /// A mark for each length that is whole, in the order of the lengths.
+    /// Returns a mark for each length that is whole, in the order of the lengths.
     pub fn marks(&self) -> &[Mark]
         ensures marks { result.now ≡ marks_of self.now }
         ensures few { 2 * length result.now ≤ looked_of self.now }

@@ -21,8 +21,8 @@ pub(crate) struct WholeHead {
     pub(crate) size: u32,
 }
 
-/// The tag and length octets of an item, where all of them are there, they are at most four, and
-/// the length has its shortest form.
+/// Returns the tag and length octets of an item, if all of them are there, they are at most four,
+/// and the length has its shortest form.
 #[inline(always)]
 pub(crate) fn whole_head(octets: &[u8]) -> Option<WholeHead>
     ensures head { IsHead octets.now result }
@@ -48,8 +48,8 @@ pub(crate) fn whole_head(octets: &[u8]) -> Option<WholeHead>
     }
 }
 
-/// The tag and length octets of an item that has this tag octet and takes `room` octets in all, where
-/// they are as [`whole_head`] says.
+/// Returns the tag and length octets of an item that has this tag octet and takes `room` octets in
+/// all, if they are as [`whole_head`] says.
 #[inline(always)]
 pub(crate) fn filling_head(tag: u16, room: u32, octets: &[u8]) -> Option<WholeHead>
     ensures head { IsHead octets.now result }
@@ -77,8 +77,8 @@ pub(crate) fn filling_head(tag: u16, room: u32, octets: &[u8]) -> Option<WholeHe
     Some(head)
 }
 
-/// The number of the contents of an item without items, 0 where it is no INTEGER, if all of them
-/// are there and right.
+/// Returns the number of the contents of an item without items, 0 if it is no INTEGER, if all of
+/// them are there and right.
 #[inline(always)]
 pub(crate) fn whole_leaf(contents: &Contents, octets: &[u8]) -> Option<i64>
     requires { IsNarrow contents.now }
@@ -95,7 +95,7 @@ pub(crate) fn whole_leaf(contents: &Contents, octets: &[u8]) -> Option<i64>
     }
 }
 
-/// The number of an INTEGER's contents, in its range (X.690, 8.3).
+/// Returns the number of an INTEGER's contents, in its range (X.690, 8.3).
 #[inline(always)]
 fn integer(low: i64, high: i64, widest: u32, octets: &[u8]) -> Option<i64>
     requires some { 0 < widest }
@@ -121,7 +121,7 @@ fn integer(low: i64, high: i64, widest: u32, octets: &[u8]) -> Option<i64>
     }
 }
 
-/// Whether contents are a KerberosTime: fourteen digits and a Z (RFC 4120, 5.2.3).
+/// Returns whether contents are a KerberosTime: fourteen digits and a Z (RFC 4120, 5.2.3).
 #[inline(always)]
 fn is_time(octets: &[u8]) -> bool
     ensures { (result ≡ true) → (length octets.now ≡ 15) × (each_contents time_octet why.Time 15 0 octets.now ≡ Done 15) }
@@ -137,7 +137,7 @@ fn is_time(octets: &[u8]) -> bool
     true
 }
 
-/// Whether contents have octets up to the `greatest` only.
+/// Returns whether contents have octets up to the `greatest` only.
 #[inline(always)]
 fn is_text(greatest: u8, octets: &[u8]) -> bool
     ensures { result ≡ list_all (λ octet. nat_le octet greatest) octets.now }
@@ -145,8 +145,8 @@ fn is_text(greatest: u8, octets: &[u8]) -> bool
     octets.iter().all(|octet| *octet <= greatest)
 }
 
-/// Whether contents are a BIT STRING of `least` bits or more: the count of the unused bits, which
-/// are clear, and the octets (X.690, 8.6 and 11.2).
+/// Returns whether contents are a BIT STRING of `least` bits or more: the count of the unused bits,
+/// which are clear, and the octets (X.690, 8.6 and 11.2).
 #[inline(always)]
 fn are_bits(least: u8, octets: &[u8]) -> bool
     ensures { (result ≡ true) → (has_size (Bits least) (length octets.now) ≡ true) × (bits_contents least (length octets.now) octets.now ≡ Done (length octets.now)) }

@@ -1,7 +1,7 @@
 //! Command lines.
 
 use krb_der::Profile;
-use krb_words::{Job, Order, WordsFault, read_words};
+use krb_words::{AfterRefusal, Job, Order, Source, WordsFault, read_words};
 use std::alloc::Global;
 use std::test::Fail;
 
@@ -16,30 +16,54 @@ fn words(alloc: Global, line: &str) -> Result<Vec<String>, Fail> {
     Ok(words)
 }
 
+/// What the listing of a stream is, in short.
+fn stream_name(profile: Profile, after: AfterRefusal) -> &'static str {
+    match (profile, after) {
+        (Profile::Lenient, AfterRefusal::Ends) => "stream",
+        (Profile::Strict, AfterRefusal::Ends) => "strict stream",
+        (Profile::Lenient, AfterRefusal::GoesOn) => "stream on",
+        (Profile::Strict, AfterRefusal::GoesOn) => "strict stream on",
+    }
+}
+
+/// The first line of a text.
+fn first_line(text: &str) -> &str {
+    text.lines().next().unwrap_or("")
+}
+
 /// What a job is, in short, and its number, if it has one.
 fn named(job: &Job) -> (&str, Option<u32>) {
     match job {
-        Job::Stream(limit, Profile::Lenient) => ("stream", Some(limit.get())),
-        Job::Stream(limit, Profile::Strict) => ("strict stream", Some(limit.get())),
+        Job::Stream(limit, profile, after) => (stream_name(*profile, *after), Some(limit.get())),
         Job::Message(Profile::Lenient) => ("message", None),
         Job::Message(Profile::Strict) => ("strict message", None),
         Job::Keytab => ("keytab", None),
         Job::Ccache(now) => ("ccache", *now),
-        Job::Help(help) => (help.lines().next().unwrap_or(""), None),
+        Job::Help(text) => (first_line(text.as_str()), None),
+        Job::Version(text) => (first_line(text.as_str()), None),
+    }
+}
+
+/// The name of a source.
+fn source_name(source: &Source) -> &str {
+    match source {
+        Source::Input => "-",
+        Source::File(file) => file.as_str(),
     }
 }
 
 /// What an order is, in short.
 fn shown_order(alloc: Global, order: &Order) -> Result<String, Fail> {
     let (name, number) = named(&order.job);
-    let file = match &order.file {
-        Some(file) => file.as_str(),
-        None => "-",
+    let mut shown = match number {
+        Some(number) => format!(in alloc; "{name} {number}")?,
+        None => String::from_str(alloc, name)?,
     };
-    Ok(match number {
-        Some(number) => format!(in alloc; "{name} {number}, {file}")?,
-        None => format!(in alloc; "{name}, {file}")?,
-    })
+    for source in &order.sources {
+        shown.push_str(", ")?;
+        shown.push_str(source_name(source))?;
+    }
+    Ok(shown)
 }
 
 /// What words give, in short.
@@ -51,13 +75,13 @@ fn shown(alloc: Global, line: &str) -> Result<String, Fail> {
             drop(order);
             text
         }
-        Err(WordsFault::Wrong) => Ok(String::from_str(alloc, "wrong")?),
+        Err(WordsFault::Wrong(text)) => Ok(text),
         Err(WordsFault::Memory) => Ok(String::from_str(alloc, "memory")?),
     }
 }
 
-/// Words, and what they give: the job with its number, and the file.
-const ORDERS: [(&str, &str); 17] = [
+/// Words, and what they give: the job with its number, and the sources.
+const ORDERS: [(&str, &str); 27] = [
     ("stream", "stream 16777216, -"),
     ("stream --limit 30 --file a", "stream 30, a"),
     ("stream --limit=5", "stream 5, -"),
@@ -69,18 +93,31 @@ const ORDERS: [(&str, &str); 17] = [
     ("message --strict", "strict message, -"),
     ("stream --strict --limit 5", "strict stream 5, -"),
     ("stream --file a --strict", "strict stream 16777216, a"),
+    ("stream --keep-going", "stream on 16777216, -"),
+    (
+        "stream --strict --keep-going a",
+        "strict stream on 16777216, a",
+    ),
     ("keytab", "keytab, -"),
     ("ccache", "ccache, -"),
     ("ccache --now 0", "ccache 0, -"),
     ("ccache --file a --now 4294967295", "ccache 4294967295, a"),
     (
         "--help",
-        "Lists Kerberos V5 messages, keytabs and credential caches, -",
+        "Lists Kerberos V5 messages, keytabs and credential caches",
     ),
-    ("stream -h", "Lists framed messages, -"),
+    ("stream -h", "Lists framed messages"),
+    ("--version", "krbls 1.0.0"),
+    ("-V", "krbls 1.0.0"),
+    ("keytab a", "keytab, a"),
+    ("keytab b --file a - c", "keytab, a, b, -, c"),
+    ("keytab stream help a a", "keytab, stream, help, a, a"),
+    ("message --strict 1", "strict message, 1"),
+    ("stream --", "stream 16777216, -"),
+    ("stream -- -x --file", "stream 16777216, -x, --file"),
 ];
 
-const WRONG: [&str; 24] = [
+const WRONG: [&str; 26] = [
     "",
     "stream --limit 0",
     "stream --limit 2147483648",
@@ -90,16 +127,18 @@ const WRONG: [&str; 24] = [
     "stream --limit 1 --limit 1",
     "stream --limit",
     "stream --limit 5a",
-    "stream --",
     "stream --file --",
-    "stream message",
+    "stream -x",
+    "stream --version",
     "ccache --now 4294967296",
     "keytab --now 1",
     "keytab --strict",
     "ccache --strict",
     "stream --strict --strict",
-    "message --strict 1",
-    "keytab a",
+    "stream --keep-going --keep-going",
+    "message --keep-going",
+    "-- keytab",
+    "keytab a --now 1",
     "list",
     "help",
     "help stream",
@@ -114,7 +153,10 @@ fn reads_words(rt: HostRuntime) -> Result<(), Fail> {
         assert_eq!(rt; shown(alloc, line)?.as_str(), expected, "{line}");
     }
     for line in WRONG {
-        assert_eq!(rt; shown(alloc, line)?.as_str(), "wrong", "{line}");
+        assert!(rt;
+            shown(alloc, line)?.as_str().starts_with("error: "),
+            "{line}"
+        );
     }
     Ok(())
 }

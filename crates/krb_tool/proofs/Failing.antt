@@ -20,6 +20,8 @@ use Rattle.krb_tool.specs.inner.Listers.{Finishes}
 use Rattle.krb_tool.specs.declared.listing.Lister.{Lister}
 use Rattle.krb_tool.specs.declared.run.RunEnd.{RunEnd}
 use Rattle.krb_tool.specs.declared.run.RunFault.{RunFault}
+use Rattle.krb_tool.specs.declared.run.RunFault.TheVariants as fault
+use Rattle.krb_tool.specs.Faults.{IsRead, IsWrite}
 use Rattle.krb_tool.proofs.Runs.{Runs, Waits, Ends, frames_read, Ends-listing}
 
 -- a fault is known
@@ -27,8 +29,22 @@ pub failed : {T : Type 0} (r : Result T RunFault) (e : RunFault) (profile : Prof
 failed (Ok x) e profile limit had left held holds is p = tt
 failed (Err f) e profile limit had left held holds is p = subst (Fails profile limit had left held holds) (sym is) p
 
+-- a read failed
+pub failed-read : {T : Type 0} (r : Result T RunFault) (profile : Profile) (limit : ℕ) (had left held holds : Option (List ℕ)) → IfErr r IsRead → WritesFront (AreLines profile limit) had left held holds → IfErr r (Fails profile limit had left held holds)
+failed-read (Ok x) profile limit had left held holds is p = tt
+failed-read (Err (fault.Read e)) profile limit had left held holds is p = p
+failed-read (Err (fault.Write e)) profile limit had left held holds is p = absurd is
+failed-read (Err fault.Memory) profile limit had left held holds is p = absurd is
+
+-- a write failed
+pub failed-write : {T : Type 0} (r : Result T RunFault) (profile : Profile) (limit : ℕ) (had left held holds : Option (List ℕ)) → IfErr r IsWrite → WritesFront (IsListing profile limit) had left held holds → IfErr r (Fails profile limit had left held holds)
+failed-write (Ok x) profile limit had left held holds is p = tt
+failed-write (Err (fault.Write e)) profile limit had left held holds is p = p
+failed-write (Err (fault.Read e)) profile limit had left held holds is p = absurd is
+failed-write (Err fault.Memory) profile limit had left held holds is p = absurd is
+
 -- ---- a front of a text
-AddsFront-after : (held holds after : Option (List ℕ)) (written text : List ℕ) → Appends held holds written → AddsFront holds after text → AddsFront held after (written ++ text)
+pub AddsFront-after : (held holds after : Option (List ℕ)) (written text : List ℕ) → Appends held holds written → AddsFront holds after text → AddsFront held after (written ++ text)
 AddsFront-after held holds after written text a f = record {
   front = written ++ f.front;
   rest = f.rest;
@@ -36,7 +52,7 @@ AddsFront-after held holds after written text a f = record {
   whole = ap (λ t. written ++ t) f.whole ∙ sym (append_assoc written f.front f.rest);
 }
 
-AddsFront-longer : (held holds : Option (List ℕ)) (text more : List ℕ) → AddsFront held holds text → AddsFront held holds (text ++ more)
+pub AddsFront-longer : (held holds : Option (List ℕ)) (text more : List ℕ) → AddsFront held holds text → AddsFront held holds (text ++ more)
 AddsFront-longer held holds text more f = record {
   front = f.front;
   rest = f.rest ++ more;

@@ -6,6 +6,7 @@ use Rattle.krb_tool.specs.Files.{FileListing, TakesAll, TakesSome, ListsFront, F
 use Rattle.krb_tool.specs.inner.FileRuns.{IsAllOrFull, IsTold, TakesFront, TellsRead}
 use Rattle.krb_tool.specs.declared.run.RunFault.{RunFault}
 use Rattle.krb_tool.specs.declared.run.RunFault.TheVariants as fault
+use Rattle.krb_tool.specs.Faults.{IsRead, IsWrite}
 use Rattle.krb_tool.specs.declared.transfer.ReaderState.{ReaderState}
 use Rattle.krb_tool.specs.declared.transfer.ReaderState.TheVariants as reader
 use Rattle.krb_tool.specs.inner.Transfers.{Gives}
@@ -92,11 +93,24 @@ some-taken (Ok x) had left taken c = tt
 some-taken (Err e) had left taken c = (taken, c)
 
 -- a fault that came at the end of the reader is not that of the reader
-pub told-ended : {T : Type 0} (state : ReaderState) (r : Result T RunFault) (e : RunFault) → state ≡ reader.Ended → (e ≡ fault.Read → ⊥) → IfErr r (λ f. f ≡ e) → IfErr r (TellsRead state)
-told-ended state (Ok x) e s n i = tt
-told-ended state (Err f) e s n i = subst (λ t. TellsRead t f) (sym s) (λ read. n (sym i ∙ read))
+pub told-ended : {T : Type 0} (state : ReaderState) (r : Result T RunFault) → state ≡ reader.Ended → IfErr r (λ f. IsRead f → ⊥) → IfErr r (TellsRead state)
+told-ended state (Ok x) s n = tt
+told-ended state (Err f) s n = subst (λ t. TellsRead t f) (sym s) n
 
 -- a write failed when a front of the listing was written
-pub failed-write : {T : Type 0} (r : Result T RunFault) (Lists : List ℕ → FileListing → Type 0) (had left held holds : Option (List ℕ)) → IfErr r (λ e. e ≡ fault.Write) → ListsFront Lists had left held holds → IfErr r (FailsFile Lists had left held holds)
+pub failed-write : {T : Type 0} (r : Result T RunFault) (Lists : List ℕ → FileListing → Type 0) (had left held holds : Option (List ℕ)) → IfErr r IsWrite → ListsFront Lists had left held holds → IfErr r (FailsFile Lists had left held holds)
 failed-write (Ok x) Lists had left held holds w f = tt
-failed-write (Err e) Lists had left held holds w f = subst (FailsFile Lists had left held holds) (sym w) f
+failed-write (Err (fault.Write e)) Lists had left held holds w f = f
+failed-write (Err (fault.Read e)) Lists had left held holds w f = absurd w
+failed-write (Err fault.Memory) Lists had left held holds w f = absurd w
+
+-- out of memory is no failed read, nor is a failed write
+pub memory-unread : {T : Type 0} (r : Result T RunFault) → IfErr r (λ e. e ≡ fault.Memory) → IfErr r (λ e. IsRead e → ⊥)
+memory-unread (Ok x) m = tt
+memory-unread (Err e) m = λ read. subst IsRead m read
+
+pub write-unread : {T : Type 0} (r : Result T RunFault) → IfErr r IsWrite → IfErr r (λ e. IsRead e → ⊥)
+write-unread (Ok x) w = tt
+write-unread (Err (fault.Write e)) w = λ read. read
+write-unread (Err (fault.Read e)) w = absurd w
+write-unread (Err fault.Memory) w = absurd w

@@ -8,3 +8,6 @@ pub mod Records
 pub mod KeytabLines
 pub mod CredentialLines
 pub mod Upgrades
+pub mod CountedListings
+pub mod CountedRuns
+pub mod SourceRuns

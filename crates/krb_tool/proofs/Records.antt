@@ -1,5 +1,5 @@
 -- A run on records, one line after another.
-use Rattle.std.proofs.Common.{◌≡◌, ◌≢◌, ℕ, suc, List, [], ◌∷◌, ◌++◌, length, drop, Option, Some, None, Ok, Err, refl, sym, ◌∙◌, ap, subst, arith, append-nil, append_assoc, length-append, drop_of_length-le, drop_at}
+use Rattle.std.proofs.Common.{◌≡◌, ℕ, suc, List, [], ◌∷◌, ◌++◌, length, drop, Option, Some, None, Ok, Err, refl, sym, ◌∙◌, ap, subst, arith, append-nil, append_assoc, length-append, drop_of_length-le, drop_at}
 use Rattle.std.proofs.lemmas.List.Concat.{flat_map-cons}
 use Rattle.std.specs.List.{flat_map}
 use Rattle.std.specs.Io.KnownBytes.{Appends}
@@ -7,6 +7,7 @@ use Rattle.std.proofs.KnownBytes.{Appends-nil, Appends-trans}
 use Rattle.krb_tool.specs.declared.run.RunEnd.{RunEnd}
 use Rattle.krb_tool.specs.declared.run.RunFault.{RunFault}
 use Rattle.krb_tool.specs.declared.run.RunFault.TheVariants as fault
+use Rattle.krb_tool.specs.Faults.{IsWrite}
 use Rattle.krb_tool.specs.Files.{RecordListing, text_of, after_line, AddsFront, ListsRecords}
 use Rattle.krb_tool.specs.inner.RecordRuns.{Adds, Moves, AddsLine, left_of}
 
@@ -100,18 +101,18 @@ module _ (IsLeft : RecordListing → Type 0) (all : RecordListing) (held holds :
   }
 
   -- another fault
-  stops : AddsFront held holds all.lines
-  stops = record {
+  pub Listed-stops : AddsFront held holds all.lines
+  Listed-stops = record {
     front = listed.written;
     rest = text ++ (listed.left).lines;
     added = listed.added;
     whole = ap (λ (l : RecordListing). l.lines) listed.parts ∙ append_assoc listed.written text (listed.left).lines;
   }
 
-  pub Listed-fails : (e : RunFault) → e ≢ fault.Write → ListsRecords all held holds (Err e)
-  Listed-fails fault.Read other = stops
-  Listed-fails fault.Memory other = stops
-  Listed-fails fault.Write other = absurd (other refl)
+  pub Listed-fails : (e : RunFault) → (IsWrite e → ⊥) → ListsRecords all held holds (Err e)
+  Listed-fails (fault.Read e) other = Listed-stops
+  Listed-fails fault.Memory other = Listed-stops
+  Listed-fails (fault.Write e) other = absurd (other tt)
 
 -- ---- what a line makes of what is left
 module _ {A : Type 0} (line : A → List ℕ) (items : List A) (count : ℕ) (last : List ℕ) (end : RunEnd) (IsLeft : RecordListing → Type 0) (left : RecordListing) (is : left ≡ left_of line items count last end) (old new : List ℕ) (ended : Option RunEnd) where
@@ -129,8 +130,10 @@ module _ {A : Type 0} (line : A → List ℕ) (items : List A) (count : ℕ) (la
       )
 
 -- a write failed
-pub write-fault : (all : RecordListing) (held after : Option (List ℕ)) (e : RunFault) → e ≡ fault.Write → AddsFront held after (text_of all) → ListsRecords all held after (Err e)
-write-fault all held after e is front = subst (λ (f : RunFault). ListsRecords all held after (Err f)) (sym is) front
+pub write-fault : (all : RecordListing) (held after : Option (List ℕ)) (e : RunFault) → IsWrite e → AddsFront held after (text_of all) → ListsRecords all held after (Err e)
+write-fault all held after (fault.Write e) is front = front
+write-fault all held after (fault.Read e) is front = absurd is
+write-fault all held after fault.Memory is front = absurd is
 
 -- memory ran out before anything was written
 pub none_written : (all : RecordListing) (held : Option (List ℕ)) (e : RunFault) → e ≡ fault.Memory → ListsRecords all held held (Err e)

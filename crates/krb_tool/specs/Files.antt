@@ -118,13 +118,13 @@ pub record WritesNothing (had left held holds : Option (List ℕ)) : Type 0 wher
 
 -- Where a run fails by a write, a front of the listing is written, and else nothing.
 abbrev pub FailsFile : (List ℕ → FileListing → Type 0) → Option (List ℕ) → Option (List ℕ) → Option (List ℕ) → Option (List ℕ) → RunFault → Type 0
-FailsFile Lists had left held holds fault.Read = WritesNothing had left held holds
-FailsFile Lists had left held holds fault.Write = ListsFront Lists had left held holds
+FailsFile Lists had left held holds (fault.Read error) = WritesNothing had left held holds
+FailsFile Lists had left held holds (fault.Write error) = ListsFront Lists had left held holds
 FailsFile Lists had left held holds fault.Memory = WritesNothing had left held holds
 
 -- What a run on records adds to what its writer held: the listing; a front of it where a write fails; and where a read fails or memory runs out, a front of the lines of records.
 abbrev pub ListsRecords : RecordListing → Option (List ℕ) → Option (List ℕ) → Result RunEnd RunFault → Type 0
 ListsRecords listing held holds (Ok ended) = Appends held holds (text_of listing) × (ended ≡ listing.end)
-ListsRecords listing held holds (Err fault.Write) = AddsFront held holds (text_of listing)
-ListsRecords listing held holds (Err fault.Read) = AddsFront held holds listing.lines
+ListsRecords listing held holds (Err (fault.Write error)) = AddsFront held holds (text_of listing)
+ListsRecords listing held holds (Err (fault.Read error)) = AddsFront held holds listing.lines
 ListsRecords listing held holds (Err fault.Memory) = AddsFront held holds listing.lines

@@ -78,8 +78,8 @@ pub record WritesFront (IsText : List ℕ → List ℕ → Type 0) (had left hel
 
 -- Where a run fails by a write, a front of the listing of what was read is written; and where a read fails or memory runs out, a front of the lines of messages, and no last line.
 abbrev pub Fails : Profile → ℕ → Option (List ℕ) → Option (List ℕ) → Option (List ℕ) → Option (List ℕ) → RunFault → Type 0
-Fails profile limit had left held holds fault.Write = WritesFront (IsListing profile limit) had left held holds
-Fails profile limit had left held holds fault.Read = WritesFront (AreLines profile limit) had left held holds
+Fails profile limit had left held holds (fault.Write error) = WritesFront (IsListing profile limit) had left held holds
+Fails profile limit had left held holds (fault.Read error) = WritesFront (AreLines profile limit) had left held holds
 Fails profile limit had left held holds fault.Memory = WritesFront (AreLines profile limit) had left held holds
 
 -- the status of a process whose run gave this

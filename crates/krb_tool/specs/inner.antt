@@ -1,4 +1,5 @@
 pub mod Listers
+pub mod CountingListers
 pub mod Transfers
 pub mod FileRuns
 pub mod RecordRuns

@@ -3,25 +3,25 @@
 ghost use Rattle.std.specs.Prelude.{◌≡◌, ◌≢◌, ◌+◌, ◌<◌, ◌^◌, length, IfErr, IfOk, OnOk, IsSome, string_bytes};
 ghost use Rattle.krb_msg.specs.Grammar.{messages};
 ghost use Rattle.krb_frame.specs.Decoding.{status_of, borrowed};
+ghost use Rattle.krb_msg.specs.Seen.{MessageLists, message_seen};
 ghost use Rattle.krb_frame.specs.declared.decoder.Status.TheVariants as status;
 ghost use Rattle.krb_tool.specs.declared.run.RunFault.TheVariants as fault;
-ghost use Rattle.krb_tool.specs.inner.Listers.{IsNewLister, ListsReady, Feeds, IsWrittenOut, Finishes};
+ghost use Rattle.krb_tool.specs.inner.Listers.{IsNewLister, ListsReady, AddsLine, IsFed, Feeds, IsWrittenOut, Finishes};
 
 use crate::run::{RunEnd, RunFault};
-use krb_der::{GiveBack, Profile, Room};
+use krb_der::Profile;
 use krb_frame::{Decoder, Limit, Status};
-use krb_list::{put_message, put_stream_end, put_stream_refusal};
+use krb_list::{put_message_view, put_stream_end, put_stream_refusal};
+use krb_msg::MessageView;
 use std::alloc::{AllocError, Global};
 
-/// Lists a stream that comes in pieces: its decoder, the lines that are not written yet, the number
-/// of messages so far, and the room that these left.
+/// Lists a stream that comes in pieces: its decoder, the lines that are not written yet, and the
+/// number of messages so far.
 #[derive(Drop)]
 pub(crate) struct Lister {
-    alloc: Global,
     decoder: Decoder,
     text: String,
     messages: u64,
-    room: Room,
 }
 
 impl Lister {
@@ -30,11 +30,9 @@ impl Lister {
         ensures { IsNewLister profile limit result }
     {
         Lister {
-            alloc,
             decoder: Decoder::with_profile(alloc, limit, profile),
             text: String::new(alloc),
             messages: 0,
-            room: Room::new(),
         }
     }
 
@@ -48,8 +46,9 @@ impl Lister {
     {
         let mut rest = piece;
         'frames: loop {
-            let fed = self.decoder.feed(rest);
-            rest = &rest[fed.used..];
+            let after = self.list_passed(rest)?;
+            let fed = self.decoder.feed(after);
+            rest = &after[fed.used..];
             match fed.status {
                 Status::More => return Ok(true),
                 Status::Refused(_) => return Ok(false),
@@ -57,6 +56,34 @@ impl Lister {
                 Status::Ready => self.list_ready()?,
             }
         }
+    }
+
+    /// Adds the line of each frame that lies whole at the front of a piece, and returns what follows
+    /// them.
+    fn list_passed<'p>(&mut self, piece: &'p [u8]) -> Result<&'p [u8], RunFault>
+        requires waits { status_of (messages self.old.decoder.profile) self.old.decoder ≡ status.More }
+        requires few { self.old.messages + length piece.now < 2 ^ 64 }
+        ensures fed { IfOk result (λ rest. IsFed self.old.decoder.profile self.old piece.now rest.now self.new) }
+        ensures fault { IfErr result (λ e. e ≡ fault.Memory) }
+    {
+        let mut rest = piece;
+        while let Some(passed) = self.decoder.pass(rest) {
+            self.add_line(&passed.message)?;
+            rest = passed.rest;
+        }
+        Ok(rest)
+    }
+
+    /// Adds the line of a message.
+    fn add_line(&mut self, message: &MessageView<'_>) -> Result<(), RunFault>
+        requires few { self.old.messages + 1 < 2 ^ 64 }
+        requires lists { MessageLists message.now }
+        ensures added { OnOk result (AddsLine (message_seen message.now) self.old self.new) }
+        ensures fault { IfErr result (λ e. e ≡ fault.Memory) }
+    {
+        put_message_view(&mut self.text, message)?;
+        self.messages += 1;
+        Ok(())
     }
 
     /// Adds the line of the frame that is ready, and clears it.
@@ -69,9 +96,7 @@ impl Lister {
         let Some(framed) = self.decoder.ready() else {
             return Ok(());
         };
-        let message = framed.message_in(self.alloc, &mut self.room)?;
-        put_message(&mut self.text, &message)?;
-        message.give_back(&mut self.room);
+        put_message_view(&mut self.text, &framed.view())?;
         self.messages += 1;
         self.decoder.next();
         Ok(())

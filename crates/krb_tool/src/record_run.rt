@@ -6,11 +6,12 @@ ghost use Rattle.krb_list.specs.Text.{line_feed};
 ghost use Rattle.krb_list.specs.Keytabs.{record_text, keytab_end_text};
 ghost use Rattle.krb_list.specs.Ccaches.{cache_text, credential_line, cache_end_text};
 ghost use Rattle.krb_tool.specs.declared.run.RunEnd.TheVariants as run;
+ghost use Rattle.krb_tool.specs.Faults.{IsWrite};
 ghost use Rattle.krb_tool.specs.Files.{RecordListing, after_line, keytab_listing, ccache_listing, AddsFront, ListsRecords};
 ghost use Rattle.krb_tool.specs.inner.RecordRuns.{Adds, AddsRefusal, AddsLine, Moves, AreRecordsLeft, AreCredentialsLeft, IsRefusal};
 
 use crate::run::{PIECE_OCTETS, RunEnd, RunFault};
-use crate::transfer::{MOST_ASKS, write_all};
+use crate::transfer::{MOST_ASKS, too_many_reads, write_all};
 use krb_ccache::{Credential, Credentials, FilePrincipal, Header};
 use krb_file::{FieldLimit, FileFault};
 use krb_keytab::{Next, Record, Records, Stop};
@@ -20,21 +21,54 @@ use std::cell::Cell;
 use std::io;
 use std::io::{BufReader, Read, Write};
 
-/// A reader that says whether it gave as many octets as it was asked for, as that of a fast file
-/// does.
+/// What is known of a reader.
+#[derive(Drop)]
+struct Watch {
+    /// Whether it gave as many octets as it was asked for, as that of a fast file does.
+    is_fast: Cell<bool>,
+    /// The error of a read that failed.
+    error: Cell<Option<io::Error>>,
+}
+
+impl Watch {
+    /// Of a reader that was not asked yet.
+    fn new() -> Watch {
+        Watch {
+            is_fast: Cell::new(true),
+            error: Cell::new(None),
+        }
+    }
+
+    /// Why the reader can be read no further.
+    fn error(&self) -> io::Error {
+        match self.error.get() {
+            Some(error) => error,
+            None => too_many_reads(),
+        }
+    }
+}
+
+/// A reader that is watched.
 #[derive(Drop)]
 struct Watched<'a, R> {
     reader: &'a mut R,
-    is_fast: &'a Cell<bool>,
+    watch: &'a Watch,
 }
 
 impl<R: Read> Read for Watched<'_, R> {
     ghost remaining = { λ watched. R.remaining watched.reader.now };
 
     fn read(&mut self, octets: &mut [u8]) -> io::Result<usize> {
-        let count = self.reader.read(octets)?;
-        self.is_fast.set(count == octets.len());
-        Ok(count)
+        match self.reader.read(octets) {
+            Ok(count) => {
+                self.watch.is_fast.set(count == octets.len());
+                Ok(count)
+            }
+            Err(error) => {
+                self.watch.error.set(Some(error));
+                Err(error)
+            }
+        }
     }
 }
 
@@ -73,7 +107,7 @@ trait RecordLines {
         text: &mut String,
     ) -> Result<Option<RunEnd>, RunFault>
         ensures line { (left : RecordListing) → IsLeft self.old count left → AddsLine (IsLeft self.new (suc count)) left (string_bytes text.old) (string_bytes text.new) result }
-        ensures fault { IfErr result (λ e. e ≢ RunFault.Write) };
+        ensures fault { IfErr result (λ e. IsWrite e → ⊥) };
 }
 
 /// Appends the line of a record.
@@ -98,11 +132,12 @@ fn put_stop(text: &mut String, count: u64, stop: &Stop) -> Result<Option<RunEnd>
 
 /// The lines of a keytab.
 #[derive(Drop)]
-struct KeytabLines<R: Read> {
+struct KeytabLines<'a, R: Read> {
     records: Records<R>,
+    watch: &'a Watch,
 }
 
-impl<R: Read> RecordLines for KeytabLines<R> {
+impl<R: Read> RecordLines for KeytabLines<'_, R> {
     ghost IsLeft = { λ lines. AreRecordsLeft lines.records.reader lines.records.state };
 
     fn put_next(
@@ -118,33 +153,34 @@ impl<R: Read> RecordLines for KeytabLines<R> {
                 Ok(None)
             }
             Ok(Next::Done(stop)) => put_stop(text, count, &stop),
-            Err(fault) => put_fault(text, fault),
+            Err(fault) => put_fault(text, fault, self.watch),
         }
     }
 }
 
 /// Appends the line of a refusal, which ends the run. Other faults have no line.
-fn put_fault(text: &mut String, fault: FileFault) -> Result<Option<RunEnd>, RunFault>
+fn put_fault(text: &mut String, fault: FileFault, watch: &Watch) -> Result<Option<RunEnd>, RunFault>
     ensures refused { IfOk result (AddsRefusal fault (string_bytes text.old) (string_bytes text.new)) }
-    ensures fault { IfErr result (λ e. e ≢ RunFault.Write) }
+    ensures fault { IfErr result (λ e. IsWrite e → ⊥) }
 {
     match fault {
         FileFault::Refused { place, why } => {
             put_file_refusal(text, place, why)?;
             Ok(Some(RunEnd::Refused))
         }
-        FileFault::Read => Err(RunFault::Read),
+        FileFault::Read => Err(RunFault::Read(watch.error())),
         FileFault::Memory => Err(RunFault::Memory),
     }
 }
 
 /// A file that is at fault before its records.
 #[derive(Clone, Copy)]
-struct NoLines {
+struct NoLines<'a> {
     fault: FileFault,
+    watch: &'a Watch,
 }
 
-impl RecordLines for NoLines {
+impl RecordLines for NoLines<'_> {
     ghost IsLeft = { λ lines _ left. IsRefusal lines.fault left };
 
     fn put_next(
@@ -153,7 +189,7 @@ impl RecordLines for NoLines {
         _count: u64,
         text: &mut String,
     ) -> Result<Option<RunEnd>, RunFault> {
-        put_fault(text, self.fault)
+        put_fault(text, self.fault, self.watch)
     }
 }
 
@@ -189,12 +225,13 @@ fn put_end(text: &mut String, count: u64) -> Result<Option<RunEnd>, RunFault>
 
 /// The lines of the credentials of a cache, at a time in seconds since 1970 where one is given.
 #[derive(Drop)]
-struct CredentialLines<R: Read> {
+struct CredentialLines<'a, R: Read> {
     credentials: Credentials<R>,
     now: Option<u32>,
+    watch: &'a Watch,
 }
 
-impl<R: Read + Drop> RecordLines for CredentialLines<R> {
+impl<R: Read + Drop> RecordLines for CredentialLines<'_, R> {
     ghost IsLeft = { λ lines. AreCredentialsLeft lines.credentials.reader lines.credentials.start lines.credentials.state lines.now };
 
     fn put_next(
@@ -210,7 +247,7 @@ impl<R: Read + Drop> RecordLines for CredentialLines<R> {
                 Ok(None)
             }
             Ok(None) => put_end(text, count),
-            Err(fault) => put_fault(text, fault),
+            Err(fault) => put_fault(text, fault, self.watch),
         }
     }
 }
@@ -219,7 +256,7 @@ impl<R: Read + Drop> RecordLines for CredentialLines<R> {
 fn write_early<W: Write>(writer: &mut W, text: &mut String, is_due: bool) -> Result<(), RunFault>
     ensures moved { OnOk result (Moves (W.contents writer.old) (W.contents writer.new) (string_bytes text.old) (string_bytes text.new)) }
     ensures front { OnErr result (AddsFront (W.contents writer.old) (W.contents writer.new) (string_bytes text.old)) }
-    ensures fault { IfErr result (λ e. e ≡ RunFault.Write) }
+    ensures fault { IfErr result IsWrite }
 {
     if is_due {
         write_all(writer, text.as_bytes())?;
@@ -234,20 +271,20 @@ fn list_records<L: RecordLines, W: Write>(
     alloc: Global,
     lines: &mut L,
     text: &mut String,
-    is_fast: &Cell<bool>,
+    watch: &Watch,
     writer: &mut W,
 ) -> Result<RunEnd, RunFault>
     ensures { (left : RecordListing) → L.IsLeft lines.old 0 left → ListsRecords (after_line (string_bytes text.old) left) (W.contents writer.old) (W.contents writer.new) result }
 {
     'records: for count in 0..MOST_ASKS {
-        let is_due = (text.len() >= PIECE_OCTETS) | !is_fast.get();
+        let is_due = (text.len() >= PIECE_OCTETS) | !watch.is_fast.get();
         write_early(writer, text, is_due)?;
         if let Some(ended) = lines.put_next(alloc, count, text)? {
             write_all(writer, text.as_bytes())?;
             return Ok(ended);
         }
     }
-    Err(RunFault::Read)
+    Err(RunFault::Read(too_many_reads()))
 }
 
 /// Lists a keytab of format 0x0502: a line for each record, then the line of the end, or that of the
@@ -262,16 +299,16 @@ pub fn run_keytab<R: Read, W: Write>(
 ) -> Result<RunEnd, RunFault>
     ensures listed { (file : List ℕ) → R.remaining reader.old ≡ Some file → ListsRecords (keytab_listing file) (W.contents writer.old) (W.contents writer.new) result }
 {
-    let is_fast = Cell::new(true);
-    let is_fast = &is_fast;
-    let reader = in_pieces(alloc, Watched { reader, is_fast })?;
+    let watch = Watch::new();
+    let watch = &watch;
+    let reader = in_pieces(alloc, Watched { reader, watch })?;
     let records = Records::new(reader, field_limit());
     let mut text = String::new(alloc);
     list_records(
         alloc,
-        &mut KeytabLines { records },
+        &mut KeytabLines { records, watch },
         &mut text,
-        is_fast,
+        watch,
         writer,
     )
 }
@@ -287,16 +324,26 @@ pub fn run_ccache<R: Read, W: Write>(
 ) -> Result<RunEnd, RunFault>
     ensures listed { (file : List ℕ) → R.remaining reader.old ≡ Some file → ListsRecords (ccache_listing now file) (W.contents writer.old) (W.contents writer.new) result }
 {
-    let is_fast = Cell::new(true);
-    let is_fast = &is_fast;
-    let reader = in_pieces(alloc, Watched { reader, is_fast })?;
+    let watch = Watch::new();
+    let watch = &watch;
+    let reader = in_pieces(alloc, Watched { reader, watch })?;
     let mut text = String::new(alloc);
     match Credentials::start(alloc, reader, field_limit()) {
         Ok(credentials) => {
             put_first(&mut text, credentials.header(), credentials.principal())?;
-            let mut lines = CredentialLines { credentials, now };
-            list_records(alloc, &mut lines, &mut text, is_fast, writer)
+            let mut lines = CredentialLines {
+                credentials,
+                now,
+                watch,
+            };
+            list_records(alloc, &mut lines, &mut text, watch, writer)
         }
-        Err(fault) => list_records(alloc, &mut NoLines { fault }, &mut text, is_fast, writer),
+        Err(fault) => list_records(
+            alloc,
+            &mut NoLines { fault, watch },
+            &mut text,
+            watch,
+            writer,
+        ),
     }
 }

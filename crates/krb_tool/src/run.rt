@@ -10,6 +10,7 @@ use crate::transfer::{Asked, write_all};
 use krb_der::{Memory, Profile};
 use krb_frame::Limit;
 use std::alloc::{AllocError, AllocFailed, Global};
+use std::io;
 use std::io::{Read, Write};
 use thiserror::Error;
 
@@ -26,16 +27,17 @@ pub enum RunEnd {
 }
 
 /// Why a run could not go on.
-#[derive(Clone, Copy, PartialEq, Eq, Debug, Error)]
+#[derive(Clone, Copy, Debug, Error)]
 pub enum RunFault {
-    /// A read failed, or the reader was asked 2^40 times and was not at its end.
-    #[error("read")]
-    Read,
-    /// A write failed, or took nothing.
-    #[error("write")]
-    Write,
+    /// A read failed by this error, or the reader was asked 2^40 times and was not at its end, which
+    /// is the error `too many reads`.
+    #[error("{0}")]
+    Read(io::Error),
+    /// A write failed by this error, or took nothing, which is the error `write zero`.
+    #[error("{0}")]
+    Write(io::Error),
     /// Out of memory.
-    #[error("memory")]
+    #[error("out of memory")]
     Memory,
 }
 

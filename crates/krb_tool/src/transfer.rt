@@ -2,14 +2,21 @@
 
 ghost use Rattle.std.specs.Prelude.{◌≡◌, ◌≢◌, ◌+◌, ◌^◌, ◌<◌, ◌≤◌, min, length, take, IfErr, IfOk, OnErr, OnOk};
 ghost use Rattle.std.specs.Io.KnownBytes.{Keeps, Appends};
+ghost use Rattle.krb_tool.specs.Faults.{IsRead, IsWrite};
 ghost use Rattle.krb_tool.specs.Files.{AddsFront};
 ghost use Rattle.krb_tool.specs.inner.Transfers.{Gives};
 
 use crate::run::RunFault;
-use std::io::{Read, Write};
+use std::io;
+use std::io::{ErrorKind, Read, Write};
 
 /// How often a run asks its reader at most.
 pub(crate) const MOST_ASKS: u64 = 1 << 40;
+
+/// The error of a reader that was asked [`MOST_ASKS`] times.
+pub(crate) fn too_many_reads() -> io::Error {
+    io::Error::other("too many reads")
+}
 
 /// Whether a reader may be asked again. Only contracts read it.
 #[derive(Clone, Copy)]
@@ -59,14 +66,14 @@ impl<'a, R: Read> Asked<'a, R> {
         ensures counted { OnOk result (self.new.made ≡ self.old.made + 1) }
         ensures ended { IfOk result (λ count. count ≡ 0 → self.new.state ≡ ReaderState.Ended) }
         ensures goes_on { IfOk result (λ count. count ≢ 0 → self.new.state ≡ ReaderState.Open) }
-        ensures fault { IfErr result (λ e. e ≡ RunFault.Read) }
+        ensures fault { IfErr result IsRead }
         ensures failed { OnErr result (self.new.state ≡ ReaderState.Failed) }
         ensures counted_failed { OnErr result (self.new.made ≡ min (self.old.made + 1) (2 ^ 40)) }
         ensures kept { OnErr result (Keeps (R.remaining self.old.reader.now) (R.remaining self.new.reader.now)) }
     {
         if self.made == MOST_ASKS {
             self.state = ReaderState::Failed;
-            return Err(RunFault::Read);
+            return Err(RunFault::Read(too_many_reads()));
         }
         self.made += 1;
         match self.reader.read(buffer) {
@@ -75,9 +82,9 @@ impl<'a, R: Read> Asked<'a, R> {
                 Ok(0)
             }
             Ok(count) => Ok(count),
-            Err(_) => {
+            Err(error) => {
                 self.state = ReaderState::Failed;
-                Err(RunFault::Read)
+                Err(RunFault::Read(error))
             }
         }
     }
@@ -87,12 +94,13 @@ impl<'a, R: Read> Asked<'a, R> {
 pub(crate) fn write_all<W: Write>(writer: &mut W, octets: &[u8]) -> Result<(), RunFault>
     ensures all { OnOk result (Appends (W.contents writer.old) (W.contents writer.new) octets.now) }
     ensures front { OnErr result (AddsFront (W.contents writer.old) (W.contents writer.new) octets.now) }
-    ensures fault { IfErr result (λ e. e ≡ RunFault.Write) }
+    ensures fault { IfErr result IsWrite }
 {
     let mut rest = octets;
     'writes: while !rest.is_empty() {
         match writer.write(rest) {
-            Ok(0) | Err(_) => return Err(RunFault::Write),
+            Ok(0) => return Err(RunFault::Write(ErrorKind::WriteZero.into())),
+            Err(error) => return Err(RunFault::Write(error)),
             Ok(count) => rest = &rest[count..],
         }
     }

@@ -5,9 +5,12 @@ use Rattle.clap.specs.declared.builder.command.Command.{Command}
 use Rattle.clap.specs.declared.builder.command.Command.TheViews.{out-Command}
 use Rattle.clap.specs.Simple.{is_simple}
 use Rattle.clap.specs.declared.error.Error.{Error}
-use Rattle.clap.specs.declared.error.kind.ErrorKind.TheVariants.{DisplayHelp}
+use Rattle.clap.specs.declared.error.kind.ErrorKind.{ErrorKind}
+use Rattle.clap.specs.declared.error.kind.ErrorKind.TheVariants.{OutOfMemory}
 use Rattle.clap.specs.declared.parser.matches.ArgMatches.{ArgMatches}
-use Rattle.krb_words.specs.Words.{Spells, IsNumber, IsHelp, IsOrderOf, IsOrderBy, IsOrderIn, krbls}
+use Rattle.krb_words.specs.Words.{Spells, IsNumber, IsTextBy, IsOrderOf, IsOrderBy, IsOrderIn, krbls}
+use Rattle.krb_words.specs.declared.words.Job.{Job}
+use Rattle.krb_words.specs.declared.words.Job.TheVariants as jobs
 use Rattle.krb_words.specs.declared.words.Order.{Order}
 
 pub subcommand_added : (old sub new : Command) (above below : App) → AddsSubcommand old sub new → app_of old ≡ above → app_of sub ≡ below → (out-Command sub).has_globals ≡ false → app_of new ≡ with_subcommand above below.top
@@ -30,9 +33,9 @@ by_nothing : (kinds : Kinds) (words : List Text) (order : Order) → kinds ≡ [
 by_nothing [] words order e o = o
 by_nothing (first ∷ kinds) words order e o = absurd cc
 
-by_help : (kinds : Kinds) (words : List Text) (order : Order) → IsAmong DisplayHelp kinds → IsHelp order.job → order.file ≡ None → IsOrderBy kinds words order
-by_help [] words order a h f = absurd a
-by_help (first ∷ kinds) words order a h f = (h, f, a)
+by_text : (kinds : Kinds) (words : List Text) (order : Order) (kind : ErrorKind) → IsAmong kind kinds → IsTextBy kind order.job → order.sources.items ≡ [] → IsOrderBy kinds words order
+by_text [] words order kind a h f = absurd a
+by_text (first ∷ kinds) words order kind a h f = (kind, a, h, f)
 
 -- the order that the matches of words name
 pub IsOrderIn-matches : (app : App) (words : List Text) (m : ArgMatches) (order : Order) → app ≡ krbls → (is_simple_and_free app ≡ true → fault_of app words ≡ []) → HasMatchesOf app words m → IsOrderOf (subcommand_rows_of m) order → IsOrderIn words order
@@ -43,13 +46,21 @@ IsOrderIn-matches app words m order e nothing has o =
     (ap (λ a. fault_of a words) (sym e) ∙ nothing free)
     (subst (λ met. IsOrderOf met order) ((has simple).1 ∙ ap (λ a. subcommand_of a words) e) o)
 
-among : (kinds : Kinds) (error : Error) → HasKind kinds error → kind_of error ≡ DisplayHelp → IsAmong DisplayHelp kinds
-among kinds error (inl m) e = absurd cc
-among kinds error (inr a) e = subst (λ k. IsAmong k kinds) e a
+no_text : (job : Job) → IsTextBy OutOfMemory job → ⊥
+no_text (jobs.Stream limit chosen after) text = text
+no_text (jobs.Message chosen) text = text
+no_text jobs.Keytab text = text
+no_text (jobs.Ccache now) text = text
+no_text (jobs.Help help) text = cc
+no_text (jobs.Version version) text = cc
 
--- help, which the words ask for
-pub IsOrderIn-help : (app : App) (words : List Text) (error : Error) (order : Order) → app ≡ krbls → (is_simple_and_free app ≡ true → HasKind (fault_of app words) error) → IsHelp order.job → order.file ≡ None → kind_of error ≡ DisplayHelp → IsOrderIn words order
-IsOrderIn-help app words error order e fails h f k =
+among : (kinds : Kinds) (error : Error) (job : Job) → HasKind kinds error → IsTextBy (kind_of error) job → IsAmong (kind_of error) kinds
+among kinds error job (inl m) text = absurd (no_text job (subst (λ k. IsTextBy k job) m text))
+among kinds error job (inr a) text = a
+
+-- a text, which the words ask for
+pub IsOrderIn-text : (app : App) (words : List Text) (error : Error) (order : Order) → app ≡ krbls → (is_simple_and_free app ≡ true → HasKind (fault_of app words) error) → IsTextBy (kind_of error) order.job → order.sources.items ≡ [] → IsOrderIn words order
+IsOrderIn-text app words error order e fails h f =
     let free : is_simple_and_free app ≡ true = ap is_simple_and_free e ∙ krbls-free in
-    by_help (fault_of krbls words) words order
-    (subst (λ a. IsAmong DisplayHelp (fault_of a words)) e (among (fault_of app words) error (fails free) k)) h f
+    by_text (fault_of krbls words) words order (kind_of error)
+    (subst (λ a. IsAmong (kind_of error) (fault_of a words)) e (among (fault_of app words) error order.job (fails free) h)) h f

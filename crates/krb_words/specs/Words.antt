@@ -1,48 +1,75 @@
 -- The command line, in the words of `clap`: what each command takes, and the order that the matches of words name.
-use Rattle.std.specs.Prelude.{ℕ, pos, ◌≡◌, ◌≢◌, true, List, [], ◌∷◌, Option, Some, None, Ok, codes, option_map, string_bytes}
+use Rattle.std.specs.Prelude.{ℕ, pos, ◌≡◌, ◌≢◌, Bool, true, false, List, [], ◌∷◌, ◌++◌, Option, Some, None, Ok, codes, map}
 use Rattle.std.specs.Str.Parse.{ParsesUnsigned}
-use Rattle.clap.specs.Words.{App, IsAmong, Kinds, Row, Rule, Text, fault_of, first_of, one_of, new_app, new_rule, subcommand_of, with_rule, with_subcommand}
+use Rattle.clap.specs.Words.{App, IsAmong, Kinds, Row, Rule, Text, fault_of, all_of, first_of, one_of, new_app, new_rule, subcommand_of, with_rule, with_subcommand}
 use Rattle.clap.specs.Simple.{on_top}
 use Rattle.clap.specs.declared.builder.action.ArgAction.TheVariants.{Set, SetTrue}
 use Rattle.clap.specs.declared.builder.value_parser.ValueParser.TheVariants as parser
-use Rattle.clap.specs.declared.error.kind.ErrorKind.TheVariants.{DisplayHelp}
+use Rattle.clap.specs.Lexer.{usize_max}
+use Rattle.clap.specs.declared.builder.value_parser.ValueParser.{ValueParser}
+use Rattle.clap.specs.declared.error.kind.ErrorKind.{ErrorKind}
+use Rattle.clap.specs.declared.error.kind.ErrorKind.TheVariants.{DisplayHelp, DisplayVersion}
 use Rattle.krb_der.specs.declared.profile.Profile.{Profile}
 use Rattle.krb_der.specs.declared.profile.Profile.TheVariants as profile
+use Rattle.krb_words.specs.declared.words.AfterRefusal.{AfterRefusal}
+use Rattle.krb_words.specs.declared.words.AfterRefusal.TheVariants as after
 use Rattle.krb_words.specs.declared.words.Job.{Job}
 use Rattle.krb_words.specs.declared.words.Job.TheVariants as job
 use Rattle.krb_words.specs.declared.words.Order.{Order}
+use Rattle.krb_words.specs.Sources.{path_of, file_path, word_path, words_of, or_input}
 
 -- ---- the command
 -- an option with one value, for which help has a name
 abbrev pub option : Text → Rule
 option name = record (new_rule name) { long = Some name; action = Some Set; value_names = 1 }
 
--- an option whose value is a number of 32 bits
-abbrev pub number_option : Text → Rule
-number_option name = record (option name) { parser = Some (parser.Signed (pos 0) (pos 4294967295)) }
+-- an option whose value is a number that a parser takes
+abbrev pub number_option : Text → ValueParser → Rule
+number_option name taken = record (option name) { parser = Some taken }
+
+-- a length of a frame, and a number of 32 bits
+abbrev pub limit_option : Rule
+limit_option = number_option (codes "limit") (parser.Signed (pos 1) (pos 2147483647))
+
+abbrev pub now_option : Rule
+now_option = number_option (codes "now") (parser.Signed (pos 0) (pos 4294967295))
 
 abbrev pub file_option : Rule
 file_option = option (codes "file")
 
 -- an option with no value
+abbrev pub flag : Text → Rule
+flag name = record (new_rule name) { long = Some name; action = Some SetTrue }
+
 abbrev pub strict_flag : Rule
-strict_flag = record (new_rule (codes "strict")) { long = Some (codes "strict"); action = Some SetTrue }
+strict_flag = flag (codes "strict")
+
+abbrev pub keep_going_flag : Rule
+keep_going_flag = flag (codes "keep-going")
+
+-- any number of words, for which help has a name
+abbrev pub file_names : Rule
+file_names = record (new_rule (codes "file names")) { range = Some (record { start_inclusive = 0; end_inclusive = usize_max }); value_names = 1 }
+
+-- the words and the option that name what is read
+abbrev pub with_files : App → App
+with_files app = with_rule (with_rule app file_option) file_names
 
 abbrev pub stream_app : App
-stream_app = with_rule (with_rule (with_rule (new_app (codes "stream")) (number_option (codes "limit"))) strict_flag) file_option
+stream_app = with_files (with_rule (with_rule (with_rule (new_app (codes "stream")) limit_option) keep_going_flag) strict_flag)
 
 abbrev pub message_app : App
-message_app = with_rule (with_rule (new_app (codes "message")) strict_flag) file_option
+message_app = with_files (with_rule (new_app (codes "message")) strict_flag)
 
 abbrev pub keytab_app : App
-keytab_app = with_rule (new_app (codes "keytab")) file_option
+keytab_app = with_files (new_app (codes "keytab"))
 
 abbrev pub ccache_app : App
-ccache_app = with_rule (with_rule (new_app (codes "ccache")) (number_option (codes "now"))) file_option
+ccache_app = with_files (with_rule (new_app (codes "ccache")) now_option)
 
--- the words have no program's name before them, and `help` is no command
+-- the words have no program's name before them, `help` is no command, one is wanted, and `--version` is known
 abbrev pub krbls_top : App
-krbls_top = on_top (λ s. record s { no_binary_name = true; disable_help_subcommand = true }) (new_app (codes "krbls"))
+krbls_top = on_top (λ s. record s { no_binary_name = true; disable_help_subcommand = true; subcommand_required = true; has_version = true }) (new_app (codes "krbls"))
 
 abbrev pub krbls : App
 krbls = with_subcommand (with_subcommand (with_subcommand (with_subcommand krbls_top stream_app.top) message_app.top) keytab_app.top) ccache_app.top
@@ -67,27 +94,44 @@ abbrev pub IsProfile : Option Text → Profile → Type 0
 IsProfile text profile.Lenient = text ≢ Some (codes "true")
 IsProfile text profile.Strict = text ≡ Some (codes "true")
 
+-- what is done after a refusal, by a flag
+abbrev pub IsAfter : Option Text → AfterRefusal → Type 0
+IsAfter text after.Ends = text ≢ Some (codes "true")
+IsAfter text after.GoesOn = text ≡ Some (codes "true")
+
+-- whether a flag is given
+abbrev pub IsGiven : Option Text → Bool → Type 0
+IsGiven text true = text ≡ Some (codes "true")
+IsGiven text false = text ≢ Some (codes "true")
+
 -- the job that a command and its options name
 abbrev pub IsJob : Text → List Row → Job → Type 0
-IsJob name rows (job.Stream limit chosen) = (name ≡ codes "stream") × IsNumberOr 16777216 (one_of (codes "limit") rows) limit × IsProfile (first_of (codes "strict") rows) chosen
+IsJob name rows (job.Stream limit chosen refused) = (name ≡ codes "stream") × IsNumberOr 16777216 (one_of (codes "limit") rows) limit × IsProfile (first_of (codes "strict") rows) chosen × IsAfter (first_of (codes "keep-going") rows) refused
 IsJob name rows (job.Message chosen) = (name ≡ codes "message") × IsProfile (first_of (codes "strict") rows) chosen
 IsJob name rows job.Keytab = name ≡ codes "keytab"
 IsJob name rows (job.Ccache now) = (name ≡ codes "ccache") × IsNumber (one_of (codes "now") rows) now
 IsJob name rows (job.Help text) = ⊥
+IsJob name rows (job.Version text) = ⊥
 
--- The order names the job of the command that was met, and the file where one is named.
+-- what is read, by the options and words of a command
+abbrev pub sources_of : List Row → List (Option Text)
+sources_of rows = or_input (file_path (first_of (codes "file") rows) ++ map word_path (words_of (all_of (codes "file names") rows)))
+
+-- The order names the job of the command that was met, and what is read.
 abbrev pub IsOrderOf : Option (Text × List Row) → Order → Type 0
 IsOrderOf None order = ⊥
-IsOrderOf (Some met) order = IsJob met.0 met.1 order.job × (option_map string_bytes order.file ≡ first_of (codes "file") met.1)
+IsOrderOf (Some met) order = IsJob met.0 met.1 order.job × (map path_of order.sources.items ≡ sources_of met.1)
 
-abbrev pub IsHelp : Job → Type 0
-IsHelp (job.Help text) = Unit {0}
-IsHelp job = ⊥
+-- the job is to print the text that such an error of `clap` has
+abbrev pub IsTextBy : ErrorKind → Job → Type 0
+IsTextBy kind (job.Help text) = kind ≡ DisplayHelp
+IsTextBy kind (job.Version text) = kind ≡ DisplayVersion
+IsTextBy kind job = ⊥
 
--- The order by the kinds of error that `clap` may give for the words: what their matches name if there is none, and else help, and no file, if `DisplayHelp` is one of them.
+-- The order by the kinds of error that `clap` may give for the words: what their matches name if there is none, and else the text of an error of one of them, and nothing that is read.
 abbrev pub IsOrderBy : Kinds → List Text → Order → Type 0
 IsOrderBy [] words order = IsOrderOf (subcommand_of krbls words) order
-IsOrderBy (first ∷ kinds) words order = IsHelp order.job × (order.file ≡ None) × IsAmong DisplayHelp (first ∷ kinds)
+IsOrderBy (first ∷ kinds) words order = (kind : ErrorKind) × IsAmong kind (first ∷ kinds) × IsTextBy kind order.job × (order.sources.items ≡ [])
 
 abbrev pub IsOrderIn : List Text → Order → Type 0
 IsOrderIn words order = IsOrderBy (fault_of krbls words) words order

@@ -2,8 +2,10 @@
 //! that it gives ([`Order`]).
 #![tactic(auto)]
 
+mod sources;
 mod words;
 
 pub use krb_der::Profile;
 pub use krb_frame::Limit;
-pub use words::{Job, Order, WordsFault, read_words};
+pub use sources::Source;
+pub use words::{AfterRefusal, Job, NOT_UTF8, Order, VERSION, WordsFault, read_words};

@@ -1,29 +1,43 @@
 //! The words of the command line.
 
-ghost use Rattle.std.specs.Prelude.{◌≡◌, false, codes, map, option_map, string_bytes, None, IfOk};
+ghost use Rattle.std.specs.Prelude.{◌≡◌, false, codes, map, string_bytes, [], IfOk};
 ghost use Rattle.clap.specs.Words.{app_of, new_app, found_of, kind_of, rows_of, rule_of, subcommand_rows_of, first_of, one_of};
 ghost use Rattle.clap.specs.declared.builder.command.Command.TheViews.{out-Command};
-ghost use Rattle.krb_words.specs.Words.{file_option, number_option, strict_flag, stream_app, message_app, keytab_app, ccache_app, krbls, IsHelp, IsJob, IsProfile, IsOrderOf, IsOrderIn, IsNumber, IsNumberOr};
+ghost use Rattle.krb_words.specs.Words.{file_option, file_names, with_files, number_option, flag, strict_flag, keep_going_flag, stream_app, message_app, keytab_app, ccache_app, krbls, IsTextBy, IsJob, IsProfile, IsAfter, IsGiven, IsOrderOf, IsOrderIn, IsNumber, IsNumberOr};
 
+use crate::sources::{Source, sources_of};
+use clap::builder::ValueParser;
 use clap::error::ErrorKind;
 use clap::{Arg, ArgAction, ArgMatches, Command, Error, value_parser};
 use krb_der::Profile;
 use krb_frame::Limit;
 use std::alloc::{AllocError, Global};
 
+/// What becomes of a stream after a frame that is refused.
+#[derive(Clone, Copy, PartialEq, Eq, Debug)]
+pub enum AfterRefusal {
+    /// Its listing ends there.
+    Ends,
+    /// Its listing goes on with the next frame.
+    GoesOn,
+}
+
 /// What is to be listed.
 #[derive(Drop)]
 pub enum Job {
-    /// Framed messages of a profile, with frames of at most the limit's octets.
-    Stream(Limit, Profile),
+    /// Framed messages of a profile, with frames of at most the limit's octets, and what becomes of
+    /// the stream after a refusal.
+    Stream(Limit, Profile, AfterRefusal),
     /// A message of a profile in hexadecimal.
     Message(Profile),
     /// A keytab.
     Keytab,
     /// A credential cache, and the time that tells which credentials have expired.
     Ccache(Option<u32>),
-    /// Nothing: this text is to be printed.
+    /// Nothing: this help is to be printed.
     Help(String),
+    /// Nothing: this line with the name and the version of the program is to be printed.
+    Version(String),
 }
 
 /// What the command line asks for.
@@ -31,15 +45,16 @@ pub enum Job {
 pub struct Order {
     /// What is to be listed.
     pub job: Job,
-    /// The file to read, if it is not the standard input.
-    pub file: Option<String>,
+    /// From where, one after another. There is none for a text that is to be printed.
+    pub sources: Vec<Source>,
 }
 
 /// Why words give no order.
-#[derive(Clone, Copy, PartialEq, Eq, Debug)]
+#[derive(Drop)]
 pub enum WordsFault {
-    /// They are no command line of the program.
-    Wrong,
+    /// They are no command line of the program, and this text says what is wrong with them, how the
+    /// program is called and how to get help.
+    Wrong(String),
     /// Out of memory.
     Memory,
 }
@@ -49,6 +64,18 @@ impl From<AllocError> for WordsFault {
         WordsFault::Memory
     }
 }
+
+/// The version of the program.
+pub const VERSION: &str = "1.0.0";
+
+/// What is wrong with words that are not UTF-8, how the program is called and how to get help.
+pub const NOT_UTF8: &str = "\
+error: invalid UTF-8 was detected in one or more arguments
+
+Usage: krbls <COMMAND> [OPTIONS] [FILE]...
+
+For more information, try '--help'.
+";
 
 /// What help says of a command: first what it lists, then how it is called, and last, below its
 /// options, what it reads and prints.
@@ -60,13 +87,14 @@ struct CommandHelp {
 
 const KRBLS_HELP: CommandHelp = CommandHelp {
     about: "Lists Kerberos V5 messages, keytabs and credential caches",
-    usage: "krbls <COMMAND> [OPTIONS]",
+    usage: "krbls <COMMAND> [OPTIONS] [FILE]...",
     below: "\
-Reads the standard input or a file, and prints a line for each message, record
-or credential. The last line says that all was read, or what was refused, at
-which octet and why. No octet of a key is shown.
+Reads files or the standard input, and prints a line for each message, record or
+credential. The last line says that all was read, or what was refused, at which
+octet and why. If there are several files, a line `file name=FILE` stands before
+the lines of each. No octet of a key is shown.
 
-Exit status:
+Exit status, the greatest of those of all files:
   0  all was read
   1  something was refused
   2  the command line is wrong
@@ -79,12 +107,13 @@ Example:
 
 const STREAM_HELP: CommandHelp = CommandHelp {
     about: "Lists framed messages",
-    usage: "krbls stream [OPTIONS]",
+    usage: "krbls stream [OPTIONS] [FILE]...",
     below: "\
 Reads frames, as one direction of a TCP connection to a KDC has them: four
 octets of length, the highest first, and a message. Prints a line for each
 message, and then `end messages=N` or `refused messages=N place=P why=REASON`;
-P counts from the first octet of the frame.
+P counts from the first octet of the frame. With --keep-going a refusal is a
+line of its own, and `end messages=N refused=M` is the last one.
 
 A message has a note if it has an octet above 7F in a string (1), fewer than 32
 flags (2), a negative kvno, nonce or seq-number (3), or an empty list that may
@@ -97,7 +126,7 @@ Example:
 
 const MESSAGE_HELP: CommandHelp = CommandHelp {
     about: "Lists a message in hexadecimal",
-    usage: "krbls message [OPTIONS]",
+    usage: "krbls message [OPTIONS] [FILE]...",
     below: "\
 Reads digits of either case; spaces, tabs and line ends are ignored. Prints the
 line of the message, or `refused place=P why=REASON`; `refused hex` if the text
@@ -114,7 +143,7 @@ Example:
 
 const KEYTAB_HELP: CommandHelp = CommandHelp {
     about: "Lists a keytab",
-    usage: "krbls keytab [OPTIONS]",
+    usage: "krbls keytab [OPTIONS] [FILE]...",
     below: "\
 Reads a keytab of format 0x0502. Prints a line for each entry and each hole, and
 then `end records=N zero=no` (`zero=yes` if a length of 0 ends it), or
@@ -126,7 +155,7 @@ Example:
 
 const CCACHE_HELP: CommandHelp = CommandHelp {
     about: "Lists a credential cache",
-    usage: "krbls ccache [OPTIONS]",
+    usage: "krbls ccache [OPTIONS] [FILE]...",
     below: "\
 Reads a cache of version 3 or 4. Prints a line for the cache and one for each
 credential or configuration entry, and then `end credentials=N`, or
@@ -157,7 +186,29 @@ fn file_option<'a>(alloc: Global) -> Arg<'a>
         .long("file")
         .action(ArgAction::Set)
         .value_name("PATH")
-        .help("Reads this file in place of the standard input")
+        .help("Reads this file before those that are named")
+}
+
+/// `FILE..`, after all options of a command.
+fn file_names<'a>(alloc: Global) -> Arg<'a>
+    ensures rule { rule_of result ≡ file_names }
+    ensures local { result.global ≡ false }
+{
+    Arg::new(alloc, "file names")
+        .num_args(0..)
+        .value_name("FILE")
+        .help("Files to read, - for the standard input [-]")
+}
+
+/// An option with no value.
+fn flag<'a>(alloc: Global, name: &'a str, help: &'a str) -> Arg<'a>
+    ensures rule { rule_of result ≡ flag name.entry.now }
+    ensures local { result.global ≡ false }
+{
+    Arg::new(alloc, name)
+        .long(name)
+        .action(ArgAction::SetTrue)
+        .help(help)
 }
 
 /// `--strict`.
@@ -165,23 +216,46 @@ fn strict_flag<'a>(alloc: Global) -> Arg<'a>
     ensures rule { rule_of result ≡ strict_flag }
     ensures local { result.global ≡ false }
 {
-    Arg::new(alloc, "strict")
-        .long("strict")
-        .action(ArgAction::SetTrue)
-        .help("Refuses messages that have a note")
+    flag(alloc, "strict", "Refuses messages that have a note")
 }
 
-/// An option whose value is a number of 32 bits.
-fn number_option<'a>(alloc: Global, name: &'a str, value: &'a str, help: &'a str) -> Arg<'a>
-    ensures rule { rule_of result ≡ number_option name.entry.now }
+/// `--keep-going`.
+fn keep_going_flag<'a>(alloc: Global) -> Arg<'a>
+    ensures rule { rule_of result ≡ keep_going_flag }
+    ensures local { result.global ≡ false }
+{
+    flag(
+        alloc,
+        "keep-going",
+        "Goes on with the next frame after one that is refused",
+    )
+}
+
+/// An option whose value is a number that a parser takes.
+fn number_option<'a>(
+    alloc: Global,
+    name: &'a str,
+    parser: ValueParser<'a>,
+    value: &'a str,
+    help: &'a str,
+) -> Arg<'a>
+    ensures rule { rule_of result ≡ number_option name.entry.now parser.entry }
     ensures local { result.global ≡ false }
 {
     Arg::new(alloc, name)
         .long(name)
         .action(ArgAction::Set)
-        .value_parser(value_parser!(u32))
+        .value_parser(parser)
         .value_name(value)
         .help(help)
+}
+
+/// A command that takes files.
+fn with_files<'a>(alloc: Global, command: Command<'a>) -> Result<Command<'a>, AllocError>
+    requires local { (out-Command command).has_globals ≡ false }
+    ensures { IfOk result (λ c. (app_of c ≡ with_files (app_of command.entry)) × ((out-Command c).has_globals ≡ false)) }
+{
+    command.arg(file_option(alloc))?.arg(file_names(alloc))
 }
 
 fn stream_command<'a>(alloc: Global) -> Result<Command<'a>, AllocError>
@@ -190,13 +264,15 @@ fn stream_command<'a>(alloc: Global) -> Result<Command<'a>, AllocError>
     let limit = number_option(
         alloc,
         "limit",
+        value_parser!(u32).range(1..=2147483647),
         "OCTETS",
         "Greatest length of a frame, 1 to 2147483647 [16777216]",
     );
-    new_command(alloc, "stream", &STREAM_HELP)
+    let command = new_command(alloc, "stream", &STREAM_HELP)
         .arg(limit)?
-        .arg(strict_flag(alloc))?
-        .arg(file_option(alloc))
+        .arg(keep_going_flag(alloc))?
+        .arg(strict_flag(alloc))?;
+    with_files(alloc, command)
 }
 
 fn message_command<'a>(alloc: Global) -> Result<Command<'a>, AllocError>
@@ -204,13 +280,16 @@ fn message_command<'a>(alloc: Global) -> Result<Command<'a>, AllocError>
 {
     new_command(alloc, "message", &MESSAGE_HELP)
         .arg(strict_flag(alloc))?
-        .arg(file_option(alloc))
+        .arg(file_option(alloc))?
+        .arg(file_names(alloc))
 }
 
 fn keytab_command<'a>(alloc: Global) -> Result<Command<'a>, AllocError>
     ensures { IfOk result (λ c. (app_of c ≡ keytab_app) × ((out-Command c).has_globals ≡ false)) }
 {
-    new_command(alloc, "keytab", &KEYTAB_HELP).arg(file_option(alloc))
+    new_command(alloc, "keytab", &KEYTAB_HELP)
+        .arg(file_option(alloc))?
+        .arg(file_names(alloc))
 }
 
 fn ccache_command<'a>(alloc: Global) -> Result<Command<'a>, AllocError>
@@ -219,12 +298,14 @@ fn ccache_command<'a>(alloc: Global) -> Result<Command<'a>, AllocError>
     let now = number_option(
         alloc,
         "now",
+        value_parser!(u32),
         "SECONDS",
         "Shows which have expired by then, in seconds since 1970",
     );
     new_command(alloc, "ccache", &CCACHE_HELP)
         .arg(now)?
-        .arg(file_option(alloc))
+        .arg(file_option(alloc))?
+        .arg(file_names(alloc))
 }
 
 /// The command, which `clap` calls simple.
@@ -234,29 +315,62 @@ fn krbls_command<'a>(alloc: Global) -> Result<Command<'a>, AllocError>
     new_command(alloc, "krbls", &KRBLS_HELP)
         .no_binary_name(true)
         .disable_help_subcommand(true)
+        .subcommand_required(true)
+        .version(VERSION)
         .subcommand(stream_command(alloc)?)?
         .subcommand(message_command(alloc)?)?
         .subcommand(keytab_command(alloc)?)?
         .subcommand(ccache_command(alloc)?)
 }
 
+/// The fault of words that `clap` takes and that give no order all the same. There are none.
+fn not_read(alloc: Global) -> WordsFault {
+    match String::from_str(alloc, "error: the command line is not read\n") {
+        Ok(text) => WordsFault::Wrong(text),
+        Err(_) => WordsFault::Memory,
+    }
+}
+
 /// The number of an option, if it is given.
-fn number_of(found: &ArgMatches<'_>, name: &str) -> Result<Option<u32>, WordsFault>
+fn number_of(alloc: Global, found: &ArgMatches<'_>, name: &str) -> Result<Option<u32>, WordsFault>
     ensures { IfOk result (IsNumber (one_of name.now (rows_of (found_of found.now)))) }
 {
     match found.try_get_one::<u32>(name) {
         Ok(number) => Ok(number),
-        Err(_) => Err(WordsFault::Wrong),
+        Err(_) => Err(not_read(alloc)),
     }
 }
 
 /// The limit that is given, or the usual one.
-fn limit_of(found: &ArgMatches<'_>) -> Result<Limit, WordsFault>
+fn limit_of(alloc: Global, found: &ArgMatches<'_>) -> Result<Limit, WordsFault>
     ensures { IfOk result (IsNumberOr 16777216 (one_of (codes "limit") (rows_of (found_of found.now)))) }
 {
-    match number_of(found, "limit")? {
+    match number_of(alloc, found, "limit")? {
         None => Ok(Limit::DEFAULT),
-        Some(octets) => Limit::new(octets).ok_or(WordsFault::Wrong),
+        Some(octets) => match Limit::new(octets) {
+            Some(limit) => Ok(limit),
+            None => Err(not_read(alloc)),
+        },
+    }
+}
+
+/// Whether a flag is given.
+fn is_given(found: &ArgMatches<'_>, name: &str) -> bool
+    ensures { IsGiven (first_of name.now (rows_of (found_of found.now))) result }
+{
+    match found.get_str(name) {
+        None => false,
+        Some(value) => is_true(value),
+    }
+}
+
+/// Whether the value of a flag says that it is given.
+fn is_true(value: &str) -> bool
+    ensures { IsGiven (Some value.now) result }
+{
+    match value {
+        "true" => true,
+        _ => false,
     }
 }
 
@@ -264,42 +378,38 @@ fn limit_of(found: &ArgMatches<'_>) -> Result<Limit, WordsFault>
 fn profile_of(found: &ArgMatches<'_>) -> Profile
     ensures { IsProfile (first_of (codes "strict") (rows_of (found_of found.now))) result }
 {
-    match found.get_str("strict") {
-        None => Profile::Lenient,
-        Some(value) => by_flag(value),
+    if is_given(found, "strict") {
+        Profile::Strict
+    } else {
+        Profile::Lenient
     }
 }
 
-/// The profile that the value of the flag names.
-fn by_flag(value: &str) -> Profile
-    ensures { IsProfile (Some value.now) result }
+/// What becomes of a stream after a refusal: it goes on if its flag is given.
+fn after_refusal_of(found: &ArgMatches<'_>) -> AfterRefusal
+    ensures { IsAfter (first_of (codes "keep-going") (rows_of (found_of found.now))) result }
 {
-    match value {
-        "true" => Profile::Strict,
-        _ => Profile::Lenient,
+    if is_given(found, "keep-going") {
+        AfterRefusal::GoesOn
+    } else {
+        AfterRefusal::Ends
     }
 }
 
 /// The job of a command with its options.
-fn job_of(name: &str, found: &ArgMatches<'_>) -> Result<Job, WordsFault>
+fn job_of(alloc: Global, name: &str, found: &ArgMatches<'_>) -> Result<Job, WordsFault>
     ensures { IfOk result (IsJob name.now (rows_of (found_of found.now))) }
 {
     match name {
-        "stream" => Ok(Job::Stream(limit_of(found)?, profile_of(found))),
+        "stream" => Ok(Job::Stream(
+            limit_of(alloc, found)?,
+            profile_of(found),
+            after_refusal_of(found),
+        )),
         "message" => Ok(Job::Message(profile_of(found))),
         "keytab" => Ok(Job::Keytab),
-        "ccache" => Ok(Job::Ccache(number_of(found, "now")?)),
-        _ => Err(WordsFault::Wrong),
-    }
-}
-
-/// The file that is named, if one is.
-fn file_of(alloc: Global, found: &ArgMatches<'_>) -> Result<Option<String>, AllocError>
-    ensures { IfOk result (λ file. option_map string_bytes file ≡ first_of (codes "file") (rows_of (found_of found.now))) }
-{
-    match found.get_str("file") {
-        None => Ok(None),
-        Some(path) => Ok(Some(String::from_str(alloc, path)?)),
+        "ccache" => Ok(Job::Ccache(number_of(alloc, found, "now")?)),
+        _ => Err(not_read(alloc)),
     }
 }
 
@@ -308,41 +418,38 @@ fn order_of(alloc: Global, matches: &ArgMatches<'_>) -> Result<Order, WordsFault
     ensures { IfOk result (IsOrderOf (subcommand_rows_of matches.now)) }
 {
     match matches.subcommand() {
-        None => Err(WordsFault::Wrong),
+        None => Err(not_read(alloc)),
         Some((name, found)) => {
-            let job = job_of(name, found)?;
-            let file = file_of(alloc, found)?;
-            Ok(Order { job, file })
+            let job = job_of(alloc, name, found)?;
+            let sources = sources_of(alloc, found)?;
+            Ok(Order { job, sources })
         }
     }
 }
 
-/// What becomes of words that `clap` does not accept: help, if that is what they ask for.
-fn help_of(alloc: Global, error: &Error) -> Result<Order, WordsFault>
-    ensures { IfOk result (λ order. IsHelp order.job × (order.file ≡ None) × (kind_of error.now ≡ ErrorKind.DisplayHelp)) }
+/// What becomes of words that `clap` does not accept: a text, if that is what they ask for.
+fn text_of(alloc: Global, error: &Error) -> Result<Order, WordsFault>
+    ensures { IfOk result (λ order. IsTextBy (kind_of error.now) order.job × (order.sources.items ≡ [])) }
 {
-    match error.kind() {
-        ErrorKind::DisplayHelp => {
-            let text = format!(in alloc; "{error}")?;
-            let job = Job::Help(text);
-            Ok(Order { job, file: None })
-        }
-        ErrorKind::OutOfMemory => Err(WordsFault::Memory),
-        _ => Err(WordsFault::Wrong),
-    }
+    let text = format!(in alloc; "{error}")?;
+    let job = match error.kind() {
+        ErrorKind::DisplayHelp => Job::Help(text),
+        ErrorKind::DisplayVersion => Job::Version(text),
+        ErrorKind::OutOfMemory => return Err(WordsFault::Memory),
+        _ => return Err(WordsFault::Wrong(text)),
+    };
+    let sources = Vec::new(alloc);
+    Ok(Order { job, sources })
 }
 
-/// The order that the words after the program's name give: a command and its options, as `clap`
-/// reads them. A bare `--` is none of them.
+/// The order that the words after the program's name give: a command, its options and the files to
+/// read, as `clap` reads them.
 pub fn read_words(alloc: Global, words: &[String]) -> Result<Order, WordsFault>
     ensures { IfOk result (IsOrderIn (map string_bytes words.now)) }
 {
-    if words.iter().any(|word| word.as_str() == "--") {
-        return Err(WordsFault::Wrong);
-    }
     let command = krbls_command(alloc)?;
     match command.try_get_matches_from(words) {
         Ok(matches) => order_of(alloc, &matches),
-        Err(error) => help_of(alloc, &error),
+        Err(error) => text_of(alloc, &error),
     }
 }

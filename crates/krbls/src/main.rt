@@ -3,92 +3,168 @@
 //! refusal at an exact place.
 //!
 //! `krbls stream` reads framed messages, `krbls message` one message in hexadecimal, `krbls keytab` a
-//! keytab, and `krbls ccache` a cache, each from the standard input or from a file. The statuses are 0
-//! where all was read, 1 where something was refused, 2 for a wrong command line, and 3 where a read,
-//! a write or memory failed.
+//! keytab, and `krbls ccache` a cache, each from files or from the standard input. The status is the
+//! greatest of those of all files: 0 where all was read, 1 where something was refused, 2 for a wrong
+//! command line, and 3 where a read, a write or memory failed. The standard error has a line for each
+//! fault.
 #![tactic(auto)]
 
-ghost use Rattle.std.specs.Prelude.{◌≡◌};
+ghost use Rattle.std.specs.Prelude.{◌≡◌, codes, length, nat_lt, unwrap_or};
 ghost use Rattle.std.specs.Process.{exit_status};
-ghost use Rattle.krb_tool.specs.Listing.{status_of};
+ghost use Rattle.krb_tool.specs.Sources.{ListsEach, ListsOne};
+ghost use Rattle.krb_words.specs.Sources.{path_of};
 
-use krb_tool::{RunEnd, RunFault, run_ccache, run_keytab, run_message_in, run_stream_in, status};
-use krb_words::{Job, Order, WordsFault, read_words};
-use std::io::Read;
+use krb_list::FileName;
+use krb_tool::{
+    ListSource, RunEnd, RunFault, run_ccache, run_keytab, run_message_in, run_sources,
+    run_stream_going_on, run_stream_in,
+};
+use krb_words::{AfterRefusal, Job, NOT_UTF8, Order, Source, WordsFault, read_words};
+use std::alloc::Global;
+use std::fmt::Display;
+use std::io::{ErrorKind, Read, Write};
 use std::process::ExitCode;
-use std::{env, fs, io};
+use std::{env, fs};
 
 /// The status of a wrong command line.
 const WRONG_COMMAND_LINE: u8 = 2;
 
+/// The status of a fault before anything is read.
+const FAULT: u8 = 3;
+
+/// What faults call the standard input.
+const INPUT: &str = "standard input";
+
 fn main(rt: HostRuntime) -> ExitCode {
     match order(&rt) {
         Ok(order) => carry_out(&rt, &order),
-        Err(WordsFault::Wrong) => wrong(&rt),
-        Err(WordsFault::Memory) => report(&rt, &Err(RunFault::Memory)),
+        Err(WordsFault::Wrong(text)) => wrong(&rt, text.as_str()),
+        Err(WordsFault::Memory) => fault(&rt, &INPUT, &RunFault::Memory),
     }
 }
 
 /// The order that the words after the program's name give.
 fn order(rt: &HostRuntime) -> Result<Order, WordsFault> {
+    let alloc = rt.alloc();
     let mut words = match env::args(rt) {
         Ok(words) => words,
-        Err(error) if error.kind() == io::ErrorKind::OutOfMemory => return Err(WordsFault::Memory),
-        Err(_) => return Err(WordsFault::Wrong),
+        Err(error) if error.kind() == ErrorKind::OutOfMemory => return Err(WordsFault::Memory),
+        Err(_) => return Err(WordsFault::Wrong(String::from_str(alloc, NOT_UTF8)?)),
     };
     let _program = words.next();
-    let words: Vec<String> = words.collect(rt.alloc())?;
-    read_words(rt.alloc(), words.as_slice())
+    let words: Vec<String> = words.collect(alloc)?;
+    read_words(alloc, words.as_slice())
 }
 
-/// Lists what the order names, from its file or from the standard input.
+/// Lists what the order names, from each of its sources, or prints its text.
 fn carry_out(rt: &HostRuntime, order: &Order) -> ExitCode {
-    match &order.file {
-        None => list(rt, &order.job, &mut rt.stdin()),
-        Some(path) => match fs::open(rt, path.as_str()) {
-            Ok(mut file) => list(rt, &order.job, &mut file),
-            Err(_) => report(rt, &Err(RunFault::Read)),
-        },
+    match &order.job {
+        Job::Help(text) | Job::Version(text) => print_text(rt, text.as_str()),
+        job => {
+            let lister = Lister { rt, job };
+            let sources = order.sources.as_slice();
+            list_each(rt.alloc(), &lister, sources, &mut rt.stdout())
+        }
     }
 }
 
-fn list<R: Read>(rt: &HostRuntime, job: &Job, reader: &mut R) -> ExitCode {
-    let mut writer = rt.stdout();
-    match job {
-        Job::Stream(limit, profile) => report(
-            rt,
-            &run_stream_in(rt.alloc(), *profile, reader, &mut writer, *limit),
-        ),
-        Job::Message(profile) => report(
-            rt,
-            &run_message_in(rt.alloc(), *profile, reader, &mut writer),
-        ),
-        Job::Keytab => report(rt, &run_keytab(rt.alloc(), reader, &mut writer)),
-        Job::Ccache(now) => report(rt, &run_ccache(rt.alloc(), reader, &mut writer, *now)),
-        Job::Help(text) => help(rt, text.as_str()),
+/// Lists sources one after another, and exits with the greatest of their statuses.
+fn list_each<S, L: ListSource<S>, W: Write>(
+    alloc: Global,
+    lister: &L,
+    sources: &[S],
+    writer: &mut W,
+) -> ExitCode
+    ensures { ListsEach (λ source. ListsOne (nat_lt 1 (length sources.now)) (L.called source) (L.Lists lister.now source)) sources.now (W.contents writer.old) (W.contents writer.new) (exit_status result) }
+{
+    ExitCode::from(run_sources(alloc, lister, sources, writer))
+}
+
+/// What does a job.
+#[derive(Clone, Copy)]
+struct Lister<'a> {
+    rt: &'a HostRuntime,
+    job: &'a Job,
+}
+
+impl Lister<'_> {
+    /// Does the job on what a reader has.
+    fn run<R: Read, W: Write>(&self, reader: &mut R, writer: &mut W) -> Result<RunEnd, RunFault> {
+        let alloc = self.rt.alloc();
+        match self.job {
+            Job::Stream(limit, profile, AfterRefusal::Ends) => {
+                run_stream_in(alloc, *profile, reader, writer, *limit)
+            }
+            Job::Stream(limit, profile, AfterRefusal::GoesOn) => {
+                run_stream_going_on(alloc, *profile, reader, writer, *limit)
+            }
+            Job::Message(profile) => run_message_in(alloc, *profile, reader, writer),
+            Job::Keytab => run_keytab(alloc, reader, writer),
+            Job::Ccache(now) => run_ccache(alloc, reader, writer, *now),
+            Job::Help(_) | Job::Version(_) => Ok(RunEnd::Clean),
+        }
     }
 }
 
-fn help(rt: &HostRuntime, text: &str) -> ExitCode {
+impl ListSource<Source> for Lister<'_> {
+    ghost called = { λ source. unwrap_or (path_of source) (codes "-") };
+
+    // A contract does not see what a file or the standard input gives.
+    ghost Lists = { λ lister source held holds outcome. Unit {0} };
+
+    fn name<'a>(&self, source: &'a Source) -> &'a str {
+        match source {
+            Source::Input => "-",
+            Source::File(path) => path.as_str(),
+        }
+    }
+
+    fn list<W: Write>(&self, source: &Source, writer: &mut W) -> Result<RunEnd, RunFault> {
+        match source {
+            Source::Input => self.run(&mut self.rt.stdin(), writer),
+            Source::File(path) => match fs::open(self.rt, path.as_str()) {
+                Ok(mut file) => self.run(&mut file, writer),
+                Err(error) => Err(RunFault::Read(error)),
+            },
+        }
+    }
+
+    fn report(&self, source: &Source, fault: &RunFault) {
+        match source {
+            Source::Input => report(self.rt, &INPUT, fault),
+            Source::File(path) => report(self.rt, &FileName(path.as_str()), fault),
+        }
+    }
+}
+
+/// Writes the line of a fault to the standard error. There is none where the reader of the standard
+/// output has gone.
+fn report<N: Display>(rt: &HostRuntime, name: &N, fault: &RunFault) {
+    let _ = match fault {
+        RunFault::Write(error) if error.kind() == ErrorKind::BrokenPipe => Ok(()),
+        RunFault::Write(_) => eprintln!(rt; "krbls: standard output: {fault}"),
+        RunFault::Read(_) | RunFault::Memory => eprintln!(rt; "krbls: {name}: {fault}"),
+    };
+}
+
+/// The status of a fault, of which the standard error gets a line.
+fn fault<N: Display>(rt: &HostRuntime, name: &N, fault: &RunFault) -> ExitCode
+    ensures { exit_status result ≡ 3 }
+{
+    report(rt, name, fault);
+    ExitCode::from(FAULT)
+}
+
+fn print_text(rt: &HostRuntime, text: &str) -> ExitCode {
     match print!(rt; "{text}") {
         Ok(()) => ExitCode::SUCCESS,
-        Err(_) => report(rt, &Err(RunFault::Write)),
+        Err(error) => fault(rt, &INPUT, &RunFault::Write(error)),
     }
 }
 
-fn wrong(rt: &HostRuntime) -> ExitCode
+fn wrong(rt: &HostRuntime, text: &str) -> ExitCode
     ensures { exit_status result ≡ 2 }
 {
-    let _ = eprintln!(rt; "krbls: command line");
+    let _ = eprint!(rt; "{text}");
     ExitCode::from(WRONG_COMMAND_LINE)
-}
-
-/// The status of an outcome. Of a fault, the standard error gets a line.
-fn report(rt: &HostRuntime, outcome: &Result<RunEnd, RunFault>) -> ExitCode
-    ensures { exit_status result ≡ status_of outcome.now }
-{
-    if let Err(fault) = outcome {
-        let _ = eprintln!(rt; "krbls: {fault}");
-    }
-    ExitCode::from(status(outcome))
 }

@@ -1,7 +1,7 @@
 -- What a reader of fields takes from where its octets come from.
-use Rattle.std.specs.Prelude.{ℕ, ◌+◌, ◌<◌, ◌≤◌, ◌≡◌, Bool, true, false, List, [], ◌++◌, length, Option, Some}
+use Rattle.std.specs.Prelude.{ℕ, ◌+◌, ◌<◌, ◌≤◌, ◌≡◌, false, List, [], ◌++◌, length, Option}
 use Rattle.krb_file.specs.Fields.{passes}
-use Rattle.krb_file.specs.FieldReaders.{Held, MayHave}
+use Rattle.krb_file.specs.FieldReaders.{Held, MayHave, TakesTo}
 use Rattle.krb_file.specs.declared.fault.FileFault.{FileFault}
 use Rattle.krb_file.specs.declared.fault.FileFault.TheVariants as faults
 use Rattle.krb_file.specs.declared.fault.FileWhy.TheVariants as why
@@ -12,10 +12,10 @@ pub record Takes (had left : Held) (taken : List ℕ) : Type 0 where
   pub place : left.place ≡ had.place + length taken
   pub from : (rest : List ℕ) → MayHave left rest → MayHave had (taken ++ rest)
 
--- what a device has left: nothing, after it told its end
-abbrev pub left_of : Bool → Option (List ℕ) → Option (List ℕ)
-left_of true left = Some []
-left_of false left = left
+-- no bound changed, and nothing was taken after the next `size` octets
+pub record Within (size : ℕ) (had left : Held) : Type 0 where
+  pub same_bounds : left.bounds ≡ had.bounds
+  pub within : TakesTo (had.place + size) had left
 
 -- fewer octets were left than were wanted
 pub record FallsShort (had left : Held) (size : ℕ) : Type 0 where

@@ -6,6 +6,7 @@ use Rattle.krb_der.specs.declared.profile.Profile.{Profile}
 use Rattle.krb_der.specs.declared.verdict.Refusal.{Refusal}
 use Rattle.krb_der.specs.declared.verdict.Verdict.{Verdict}
 use Rattle.krb_der.specs.declared.verdict.Verdict.TheVariants as verdict
+use Rattle.krb_der.specs.declared.why.Why.{Why}
 use Rattle.krb_msg.specs.Term.{Term}
 use Rattle.krb_msg.specs.Judgement.{judgement_by}
 use Rattle.krb_msg.specs.Stream.{End, Boundary, Within, Refused, ends, frames}
@@ -44,7 +45,7 @@ abbrev pub IsEarly : Verdict → Type 0
 IsEarly (verdict.Refused refusal) = refusal.place < 2 ^ 31
 IsEarly other = Unit {0}
 
--- what is answered where a scanner decides so, or was out of memory
+-- what is answered if a scanner decides so, or was out of memory
 abbrev pub status_by : Result Verdict Memory → Status
 status_by (Ok verdict.Open) = status.More
 status_by (Ok verdict.Whole) = status.Ready
@@ -102,13 +103,17 @@ pub record HasRefused (messages : List Term) (limit : ℕ) (announced contents :
   pub few : length contents ≤ limit
   pub short : length contents < 2 ^ 31
 
+-- a length is refused on its fourth octet, whatever the messages are
+abbrev pub IsRefusedLength : ℕ → List ℕ → Why → Type 0
+IsRefusedLength limit announced reason = (messages : List Term) → HasRefused messages limit announced [] (record { place = 3; why = reason })
+
 abbrev pub IsAt : List Term → ℕ → List ℕ → List ℕ → Phase → Type 0
 IsAt messages limit announced contents (phase.Length count) = HasPartOfLength announced contents count
 IsAt messages limit announced contents (phase.Contents size) = HasPart messages limit announced contents size
 IsAt messages limit announced contents phase.Ready = HasFrame messages limit announced contents
 IsAt messages limit announced contents (phase.Refused refusal) = HasRefused messages limit announced contents refusal
 
--- where there are contents, the scanner stands for them
+-- if there are contents, the scanner stands for them
 abbrev pub IsScanned : Profile → Scanner → List ℕ → List ℕ → Phase → Type 0
 IsScanned profile scanner announced contents (phase.Length count) = Unit {0}
 IsScanned profile scanner announced contents (phase.Contents size) = At profile scanner size contents

@@ -27,7 +27,7 @@ head_of found.Partial = Partial
 head_of (found.Refused offset reason) = Refused offset reason
 head_of (found.Got header size) = Got header size
 
--- an item's contents of a length, where the item may have that length, and else that it may not
+-- an item's contents of a length, if the item may have that length, and else that it may not
 abbrev pub sized_outcome : Term → ℕ → ℕ → List ℕ → Outcome
 sized_outcome term before size octets = if has_size term size then contents_outcome term before size octets else Bad (before - 1) why.Size
 

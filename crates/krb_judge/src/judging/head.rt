@@ -17,7 +17,7 @@ pub(crate) enum Head {
     Got { header: u32, size: u32 },
 }
 
-/// The tag and length octets of an item in a room.
+/// Returns the tag and length octets of an item in a room.
 pub(crate) fn read_head(room: u32, octets: &[u8]) -> Head
     ensures { head_of result ≡ head_from room octets.now }
 {
@@ -27,7 +27,7 @@ pub(crate) fn read_head(room: u32, octets: &[u8]) -> Head
     }
 }
 
-/// A length by its first octet and those after it.
+/// Judges a length by its first octet and those after it.
 fn first_length_octet(room: u32, octet: u8, rest: &[u8]) -> Head
     ensures { head_of result ≡ short_head room octet rest.now }
 {
@@ -53,7 +53,7 @@ fn first_length_octet(room: u32, octet: u8, rest: &[u8]) -> Head
     }
 }
 
-/// A length of `count` octets after the first.
+/// Judges a length of `count` octets after the first.
 fn long_head(room: u32, count: u8, octets: &[u8]) -> Head
     requires some { 0 < count }
     requires narrow { count ≤ 4 }
@@ -78,7 +78,7 @@ fn long_head(room: u32, count: u8, octets: &[u8]) -> Head
     }
 }
 
-/// Whether contents of a size fit after the header in the room.
+/// Returns whether contents of a size fit after the header in the room.
 fn fitting(room: u32, header: u32, size: u64) -> Head
     requires { 0 < header }
     ensures { head_of result ≡ fits room header size }
@@ -96,7 +96,7 @@ fn fitting(room: u32, header: u32, size: u64) -> Head
     }
 }
 
-/// The octets from a place on that are present, up to a size.
+/// Returns the octets from a place on that are present, up to a size.
 pub(crate) fn part(octets: &[u8], start: u32, size: u32) -> &[u8]
     ensures { result.now ≡ take size (drop start octets.now) }
 {

@@ -9,7 +9,7 @@ use crate::judging::outcome::Outcome;
 use krb_der::{Why, integer_value, last_or_zero};
 use krb_msg::{is_padded, is_time_octet};
 
-/// An OCTET STRING, or a KerberosString that may have any octets (X.690, 8.7 and 8.23).
+/// Judges an OCTET STRING, or a KerberosString that may have any octets (X.690, 8.7 and 8.23).
 pub(crate) fn string(before: u32, size: u32, octets: &[u8]) -> Outcome
     requires { before + size < 2 ^ 31 }
     ensures { outcome_of result ≡ after before (any_contents size octets.now) }
@@ -23,7 +23,7 @@ pub(crate) fn string(before: u32, size: u32, octets: &[u8]) -> Outcome
     }
 }
 
-/// A KerberosString of octets up to the `greatest`.
+/// Judges a KerberosString of octets up to the `greatest`.
 pub(crate) fn text(greatest: u8, before: u32, size: u32, octets: &[u8]) -> Outcome
     requires short { before + size < 2 ^ 31 }
     requires present { length octets.now ≤ size }
@@ -48,7 +48,7 @@ pub(crate) fn text(greatest: u8, before: u32, size: u32, octets: &[u8]) -> Outco
     }
 }
 
-/// An INTEGER (X.690, 8.3).
+/// Judges an INTEGER (X.690, 8.3).
 pub(crate) fn integer(low: i64, high: i64, before: u32, size: u32, octets: &[u8]) -> Outcome
     requires some { 0 < size }
     requires narrow { size ≤ 5 }
@@ -75,14 +75,14 @@ pub(crate) fn integer(low: i64, high: i64, before: u32, size: u32, octets: &[u8]
     }
 }
 
-/// Whether a number is in a range.
+/// Returns whether a number is in a range.
 fn is_between(low: i64, high: i64, value: i64) -> bool
     ensures { result ≡ (int_le low value && int_le value high) }
 {
     low <= value && value <= high
 }
 
-/// A KerberosTime: fourteen digits and a Z (RFC 4120, 5.2.3).
+/// Judges a KerberosTime: fourteen digits and a Z (RFC 4120, 5.2.3).
 pub(crate) fn time(before: u32, octets: &[u8]) -> Outcome
     requires short { before < 2 ^ 31 }
     requires present { length octets.now ≤ 15 }
@@ -105,8 +105,8 @@ pub(crate) fn time(before: u32, octets: &[u8]) -> Outcome
     }
 }
 
-/// A BIT STRING of `least` bits or more: the count of the unused bits, which are clear, and the
-/// octets (X.690, 8.6 and 11.2).
+/// Judges a BIT STRING of `least` bits or more: the count of the unused bits, which are clear, and
+/// the octets (X.690, 8.6 and 11.2).
 pub(crate) fn bits(least: u8, before: u32, size: u32, octets: &[u8]) -> Outcome
     requires some { 0 < size }
     requires short { before + size < 2 ^ 31 }

@@ -56,7 +56,8 @@ impl<'a> Source for Slice<'a> {
     }
 }
 
-/// The octets from the contents of the first item on, and how many of them follow these contents.
+/// Returns the octets from the contents of the first item on, and how many of them follow these
+/// contents.
 fn enter(octets: &[u8]) -> (&[u8], usize)
     requires short { length octets.now < 2 ^ 31 }
     requires form { HasItem octets.now }
@@ -71,7 +72,7 @@ fn enter(octets: &[u8]) -> (&[u8], usize)
     }
 }
 
-/// The contents of the first item, and what follows it (X.690, 8.1).
+/// Returns the contents of the first item, and what follows it (X.690, 8.1).
 fn split_item(octets: &[u8]) -> (&[u8], &[u8])
     requires short { length octets.now < 2 ^ 31 }
     requires form { HasItem octets.now }
@@ -80,7 +81,7 @@ fn split_item(octets: &[u8]) -> (&[u8], &[u8])
     open(octets)
 }
 
-/// The number of the INTEGER that stands first, and what follows it.
+/// Returns the number of the INTEGER that stands first, and what follows it.
 fn split_integer(octets: &[u8]) -> (i64, &[u8])
     requires short { length octets.now < 2 ^ 31 }
     requires form { HasNumber octets.now }

@@ -8,7 +8,7 @@ use Rattle.krb_der.specs.Sizes.{saturated}
 use Rattle.krb_msg.specs.Term.{Term, Value, der, Fits}
 use Rattle.krb_msg.specs.Grammar.{microseconds, kerberos_string, kerberos_flags, sequence_of}
 
--- the number of octets of a value, 2147483648 where there are more, and that the value fits
+-- the number of octets of a value, 2147483648 if there are more, and that the value fits
 pub record IsSized (term : Term) (value : Value term) (size : ℕ) : Type 0 where
   pub octets : size ≡ saturated (length (der term value))
   pub fits : Fits term value

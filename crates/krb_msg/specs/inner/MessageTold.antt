@@ -64,7 +64,7 @@ message_round_trips (message.KrbError m) = ap message.KrbError (krb_error-back m
 pub message_begins : (m : Message) → 0 < length (message_der m)
 message_begins m = der_begins (kind_term (kind_of m)) (message_value m)
 
--- what an equation of octets tells, where the other message is of a kind
+-- what an equation of octets tells, if the other message is of a kind
 abbrev Tells : (m : Message) (x y : List ℕ) → Kind → Type 0
 Tells m x y k = (v : Value (kind_term k)) → message_der m ++ x ≡ der (kind_term k) v ++ y → (message_of (kind_of m) (message_value m) ≡ message_of k v) × (x ≡ y)
 

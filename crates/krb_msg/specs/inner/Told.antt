@@ -7,7 +7,7 @@ use Rattle.krb_msg.specs.Term.{Term, Value, SequenceOf, der}
 use Rattle.krb_msg.specs.Shape.{is_unambiguous}
 use Rattle.krb_msg.specs.inner.Values.{der_begins, same_from_der}
 
--- ---- values and back, in lists and where they may be left out
+-- ---- values and back, in lists and if they may be left out
 pub map-back : {A B : Type 0} (to : A → B) (from : B → A) → ((a : A) → from (to a) ≡ a) → (xs : List A) → map from (map to xs) ≡ xs
 map-back to from back [] = refl
 map-back to from back (x ∷ xs) = ap₂ (λ y ys. y ∷ ys) (back x) (map-back to from back xs)

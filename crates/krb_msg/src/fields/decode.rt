@@ -20,8 +20,8 @@ pub trait DecodeFields: Drop {
     /// Their values.
     ghost values: { Self → Values fields };
 
-    /// The fields whose octets stand first, before the last `after` octets, and what follows them.
-    /// Nothing is judged again, and each string of octets is copied once.
+    /// Returns the fields whose octets stand first, before the last `after` octets, and what
+    /// follows them. Nothing is judged again, and each string of octets is copied once.
     fn read<S: Source>(alloc: Global, front: S, after: usize) -> Result<(Self, S), AllocError>
         requires short { length (S.octets front) < 2 ^ 31 }
         requires unambiguous { are_unambiguous fields ≡ true }
@@ -78,7 +78,7 @@ impl<const INDEX: u8, T: Item, F: DecodeFields> DecodeFields for Optional<INDEX,
     }
 }
 
-/// Whether the field `[index]` stands first, before the last `after` octets.
+/// Returns whether the field `[index]` stands first, before the last `after` octets.
 fn has_field<S: Source>(front: &S, index: u8, after: usize) -> bool
     ensures { (result ≡ true) ↔ HasTag (0xA0 + index) (S.octets front.now) after }
 {

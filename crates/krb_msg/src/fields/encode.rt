@@ -22,7 +22,7 @@ pub trait Encode {
     /// The value of the term.
     ghost value: { Self → Value term };
 
-    /// The number of octets; 2147483648 where there are more. The value fits the term.
+    /// Returns the number of octets; 2147483648 if there are more. The value fits the term.
     fn size(&self) -> u64
         ensures { IsSized term (value self.now) result };
 
@@ -43,7 +43,7 @@ pub trait EncodeFields {
     /// Their values.
     ghost values: { Self → Values fields };
 
-    /// The number of octets; 2147483648 where there are more. The values fit the fields.
+    /// Returns the number of octets; 2147483648 if there are more. The values fit the fields.
     fn size(&self) -> u64
         ensures octets { result ≡ saturated (length (der_of_fields fields (values self.now))) }
         ensures fit { AllFit fields (values self.now) };

@@ -53,7 +53,7 @@ abbrev pub Takes : Path → Path → Result Verdict Memory → reading.Answer �
 Takes old new (Ok decided) answer = Becomes old new decided answer
 Takes old new (Err memory) answer = IsUnchanged old new × AddsMark (length old.marks.items) answer
 
--- an octet makes of a path what an answer says, or nothing where memory was refused
+-- an octet makes of a path what an answer says, or nothing if memory was refused
 pub record IsTaken (old new : Path) (result : Result Verdict Memory) (answer : reading.Answer) : Type 0 where
   pub takes : Takes old new result answer
 

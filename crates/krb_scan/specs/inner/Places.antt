@@ -62,7 +62,7 @@ ArePlaces [] [] = Unit {0}
 ArePlaces (place ∷ places) (due ∷ others) = IsPlaceOf place due × ArePlaces places others
 ArePlaces places others = ⊥
 
--- the place of the item that a tag octet begins where something is due, if one may begin with it
+-- the place of the item that a tag octet begins if something is due, if one may begin with it
 pub record IsPicked (octet : ℕ) (due : Due) (place : ℕ) : Type 0 where
   pub known : IsPlace place
   pub item : Term

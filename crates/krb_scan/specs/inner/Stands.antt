@@ -46,7 +46,7 @@ ClosedIs outer marks place (closed.Stays inner left) given = StaysOpen outer mar
 ClosedIs outer marks place closed.Lacks given = given ≡ reading.Refusing (place - 1) why.Missing
 ClosedIs outer marks place closed.Whole given = given ≡ reading.Whole marks
 
--- where the length octets of an item are whole, they end with the octets taken, and its contents end in the room
+-- if the length octets of an item are whole, they end with the octets taken, and its contents end in the room
 abbrev pub HeadEnds : ℕ → ℕ → ℕ → judged.Head → Type 0
 HeadEnds from taken limit (judged.Got header contents) = (from + header ≡ taken) × (taken + contents ≤ limit)
 HeadEnds from taken limit other = Unit {0}
@@ -56,7 +56,7 @@ abbrev pub IsShort : ℕ → Head → Type 0
 IsShort taken (head.Got size) = taken + size < 2 ^ 31
 IsShort taken other = Unit {0}
 
--- where an octet completes a leaf, this is its number, and it ends with the octets taken
+-- if an octet completes a leaf, this is its number, and it ends with the octets taken
 abbrev pub LeafEnds : Term → ℕ → ℕ → ℕ → List ℕ → ℤ → judged.Outcome → Type 0
 LeafEnds term start count taken octets value (judged.Done done) = (value ≡ reading.leaf_value term octets) × (start + count ≡ taken)
 LeafEnds term start count taken octets value other = Unit {0}

@@ -1,10 +1,11 @@
 -- What the parts of a run on a file promise each other.
-use Rattle.std.specs.Prelude.{ℕ, ◌≡◌, ◌≢◌, ◌≤◌, ◌⊎◌, List, [], ◌++◌, length, Option, Some, IfSome, string_bytes}
+use Rattle.std.specs.Prelude.{ℕ, ◌≡◌, ◌≤◌, ◌⊎◌, List, [], ◌++◌, length, Option, Some, IfSome, string_bytes}
 use Rattle.krb_tool.specs.declared.run.RunFault.{RunFault}
 use Rattle.krb_tool.specs.declared.run.RunFault.TheVariants as fault
 use Rattle.krb_tool.specs.declared.file_run.FileText.{FileText}
 use Rattle.krb_tool.specs.declared.transfer.ReaderState.{ReaderState}
 use Rattle.krb_tool.specs.declared.transfer.ReaderState.TheVariants as reader
+use Rattle.krb_tool.specs.Faults.{IsRead}
 use Rattle.krb_tool.specs.Files.{FileListing, TakesAll}
 
 -- what is kept is all, or as many octets as are kept at most
@@ -28,12 +29,12 @@ shown made = record { text = string_bytes made.text; end = made.end }
 
 -- the fault of a run that has not written: that of its reader where this failed, and else out of memory
 abbrev pub IsOfReading : ReaderState → RunFault → Type 0
-IsOfReading reader.Failed e = e ≡ fault.Read
+IsOfReading reader.Failed e = IsRead e
 IsOfReading reader.Open e = e ≡ fault.Memory
 IsOfReading reader.Ended e = e ≡ fault.Memory
 
 -- a fault is that of the reader where this failed, and nowhere else
 abbrev pub TellsRead : ReaderState → RunFault → Type 0
-TellsRead reader.Failed e = e ≡ fault.Read
-TellsRead reader.Open e = e ≢ fault.Read
-TellsRead reader.Ended e = e ≢ fault.Read
+TellsRead reader.Failed e = IsRead e
+TellsRead reader.Open e = IsRead e → ⊥
+TellsRead reader.Ended e = IsRead e → ⊥

@@ -1,5 +1,5 @@
 -- What a lister does with the pieces of a stream.
-use Rattle.std.specs.Prelude.{ℕ, ◌≡◌, ◌+◌, ◌≤◌, Bool, true, false, List, [], ◌++◌, length, map, take, Some, string_bytes}
+use Rattle.std.specs.Prelude.{ℕ, ◌≡◌, ◌+◌, ◌-◌, ◌≤◌, Bool, true, false, List, [], ◌++◌, length, map, take, drop, Some, string_bytes}
 use Rattle.std.specs.List.{flat_map}
 use Rattle.krb_der.specs.declared.profile.Profile.{Profile}
 use Rattle.krb_der.specs.declared.verdict.Refusal.{Refusal}
@@ -41,6 +41,22 @@ pub record ListsReady (profile : Profile) (old new : Lister) : Type 0 where
   pub line : string_bytes new.text ≡ string_bytes old.text ++ message_line message
   pub counted : new.messages ≡ old.messages + 1
   pub cleared : Clears (grammar profile) old.decoder new.decoder true
+
+-- the line of a message was added, which is counted
+pub record AddsLine (message : Message) (old new : Lister) : Type 0 where
+  pub line : string_bytes new.text ≡ string_bytes old.text ++ message_line message
+  pub counted : new.messages ≡ old.messages + 1
+  pub same_decoder : new.decoder ≡ old.decoder
+
+-- A piece came, of which this rest is not used yet, and the frames that are whole are listed.
+pub record IsFed (profile : Profile) (initial : Lister) (piece rest : List ℕ) (now : Lister) : Type 0 where
+  pub place : rest ≡ drop (length piece - length rest) piece
+  pub within : length rest ≤ length piece
+  pub same_profile : now.decoder.profile ≡ profile
+  pub same_limit : now.decoder.limit ≡ initial.decoder.limit
+  pub waits : status_of (grammar profile) now.decoder ≡ status.More
+  pub few : now.messages + length rest ≤ initial.messages + length piece
+  pub listed : (stream written : List ℕ) → HasListed profile initial stream written → HasListed profile now (stream ++ take (length piece - length rest) piece) written
 
 -- where the stream goes on all of a piece was used, and else an octet is refused
 abbrev pub Goes : Profile → Lister → List ℕ → ℕ → Bool → Type 0

@@ -25,7 +25,7 @@ fields-preserved g c =
     let before : (g.F.FieldReader.held c.fields.reader).place < header_end c.args.size h = omega (arith, c.place.ensures.value, c.from.ensures, c.place-in-fields.ensures.value, c.fields-test.true) in
     record {
       front = rw c.in_ok-push.ensures.items (front-more c.args.size h c.fields.fields.items (g.F.FieldReader.held c.fields.reader) (g.F.FieldReader.held c.header_field.new.reader) c.in_ok-field.field before c.fields.invariant.front c.in_ok-field.ensures.read);
-      stays = Stays-then c.fields.invariant.stays c.in_ok-field.ensures.stays;
+      stays = Stays-then c.fields.invariant.stays c.in_ok-field.ensures.keeps.stays;
     }
 
 pub returns-in_err-field-clause-read : goal.returns-in_err-field-clause-read

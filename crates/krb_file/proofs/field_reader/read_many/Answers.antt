@@ -1,5 +1,5 @@
 use Rattle.std.proofs.lemmas.Result.{err_from_is_err_and}
-use Rattle.krb_file.proofs.FieldReaders.{Stays-then, one_more, one_fails}
+use Rattle.krb_file.proofs.FieldReaders.{Keeps-then, one_more, one_fails}
 use Rattle.krb_file.proofs.field_reader.read_many.Goals as goal
 
 pub returns-in_err-read-clause-read : goal.returns-in_err-read-clause-read
@@ -10,5 +10,5 @@ returns-in_err-read-clause-read g c =
 pub loop-preserved : goal.loop-preserved
 loop-preserved g c = record {
   read = rw c.in_ok-push.ensures.items (one_more g.K.Field.reads c.loop.counter (g.F.FieldReader.held c.args.reader.now) (g.F.FieldReader.held c.loop.reader) (g.F.FieldReader.held c.read.new.reader) c.loop.values.items c.in_ok-read.field-0 c.loop.invariant.read c.in_ok-read.ensures.read);
-  stays = Stays-then c.loop.invariant.stays c.in_ok-read.ensures.stays;
+  keeps = Keeps-then c.loop.invariant.keeps c.read.ensures.keeps;
 }

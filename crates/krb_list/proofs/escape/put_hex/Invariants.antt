@@ -1,7 +1,12 @@
-use Rattle.std.proofs.Common.{◌≡◌, ◌++◌, string_bytes, take}
+use Rattle.std.proofs.Common.{◌≡◌, ◌++◌, string_bytes}
+use Rattle.std.specs.Slice.Iter.{chunks_rest, chunks_size}
 use Rattle.krb_list.specs.Text.{hex}
 use Rattle.krb_list.proofs.escape.put_hex.Given as goal
 
--- the octets so far
-abbrev pub invariant-loop-octet : goal.invariant-loop-octet
-invariant-loop-octet l = string_bytes l.line ≡ string_bytes l.initial.line ++ hex (take l.octet-index l.octets)
+-- the pieces so far, and the octets that are left
+abbrev pub invariant-loop-piece : goal.invariant-loop-piece
+invariant-loop-piece l =
+    goal.iterator-loop-piece.can_next l.piece-iterator
+    × goal.iterator-loop-piece.is_finite l.piece-iterator
+    × (chunks_size l.piece-iterator ≡ 16)
+    × (string_bytes l.line ++ hex (chunks_rest l.piece-iterator) ≡ string_bytes l.initial.line ++ hex l.octets)

@@ -7,7 +7,7 @@ use Rattle.krb_list.proofs.Listed.{listed, separator_after, listed_one, listed_n
 use Rattle.krb_list.proofs.ticket_flags.put_names.Goals.{then-contains+in_ok-push_str+in_ok-push_str-2, else-contains}
 use Rattle.krb_list.proofs.ticket_flags.put_names.Goals as goal
 
--- all the names, where no name stands so far, and where one does
+-- all the names, if no name stands so far, and if one does
 names_end : (flags i : ℕ) (separator : List ℕ) → 13 ≤ i → separator ≡ separator_after (filter (λ flag. bit_and flags flag == flag) (take i named_flags)) →
     ((length separator == 0) ≡ true → names_text flags ≡ listed flag_name (filter (λ flag. bit_and flags flag == flag) (take i named_flags)) ++ codes "-")
     × ((length separator == 0) ≡ false → names_text flags ≡ listed flag_name (filter (λ flag. bit_and flags flag == flag) (take i named_flags)))

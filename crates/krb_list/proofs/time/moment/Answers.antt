@@ -1,35 +1,18 @@
-use Rattle.std.proofs.Common.{ℕ, zero, suc, ◌<◌, List, [], ◌∷◌, arith}
-use Rattle.std.specs.Str.{IsAscii}
+use Rattle.std.proofs.Common.{ap, length, ◌∙◌}
+use Rattle.krb_list.proofs.Ascii.{ascii_same}
+use Rattle.krb_list.proofs.Moments.{printed, moment_length, moment_ascii}
 use Rattle.krb_list.proofs.time.moment.Goals as goal
 
-record AreAscii (octets : List ℕ) : Type 0 where
-  pub all : IsAscii octets
+pub returns-clause-text : goal.returns-clause-text
+returns-clause-text c =
+    printed c.new.result c.clock_after.result c.args.seconds c.datetime_text-text.result.bytes _ c.new.ensures c.clock_after.ensures.date c.clock_after.ensures.time c.clock_after.ensures.whole c.datetime_text-text.ensures c.push_str.ensures.bytes
 
-none : AreAscii []
-none = record { all = λ i. omega arith }
-
-sign : (octet : ℕ) {octets : List ℕ} → octet < 128 → AreAscii octets → AreAscii (octet ∷ octets)
-sign octet {octets} h others = record { all = go }
-  where
-    go : IsAscii (octet ∷ octets)
-    go zero = h
-    go (suc i) = others.all i
-
-digits : {first second : ℕ} {octets : List ℕ} → first < 128 → second < 128 → AreAscii octets → AreAscii (first ∷ second ∷ octets)
-digits {first} {second} h k others = sign first h (sign second k others)
+pub returns-clause-length : goal.returns-clause-length
+returns-clause-length c =
+    let text = printed c.new.result c.clock_after.result c.args.seconds c.datetime_text-text.result.bytes _ c.new.ensures c.clock_after.ensures.date c.clock_after.ensures.time c.clock_after.ensures.whole c.datetime_text-text.ensures c.push_str.ensures.bytes in
+    ap length text ∙ moment_length c.args.seconds
 
 pub returns-clause-ascii : goal.returns-clause-ascii
 returns-clause-ascii c =
-    (digits (c.two_digits.ensures.ascii 0) (c.two_digits.ensures.ascii 1) (
-    digits (c.two_digits-2.ensures.ascii 0) (c.two_digits-2.ensures.ascii 1) (
-    sign 45 (omega arith) (
-    digits (c.two_digits-3.ensures.ascii 0) (c.two_digits-3.ensures.ascii 1) (
-    sign 45 (omega arith) (
-    digits (c.two_digits-4.ensures.ascii 0) (c.two_digits-4.ensures.ascii 1) (
-    sign 84 (omega arith) (
-    digits (c.two_digits-5.ensures.ascii 0) (c.two_digits-5.ensures.ascii 1) (
-    sign 58 (omega arith) (
-    digits (c.two_digits-6.ensures.ascii 0) (c.two_digits-6.ensures.ascii 1) (
-    sign 58 (omega arith) (
-    digits (c.two_digits-7.ensures.ascii 0) (c.two_digits-7.ensures.ascii 1) (
-    sign 90 (omega arith) (none)))))))))))))).all
+    let text = printed c.new.result c.clock_after.result c.args.seconds c.datetime_text-text.result.bytes _ c.new.ensures c.clock_after.ensures.date c.clock_after.ensures.time c.clock_after.ensures.whole c.datetime_text-text.ensures c.push_str.ensures.bytes in
+    ascii_same text (moment_ascii c.args.seconds c.ranges.seconds.fits)

@@ -2,15 +2,14 @@ use Rattle.std.proofs.Common.{◌++◌, refl, subst, rules}
 use Rattle.std.specs.Io.KnownBytes.{Appends}
 use Rattle.krb_tool.specs.Files.{AddsFront}
 use Rattle.krb_tool.specs.inner.FileRuns.{shown}
-use Rattle.krb_tool.specs.declared.run.RunFault.TheVariants as fault
-use Rattle.krb_tool.proofs.Files.{told-ended, told-whole, failed-write}
+use Rattle.krb_tool.proofs.Files.{told-ended, told-whole, failed-write, memory-unread, write-unread}
 use Rattle.krb_tool.proofs.file_run.run_file.Goals as goal
 
 pub returns-in_err-listed-clause-told : goal.returns-in_err-listed-clause-told
-returns-in_err-listed-clause-told g c = told-ended _ _ fault.Memory c.in_ok-file.ensures.ended (λ e. cc) (search rules)
+returns-in_err-listed-clause-told g c = told-ended _ _ c.in_ok-file.ensures.ended (memory-unread _ (search rules))
 
 pub returns-in_err-write_all-clause-told : goal.returns-in_err-write_all-clause-told
-returns-in_err-write_all-clause-told g c = told-ended _ _ fault.Write c.in_ok-file.ensures.ended (λ e. cc) (search rules)
+returns-in_err-write_all-clause-told g c = told-ended _ _ c.in_ok-file.ensures.ended (write-unread _ (search rules))
 
 pub returns-clause-listed : goal.returns-clause-listed
 returns-clause-listed g c =

@@ -1,8 +1,7 @@
 use Rattle.std.proofs.Common.{◌≡◌, ◌+◌, ℕ, suc, subst, string_bytes, arith}
 use Rattle.std.proofs.lemmas.Result.{err_from_is_err_and}
 use Rattle.krb_tool.specs.Files.{after_line}
-use Rattle.krb_tool.specs.declared.run.RunFault.TheVariants as fault
-use Rattle.krb_tool.proofs.Records.{Listed, Listed-start, Listed-moved, Listed-more, Listed-ended, Listed-fails, last-fails, write-fails, write-fault}
+use Rattle.krb_tool.proofs.Records.{Listed, Listed-start, Listed-moved, Listed-more, Listed-ended, Listed-fails, Listed-stops, last-fails, write-fails, write-fault}
 use Rattle.krb_tool.proofs.record_run.list_records.Goals as goal
 
 pub records-init : goal.records-init
@@ -46,4 +45,4 @@ records-preserved g c = λ left is_left.
     subst (λ (n : ℕ). Listed (g.L.RecordLines.IsLeft c.put_next.new.self n) (after_line (string_bytes c.args.text.now) left) (g.W.Write.contents c.args.writer.now) (g.W.Write.contents c.write_early.new.writer) (string_bytes c.put_next.new.text)) next (Listed-more _ _ _ _ _ listed after _ adds)
 
 pub returns : goal.returns
-returns g c = λ left is_left. Listed-fails _ _ _ _ _ (c.records.invariant left is_left) fault.Read (λ e. cc)
+returns g c = λ left is_left. Listed-stops _ _ _ _ _ (c.records.invariant left is_left)

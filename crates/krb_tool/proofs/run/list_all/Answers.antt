@@ -6,7 +6,7 @@ use Rattle.krb_frame.specs.declared.decoder.Status.TheVariants as status
 use Rattle.krb_tool.proofs.Runs.{Feeds-by, Finishes-by, Waits-start, Waits-room, Runs-fed, Ends-refused, Ends-read, Waits-written, AllIsRead-more, AllIsRead-refused, Lists-made, written-slice}
 use Rattle.krb_tool.specs.Files.{AddsFront}
 use Rattle.krb_tool.specs.declared.run.RunFault.TheVariants as fault
-use Rattle.krb_tool.proofs.Failing.{failed, Fails-start, Fails-asked, Fails-fed, Fails-written, Fails-ended, Fails-last}
+use Rattle.krb_tool.proofs.Failing.{failed, failed-read, failed-write, Fails-start, Fails-asked, Fails-fed, Fails-written, Fails-ended, Fails-last}
 use Rattle.krb_tool.proofs.run.list_all.Goals as goal
 
 pub pieces-init : goal.pieces-init
@@ -59,7 +59,7 @@ pub returns-in_err-buffer-clause-fault : goal.returns-in_err-buffer-clause-fault
 returns-in_err-buffer-clause-fault g c = failed _ fault.Memory _ _ _ _ _ _ (search rules) (Fails-start c.args.profile c.args.limit _ _)
 
 pub returns-in_err-count-clause-fault : goal.returns-in_err-count-clause-fault
-returns-in_err-count-clause-fault g c = failed _ fault.Read _ _ _ _ _ _ (search rules) (Fails-asked _ _ _ _ _ _ _ _ _ c.pieces.invariant.3 c.in_err-count.ensures.kept)
+returns-in_err-count-clause-fault g c = failed-read _ _ _ _ _ _ _ (search rules) (Fails-asked _ _ _ _ _ _ _ _ _ c.pieces.invariant.3 c.in_err-count.ensures.kept)
 
 pub returns-in_err-ended-clause-fault : goal.returns-in_err-ended-clause-fault
 returns-in_err-ended-clause-fault g c =
@@ -71,7 +71,7 @@ returns-in_err-write_all-clause-fault g c =
     let none : take c.in_ok-count.count c.ask.new.buffer ≡ [] = ap (λ n. take n c.ask.new.buffer) c.if-count-eq0.true in
     let ends = Ends-read _ _ _ _ _ _ _ _ _ _ c.pieces.invariant.3 c.in_ok-count.ensures.given none in
     let front = subst (AddsFront _ _) (c.as_bytes.ensures.value ∙ c.text.ensures) c.in_err-write_all.ensures.front in
-    failed _ fault.Write _ _ _ _ _ _ (search rules) (Fails-last _ _ _ _ _ _ _ ends _ _ _ (Finishes-by c.pieces.invariant.3.runs.same_profile c.in_ok-ended.ensures) front)
+    failed-write _ _ _ _ _ _ _ (search rules) (Fails-last _ _ _ _ _ _ _ ends _ _ _ (Finishes-by c.pieces.invariant.3.runs.same_profile c.in_ok-ended.ensures) front)
 
 pub returns-in_err-feed-clause-fault : goal.returns-in_err-feed-clause-fault
 returns-in_err-feed-clause-fault g c = failed _ fault.Memory _ _ _ _ _ _ (search rules) (Fails-fed _ _ _ _ _ _ _ _ _ c.pieces.invariant.3 _ _ c.in_ok-count.ensures.given)
@@ -93,7 +93,7 @@ returns-in_err-write_all-2-clause-fault g c =
     let short : length (take c.in_ok-count.count c.deref.result.now) ≤ 65536 = omega (arith, ap (λ (l : List ℕ). length l) same, length-take c.in_ok-count.count c.deref.result.now) in
     let refused = Ends-refused _ _ _ _ _ _ _ _ _ _ _ _ c.pieces.invariant.3 given short (Feeds-by c.pieces.invariant.3.runs.same_profile c.in_ok-feed.ensures.fed) c.if-not-branch.true in
     let front = subst (AddsFront _ _) (c.as_bytes-then-not-branch.ensures.value ∙ c.text-then-not-branch.ensures) c.in_err-write_all-2.ensures.front in
-    failed _ fault.Write _ _ _ _ _ _ (search rules) (Fails-last _ _ _ _ _ _ _ refused.0 _ _ _ (Finishes-by refused.0.same_profile c.in_ok-ended-2.ensures) front)
+    failed-write _ _ _ _ _ _ _ (search rules) (Fails-last _ _ _ _ _ _ _ refused.0 _ _ _ (Finishes-by refused.0.same_profile c.in_ok-ended-2.ensures) front)
 
 pub returns-in_err-write_all-3-clause-fault : goal.returns-in_err-write_all-3-clause-fault
 returns-in_err-write_all-3-clause-fault g c =
@@ -103,4 +103,4 @@ returns-in_err-write_all-3-clause-fault g c =
     let given = rw same at c.in_ok-count.ensures.given in
     let runs = Runs-fed _ _ _ _ _ _ _ c.ask.new.self.made _ _ _ _ _ c.pieces.invariant.3 given short (Feeds-by c.pieces.invariant.3.runs.same_profile c.in_ok-feed.ensures.fed) c.if-not-branch.false c.in_ok-count.ensures.counted in
     let front = subst (AddsFront _ _) (c.as_bytes-in-pieces.ensures.value ∙ c.text-in-pieces.ensures) c.in_err-write_all-3.ensures.front in
-    failed _ fault.Write _ _ _ _ _ _ (search rules) (Fails-written _ _ _ _ _ _ _ _ _ runs front)
+    failed-write _ _ _ _ _ _ _ (search rules) (Fails-written _ _ _ _ _ _ _ _ _ runs front)

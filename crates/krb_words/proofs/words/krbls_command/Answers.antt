@@ -1,6 +1,6 @@
-use Rattle.std.proofs.Common.{◌≡◌, true, ◌∙◌, ap}
+use Rattle.std.proofs.Common.{◌≡◌, true, ◌∙◌, ap, codes}
 use Rattle.std.proofs.lemmas.Result.{IfOk-weaker}
-use Rattle.clap.specs.Words.{App, app_of, with_subcommand}
+use Rattle.clap.specs.Words.{App, app_of, new_app, with_subcommand}
 use Rattle.clap.specs.Simple.{Shape, app_of_fields, on_top}
 use Rattle.krb_words.specs.Words.{stream_app, message_app, keytab_app, krbls_top}
 use Rattle.krb_words.proofs.Matched.{subcommand_added}
@@ -10,9 +10,13 @@ pub returns : goal.returns
 returns c =
     let named : app_of c.no_binary_name.result ≡ on_top (λ (s : Shape). record s { no_binary_name = true }) (app_of c.new_command.result) =
     ap app_of_fields c.no_binary_name.ensures in
-    let top : app_of c.disable_help_subcommand.result ≡ krbls_top =
+    let hidden : app_of c.disable_help_subcommand.result ≡ on_top (λ (s : Shape). record s { no_binary_name = true; disable_help_subcommand = true }) (new_app (codes "krbls")) =
     ap app_of_fields c.disable_help_subcommand.ensures
     ∙ ap (λ (a : App). on_top (λ (s : Shape). record s { disable_help_subcommand = true }) a) (named ∙ ap (λ (a : App). on_top (λ (s : Shape). record s { no_binary_name = true }) a) c.new_command.ensures.app) in
+    let required : app_of c.subcommand_required.result ≡ on_top (λ (s : Shape). record s { no_binary_name = true; disable_help_subcommand = true; subcommand_required = true }) (new_app (codes "krbls")) =
+    ap app_of_fields c.subcommand_required.ensures ∙ ap (λ (a : App). on_top (λ (s : Shape). record s { subcommand_required = true }) a) hidden in
+    let top : app_of c.version.result ≡ krbls_top =
+    ap app_of_fields c.version.ensures ∙ ap (λ (a : App). on_top (λ (s : Shape). record s { has_version = true }) a) required in
     let first : app_of c.in_ok-subcommand.field-0 ≡ with_subcommand krbls_top stream_app.top =
     subcommand_added _ _ _ _ _ c.in_ok-subcommand.ensures top c.in_ok-stream_command.ensures.0 c.in_ok-stream_command.ensures.1 in
     let second : app_of c.in_ok-subcommand-2.field-0 ≡ with_subcommand (with_subcommand krbls_top stream_app.top) message_app.top =

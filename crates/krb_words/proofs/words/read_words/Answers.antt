@@ -1,5 +1,5 @@
 use Rattle.std.proofs.lemmas.Result.{IfOk-weaker}
-use Rattle.krb_words.proofs.Matched.{IsOrderIn-matches, IsOrderIn-help}
+use Rattle.krb_words.proofs.Matched.{IsOrderIn-matches, IsOrderIn-text}
 use Rattle.krb_words.proofs.words.read_words.Goals as goal
 
 pub returns-in-Ok : goal.returns-in-Ok
@@ -10,6 +10,6 @@ returns-in-Ok c =
 
 pub returns-in-Err : goal.returns-in-Err
 returns-in-Err c =
-    IfOk-weaker c.help_of.result _ _
-    (λ order h. IsOrderIn-help _ _ c.in-Err.error order c.in_ok-command.ensures c.in-Err.ensures.kinds h.0 h.1 h.2)
-    c.help_of.ensures
+    IfOk-weaker c.text_of.result _ _
+    (λ order h. IsOrderIn-text _ _ c.in-Err.error order c.in_ok-command.ensures c.in-Err.ensures.kinds h.0 h.1)
+    c.text_of.ensures

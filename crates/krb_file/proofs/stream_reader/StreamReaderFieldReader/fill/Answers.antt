@@ -1,5 +1,5 @@
 use Rattle.std.proofs.Common.{sym, refl, None, length}
-use Rattle.krb_file.specs.inner.Takes.{left_of}
+use Rattle.krb_file.specs.FieldReaders.{left_of}
 use Rattle.krb_file.proofs.Taken.{near-read}
 use Rattle.krb_file.proofs.stream_reader.StreamReaderFieldReader.fill.Goals as goal
 

@@ -1,5 +1,5 @@
 use Rattle.std.proofs.Common.{◌≡◌, ◌+◌, sym, ap, arith, length, length-append}
-use Rattle.krb_file.specs.inner.Takes.{left_of}
+use Rattle.krb_file.specs.FieldReaders.{left_of}
 use Rattle.krb_file.proofs.Taken.{near-left, near-octets}
 use Rattle.krb_file.proofs.stream_reader.StreamReaderFieldReader.octets.Goals as goal
 

@@ -1,8 +1,9 @@
 use Rattle.krb_msg.specs.Grammar.{messages}
 use Rattle.krb_scan.specs.Scanner.{ledger_of, profile_of, room_of}
 use Rattle.std.specs.Prelude.{vec_capacity}
-use Rattle.std.proofs.Common.{◌≡◌, sym, ◌∙◌, ap, subst}
+use Rattle.std.proofs.Common.{◌≡◌, [], true, sym, ◌∙◌, ap, subst}
 use Rattle.krb_frame.specs.Decoding.{IsAmple, decoding_of, room_for}
+use Rattle.krb_frame.specs.Feeds.{Clears}
 use Rattle.krb_frame.specs.inner.Phases.{IsAt}
 use Rattle.krb_frame.specs.declared.decoder.Phase.TheVariants as phase
 use Rattle.krb_frame.proofs.Founds.{borrowed-none}
@@ -17,12 +18,10 @@ returns-in_default c =
 pub returns : goal.returns
 returns c =
     let d = c.self.inside in
+    let room = room_for (vec_capacity d.contents) (room_of d.scanner) in
     let h = subst (IsAt (messages (profile_of d.scanner)) d.limit d.length d.contents.items) c.in-Ready.is c.self.invariant.0 in
-    let made = room_for (vec_capacity c.clear_contents.new.contents) (room_of c.clear_marks.new.scanner) in
-    let f = Clears-frame (messages (profile_of d.scanner)) (profile_of d.scanner) d.limit (ledger_of d.scanner) (ledger_of c.clear_marks.new.scanner) (room_for (vec_capacity d.contents) (room_of d.scanner)) made d.length d.contents.items c.clear_contents.new.contents.items h c.clear_contents.ensures.none c.clear_marks.ensures.looks
-    (λ octets marks.
-    let ample : IsAmple (decoding_of (profile_of d.scanner) d.limit (ledger_of d.scanner) (room_for (vec_capacity d.contents) (room_of d.scanner)) d.length d.contents.items d.phase) = record { octets = octets; marks = marks } in
-    let stays = c.is_ample-stays.ensures.1 (subst IsAmple c.self.view_is ample) in
-    record { octets = c.clear_contents.ensures.room stays; marks = c.clear_marks.ensures.room stays }) in
-    let old : decoding_of (profile_of d.scanner) d.limit (ledger_of d.scanner) (room_for (vec_capacity d.contents) (room_of d.scanner)) d.length d.contents.items phase.Ready ≡ c.args.self.now = ap (λ p. decoding_of (profile_of d.scanner) d.limit (ledger_of d.scanner) (room_for (vec_capacity d.contents) (room_of d.scanner)) d.length d.contents.items p) (sym c.in-Ready.is) ∙ c.self.view_is in
-    rw (c.clear_marks.ensures.profile, ← old) f
+    let old : decoding_of (profile_of d.scanner) d.limit (ledger_of d.scanner) room d.length d.contents.items phase.Ready ≡ c.args.self.now = ap (λ p. decoding_of (profile_of d.scanner) d.limit (ledger_of d.scanner) room d.length d.contents.items p) (sym c.in-Ready.is) ∙ c.self.view_is in
+    subst (λ o. Clears (messages o.profile) o c.forget.new.self true) old
+    (Clears-frame (messages (profile_of d.scanner)) (profile_of d.scanner) d.limit (ledger_of d.scanner) room d.length d.contents.items c.forget.new.self h
+    (subst (λ o. c.forget.new.self ≡ record { profile = o.profile; limit = o.limit; octets = []; looks = o.looks; room = c.forget.new.self.room }) (sym old) c.forget.ensures.left)
+    (subst (λ o. IsAmple o → IsAmple c.forget.new.self) (sym old) c.forget.ensures.ample))

@@ -1,8 +1,9 @@
 use Rattle.std.proofs.Common.{Some, Err, subst}
-use Rattle.krb_keytab.specs.Streaming.{Reads}
 use Rattle.krb_keytab.specs.declared.records.State.{State}
 use Rattle.krb_keytab.specs.declared.records.State.TheVariants as states
 use Rattle.krb_keytab.proofs.Streams.{opens, version_refused, not_done, not_failed, stands_in}
+use Rattle.krb_keytab.specs.Streaming.{Reads, announced_in}
+use Rattle.krb_keytab.proofs.Reaching.{version_keeps, same_keeps}
 use Rattle.krb_keytab.proofs.records.Records.next_record.Goals as goal
 
 pub returns-in-Done-clause-next : goal.returns-in-Done-clause-next
@@ -29,3 +30,9 @@ returns-in-Err-clause-refused g c = λ file limit count reads.
 pub returns-in-Open-clause-refused : goal.returns-in-Open-clause-refused
 returns-in-Open-clause-refused g c = λ file limit count reads.
     c.next_open-in-Open.ensures.refused file limit count (subst (λ (s : State). Reads (Some limit) c.args.self.now.reader s file count) c.in-Open.is reads)
+
+pub returns-in-Err-clause-announced : goal.returns-in-Err-clause-announced
+returns-in-Err-clause-announced g c = rw c.in-Start.is (version_keeps c.args.self.now.reader c.version.new.self c.version.ensures.within)
+
+pub returns-in-Failed-clause-announced : goal.returns-in-Failed-clause-announced
+returns-in-Failed-clause-announced g c = same_keeps (announced_in c.args.self.now.state) c.args.self.now.reader

@@ -1,5 +1,5 @@
 use Rattle.std.proofs.Common.{length}
-use Rattle.krb_tool.proofs.Listings.{IsFed}
+use Rattle.krb_tool.specs.inner.Listers.{IsFed}
 use Rattle.krb_tool.proofs.listing.Lister.feed.Given as goal
 
 abbrev pub invariant-frames : goal.invariant-frames

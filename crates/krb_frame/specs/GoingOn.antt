@@ -1,0 +1,112 @@
+-- The frames of a stream in which one goes on after a refusal, and the decoder that does. The length of a frame says where the next one begins (RFC 4120, 7.2.2), also of a frame whose contents are refused.
+use Rattle.std.specs.Prelude.{ℕ, zero, suc, ◌+◌, ◌-◌, ◌^◌, ◌≡◌, ◌≤◌, ◌⊎◌, nat_le, min, if◌then◌else◌, Bool, true, List, [], ◌∷◌, ◌++◌, length, map, take, drop, Option, Some, None, is_some}
+use Rattle.std.specs.List.{sum_by}
+use Rattle.krb_der.specs.Octets.{number}
+use Rattle.krb_der.specs.declared.why.Why.{Why}
+use Rattle.krb_der.specs.declared.why.Why.TheVariants as why
+use Rattle.krb_msg.specs.Term.{Term}
+use Rattle.krb_msg.specs.Stream.{Frames, End, Boundary, Within, Refused, frames}
+use Rattle.krb_frame.specs.Decoding.{Decoding, IsAmple, status_of, borrowed, IsOfOneFrame}
+use Rattle.krb_frame.specs.Feeds.{Feeds, Clears}
+use Rattle.krb_frame.specs.declared.decoder.Fed.{Fed}
+use Rattle.krb_frame.specs.declared.decoder.Status.{Status}
+use Rattle.krb_frame.specs.declared.decoder.Status.TheVariants as status
+
+-- ---- the frames
+-- what a frame comes to: the contents, which are a message, or what it is refused for, at a place in it
+pub data Entry : Type 0 where
+  Contents : (contents : List ℕ) → Entry
+  Fault : (place : ℕ) → (reason : Why) → Entry
+
+-- the frame at the end, if it is refused or cut
+abbrev pub last_entry : End → List Entry
+last_entry Boundary = []
+last_entry (Within present) = Fault present why.Truncated ∷ []
+last_entry (Refused place reason) = Fault place reason ∷ []
+
+-- how many octets frames with these contents have
+abbrev pub frames_size : List (List ℕ) → ℕ
+frames_size contents = sum_by (λ c. 4 + length c) contents
+
+-- what follows the frame that these octets begin with: none if the high bit of its length is set, since its length is not known
+abbrev pub next_entries : (List ℕ → List Entry) → List ℕ → List Entry
+next_entries entries octets = if nat_le (2 ^ 31) (number (take 4 octets)) then [] else entries (drop (4 + number (take 4 octets)) octets)
+
+-- what follows the end: the next frames, if a frame is refused
+abbrev pub entries_after : End → (List ℕ → List Entry) → List ℕ → List Entry
+entries_after Boundary entries octets = []
+entries_after (Within present) entries octets = []
+entries_after (Refused place reason) entries octets = next_entries entries octets
+
+-- the frames up to the first refusal, and then those after it
+abbrev pub entries_of : Frames → (List ℕ → List Entry) → List ℕ → List Entry
+entries_of found entries stream =
+    map Contents found.contents ++ (last_entry found.end ++ entries_after found.end entries (drop (frames_size found.contents) stream))
+
+-- the first number bounds how many frames are refused
+abbrev pub entries_within : ℕ → List Term → ℕ → List ℕ → List Entry
+entries_within zero messages limit stream = []
+entries_within (suc bound) messages limit stream = entries_of (frames messages limit stream) (entries_within bound messages limit) stream
+
+unfoldable pub entries : List Term → ℕ → List ℕ → List Entry
+entries messages limit stream = entries_within (length stream) messages limit stream
+
+-- ---- a decoder that is refused
+-- how many octets of a frame of this size are to come after those that were used, if its length is known
+abbrev pub rest_of : ℕ → ℕ → Option ℕ
+rest_of size used = if nat_le (2 ^ 31) size then None else Some (4 + size - used)
+
+abbrev pub rest_at : Status → List ℕ → Option ℕ
+rest_at (status.Refused refusal) octets = rest_of (number (take 4 octets)) (length octets)
+rest_at status.More octets = None
+rest_at status.Ready octets = None
+rest_at status.Memory octets = None
+
+-- how many octets of the refused frame are to come
+abbrev pub rest_to_come : List Term → Decoding → Option ℕ
+rest_to_come messages d = rest_at (status_of messages d) d.octets
+
+-- A decoder was asked to give up the frame that is refused.
+pub record GivesUp (messages : List Term) (old new : Decoding) (answer : Option ℕ) : Type 0 where
+  pub rest : answer ≡ rest_to_come messages old
+  pub left : new ≡ (if is_some answer then record old { octets = []; room = new.room } else old)
+  -- room for any frame stays
+  pub ample : IsAmple old → IsAmple new
+
+-- ---- a decoder that skips
+-- the decoder of the frames that are not skipped, and how many octets of a skipped frame are to come
+pub record Skipping : Type 0 where
+  pub current : Decoding
+  pub skipped : ℕ
+
+-- The octets of a stream were used, and these frames were cleared or skipped. Whatever comes next, the frames of the stream are these and then those of what the decoder stands for, without the octets that are to be skipped.
+pub record GoesOn (messages : List Term) (s : Skipping) (stream : List ℕ) (before : List Entry) : Type 0 where
+  pub goes_on : (more : List ℕ) → entries messages s.current.limit (stream ++ more) ≡ before ++ entries messages s.current.limit (s.current.octets ++ drop s.skipped more)
+  pub one : IsOfOneFrame messages s.current
+  -- if octets are to be skipped, none of the frame after them were used
+  pub alone : (s.skipped ≡ 0) ⊎ (s.current.octets ≡ [])
+
+-- what was answered without the octets that were skipped
+abbrev pub without : ℕ → Fed → Fed
+without skipped fed = record { used = fed.used - skipped; status = fed.status }
+
+-- Octets from the front of a piece were used: first those that are to be skipped, which the decoder does not get, and then those that it uses of the others.
+pub record FeedsAfter (messages : List Term) (old : Skipping) (piece : List ℕ) (new : Skipping) (fed : Fed) : Type 0 where
+  pub skipped : new.skipped ≡ old.skipped - length piece
+  pub first : min old.skipped (length piece) ≤ fed.used
+  pub others : Feeds messages old.current (drop old.skipped piece) new.current (without (min old.skipped (length piece)) fed)
+  pub goes_on : (stream : List ℕ) (before : List Entry) → GoesOn messages old stream before → GoesOn messages new (stream ++ take fed.used piece) before
+
+-- The frame that is ready was to be cleared.
+pub record ClearsEntry (messages : List Term) (old new : Skipping) (answer : Bool) : Type 0 where
+  pub skipped : new.skipped ≡ old.skipped
+  pub clears : Clears messages old.current new.current answer
+  pub goes_on : (stream contents : List ℕ) (before : List Entry) → GoesOn messages old stream before → borrowed messages old.current ≡ Some contents → GoesOn messages new stream (before ++ Contents contents ∷ [])
+
+-- A refused frame was to be skipped.
+pub record Skips (messages : List Term) (old new : Skipping) (answer : Bool) : Type 0 where
+  pub is_known : answer ≡ is_some (rest_to_come messages old.current)
+  pub gives_up : GivesUp messages old.current new.current (rest_to_come messages old.current)
+  pub rest : (count : ℕ) → rest_to_come messages old.current ≡ Some count → new.skipped ≡ count
+  pub none : rest_to_come messages old.current ≡ None → new ≡ old
+  pub goes_on : (stream : List ℕ) (before : List Entry) (place : ℕ) (reason : Why) → GoesOn messages old stream before → status_of messages old.current ≡ status.Refused (record { place = place; why = reason }) → answer ≡ true → GoesOn messages new stream (before ++ Fault place reason ∷ [])

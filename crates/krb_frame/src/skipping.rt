@@ -1,0 +1,91 @@
+//! A decoder that goes on after a refusal.
+
+use crate::decoder::{Decoder, Fed};
+use crate::framed::Framed;
+use krb_der::Refusal;
+use std::marker::Model;
+
+/// Decodes a stream of framed messages as a [`Decoder`] does, and can skip a frame that is refused:
+/// the length of a frame says where the next one begins (RFC 4120, 7.2.2). It keeps no octet of a
+/// frame after that was skipped, and does not look at any.
+#[derive(Drop)]
+pub struct SkippingDecoder {
+    decoder: Decoder,
+    skipped: u32,
+}
+
+impl Model for SkippingDecoder {
+    ghost use Rattle.krb_frame.specs.GoingOn.{Skipping};
+
+    ghost Value = { Skipping };
+
+    ghost view = { λ s. record { current = s.decoder; skipped = s.skipped } };
+}
+
+ghost use Rattle.std.specs.Prelude.{◌≡◌, []};
+ghost use Rattle.krb_msg.specs.Grammar.{messages};
+ghost use Rattle.krb_frame.specs.Decoding.{borrowed, finish_of};
+ghost use Rattle.krb_frame.specs.GoingOn.{GoesOn, FeedsAfter, ClearsEntry, Skips};
+
+impl SkippingDecoder {
+    /// Goes on with the stream of a decoder.
+    pub fn new(decoder: Decoder) -> SkippingDecoder
+        ensures decoder { result ≡ record { current = decoder; skipped = 0 } }
+        ensures goes_on { decoder.octets ≡ [] → GoesOn (messages decoder.profile) result [] [] }
+    {
+        SkippingDecoder {
+            decoder,
+            skipped: 0,
+        }
+    }
+
+    /// Uses octets from the front of a piece: first those of a skipped frame that are still to
+    /// come, which are passed over, and then octets of the next one, as [`Decoder::feed`] does.
+    pub fn feed(&mut self, piece: &[u8]) -> Fed
+        ensures { FeedsAfter (messages self.old.current.profile) self.old piece.now self.new result }
+    {
+        let count = piece.len().min(self.skipped as usize);
+        self.skipped -= count as u32;
+        let fed = self.decoder.feed(&piece[count..]);
+        Fed {
+            used: count + fed.used,
+            status: fed.status,
+        }
+    }
+
+    /// Returns the frame that is ready, borrowed.
+    pub fn ready(&self) -> Option<Framed<'_>>
+        ensures { result ≡ borrowed (messages self.now.current.profile) self.now.current }
+    {
+        self.decoder.ready()
+    }
+
+    /// Clears the frame that is ready, as [`Decoder::next`] does.
+    pub fn next(&mut self) -> bool
+        ensures { ClearsEntry (messages self.old.current.profile) self.old self.new result }
+    {
+        self.decoder.next()
+    }
+
+    /// Skips the frame that is refused, and answers whether it did: the octets of that frame that
+    /// are still to come are passed over, and what comes after them is the next frame. If nothing is
+    /// refused nothing changes; nor does it after `HighBit`, since the length of that frame is not
+    /// known.
+    pub fn skip(&mut self) -> bool
+        ensures { Skips (messages self.old.current.profile) self.old self.new result }
+    {
+        let Some(rest) = self.decoder.skip() else {
+            return false;
+        };
+        self.skipped = rest;
+        true
+    }
+
+    /// Returns what is refused of a stream that ends here, as [`Decoder::finish`] says: nothing of
+    /// a frame that was skipped.
+    pub fn finish(&self) -> Result<(), Refusal>
+        ensures { result ≡ finish_of (messages self.now.current.profile) self.now.current }
+    {
+        self.decoder.finish()
+    }
+}

@@ -1,0 +1,2 @@
+-- What the parts of a line promise each other.
+pub mod Items

@@ -1,0 +1,70 @@
+//! Names of files.
+
+ghost use Rattle.std.specs.Prelude.{◌≡◌, ◌++◌, ◌<◌, OnOk, Some, false, string_bytes};
+ghost use Rattle.std.specs.Fmt.{digit_glyph};
+ghost use Rattle.krb_list.specs.FileNames.{is_plain_in_name, name_octet, name_text, file_line};
+
+use crate::escape::is_plain;
+use std::alloc::AllocError;
+use std::fmt;
+
+/// Returns whether an octet of a name stands for itself.
+fn is_plain_in_name(octet: u8) -> bool
+    ensures { result ≡ is_plain_in_name octet }
+{
+    is_plain(octet) | (octet == b'/') | (octet == b'@')
+}
+
+/// Returns the hexadecimal digit of a number below 16, in lower case.
+fn hex_digit(number: u8) -> char
+    requires { number < 16 }
+    ensures { result ≡ digit_glyph false number }
+{
+    char::from(if number < 10 {
+        b'0' + number
+    } else {
+        b'a' - 10 + number
+    })
+}
+
+/// An octet of a name.
+#[derive(Clone, Copy)]
+struct NameOctet(u8);
+
+impl fmt::Display for NameOctet {
+    ghost output = { λ octet. Some (name_octet octet.0) };
+
+    fn fmt<W: fmt::Write>(&self, f: &mut fmt::Formatter<W>) -> fmt::Result {
+        if is_plain_in_name(self.0) {
+            f.write_char(char::from(self.0))
+        } else {
+            f.write_str("\\x")?;
+            f.write_char(hex_digit(self.0 / 16))?;
+            f.write_char(hex_digit(self.0 % 16))
+        }
+    }
+}
+
+/// The name of a file. It is shown without a blank and without a control character: octets 21 to 7E
+/// but `\` as they are, each other as `\x` and two hexadecimal digits in lower case.
+#[derive(Clone, Copy)]
+pub struct FileName<'a>(pub &'a str);
+
+impl fmt::Display for FileName<'_> {
+    ghost output = { λ name. Some (name_text name.0.now) };
+
+    fn fmt<W: fmt::Write>(&self, f: &mut fmt::Formatter<W>) -> fmt::Result {
+        for octet in self.0.as_bytes() {
+            write!(f, "{}", NameOctet(*octet))?;
+        }
+        Ok(())
+    }
+}
+
+/// Appends the line that stands before the listing of the file of a name, if several are listed.
+pub fn put_file(text: &mut String, name: &str) -> Result<(), AllocError>
+    ensures { OnOk result (string_bytes text.new ≡ string_bytes text.old ++ file_line name.now) }
+{
+    let name = FileName(name);
+    writeln!(text, "file name={name}")
+}

@@ -1,0 +1,176 @@
+-- What is viewed of fields, of items and of scalars.
+use Rattle.std.proofs.Common.{◌≡◌, ℕ, ◌+◌, ◌^◌, ◌<◌, ◌≤◌, inl, inr, ℤ, pos, negsuc, true, false, not, List, [], ◌∷◌, ◌++◌, length, Option, Some, None, MatchOption, refl, sym, ap, ◌∙◌, subst, arith, append-nil, eq-eqb, eqb-true}
+use Rattle.std.specs.Prelude.{◌≤ℤ◌}
+use Rattle.std.specs.List.{AllByRecursion}
+use Rattle.std.proofs.lemmas.Bool.{not-true, true≢false}
+use Rattle.std.proofs.lemmas.Int.{ints}
+use Rattle.krb_der.specs.Octets.{item, integer_octets, integer_value, AreOctets}
+use Rattle.krb_der.specs.inner.Items.{same_from_item}
+use Rattle.krb_der.specs.inner.Numbers.{IsShortestInteger, IsShortestInteger-integer_octets, integer_octets-integer_value, integer_value-integer_octets, length-integer_octets-le}
+use Rattle.krb_msg.specs.Term.{Term, Fields, Integer, Text, Octets, Sequence, Tagged, Application, End, Required, Optional, tag_of, Value, Values, der, der_of_fields, Fits, AllFit}
+use Rattle.krb_msg.specs.Judgement.{is_padded}
+use Rattle.krb_msg.specs.Reading.{begins_with}
+use Rattle.krb_msg.specs.Shape.{may_begin}
+use Rattle.krb_msg.specs.inner.Values.{contents, der_is, may_begin_from_der}
+use Rattle.krb_msg.proofs.Integers.{is_padded-shortest, IsShortestInteger-from_unpadded}
+use Rattle.krb_msg.specs.Viewed.{HasNoItem, IsNoItem, AreContents, AreNoContents, AreFields, AreNoFields, StandsFirst, NoneStandsFirst, MayStandFirst, IsSpoiled, IsNumberIn, IsNoNumberIn}
+
+-- what holds of an answer, from what is known of it
+pub match_map : {A : Type 0} (o : Option A) (P P' : Type 0) (Q Q' : A → Type 0) → (P → P') → ((a : A) → Q a → Q' a) → MatchOption o P Q → MatchOption o P' Q'
+match_map None P P' Q Q' f g m = f m
+match_map (Some a) P P' Q Q' f g m = g a m
+
+-- two facts of it
+pub match_both : {A : Type 0} (o : Option A) (P P' : Type 0) (Q Q' R : A → Type 0) → (P → P') → ((a : A) → Q a → Q' a) → ((a : A) → Q a → R a) → MatchOption o P Q → MatchOption o P' (λ a. Q' a × R a)
+match_both None P P' Q Q' R f g h m = f m
+match_both (Some a) P P' Q Q' R f g h m = (g a m, h a m)
+
+pub match_none : {A : Type 0} (o : Option A) (P : Type 0) (Q : A → Type 0) → o ≡ None → P → MatchOption o P Q
+match_none o P Q e p = subst (λ r. MatchOption r P Q) (sym e) p
+
+pub same_contents : (tag : ℕ) (a b : List ℕ) → item tag a ≡ item tag b → a ≡ b
+same_contents tag a b e = (same_from_item tag tag a b [] [] (ap (λ l. l ++ []) e)).1
+
+-- ---- the field that stands first
+pub field_none : (index : ℕ) (term : Term) (octets : List ℕ) → HasNoItem (0xA0 + index) octets → NoneStandsFirst (Tagged index term) octets
+field_none index term octets none value rest s = none (der term value) rest s.form
+
+pub inner_none : (index tag : ℕ) (term : Term) (octets inner rest : List ℕ) → tag ≡ tag_of term → octets ≡ item (0xA0 + index) inner ++ rest → IsNoItem tag inner → NoneStandsFirst (Tagged index term) octets
+inner_none index tag term octets inner rest t e none value more s =
+    let p = same_from_item (0xA0 + index) (0xA0 + index) inner (der term value) rest more (sym e ∙ s.form) in
+    none (contents term value) (p.1 ∙ der_is term value ∙ ap (λ n. item n (contents term value)) (sym t))
+
+pub contents_none : (index tag : ℕ) (term : Term) (octets inner own rest : List ℕ) → tag ≡ tag_of term → octets ≡ item (0xA0 + index) inner ++ rest → inner ≡ item tag own → AreNoContents term own → NoneStandsFirst (Tagged index term) octets
+contents_none index tag term octets inner own rest t e i none value more s =
+    let p = same_from_item (0xA0 + index) (0xA0 + index) inner (der term value) rest more (sym e ∙ s.form) in
+    none value (record { fits = s.fits; form = ap (λ n. item n own) (sym t) ∙ sym i ∙ p.1 })
+
+pub field_some : (index tag : ℕ) (term : Term) (octets inner own rest : List ℕ) (value : Value term) → tag ≡ tag_of term → octets ≡ item (0xA0 + index) inner ++ rest → inner ≡ item tag own → AreContents term own value → StandsFirst (Tagged index term) octets value rest
+field_some index tag term octets inner own rest value t e i a = record {
+  fits = a.fits;
+  form = e ∙ ap (λ l. item (0xA0 + index) l ++ rest) (i ∙ ap (λ n. item n own) t ∙ a.form);
+}
+
+-- ---- a field that must be there
+pub required_none : (index : ℕ) (term : Term) (fields : Fields) (octets : List ℕ) → NoneStandsFirst (Tagged index term) octets → AreNoFields (Required (Tagged index term) fields) octets
+required_none index term fields octets none values f = none values.0 (der_of_fields fields values.1) (record { fits = f.fit.0; form = f.form })
+
+pub required_rest_none : (index : ℕ) (term : Term) (fields : Fields) (octets rest : List ℕ) (value : Value term) → StandsFirst (Tagged index term) octets value rest → AreNoFields fields rest → AreNoFields (Required (Tagged index term) fields) octets
+required_rest_none index term fields octets rest value s none values f =
+    let p = same_from_item (0xA0 + index) (0xA0 + index) (der term value) (der term values.0) rest (der_of_fields fields values.1) (sym s.form ∙ f.form) in
+    none values.1 (record { fit = f.fit.1; form = p.2 })
+
+pub required_some : (term : Term) (fields : Fields) (octets rest : List ℕ) (value : Value term) (values : Values fields) → StandsFirst term octets value rest → AreFields fields rest values → AreFields (Required term fields) octets (value, values)
+required_some term fields octets rest value values s a = record { fit = (s.fits, a.fit); form = s.form ∙ ap (λ l. der term value ++ l) a.form }
+
+-- ---- a field that may be left out
+begins : (index : ℕ) (term : Term) (octets rest : List ℕ) (value : Value term) → octets ≡ der (Tagged index term) value ++ rest → begins_with (0xA0 + index) octets ≡ true
+begins index term octets rest value e = ap (begins_with (0xA0 + index)) e ∙ eq-eqb (0xA0 + index) (0xA0 + index) refl
+
+apart : (tag : ℕ) (fields : Fields) (octets : List ℕ) → not (may_begin tag fields) ≡ true → begins_with tag octets ≡ true → (values : Values fields) → octets ≡ der_of_fields fields values → ⊥
+apart tag fields [] a b values e = absurd cc
+apart tag fields (octet ∷ rest) a b values e =
+    let o : octet ≡ tag = eqb-true octet tag b in
+    true≢false (sym (may_begin_from_der fields values tag rest (sym e ∙ ap (λ o. o ∷ rest) o)) ∙ not-true (may_begin tag fields) a)
+
+spoiled_at : (index : ℕ) (term : Term) (fields : Fields) (octets : List ℕ) → not (may_begin (0xA0 + index) fields) ≡ true → IsSpoiled (Tagged index term) octets → (value : Option (Value term)) (values : Values fields) → AreFields (Optional (Tagged index term) fields) octets (value, values) → ⊥
+spoiled_at index term fields octets a s None values f = apart (0xA0 + index) fields octets a s.tag values f.form
+spoiled_at index term fields octets a s (Some value) values f = s.none value (der_of_fields fields values) (record { fits = f.fit.0; form = f.form })
+
+pub optional_spoiled : (index : ℕ) (term : Term) (fields : Fields) (octets : List ℕ) → not (may_begin (0xA0 + index) fields) ≡ true → IsSpoiled (Tagged index term) octets → AreNoFields (Optional (Tagged index term) fields) octets
+optional_spoiled index term fields octets a s values f = spoiled_at index term fields octets a s values.0 values.1 f
+
+rest_none_at : (index : ℕ) (term : Term) (fields : Fields) (octets rest : List ℕ) → not (may_begin (0xA0 + index) fields) ≡ true → (value : Option (Value term)) → MayStandFirst (Tagged index term) octets value rest → AreNoFields fields rest → (other : Option (Value term)) (values : Values fields) → AreFields (Optional (Tagged index term) fields) octets (other, values) → ⊥
+rest_none_at index term fields octets rest a None m none None values f = none values (record { fit = f.fit.1; form = m.0 ∙ f.form })
+rest_none_at index term fields octets rest a None m none (Some other) values f =
+    true≢false (sym (begins index term octets (der_of_fields fields values) other f.form) ∙ m.1)
+rest_none_at index term fields octets rest a (Some value) m none None values f = apart (0xA0 + index) fields octets a (begins index term octets rest value m.form) values f.form
+rest_none_at index term fields octets rest a (Some value) m none (Some other) values f =
+    required_rest_none index term fields octets rest value m none (other, values) (record { fit = f.fit; form = f.form })
+
+pub optional_rest_none : (index : ℕ) (term : Term) (fields : Fields) (octets rest : List ℕ) → not (may_begin (0xA0 + index) fields) ≡ true → (value : Option (Value term)) → MayStandFirst (Tagged index term) octets value rest → AreNoFields fields rest → AreNoFields (Optional (Tagged index term) fields) octets
+optional_rest_none index term fields octets rest a value m none values f = rest_none_at index term fields octets rest a value m none values.0 values.1 f
+
+pub optional_some : (term : Term) (fields : Fields) (octets rest : List ℕ) (value : Option (Value term)) (values : Values fields) → MayStandFirst term octets value rest → AreFields fields rest values → AreFields (Optional term fields) octets (value, values)
+optional_some term fields octets rest None values m a = record { fit = (tt, a.fit); form = sym m.0 ∙ a.form }
+optional_some term fields octets rest (Some value) values m a = record { fit = (m.fits, a.fit); form = m.form ∙ ap (λ l. der term value ++ l) a.form }
+
+-- ---- no fields
+pub end_some : (octets : List ℕ) → octets ≡ [] → AreFields End octets tt
+end_some octets e = record { fit = tt; form = e }
+
+pub end_none : (octets : List ℕ) → 0 < length octets → AreNoFields End octets
+end_none octets some values f = omega (arith, some, ap length f.form)
+
+-- ---- a SEQUENCE
+pub sequence_none : (fields : Fields) (octets : List ℕ) → AreNoFields fields octets → AreNoContents (Sequence fields) octets
+sequence_none fields octets none value a = none value (record { fit = a.fits; form = same_contents 0x30 octets (der_of_fields fields value) a.form })
+
+pub sequence_some : (fields : Fields) (octets : List ℕ) (values : Values fields) → AreFields fields octets values → AreContents (Sequence fields) octets values
+sequence_some fields octets values a = record { fits = a.fit; form = ap (item 0x30) a.form }
+
+-- ---- [APPLICATION number]
+pub application_no_item : (number tag : ℕ) (term : Term) (octets : List ℕ) → tag ≡ tag_of term → IsNoItem tag octets → AreNoContents (Application number term) octets
+application_no_item number tag term octets t none value a =
+    none (contents term value) (same_contents (0x60 + number) octets (der term value) a.form ∙ der_is term value ∙ ap (λ n. item n (contents term value)) (sym t))
+
+pub application_none : (number tag : ℕ) (term : Term) (octets inner : List ℕ) → tag ≡ tag_of term → octets ≡ item tag inner → AreNoContents term inner → AreNoContents (Application number term) octets
+application_none number tag term octets inner t e none value a =
+    none value (record { fits = a.fits; form = ap (λ n. item n inner) (sym t) ∙ sym e ∙ same_contents (0x60 + number) octets (der term value) a.form })
+
+pub application_some : (number tag : ℕ) (term : Term) (octets inner : List ℕ) (value : Value term) → tag ≡ tag_of term → octets ≡ item tag inner → AreContents term inner value → AreContents (Application number term) octets value
+application_some number tag term octets inner value t e a = record { fits = a.fits; form = ap (item (0x60 + number)) (e ∙ ap (λ n. item n inner) t ∙ a.form) }
+
+-- ---- numbers
+shortest_some : (octets : List ℕ) → IsShortestInteger octets → 0 < length octets
+shortest_some [] (inl s) = absurd s
+shortest_some [] (inr s) = absurd s
+shortest_some (octet ∷ octets) s = omega arith
+
+pub record IsNumberShaped (octets : List ℕ) (number : ℤ) : Type 0 where
+  pub some : 0 < length octets
+  pub few : length octets ≤ 5
+  pub unpadded : is_padded octets ≡ false
+  pub value : integer_value octets ≡ number
+
+pub number_shape : (low high : ℤ) (octets : List ℕ) (number : ℤ) → negsuc 2147483647 ≤ℤ low → high ≤ℤ pos 4294967295 → AreOctets octets → IsNumberIn low high octets number → IsNumberShaped octets number
+number_shape low high octets number l h a n =
+    let s : IsShortestInteger octets = subst IsShortestInteger (sym n.form) (IsShortestInteger-integer_octets number) in
+    record {
+      some = shortest_some octets s;
+      few = omega (arith, ap length n.form, length-integer_octets-le number (omega (arith, ints, l, n.low_le)) (omega (arith, ints, h, n.le_high)));
+      unpadded = is_padded-shortest octets a s;
+      value = ap integer_value n.form ∙ integer_value-integer_octets number;
+    }
+
+pub number_some : (low high : ℤ) (octets : List ℕ) (number : ℤ) → AreOctets octets → 0 < length octets → is_padded octets ≡ false → number ≡ integer_value octets → low ≤ℤ number → number ≤ℤ high → IsNumberIn low high octets number
+number_some low high octets number a p t e l h = record {
+  low_le = l;
+  le_high = h;
+  form = sym (integer_octets-integer_value octets a (IsShortestInteger-from_unpadded octets a p t)) ∙ ap integer_octets (sym e);
+}
+
+pub integer_none : (low high : ℤ) (octets : List ℕ) → IsNoNumberIn low high octets → AreNoContents (Integer low high) octets
+integer_none low high octets none value a = none value (record { low_le = a.fits.0; le_high = a.fits.1; form = same_contents 0x02 octets (integer_octets value) a.form })
+
+pub integer_form : (low high : ℤ) (octets : List ℕ) (number : ℤ) → AreContents (Integer low high) octets number → octets ≡ integer_octets number
+integer_form low high octets number a = same_contents 0x02 octets (integer_octets number) a.form
+
+pub integer_some : (low high : ℤ) (octets : List ℕ) (number : ℤ) → IsNumberIn low high octets number → AreContents (Integer low high) octets number
+integer_some low high octets number n = record { fits = (n.low_le, n.le_high); form = ap (item 0x02) n.form }
+
+pub exactly_some : (number : ℕ) (octets : List ℕ) (that : ℤ) → IsNumberIn (pos number) (pos number) octets that → AreContents (Integer (pos number) (pos number)) octets (pos number)
+exactly_some number octets that n =
+    let same : that ≡ pos number = omega (arith, ints, n.low_le, n.le_high) in
+    subst (AreContents (Integer (pos number) (pos number)) octets) same (integer_some (pos number) (pos number) octets that n)
+
+-- ---- strings
+at_most : (octets : List ℕ) → AreOctets octets → AllByRecursion (λ octet. octet ≤ 255) octets
+at_most [] a = tt
+at_most (octet ∷ octets) a = (omega (arith, a.0), at_most octets a.1)
+
+pub text_some : (octets : List ℕ) → AreOctets octets → AreContents (Text 255) octets octets
+text_some octets a = record { fits = (a, at_most octets a); form = refl }
+
+pub octets_some : (octets : List ℕ) → AreOctets octets → AreContents Octets octets octets
+octets_some octets a = record { fits = a; form = refl }

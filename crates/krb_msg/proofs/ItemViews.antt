@@ -1,0 +1,105 @@
+-- Items one after another, as they are viewed.
+use Rattle.std.proofs.Common.{◌≡◌, ℕ, zero, suc, ◌+◌, ◌^◌, ◌<◌, ◌≤◌, ◌↔◌, true, List, [], ◌∷◌, ◌++◌, length, refl, sym, ap, ap₂, ◌∙◌, subst, arith, length-append}
+use Rattle.std.specs.List.{flat_map, AllByRecursion}
+use Rattle.krb_der.specs.Octets.{item}
+use Rattle.krb_der.specs.inner.Items.{same_from_item, length-item}
+use Rattle.krb_der.specs.inner.PrefixFree.{same_pair}
+use Rattle.krb_msg.specs.Term.{Term, SequenceOf, tag_of, Value, der, Fits}
+use Rattle.krb_msg.specs.Reading.{value_of}
+use Rattle.krb_msg.specs.Shape.{is_unambiguous}
+use Rattle.krb_msg.specs.inner.Values.{contents, der_is, der_begins}
+use Rattle.krb_msg.proofs.Read.{contents-read}
+use Rattle.krb_msg.specs.Viewed.{HasNoItem, AreContents, AreNoContents, AreItems, AreViewed, IsFirstItem, items_of}
+use Rattle.krb_msg.proofs.FieldViews.{same_contents}
+
+-- ---- the first of some items
+pub record FirstOf (term : Term) (octets : List ℕ) : Type 0 where
+  pub value : Value term
+  pub fits : Fits term value
+  pub more : List (Value term)
+  pub fit : AllByRecursion (Fits term) more
+  pub parts : octets ≡ item (tag_of term) (contents term value) ++ flat_map (der term) more
+
+first_at : (term : Term) (octets : List ℕ) → 0 < length octets → (values : List (Value term)) → AllByRecursion (Fits term) values → octets ≡ flat_map (der term) values → FirstOf term octets
+first_at term octets some [] f e = absurd (omega (arith, some, ap length e))
+first_at term octets some (value ∷ more) f e = record { value = value; fits = f.0; more = more; fit = f.1; parts = e ∙ ap (λ l. l ++ flat_map (der term) more) (der_is term value) }
+
+first_of : (term : Term) (octets : List ℕ) → 0 < length octets → AreItems term octets → FirstOf term octets
+first_of term octets some a = first_at term octets some a.values a.fit a.form
+
+pub no_items : (term : Term) (tag : ℕ) (octets : List ℕ) → tag ≡ tag_of term → 0 < length octets → HasNoItem tag octets → AreItems term octets → ⊥
+no_items term tag octets t some none a =
+    let f = first_of term octets some a in
+    none (contents term f.value) (flat_map (der term) f.more) (f.parts ∙ ap (λ n. item n (contents term f.value) ++ flat_map (der term) f.more) (sym t))
+
+same_first : (term : Term) (tag : ℕ) (octets own rest : List ℕ) → tag ≡ tag_of term → octets ≡ item tag own ++ rest → (f : FirstOf term octets) → (own ≡ contents term f.value) × (rest ≡ flat_map (der term) f.more)
+same_first term tag octets own rest t e f =
+    let p = same_from_item tag (tag_of term) own (contents term f.value) rest (flat_map (der term) f.more) (sym e ∙ f.parts) in
+    (p.1, p.2)
+
+some_item : (tag : ℕ) (octets own rest : List ℕ) → octets ≡ item tag own ++ rest → length rest < length octets
+some_item tag octets own rest e = omega (arith, ap length e, length-append (item tag own) rest, length-item tag own)
+
+pub no_first : (term : Term) (tag : ℕ) (octets own rest : List ℕ) → tag ≡ tag_of term → octets ≡ item tag own ++ rest → AreNoContents term own → AreItems term octets → ⊥
+no_first term tag octets own rest t e none a =
+    let f = first_of term octets (omega (arith, some_item tag octets own rest e)) a in
+    let p = same_first term tag octets own rest t e f in
+    none f.value (record { fits = f.fits; form = ap (item (tag_of term)) p.0 ∙ sym (der_is term f.value) })
+
+-- ---- as far as they are passed
+pub record Passed (term : Term) (octets rest : List ℕ) : Type 0 where
+  pub to : AreItems term rest → AreItems term octets
+  pub from : AreItems term octets → AreItems term rest
+  pub within : length rest ≤ length octets
+
+pub none_passed : (term : Term) (octets : List ℕ) → Passed term octets octets
+none_passed term octets = record { to = λ a. a; from = λ a. a; within = omega arith }
+
+pub passed_smaller : (tag : ℕ) (octets own rest : List ℕ) → octets ≡ item tag own ++ rest → length rest < length octets
+passed_smaller = some_item
+
+pub passed_more : (term : Term) (tag : ℕ) (octets rest own left : List ℕ) (value : Value term) → tag ≡ tag_of term → Passed term octets rest → rest ≡ item tag own ++ left → AreContents term own value → Passed term octets left
+passed_more term tag octets rest own left value t p e c = record {
+  to = λ a. p.to (record { values = value ∷ a.values; fit = (c.fits, a.fit); form = e ∙ ap₂ (λ l m. l ++ m) (ap (λ n. item n own) t ∙ c.form) a.form });
+  from = λ a.
+      let f = first_of term rest (omega (arith, some_item tag rest own left e)) (p.from a) in
+      record { values = f.more; fit = f.fit; form = (same_first term tag rest own left t e f).1 };
+  within = omega (arith, p.within, some_item tag rest own left e);
+}
+
+pub all_passed : (term : Term) (octets rest : List ℕ) → Passed term octets rest → rest ≡ [] → AreItems term octets
+all_passed term octets rest p e = p.to (record { values = []; fit = tt; form = e })
+
+-- ---- a SEQUENCE OF
+pub many_none : (term : Term) (octets : List ℕ) → (AreItems term octets → ⊥) → AreNoContents (SequenceOf true term) octets
+many_none term octets none value a = none (record { values = value; fit = a.fits.1; form = same_contents 0x30 octets (flat_map (der term) value) a.form })
+
+items_are : (term : Term) (octets : List ℕ) → is_unambiguous term ≡ true → length octets < 2 ^ 31 → (a : AreItems term octets) → items_of term octets ≡ a.values
+items_are term octets u small a = ap (items_of term) a.form ∙ contents-read (SequenceOf true term) u a.values (omega (arith, small, ap length a.form))
+
+pub many_some : (term : Term) (octets : List ℕ) → is_unambiguous term ≡ true → length octets < 2 ^ 31 → AreItems term octets → AreViewed term octets
+many_some term octets u small a = record {
+  items = subst (AreContents (SequenceOf true term) octets) (sym (items_are term octets u small a)) (record { fits = (refl, a.fit); form = ap (item 0x30) a.form });
+  short = small;
+}
+
+-- ---- items that were viewed
+pub are_items : (term : Term) (octets : List ℕ) → AreViewed term octets → AreItems term octets
+are_items term octets v = record { values = items_of term octets; fit = v.items.fits.1; form = same_contents 0x30 octets (flat_map (der term) (items_of term octets)) v.items.form }
+
+pub no_more : (term : Term) (octets : List ℕ) → length octets ≡ 0 → items_of term octets ≡ []
+no_more term [] e = refl
+no_more term (octet ∷ octets) e = absurd (omega (arith, e))
+
+pub is_first : (term : Term) (tag : ℕ) (octets own rest : List ℕ) (value : Value term) → is_unambiguous term ≡ true → tag ≡ tag_of term → AreViewed term octets → octets ≡ item tag own ++ rest → AreContents term own value → IsFirstItem term octets value rest
+is_first term tag octets own rest value u t v e c =
+    let small = v.short in
+    let shorter = some_item tag octets own rest e in
+    let f = first_of term octets (omega (arith, shorter)) (are_items term octets v) in
+    let left : AreItems term rest = record { values = f.more; fit = f.fit; form = (same_first term tag octets own rest t e f).1 } in
+    let all : AreItems term octets = record { values = value ∷ f.more; fit = (c.fits, f.fit); form = e ∙ ap₂ (λ l m. l ++ m) (ap (λ n. item n own) t ∙ c.form) left.form } in
+    record {
+      items = items_are term octets u small all ∙ ap (λ l. value ∷ l) (sym (items_are term rest u (omega (arith, small, shorter)) left));
+      viewed = many_some term rest u (omega (arith, small, shorter)) left;
+      shorter = shorter;
+    }

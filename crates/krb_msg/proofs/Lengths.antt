@@ -1,0 +1,132 @@
+-- Lengths of several octets, and the items that stand first.
+use Rattle.std.proofs.Common.{◌≡◌, ℕ, zero, suc, ◌+◌, ◌-◌, ◌*◌, ◌^◌, ◌<◌, ◌≤◌, ◌⊎◌, inl, inr, List, [], ◌∷◌, ◌++◌, length, take, drop, get_or, refl, sym, ◌∙◌, ap, arith, append-nil, length-append, ◌≢◌}
+use Rattle.std.proofs.lemmas.Bool.{cases_lt}
+use Rattle.std.proofs.lemmas.List.{take_at}
+use Rattle.std.proofs.Common.{drop_at}
+use Rattle.krb_der.specs.Octets.{AreOctets, number, length_octets, item}
+use Rattle.krb_der.specs.inner.Numbers.{spelled, IsShortest, IsShortest-spelled, number-fewest, AreOctets-spelled, length-spelled-le, spelled-number, number_from-ge}
+use Rattle.std.proofs.lemmas.List.{take_all}
+use Rattle.krb_der.specs.inner.Items.{same_from_length_octets, length_octets-short, length_octets-long, length-item, item-append, same_from_cons, same_from_item}
+use Rattle.krb_msg.specs.Viewed.{HasNoItem, IsNoItem, HasNoLength}
+
+-- ---- a long length that is there
+shortest : (digits : List ℕ) → AreOctets digits → 0 < length digits → get_or digits 0 0 ≢ 0 → IsShortest 256 digits
+shortest [] a p h = absurd (omega (arith, p))
+shortest (first ∷ []) a p h = a.0
+shortest (first ∷ second ∷ digits) a p h = (a.0, omega (arith, h))
+
+pub is_length : (first size : ℕ) (digits rest octets : List ℕ) → AreOctets digits → first ≡ 128 + length digits → 0 < length digits → get_or digits 0 0 ≢ 0 → size ≡ number digits → 128 ≤ size → octets ≡ digits ++ rest → first ∷ octets ≡ length_octets size ++ rest
+is_length first size digits rest octets a f p h n large e =
+    rw (f, e, n, length_octets-long (number digits) (omega (arith, n, large)), spelled-number 256 digits (omega arith) a (shortest digits a p h)) refl
+
+-- ---- and one that is not
+-- what a long length is made of
+pub record LongLength (first : ℕ) (octets : List ℕ) (size : ℕ) (rest : List ℕ) : Type 0 where
+  pub digits : List ℕ
+  pub first_is : first ≡ 128 + length digits
+  pub some : 0 < length digits
+  pub few : length digits ≤ 4
+  pub parts : octets ≡ digits ++ rest
+  pub value : number digits ≡ size
+  pub large : 128 ≤ size
+  pub lead : get_or digits 0 0 ≢ 0
+
+shortest_some : (digits : List ℕ) → IsShortest 256 digits → 0 < length digits
+shortest_some [] s = absurd s
+shortest_some (first ∷ digits) s = omega arith
+
+shortest_lead : (digits : List ℕ) → AreOctets digits → IsShortest 256 digits → 128 ≤ number digits → get_or digits 0 0 ≢ 0
+shortest_lead [] a s h = absurd s
+shortest_lead (first ∷ []) a s h = omega (arith, h)
+shortest_lead (first ∷ second ∷ digits) a s h = omega (arith, s.1, a.1.0)
+
+pub long_length : (first : ℕ) (octets : List ℕ) (size : ℕ) (rest : List ℕ) → 128 ≤ first → size < 2 ^ 31 → first ∷ octets ≡ length_octets size ++ rest → LongLength first octets size rest
+long_length first octets size rest h small e = go (cases_lt size 128)
+  where
+    go : (size < 128) ⊎ (128 ≤ size) → LongLength first octets size rest
+    go (inl l) =
+        let f : first ∷ octets ≡ size ∷ rest = rw (length_octets-short size l) at e in
+        absurd (omega (arith, h, l, (same_from_cons _ _ _ _ f).0))
+    go (inr l) =
+        let f : first ∷ octets ≡ (128 + length (spelled 256 size)) ∷ (spelled 256 size ++ rest) = rw (length_octets-long size l) at e in
+        let p : (first ≡ 128 + length (spelled 256 size)) × (octets ≡ spelled 256 size ++ rest) = same_from_cons _ _ _ _ f in
+        let v : number (spelled 256 size) ≡ size = number-fewest size 256 size in
+        let s : IsShortest 256 (spelled 256 size) = IsShortest-spelled 256 size (omega arith) in
+        record {
+          digits = spelled 256 size;
+          first_is = p.0;
+          some = shortest_some (spelled 256 size) s;
+          few = length-spelled-le 256 3 size (omega arith) (omega (arith, small));
+          parts = p.1;
+          value = v;
+          large = l;
+          lead = shortest_lead (spelled 256 size) (AreOctets-spelled 256 size (omega arith) (omega arith)) s (omega (arith, v, l));
+        }
+
+-- the octets that its first octet counts are its digits
+pub long_digits : (first : ℕ) (octets front : List ℕ) (size : ℕ) (rest back : List ℕ) → (l : LongLength first octets size rest) → 128 + length front ≡ first → octets ≡ front ++ back → front ≡ l.digits
+long_digits first octets front size rest back l n e =
+    let m : length front ≡ length l.digits = omega (arith, n, l.first_is) in
+    sym (take_at front back (length front) refl) ∙ ap (take (length front)) (sym e ∙ l.parts) ∙ take_at l.digits rest (length front) (sym m)
+
+-- ---- items
+-- an item whose length is one octet
+pub short_item : (tag octet : ℕ) (octets : List ℕ) (contents rest : List ℕ) (first : ℕ) → octet < 128 → first ∷ octet ∷ octets ≡ item tag contents ++ rest → (octet ≡ length contents) × (octets ≡ contents ++ rest)
+short_item tag octet octets contents rest first h e = go (cases_lt (length contents) 128)
+  where
+    f : octet ∷ octets ≡ length_octets (length contents) ++ (contents ++ rest)
+    f = (same_from_cons _ _ _ _ (e ∙ item-append tag contents rest)).1
+
+    go : (length contents < 128) ⊎ (128 ≤ length contents) → (octet ≡ length contents) × (octets ≡ contents ++ rest)
+    go (inl l) = same_from_cons _ _ _ _ (rw (length_octets-short (length contents) l) at f)
+    go (inr l) =
+        let g : octet ∷ octets ≡ (128 + length (spelled 256 (length contents))) ∷ (spelled 256 (length contents) ++ (contents ++ rest)) = rw (length_octets-long (length contents) l) at f in
+        absurd (omega (arith, h, (same_from_cons _ _ _ _ g).0))
+
+-- an item whose length is any
+pub lengths_of_item : (tag first octet : ℕ) (octets contents rest : List ℕ) → first ∷ octet ∷ octets ≡ item tag contents ++ rest → octet ∷ octets ≡ length_octets (length contents) ++ (contents ++ rest)
+lengths_of_item tag first octet octets contents rest e = (same_from_cons _ _ _ _ (e ∙ item-append tag contents rest)).1
+
+pub tag_of_item : (tag first : ℕ) (octets contents rest : List ℕ) → first ∷ octets ≡ item tag contents ++ rest → first ≡ tag
+tag_of_item tag first octets contents rest e = (same_from_cons _ _ _ _ e).0
+
+pub item_small : (tag : ℕ) (octets contents rest : List ℕ) → length octets < 2 ^ 31 → octets ≡ item tag contents ++ rest → length contents < 2 ^ 31
+item_small tag octets contents rest h e = omega (arith, h, ap length e, length-append (item tag contents) rest, length-item tag contents)
+
+-- what follows the length is the contents and the rest
+pub is_item : (tag octet size : ℕ) (octets front back after : List ℕ) → octet ∷ octets ≡ length_octets size ++ after → after ≡ front ++ back → length front ≡ size → tag ∷ octet ∷ octets ≡ item tag front ++ back
+is_item tag octet size octets front back after e f n =
+    ap (λ l. tag ∷ l) (e ∙ ap (λ l. length_octets size ++ l) f ∙ ap (λ m. length_octets m ++ (front ++ back)) (sym n)) ∙ sym (item-append tag front back)
+
+pub is_short_item : (tag octet : ℕ) (octets front back : List ℕ) → octet < 128 → octets ≡ front ++ back → length front ≡ octet → tag ∷ octet ∷ octets ≡ item tag front ++ back
+is_short_item tag octet octets front back h e n =
+    is_item tag octet octet octets front back octets (rw (length_octets-short octet h) refl) e n
+
+-- ---- only one item
+pub not_only : (tag : ℕ) (octets inner rest : List ℕ) → octets ≡ item tag inner ++ rest → 0 < length rest → IsNoItem tag octets
+not_only tag octets inner rest e some contents f =
+    let p = same_from_item tag tag inner contents rest [] (sym e ∙ f ∙ sym (append-nil (item tag contents))) in
+    omega (arith, some, ap length p.2)
+
+pub only_none : (tag : ℕ) (octets : List ℕ) → HasNoItem tag octets → IsNoItem tag octets
+only_none tag octets none contents e = none contents [] (e ∙ sym (append-nil (item tag contents)))
+
+pub only_some : (tag : ℕ) (octets contents rest : List ℕ) → octets ≡ item tag contents ++ rest → rest ≡ [] → octets ≡ item tag contents
+only_some tag octets contents rest e n = e ∙ ap (λ l. item tag contents ++ l) n ∙ append-nil (item tag contents)
+
+-- ---- the octets of a first item whose length is long
+pub two_first : (octets : List ℕ) → 2 ≤ length octets → octets ≡ get_or octets 0 0 ∷ get_or octets 1 0 ∷ take (length octets - 2) (drop 2 octets)
+two_first [] h = absurd (omega (arith, h))
+two_first (first ∷ []) h = absurd (omega (arith, h))
+two_first (first ∷ second ∷ octets) h =
+    let n : suc (suc (length octets)) - 2 ≡ length octets = omega arith in
+    ap (λ l. first ∷ second ∷ l) (sym (ap (λ k. take k octets) n ∙ take_all (length octets) octets (omega arith)))
+
+pub long_not : (tag first octet : ℕ) (octets others contents : List ℕ) (size : ℕ) → octets ≡ first ∷ octet ∷ others → octet ∷ others ≡ length_octets size ++ contents → length contents < size → HasNoItem tag octets
+long_not tag first octet octets others contents size e f short inner rest i =
+    let p : (size ≡ length inner) × (contents ≡ inner ++ rest) = same_from_length_octets size (length inner) contents (inner ++ rest) (sym f ∙ lengths_of_item tag first octet others inner rest (sym e ∙ i)) in
+    omega (arith, short, p.0, ap length p.1, length-append inner rest)
+
+pub long_is : (tag first octet : ℕ) (octets others contents : List ℕ) (size : ℕ) → octets ≡ first ∷ octet ∷ others → first ≡ tag → octet ∷ others ≡ length_octets size ++ contents → (front back : List ℕ) → length front ≡ size → contents ≡ front ++ back → octets ≡ item tag front ++ back
+long_is tag first octet octets others contents size e t f front back n c =
+    e ∙ ap (λ o. o ∷ octet ∷ others) t ∙ is_item tag octet size others front back contents f c n

@@ -1,0 +1,136 @@
+-- A message as it is viewed: its first octet chooses the term by which it is judged.
+use Rattle.std.proofs.Common.{◌≡◌, ℕ, ◌^◌, ◌<◌, ◌≤◌, ◌⊎◌, inl, inr, true, false, if◌then◌else◌, eqb, eqb-true, List, [], ◌∷◌, length, get_or, Option, Some, None, refl, sym, ◌∙◌, ap, subst, arith}
+use Rattle.std.specs.Option.{unwrap_or}
+use Rattle.std.proofs.lemmas.Bool.{cases_Bool}
+use Rattle.krb_der.specs.Octets.{AreOctets}
+use Rattle.krb_der.specs.declared.profile.Profile.TheVariants as profile
+use Rattle.krb_der.specs.declared.verdict.Verdict.TheVariants as verdict
+use Rattle.krb_msg.specs.declared.message.Kind.{Kind}
+use Rattle.krb_msg.specs.declared.message.Kind.TheVariants as kind
+use Rattle.krb_msg.specs.declared.message.Message.{Message}
+use Rattle.krb_msg.specs.Judgement.{judgement, term_judgement}
+use Rattle.krb_msg.specs.Laws.{AreMessage}
+use Rattle.krb_msg.specs.Reading.{message_read, message_of_kind, value_read, first_or_zero}
+use Rattle.krb_msg.specs.Term.{Value, tag_of}
+use Rattle.krb_msg.specs.Views.{kind_of, kind_of_tag, kind_tag, kind_term, kind_with_tag, message_der, message_of, message_value, IsInProfile}
+use Rattle.krb_msg.specs.inner.Values.{der_is}
+use Rattle.krb_msg.proofs.Judged.{whole_is_message}
+use Rattle.krb_msg.proofs.MessageRead.{message_is_read}
+use Rattle.krb_msg.specs.Viewed.{IsViewOf, IsNotWhole}
+use Rattle.krb_msg.specs.Seen.{BeginAs, IsMessageView, IsNoMessage, MessageLists, message_seen}
+use Rattle.krb_msg.specs.declared.message_view.MessageView.{MessageView}
+
+-- ---- what the first octet chooses
+-- the term of the kind with this tag, by computation
+chosen : (k : Kind) (n : ℕ) (rest : List ℕ) → judgement profile.Lenient n (kind_tag k ∷ rest) ≡ term_judgement (kind_term k) n (kind_tag k ∷ rest)
+chosen kind.AsReq n rest = refl
+chosen kind.AsRep n rest = refl
+chosen kind.TgsReq n rest = refl
+chosen kind.TgsRep n rest = refl
+chosen kind.ApReq n rest = refl
+chosen kind.ApRep n rest = refl
+chosen kind.KrbSafe n rest = refl
+chosen kind.KrbPriv n rest = refl
+chosen kind.KrbCred n rest = refl
+chosen kind.KrbError n rest = refl
+
+-- the kind that a tag tells
+told_kind : (k : Kind) → (kind_with_tag (kind_tag k) ≡ Some k) × (kind_of_tag (kind_tag k) ≡ k) × (tag_of (kind_term k) ≡ kind_tag k)
+told_kind kind.AsReq = (refl, refl, refl)
+told_kind kind.AsRep = (refl, refl, refl)
+told_kind kind.TgsReq = (refl, refl, refl)
+told_kind kind.TgsRep = (refl, refl, refl)
+told_kind kind.ApReq = (refl, refl, refl)
+told_kind kind.ApRep = (refl, refl, refl)
+told_kind kind.KrbSafe = (refl, refl, refl)
+told_kind kind.KrbPriv = (refl, refl, refl)
+told_kind kind.KrbCred = (refl, refl, refl)
+told_kind kind.KrbError = (refl, refl, refl)
+
+-- ---- octets of no message
+no_octets_whole : judgement profile.Lenient 0 [] ≡ verdict.Whole → ⊥
+no_octets_whole e = cc
+
+pub empty_not_whole : (octets : List ℕ) → length octets < 1 → judgement profile.Lenient (length octets) octets ≡ verdict.Whole → ⊥
+empty_not_whole [] none e = no_octets_whole e
+empty_not_whole (octet ∷ octets) none e = omega (arith, none)
+
+first_of_message : (m : Message) (octets : List ℕ) → message_der m ≡ octets → kind_tag (kind_of m) ≡ get_or octets 0 0
+first_of_message m octets e =
+    sym (told_kind (kind_of m)).2 ∙ ap (λ (l : List ℕ). get_or l 0 0) (sym (der_is (kind_term (kind_of m)) (message_value m)) ∙ e)
+
+some_is_none : (k : Kind) → Some k ≡ None → ⊥
+some_is_none k e = cc
+
+pub no_kind_not_whole : (octets : List ℕ) → AreOctets octets → length octets < 2 ^ 31 → kind_with_tag (get_or octets 0 0) ≡ None → judgement profile.Lenient (length octets) octets ≡ verdict.Whole → ⊥
+no_kind_not_whole octets a small none e = by (whole_is_message profile.Lenient (length octets) octets small a (omega arith) e)
+  where
+    by : AreMessage profile.Lenient (length octets) octets → ⊥
+    by w = some_is_none (kind_of w.message) (sym (told_kind (kind_of w.message)).0 ∙ ap kind_with_tag (first_of_message w.message octets w.form) ∙ none)
+
+-- ---- octets of a kind
+some_kind : (j k : Kind) → Some j ≡ Some k → j ≡ k
+some_kind j k e = ap (λ (o : Option Kind). unwrap_or o j) e
+
+-- one of the choices by which a tag tells a kind, and those after it
+first_choice : (tag : ℕ) (j k : Kind) (others : Option Kind) → (others ≡ Some k → kind_tag k ≡ tag) → (if eqb tag (kind_tag j) then Some j else others) ≡ Some k → kind_tag k ≡ tag
+first_choice tag j k others next e = by (cases_Bool (eqb tag (kind_tag j)))
+  where
+    by : (eqb tag (kind_tag j) ≡ true) ⊎ (eqb tag (kind_tag j) ≡ false) → kind_tag k ≡ tag
+    by (inl t) =
+        let f : Some j ≡ Some k = ap (λ b. if b then Some j else others) (sym t) ∙ e in
+        ap kind_tag (sym (some_kind j k f)) ∙ sym (eqb-true tag (kind_tag j) t)
+    by (inr t) = next (ap (λ b. if b then Some j else others) (sym t) ∙ e)
+
+pub kind_from_tag : (k : Kind) (tag : ℕ) → kind_with_tag tag ≡ Some k → kind_tag k ≡ tag
+kind_from_tag k tag =
+    first_choice tag kind.AsReq k _
+    (first_choice tag kind.AsRep k _
+    (first_choice tag kind.TgsReq k _
+    (first_choice tag kind.TgsRep k _
+    (first_choice tag kind.ApReq k _
+    (first_choice tag kind.ApRep k _
+    (first_choice tag kind.KrbSafe k _
+    (first_choice tag kind.KrbPriv k _
+    (first_choice tag kind.KrbCred k _
+    (first_choice tag kind.KrbError k _ (λ e. absurd (some_is_none k (sym e))))))))))))
+
+pub judged_as : (k : Kind) (octets : List ℕ) → 0 < length octets → get_or octets 0 0 ≡ kind_tag k → judgement profile.Lenient (length octets) octets ≡ term_judgement (kind_term k) (length octets) octets
+judged_as k [] some first = absurd (omega (arith, some))
+judged_as k (octet ∷ rest) some first =
+    subst (λ o. judgement profile.Lenient (length (octet ∷ rest)) (o ∷ rest) ≡ term_judgement (kind_term k) (length (octet ∷ rest)) (o ∷ rest)) (sym first) (chosen k (length (octet ∷ rest)) rest)
+
+pub kind_not_whole : (k : Kind) (octets : List ℕ) → 0 < length octets → get_or octets 0 0 ≡ kind_tag k → IsNotWhole (kind_term k) octets → judgement profile.Lenient (length octets) octets ≡ verdict.Whole → ⊥
+kind_not_whole k octets some first none e = none (sym (judged_as k octets some first) ∙ e)
+
+-- what is read of the octets of a kind
+read_as : (k : Kind) (octets : List ℕ) → 0 < length octets → get_or octets 0 0 ≡ kind_tag k → message_read octets ≡ message_of_kind k octets
+read_as k [] some first = absurd (omega (arith, some))
+read_as k (octet ∷ rest) some first = ap (λ other. message_of_kind other (octet ∷ rest)) (ap kind_of_tag first ∙ (told_kind k).1)
+
+-- what a view of a message is of
+pub record IsMessageOf (octets : List ℕ) (m : Message) : Type 0 where
+  pub whole : judgement profile.Lenient (length octets) octets ≡ verdict.Whole
+  pub in_profile : IsInProfile profile.Lenient m
+  pub form : message_der m ≡ octets
+  pub read : m ≡ message_read octets
+
+read_message : (octets : List ℕ) → AreOctets octets → length octets < 2 ^ 31 → judgement profile.Lenient (length octets) octets ≡ verdict.Whole → IsMessageOf octets (message_read octets)
+read_message octets a small e = by (whole_is_message profile.Lenient (length octets) octets small a (omega arith) e)
+  where
+    by : AreMessage profile.Lenient (length octets) octets → IsMessageOf octets (message_read octets)
+    by w =
+        let same : w.message ≡ message_read octets = sym (message_is_read profile.Lenient w.message w.in_profile) ∙ ap message_read w.form in
+        subst (IsMessageOf octets) same (record { whole = e; in_profile = w.in_profile; form = w.form; read = same })
+
+pub message_viewed : (k : Kind) (octets : List ℕ) (value : Value (kind_term k)) → AreOctets octets → length octets < 2 ^ 31 → 0 < length octets → get_or octets 0 0 ≡ kind_tag k → IsViewOf (kind_term k) octets value → IsMessageOf octets (message_of k value)
+message_viewed k octets value a small some first v =
+    subst (IsMessageOf octets) (read_as k octets some first ∙ ap (message_of k) (sym v.read)) (read_message octets a small (judged_as k octets some first ∙ v.whole))
+
+pub seen_message : (k : Kind) (octets : List ℕ) (m : MessageView) (value : Value (kind_term k)) → message_of k value ≡ message_seen m → AreOctets octets → BeginAs k octets → IsViewOf (kind_term k) octets value → MessageLists m → IsMessageView octets m
+seen_message k octets m value same a b v lists =
+    let o : IsMessageOf octets (message_seen m) = subst (IsMessageOf octets) same (message_viewed k octets value a b.short b.some b.first v) in
+    record { whole = o.whole; in_profile = o.in_profile; form = o.form; read = o.read; lists = lists }
+
+pub none_of_kind : (k : Kind) (octets : List ℕ) → BeginAs k octets → IsNotWhole (kind_term k) octets → IsNoMessage octets
+none_of_kind k octets b none = kind_not_whole k octets b.some b.first none

@@ -1,0 +1,8 @@
+use Rattle.std.proofs.Common.{subst, sym}
+use Rattle.krb_msg.specs.Term.{Application}
+use Rattle.krb_msg.specs.Grammar.{kdc_rep}
+use Rattle.krb_msg.specs.Viewed.{IsViewOf}
+use Rattle.krb_msg.proofs.kdc_rep.KdcRep.view.Goals as goal
+
+pub returns-in-Some : goal.returns-in-Some
+returns-in-Some g c = (subst (IsViewOf (Application g.row.N (kdc_rep g.row.N)) c.args.octets.now) (sym c.of_fields.ensures.value) c.in-Some.ensures.0, c.of_fields.ensures.lists c.in-Some.ensures.1)

@@ -1,0 +1,201 @@
+//! Fields viewed where they stand.
+
+ghost use Rattle.std.specs.Prelude.{⊤, ◌≡◌, ◌+◌, ◌^◌, ◌<◌, true, pos, length, MatchOption};
+ghost use Rattle.std.specs.Option.{option_map};
+ghost use Rattle.krb_msg.specs.Term.{Term, Fields as TermFields, Value, Values, Sequence as SequenceTerm, Application as ApplicationTerm, Tagged, End as NoField, Required as RequiredField, Optional as OptionalField, tag_of};
+ghost use Rattle.krb_msg.specs.Grammar.{exactly};
+ghost use Rattle.krb_msg.specs.Shape.{is_unambiguous, are_unambiguous, has_octet_tags, have_octet_tags};
+ghost use Rattle.krb_msg.specs.Viewed.{AreContents, AreNoContents, AreFields, AreNoFields, StandsFirst, NoneStandsFirst, MayStandFirst, IsSpoiled, OfSome};
+
+use crate::fields::{Application, End, Fixed, Optional, Required, Sequence};
+use crate::view::head::{first_item, only_item};
+use crate::view::scalars::Exactly;
+
+/// A type whose items are judged and viewed where they stand.
+pub trait View<'a> {
+    /// What is seen of an item.
+    type Of: Copy;
+
+    /// The term.
+    ghost term: { Term };
+
+    /// What is seen, as a value of the term.
+    ghost value: { Self.Of → Value term };
+
+    /// What is known of what is seen: lists are items, times are times, and so on.
+    ghost Lists: { Self.Of → Type 0 };
+
+    /// Returns the tag octet.
+    fn tag() -> u8
+        requires { has_octet_tags term ≡ true }
+        ensures { result ≡ tag_of term };
+
+    /// Returns a view of the item with these contents, if they are contents of one.
+    fn view(contents: &'a [u8]) -> Option<Self::Of>
+        requires short { length contents.now < 2 ^ 31 }
+        requires tags { has_octet_tags term ≡ true }
+        requires unambiguous { is_unambiguous term ≡ true }
+        ensures { MatchOption result (AreNoContents term contents.now) (λ seen. AreContents term contents.now (value seen) × Lists seen) };
+}
+
+/// Fields, from one on, that are judged and viewed where they stand.
+pub trait ViewFields<'a> {
+    /// What is seen of them.
+    type Of: Copy;
+
+    /// The fields of the grammar.
+    ghost fields: { TermFields };
+
+    /// What is seen, as their values.
+    ghost values: { Self.Of → Values fields };
+
+    /// What is known of what is seen: lists are items, times are times, and so on.
+    ghost Lists: { Self.Of → Type 0 };
+
+    /// Returns a view of the fields that octets are, if they are those.
+    fn view_fields(octets: &'a [u8]) -> Option<Self::Of>
+        requires short { length octets.now < 2 ^ 31 }
+        requires tags { have_octet_tags fields ≡ true }
+        requires unambiguous { are_unambiguous fields ≡ true }
+        ensures { MatchOption result (AreNoFields fields octets.now) (λ seen. AreFields fields octets.now (values seen) × Lists seen) };
+}
+
+/// Returns the field `[INDEX]` that stands first, and what follows it.
+#[inline(always)]
+fn view_field<'a, const INDEX: u8, T: View<'a>>(octets: &'a [u8]) -> Option<(T::Of, &'a [u8])>
+    requires short { length octets.now < 2 ^ 31 }
+    requires tags { has_octet_tags (Tagged INDEX T.term) ≡ true }
+    requires unambiguous { is_unambiguous T.term ≡ true }
+    ensures { MatchOption result (NoneStandsFirst (Tagged INDEX T.term) octets.now) (λ (seen, rest). StandsFirst (Tagged INDEX T.term) octets.now (T.value seen) rest.now × T.Lists seen) }
+{
+    let (inner, rest) = first_item(0xA0 + INDEX, octets)?;
+    let contents = only_item(T::tag(), inner)?;
+    let seen = T::view(contents)?;
+    Some((seen, rest))
+}
+
+/// Returns the field `[INDEX]`, if its tag stands first, and what follows it.
+#[inline(always)]
+fn view_optional<'a, const INDEX: u8, T: View<'a>>(
+    octets: &'a [u8],
+) -> Option<(Option<T::Of>, &'a [u8])>
+    requires short { length octets.now < 2 ^ 31 }
+    requires tags { has_octet_tags (Tagged INDEX T.term) ≡ true }
+    requires unambiguous { is_unambiguous T.term ≡ true }
+    ensures { MatchOption result (IsSpoiled (Tagged INDEX T.term) octets.now) (λ (seen, rest). MayStandFirst (Tagged INDEX T.term) octets.now (option_map T.value seen) rest.now × OfSome T.Lists seen) }
+{
+    match octets.first() {
+        Some(tag) if *tag == 0xA0 + INDEX => {
+            let (seen, rest) = view_field::<INDEX, T>(octets)?;
+            Some((Some(seen), rest))
+        }
+        _ => Some((None, octets)),
+    }
+}
+
+impl<'a> ViewFields<'a> for End {
+    type Of = ();
+
+    ghost fields = { NoField };
+
+    ghost values = { λ seen. tt };
+
+    ghost Lists = { λ seen. ⊤ };
+
+    #[inline(always)]
+    fn view_fields(octets: &'a [u8]) -> Option<()> {
+        if octets.is_empty() { Some(()) } else { None }
+    }
+}
+
+impl<'a, const INDEX: u8, T: View<'a>, F: ViewFields<'a>> ViewFields<'a> for Required<INDEX, T, F> {
+    type Of = (T::Of, F::Of);
+
+    ghost fields = { RequiredField (Tagged INDEX T.term) F.fields };
+
+    ghost values = { λ seen. (T.value seen.0, F.values seen.1) };
+
+    ghost Lists = { λ seen. T.Lists seen.0 × F.Lists seen.1 };
+
+    #[inline(always)]
+    fn view_fields(octets: &'a [u8]) -> Option<(T::Of, F::Of)> {
+        let (value, rest) = view_field::<INDEX, T>(octets)?;
+        let fields = F::view_fields(rest)?;
+        Some((value, fields))
+    }
+}
+
+impl<'a, const INDEX: u8, T: View<'a>, F: ViewFields<'a>> ViewFields<'a> for Optional<INDEX, T, F> {
+    type Of = (Option<T::Of>, F::Of);
+
+    ghost fields = { OptionalField (Tagged INDEX T.term) F.fields };
+
+    ghost values = { λ seen. (option_map T.value seen.0, F.values seen.1) };
+
+    ghost Lists = { λ seen. OfSome T.Lists seen.0 × F.Lists seen.1 };
+
+    #[inline(always)]
+    fn view_fields(octets: &'a [u8]) -> Option<(Option<T::Of>, F::Of)> {
+        let (value, rest) = view_optional::<INDEX, T>(octets)?;
+        let fields = F::view_fields(rest)?;
+        Some((value, fields))
+    }
+}
+
+impl<'a, const INDEX: u8, const NUMBER: u8, F: ViewFields<'a>> ViewFields<'a>
+    for Fixed<INDEX, NUMBER, F> {
+    type Of = F::Of;
+
+    ghost fields = { RequiredField (Tagged INDEX (exactly NUMBER)) F.fields };
+
+    ghost values = { λ seen. (pos NUMBER, F.values seen) };
+
+    ghost Lists = { λ seen. F.Lists seen };
+
+    #[inline(always)]
+    fn view_fields(octets: &'a [u8]) -> Option<F::Of> {
+        let (_, rest) = view_field::<INDEX, Exactly<NUMBER>>(octets)?;
+        F::view_fields(rest)
+    }
+}
+
+impl<'a, F: ViewFields<'a>> View<'a> for Sequence<F> {
+    type Of = F::Of;
+
+    ghost term = { SequenceTerm F.fields };
+
+    ghost value = { λ seen. F.values seen };
+
+    ghost Lists = { λ seen. F.Lists seen };
+
+    #[inline(always)]
+    fn tag() -> u8 {
+        0x30
+    }
+
+    #[inline(always)]
+    fn view(contents: &'a [u8]) -> Option<F::Of> {
+        F::view_fields(contents)
+    }
+}
+
+impl<'a, const NUMBER: u8, E: View<'a>> View<'a> for Application<NUMBER, E> {
+    type Of = E::Of;
+
+    ghost term = { ApplicationTerm NUMBER E.term };
+
+    ghost value = { λ seen. E.value seen };
+
+    ghost Lists = { λ seen. E.Lists seen };
+
+    #[inline(always)]
+    fn tag() -> u8 {
+        0x60 + NUMBER
+    }
+
+    #[inline(always)]
+    fn view(contents: &'a [u8]) -> Option<E::Of> {
+        let inner = only_item(E::tag(), contents)?;
+        E::view(inner)
+    }
+}

@@ -1,0 +1,226 @@
+//! Messages viewed where they stand.
+
+ghost use Rattle.std.specs.Prelude.{◌≡◌, ◌^◌, ◌<◌, length, MatchOption};
+ghost use Rattle.std.specs.Option.{option_map};
+ghost use Rattle.krb_msg.specs.Realm.{realm_of};
+ghost use Rattle.krb_msg.specs.Seen.{BeginAs, IsMessageView, IsNoMessage, message_seen};
+ghost use Rattle.krb_msg.specs.Views.{kind_of};
+ghost use Rattle.krb_msg.specs.declared.message.Kind.TheVariants as kind;
+
+use crate::ap_rep::{ApRep, ApRepView};
+use crate::ap_req::{ApReq, ApReqView};
+use crate::kdc_rep::{KdcRep, KdcRepView};
+use crate::kdc_req::{KdcReq, KdcReqView};
+use crate::krb_cred::{KrbCred, KrbCredView};
+use crate::krb_error::{KrbError, KrbErrorView};
+use crate::krb_priv::{KrbPriv, KrbPrivView};
+use crate::krb_safe::{KrbSafe, KrbSafeView};
+use crate::message::Kind;
+use crate::view::view_whole;
+
+/// A view of a message of any kind (RFC 4120, section 5), whose strings and lists stay where they
+/// stand.
+#[derive(Clone, Copy)]
+pub enum MessageView<'a> {
+    /// What a client sends a KDC for its first ticket (5.4.1).
+    AsReq(KdcReqView<'a>),
+    /// What a KDC answers an AS-REQ (5.4.2).
+    AsRep(KdcRepView<'a>),
+    /// What a client sends a KDC for a further ticket (5.4.1).
+    TgsReq(KdcReqView<'a>),
+    /// What a KDC answers a TGS-REQ (5.4.2).
+    TgsRep(KdcRepView<'a>),
+    /// What a client sends an application server (5.5.1).
+    ApReq(ApReqView<'a>),
+    /// The reply of an application server (5.5.2).
+    ApRep(ApRepView<'a>),
+    /// What one sends the other, protected against changes (5.6.1).
+    KrbSafe(KrbSafeView<'a>),
+    /// What one sends the other, sealed (5.7.1).
+    KrbPriv(KrbPrivView<'a>),
+    /// Tickets that one hands on to the other (5.8.1).
+    KrbCred(KrbCredView<'a>),
+    /// What is sent in place of any answer (5.9.1).
+    KrbError(KrbErrorView<'a>),
+}
+
+impl<'a> MessageView<'a> {
+    /// Returns the kind of the message.
+    pub fn kind(&self) -> Kind
+        ensures { result ≡ kind_of (message_seen self.now) }
+    {
+        match self {
+            MessageView::AsReq(_) => Kind::AsReq,
+            MessageView::AsRep(_) => Kind::AsRep,
+            MessageView::TgsReq(_) => Kind::TgsReq,
+            MessageView::TgsRep(_) => Kind::TgsRep,
+            MessageView::ApReq(_) => Kind::ApReq,
+            MessageView::ApRep(_) => Kind::ApRep,
+            MessageView::KrbSafe(_) => Kind::KrbSafe,
+            MessageView::KrbPriv(_) => Kind::KrbPriv,
+            MessageView::KrbCred(_) => Kind::KrbCred,
+            MessageView::KrbError(_) => Kind::KrbError,
+        }
+    }
+
+    /// Returns the realm that the message is of, if it is of one (5.2.2).
+    pub fn realm(&self) -> Option<&'a [u8]>
+        ensures { option_map (λ octets. octets.now) result ≡ realm_of (message_seen self.now) }
+    {
+        match self {
+            MessageView::AsReq(m) | MessageView::TgsReq(m) => Some(m.body.realm),
+            MessageView::AsRep(m) | MessageView::TgsRep(m) => Some(m.crealm),
+            MessageView::ApReq(m) => Some(m.ticket.realm),
+            MessageView::KrbError(m) => Some(m.realm),
+            MessageView::ApRep(_)
+            | MessageView::KrbSafe(_)
+            | MessageView::KrbPriv(_)
+            | MessageView::KrbCred(_) => None,
+        }
+    }
+}
+
+/// Returns a view of the message that octets are, if they are one in the lenient profile: all of
+/// them, judged and viewed in one pass. It takes no memory.
+pub fn view_message(octets: &[u8]) -> Option<MessageView<'_>>
+    requires short { length octets.now < 2 ^ 31 }
+    ensures { MatchOption result (IsNoMessage octets.now) (λ m. IsMessageView octets.now m) }
+{
+    let [first, ..] = octets else {
+        return None;
+    };
+    let Some(kind) = Kind::of_tag(*first) else {
+        return None;
+    };
+    view_of_kind(kind, octets)
+}
+
+/// Returns a view of the message of a kind that octets are, if they are one.
+#[inline(always)]
+fn view_of_kind(kind: Kind, octets: &[u8]) -> Option<MessageView<'_>>
+    requires { BeginAs kind octets.now }
+    ensures { MatchOption result (IsNoMessage octets.now) (λ m. IsMessageView octets.now m) }
+{
+    match kind {
+        Kind::AsReq => view_as_req(octets),
+        Kind::AsRep => view_as_rep(octets),
+        Kind::TgsReq => view_tgs_req(octets),
+        Kind::TgsRep => view_tgs_rep(octets),
+        Kind::ApReq => view_ap_req(octets),
+        Kind::ApRep => view_ap_rep(octets),
+        Kind::KrbSafe => view_krb_safe(octets),
+        Kind::KrbPriv => view_krb_priv(octets),
+        Kind::KrbCred => view_krb_cred(octets),
+        Kind::KrbError => view_krb_error(octets),
+    }
+}
+
+/// Returns a view of the AS-REQ that octets are, if they are one.
+fn view_as_req(octets: &[u8]) -> Option<MessageView<'_>>
+    requires { BeginAs kind.AsReq octets.now }
+    ensures { MatchOption result (IsNoMessage octets.now) (λ m. IsMessageView octets.now m) }
+{
+    match KdcReq::view::<10>(octets) {
+        Some(m) => Some(MessageView::AsReq(m)),
+        None => None,
+    }
+}
+
+/// Returns a view of the AS-REP that octets are, if they are one.
+fn view_as_rep(octets: &[u8]) -> Option<MessageView<'_>>
+    requires { BeginAs kind.AsRep octets.now }
+    ensures { MatchOption result (IsNoMessage octets.now) (λ m. IsMessageView octets.now m) }
+{
+    match KdcRep::view::<11>(octets) {
+        Some(m) => Some(MessageView::AsRep(m)),
+        None => None,
+    }
+}
+
+/// Returns a view of the TGS-REQ that octets are, if they are one.
+fn view_tgs_req(octets: &[u8]) -> Option<MessageView<'_>>
+    requires { BeginAs kind.TgsReq octets.now }
+    ensures { MatchOption result (IsNoMessage octets.now) (λ m. IsMessageView octets.now m) }
+{
+    match KdcReq::view::<12>(octets) {
+        Some(m) => Some(MessageView::TgsReq(m)),
+        None => None,
+    }
+}
+
+/// Returns a view of the TGS-REP that octets are, if they are one.
+fn view_tgs_rep(octets: &[u8]) -> Option<MessageView<'_>>
+    requires { BeginAs kind.TgsRep octets.now }
+    ensures { MatchOption result (IsNoMessage octets.now) (λ m. IsMessageView octets.now m) }
+{
+    match KdcRep::view::<13>(octets) {
+        Some(m) => Some(MessageView::TgsRep(m)),
+        None => None,
+    }
+}
+
+/// Returns a view of the AP-REQ that octets are, if they are one.
+fn view_ap_req(octets: &[u8]) -> Option<MessageView<'_>>
+    requires { BeginAs kind.ApReq octets.now }
+    ensures { MatchOption result (IsNoMessage octets.now) (λ m. IsMessageView octets.now m) }
+{
+    match view_whole::<ApReq>(octets) {
+        Some(m) => Some(MessageView::ApReq(m)),
+        None => None,
+    }
+}
+
+/// Returns a view of the AP-REP that octets are, if they are one.
+fn view_ap_rep(octets: &[u8]) -> Option<MessageView<'_>>
+    requires { BeginAs kind.ApRep octets.now }
+    ensures { MatchOption result (IsNoMessage octets.now) (λ m. IsMessageView octets.now m) }
+{
+    match view_whole::<ApRep>(octets) {
+        Some(m) => Some(MessageView::ApRep(m)),
+        None => None,
+    }
+}
+
+/// Returns a view of the KRB-SAFE that octets are, if they are one.
+fn view_krb_safe(octets: &[u8]) -> Option<MessageView<'_>>
+    requires { BeginAs kind.KrbSafe octets.now }
+    ensures { MatchOption result (IsNoMessage octets.now) (λ m. IsMessageView octets.now m) }
+{
+    match view_whole::<KrbSafe>(octets) {
+        Some(m) => Some(MessageView::KrbSafe(m)),
+        None => None,
+    }
+}
+
+/// Returns a view of the KRB-PRIV that octets are, if they are one.
+fn view_krb_priv(octets: &[u8]) -> Option<MessageView<'_>>
+    requires { BeginAs kind.KrbPriv octets.now }
+    ensures { MatchOption result (IsNoMessage octets.now) (λ m. IsMessageView octets.now m) }
+{
+    match view_whole::<KrbPriv>(octets) {
+        Some(m) => Some(MessageView::KrbPriv(m)),
+        None => None,
+    }
+}
+
+/// Returns a view of the KRB-CRED that octets are, if they are one.
+fn view_krb_cred(octets: &[u8]) -> Option<MessageView<'_>>
+    requires { BeginAs kind.KrbCred octets.now }
+    ensures { MatchOption result (IsNoMessage octets.now) (λ m. IsMessageView octets.now m) }
+{
+    match view_whole::<KrbCred>(octets) {
+        Some(m) => Some(MessageView::KrbCred(m)),
+        None => None,
+    }
+}
+
+/// Returns a view of the KRB-ERROR that octets are, if they are one.
+fn view_krb_error(octets: &[u8]) -> Option<MessageView<'_>>
+    requires { BeginAs kind.KrbError octets.now }
+    ensures { MatchOption result (IsNoMessage octets.now) (λ m. IsMessageView octets.now m) }
+{
+    match view_whole::<KrbError>(octets) {
+        Some(m) => Some(MessageView::KrbError(m)),
+        None => None,
+    }
+}

@@ -1,0 +1,71 @@
+//! A SEQUENCE OF viewed where it stands (X.690, 8.10).
+
+ghost use Rattle.std.specs.Prelude.{◌≡◌, ◌^◌, ◌<◌, true, [], length, MatchOption};
+ghost use Rattle.krb_msg.specs.Grammar.{sequence_of};
+ghost use Rattle.krb_msg.specs.Shape.{is_unambiguous, has_octet_tags};
+ghost use Rattle.krb_msg.specs.Viewed.{AreContents, AreNoContents, AreViewed, IfElse, IsFirstItem, items_of};
+
+use crate::fields::View;
+use crate::view::head::first_item;
+
+/// A view of a list: its items, one after another.
+#[derive(Clone, Copy)]
+pub struct ItemsView<'a> {
+    /// Their octets.
+    pub octets: &'a [u8],
+}
+
+/// Returns a view of the items that octets are, if they are items of a type, one after another.
+#[inline(always)]
+pub fn view_items<'a, T: View<'a>>(octets: &'a [u8]) -> Option<ItemsView<'a>>
+    requires short { length octets.now < 2 ^ 31 }
+    requires tags { has_octet_tags T.term ≡ true }
+    requires unambiguous { is_unambiguous T.term ≡ true }
+    ensures { MatchOption result (AreNoContents (sequence_of T.term) octets.now) (λ seen. AreContents (sequence_of T.term) octets.now (items_of T.term seen.octets.now) × AreViewed T.term seen.octets.now) }
+{
+    if are_items::<T>(octets) {
+        Some(ItemsView { octets })
+    } else {
+        None
+    }
+}
+
+/// Returns whether octets are items of a type, one after another.
+fn are_items<'a, T: View<'a>>(octets: &'a [u8]) -> bool
+    requires short { length octets.now < 2 ^ 31 }
+    requires tags { has_octet_tags T.term ≡ true }
+    requires unambiguous { is_unambiguous T.term ≡ true }
+    ensures { IfElse result (AreViewed T.term octets.now) (AreNoContents (sequence_of T.term) octets.now) }
+{
+    let mut rest = octets;
+    'items: while !rest.is_empty() {
+        let Some((inner, left)) = first_item(T::tag(), rest) else {
+            return false;
+        };
+        let Some(_seen) = T::view(inner) else {
+            return false;
+        };
+        rest = left;
+    }
+    true
+}
+
+/// Returns the first of items that were viewed, and those after it. It cannot fail.
+#[inline(always)]
+pub fn next_item<'a, T: View<'a>>(items: ItemsView<'a>) -> Option<(T::Of, ItemsView<'a>)>
+    requires tags { has_octet_tags T.term ≡ true }
+    requires unambiguous { is_unambiguous T.term ≡ true }
+    requires viewed { AreViewed T.term items.octets.now }
+    ensures { MatchOption result (items_of T.term items.entry.octets.now ≡ []) (λ (seen, rest). IsFirstItem T.term items.entry.octets.now (T.value seen) rest.octets.now × T.Lists seen) }
+{
+    if items.octets.is_empty() {
+        return None;
+    }
+    let Some((inner, rest)) = first_item(T::tag(), items.octets) else {
+        unreachable!()
+    };
+    let Some(seen) = T::view(inner) else {
+        unreachable!()
+    };
+    Some((seen, ItemsView { octets: rest }))
+}

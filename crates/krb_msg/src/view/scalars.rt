@@ -1,0 +1,230 @@
+//! The scalars (RFC 4120, 5.2) viewed where they stand.
+
+ghost use Rattle.std.specs.Prelude.{⊤, ◌≡◌, ◌≤ℤ◌, ◌↔◌, ◌^◌, ◌<◌, true, pos, length, MatchOption};
+ghost use Rattle.krb_der.specs.Octets.{AreBits};
+ghost use Rattle.krb_der.specs.Scalars.{IsTimeFrom};
+ghost use Rattle.krb_msg.specs.Term.{tag_of};
+ghost use Rattle.krb_msg.specs.Grammar.{exactly, int32, wide32, microseconds, kerberos_string, octet_string, kerberos_time, kerberos_flags};
+
+use crate::fields::View;
+use crate::view::number::number;
+use krb_der::{Flags, Int32, KString, KerberosTime, Micros, Octets, Wide32, last_or_zero};
+
+/// An INTEGER that is always this number.
+pub struct Exactly<const NUMBER: u8>;
+
+impl<'a, const NUMBER: u8> View<'a> for Exactly<NUMBER> {
+    type Of = ();
+
+    ghost term = { exactly NUMBER };
+
+    ghost value = { λ seen. pos NUMBER };
+
+    ghost Lists = { λ seen. ⊤ };
+
+    #[inline(always)]
+    fn tag() -> u8 {
+        2
+    }
+
+    #[inline(always)]
+    fn view(contents: &'a [u8]) -> Option<()> {
+        match number(i64::from(NUMBER), i64::from(NUMBER), contents) {
+            Some(_) => Some(()),
+            None => None,
+        }
+    }
+}
+
+impl<'a> View<'a> for Int32 {
+    type Of = i64;
+
+    ghost term = { int32 };
+
+    ghost value = { λ number. number };
+
+    ghost Lists = { λ seen. ⊤ };
+
+    #[inline(always)]
+    fn tag() -> u8 {
+        2
+    }
+
+    #[inline(always)]
+    fn view(contents: &'a [u8]) -> Option<i64> {
+        number(-0x8000_0000, 0x7FFF_FFFF, contents)
+    }
+}
+
+impl<'a> View<'a> for Wide32 {
+    type Of = i64;
+
+    ghost term = { wide32 };
+
+    ghost value = { λ number. number };
+
+    ghost Lists = { λ seen. ⊤ };
+
+    #[inline(always)]
+    fn tag() -> u8 {
+        2
+    }
+
+    #[inline(always)]
+    fn view(contents: &'a [u8]) -> Option<i64> {
+        number(-0x8000_0000, 0xFFFF_FFFF, contents)
+    }
+}
+
+impl<'a> View<'a> for KString {
+    type Of = &'a [u8];
+
+    ghost term = { kerberos_string };
+
+    ghost value = { λ octets. octets.now };
+
+    ghost Lists = { λ seen. ⊤ };
+
+    #[inline(always)]
+    fn tag() -> u8
+        ensures { result ≡ tag_of kerberos_string }
+    {
+        0x1B
+    }
+
+    #[inline(always)]
+    fn view(contents: &'a [u8]) -> Option<&'a [u8]> {
+        Some(contents)
+    }
+}
+
+impl<'a> View<'a> for Octets {
+    type Of = &'a [u8];
+
+    ghost term = { octet_string };
+
+    ghost value = { λ octets. octets.now };
+
+    ghost Lists = { λ octets. length octets.now < 2 ^ 31 };
+
+    #[inline(always)]
+    fn tag() -> u8
+        ensures { result ≡ tag_of octet_string }
+    {
+        4
+    }
+
+    #[inline(always)]
+    fn view(contents: &'a [u8]) -> Option<&'a [u8]> {
+        Some(contents)
+    }
+}
+
+impl<'a> View<'a> for Micros {
+    type Of = i64;
+
+    ghost term = { microseconds };
+
+    ghost value = { λ number. number };
+
+    ghost Lists = { λ number. pos 0 ≤ℤ number };
+
+    #[inline(always)]
+    fn tag() -> u8 {
+        2
+    }
+
+    #[inline(always)]
+    fn view(contents: &'a [u8]) -> Option<i64> {
+        number(0, 999_999, contents)
+    }
+}
+
+/// Returns whether octets are a KerberosTime.
+#[inline(always)]
+fn is_time(octets: &[u8]) -> bool
+    ensures { (result ≡ true) ↔ IsTimeFrom 14 octets.now }
+{
+    let Some((time, rest)) = octets.split_first_chunk::<15>() else {
+        return false;
+    };
+    if !rest.is_empty() {
+        return false;
+    }
+    KerberosTime::new(*time).is_some()
+}
+
+impl<'a> View<'a> for KerberosTime {
+    type Of = &'a [u8];
+
+    ghost term = { kerberos_time };
+
+    ghost value = { λ octets. octets.now };
+
+    ghost Lists = { λ octets. IsTimeFrom 14 octets.now };
+
+    #[inline(always)]
+    fn tag() -> u8
+        ensures { result ≡ tag_of kerberos_time }
+    {
+        0x18
+    }
+
+    #[inline(always)]
+    fn view(contents: &'a [u8]) -> Option<&'a [u8]> {
+        if is_time(contents) {
+            Some(contents)
+        } else {
+            None
+        }
+    }
+}
+
+/// Returns whether octets are those of a bit string with a count of unused bits.
+#[inline(always)]
+fn are_bits(unused: u8, octets: &[u8]) -> bool
+    ensures { (result ≡ true) ↔ AreBits unused octets.now }
+{
+    unused < 8 && (unused == 0 || !octets.is_empty()) && last_or_zero(octets) % (1 << unused) == 0
+}
+
+/// A view of a BIT STRING.
+#[derive(Clone, Copy)]
+pub struct FlagsView<'a> {
+    /// How many low bits of the last octet are unused.
+    pub unused: u8,
+    /// The octets.
+    pub octets: &'a [u8],
+}
+
+impl<'a> View<'a> for Flags {
+    type Of = FlagsView<'a>;
+
+    ghost term = { kerberos_flags };
+
+    ghost value = { λ seen. (seen.unused, seen.octets.now) };
+
+    ghost Lists = { λ seen. ⊤ };
+
+    #[inline(always)]
+    fn tag() -> u8
+        ensures { result ≡ tag_of kerberos_flags }
+    {
+        3
+    }
+
+    #[inline(always)]
+    fn view(contents: &'a [u8]) -> Option<FlagsView<'a>> {
+        let [unused, octets @ ..] = contents else {
+            return None;
+        };
+        if are_bits(*unused, octets) {
+            Some(FlagsView {
+                unused: *unused,
+                octets,
+            })
+        } else {
+            None
+        }
+    }
+}

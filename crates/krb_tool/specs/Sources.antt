@@ -1,0 +1,72 @@
+-- What a run over several sources does to its writer, and the status that it gives.
+use Rattle.std.specs.Prelude.{ℕ, ◌≡◌, ◌⊎◌, max, Bool, true, false, List, [], ◌∷◌, Option, Result, Ok, Err}
+use Rattle.std.specs.Io.KnownBytes.{Appends}
+use Rattle.krb_list.specs.FileNames.{file_line}
+use Rattle.krb_tool.specs.declared.run.RunEnd.{RunEnd}
+use Rattle.krb_tool.specs.declared.run.RunFault.{RunFault}
+use Rattle.krb_tool.specs.declared.run.RunFault.TheVariants as fault
+use Rattle.krb_tool.specs.Files.{AddsFront}
+use Rattle.krb_tool.specs.Listing.{status_of}
+
+-- what the run over one source gives
+abbrev pub Outcome : Type 0
+Outcome = Result RunEnd RunFault
+
+-- What a run may do: what its writer held before it and holds after it, and what it gives.
+abbrev pub Run : Type 1
+Run = Option (List ℕ) → Option (List ℕ) → Outcome → Type 0
+
+-- ---- one source among several
+
+-- The line of a name was not written whole, by a write that failed or for want of memory.
+abbrev pub FailsName : List ℕ → Option (List ℕ) → Option (List ℕ) → RunFault → Type 0
+FailsName name held holds (fault.Read error) = ⊥
+FailsName name held holds (fault.Write error) = AddsFront held holds (file_line name)
+FailsName name held holds fault.Memory = holds ≡ held
+
+-- The line of the name was written, and then the source was listed.
+pub record ListsNamed (Lists : Run) (name : List ℕ) (held holds : Option (List ℕ)) (outcome : Outcome) : Type 0 where
+  pub between : Option (List ℕ)
+  pub named : Appends held between (file_line name)
+  pub listed : Lists between holds outcome
+
+abbrev pub FailsFirst : List ℕ → Run
+FailsFirst name held holds (Ok ended) = ⊥
+FailsFirst name held holds (Err fault) = FailsName name held holds fault
+
+-- a source is listed after the line of its name, if it has one
+abbrev pub ListsOne : Bool → List ℕ → Run → Run
+ListsOne false name Lists held holds outcome = Lists held holds outcome
+ListsOne true name Lists held holds outcome = ListsNamed Lists name held holds outcome ⊎ FailsFirst name held holds outcome
+
+-- ---- all sources
+
+-- a write that failed, or want of memory, ends the run; a refusal and a read that failed do not
+abbrev pub ends_run : Outcome → Bool
+ends_run (Ok ended) = false
+ends_run (Err (fault.Read error)) = false
+ends_run (Err (fault.Write error)) = true
+ends_run (Err fault.Memory) = true
+
+-- What a run over sources may do: what its writer held before it and holds after it, and the status.
+abbrev pub RunOver : Type 1
+RunOver = Option (List ℕ) → Option (List ℕ) → ℕ → Type 0
+
+-- the other sources follow, unless the run has ended
+abbrev pub Follow : Bool → RunOver → RunOver
+Follow true Others held holds status = (holds ≡ held) × (status ≡ 0)
+Follow false Others held holds status = Others held holds status
+
+-- The first source is listed and then the others, and the status is the greater of theirs.
+pub record ListsFirst (First : Run) (Others : RunOver) (held holds : Option (List ℕ)) (status : ℕ) : Type 0 where
+  pub between : Option (List ℕ)
+  pub outcome : Outcome
+  pub others : ℕ
+  pub first : First held between outcome
+  pub follow : Follow (ends_run outcome) Others between holds others
+  pub greater : status ≡ max (status_of outcome) others
+
+-- Each source is listed, one after another, and the status is the greatest of theirs.
+abbrev pub ListsEach : {S : Type 0} → (S → Run) → List S → RunOver
+ListsEach Lists [] held holds status = (holds ≡ held) × (status ≡ 0)
+ListsEach Lists (first ∷ others) held holds status = ListsFirst (Lists first) (ListsEach Lists others) held holds status

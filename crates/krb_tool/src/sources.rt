@@ -1,0 +1,94 @@
+//! Runs over several sources.
+
+ghost use Rattle.std.specs.Prelude.{◌≡◌, ℕ, List, Option, Result, Some, nat_lt, length, IfErr, OnOk};
+ghost use Rattle.std.specs.Io.KnownBytes.{Appends};
+ghost use Rattle.krb_list.specs.FileNames.{file_line};
+ghost use Rattle.krb_tool.specs.Sources.{Run, FailsName, ListsOne, ListsEach, ends_run};
+
+use crate::run::{RunEnd, RunFault, status};
+use crate::transfer::write_all;
+use krb_list::put_file;
+use std::alloc::Global;
+use std::io::Write;
+
+/// What lists a source of a kind, opens it where it has to be opened, and tells of its faults.
+pub trait ListSource<S> {
+    /// The name of a source.
+    ghost called: { S → List ℕ };
+
+    /// What the listing of a source does.
+    ghost Lists: { Self → S → Run };
+
+    /// Returns the name that stands before the listing of a source among several.
+    fn name<'a>(&self, source: &'a S) -> &'a str
+        ensures { result.now ≡ called source.now };
+
+    /// Opens a source and lists it.
+    fn list<W: Write>(&self, source: &S, writer: &mut W) -> Result<RunEnd, RunFault>
+        ensures { Lists self.now source.now (W.contents writer.old) (W.contents writer.new) result };
+
+    /// Tells of a fault, by which the listing of a source ended.
+    fn report(&self, source: &S, fault: &RunFault);
+}
+
+/// Writes the line with the name of a source.
+fn write_name<W: Write>(alloc: Global, name: &str, writer: &mut W) -> Result<(), RunFault>
+    ensures written { OnOk result (Appends (W.contents writer.old) (W.contents writer.new) (file_line name.now)) }
+    ensures fault { IfErr result (FailsName name.now (W.contents writer.old) (W.contents writer.new)) }
+{
+    let mut line = String::new(alloc);
+    put_file(&mut line, name)?;
+    write_all(writer, line.as_bytes())
+}
+
+/// Lists a source, after a line with its name if it is one of several.
+fn list_one<S, L: ListSource<S>, W: Write>(
+    alloc: Global,
+    lister: &L,
+    source: &S,
+    is_named: bool,
+    writer: &mut W,
+) -> Result<RunEnd, RunFault>
+    ensures { ListsOne is_named (L.called source.now) (L.Lists lister.now source.now) (W.contents writer.old) (W.contents writer.new) result }
+{
+    if is_named {
+        write_name(alloc, lister.name(source), writer)?;
+    }
+    lister.list(source, writer)
+}
+
+/// Returns whether no source is listed after one of this outcome.
+fn ends_run(outcome: &Result<RunEnd, RunFault>) -> bool
+    ensures { result ≡ ends_run outcome.now }
+{
+    matches!(outcome, Err(RunFault::Write(_) | RunFault::Memory))
+}
+
+/// Lists sources one after another, and returns the greatest of their statuses, which is that of the
+/// process. If there are several, a line with its name stands before the listing of each. A source
+/// that is refused, or that cannot be opened or read, does not end the run: the next one follows. A
+/// write that fails ends it, and so does want of memory.
+pub fn run_sources<S, L: ListSource<S>, W: Write>(
+    alloc: Global,
+    lister: &L,
+    sources: &[S],
+    writer: &mut W,
+) -> u8
+    ensures { ListsEach (λ source. ListsOne (nat_lt 1 (length sources.now)) (L.called source) (L.Lists lister.now source)) sources.now (W.contents writer.old) (W.contents writer.new) result }
+{
+    let is_named = sources.len() > 1;
+    let mut greatest = 0;
+    let mut rest = sources;
+    'sources: while let Some((source, others)) = rest.split_first() {
+        let outcome = list_one(alloc, lister, source, is_named, writer);
+        if let Err(fault) = &outcome {
+            lister.report(source, fault);
+        }
+        greatest = greatest.max(status(&outcome));
+        if ends_run(&outcome) {
+            return greatest;
+        }
+        rest = others;
+    }
+    greatest
+}
