@@ -1,13 +1,11 @@
 -- Items one after another, as they are viewed.
-use Rattle.std.proofs.Common.{◌≡◌, ℕ, zero, suc, ◌+◌, ◌^◌, ◌<◌, ◌≤◌, ◌↔◌, true, List, [], ◌∷◌, ◌++◌, length, refl, sym, ap, ap₂, ◌∙◌, subst, arith, length-append}
+use Rattle.std.proofs.Common.{◌≡◌, ℕ, ◌^◌, ◌<◌, ◌≤◌, true, List, [], ◌∷◌, ◌++◌, length, refl, sym, ap, ap₂, ◌∙◌, subst, arith, length-append}
 use Rattle.std.specs.List.{flat_map, AllByRecursion}
 use Rattle.krb_der.specs.Octets.{item}
 use Rattle.krb_der.specs.inner.Items.{same_from_item, length-item}
-use Rattle.krb_der.specs.inner.PrefixFree.{same_pair}
 use Rattle.krb_msg.specs.Term.{Term, SequenceOf, tag_of, Value, der, Fits}
-use Rattle.krb_msg.specs.Reading.{value_of}
 use Rattle.krb_msg.specs.Shape.{is_unambiguous}
-use Rattle.krb_msg.specs.inner.Values.{contents, der_is, der_begins}
+use Rattle.krb_msg.specs.inner.Values.{contents, der_is}
 use Rattle.krb_msg.proofs.Read.{contents-read}
 use Rattle.krb_msg.specs.Viewed.{HasNoItem, AreContents, AreNoContents, AreItems, AreViewed, IsFirstItem, items_of}
 use Rattle.krb_msg.proofs.FieldViews.{same_contents}

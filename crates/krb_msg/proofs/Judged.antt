@@ -85,28 +85,28 @@ StandsFor-same m value e = record {
 pub ticket_value-of : (v : Value ticket) → Fits ticket v → ticket_value (ticket_of v) ≡ v
 ticket_value-of v f = same_pair _ _ (exactly_one 5 v.0 f.0.0 f.0.1) refl
 
-tickets_value-of : (vs : List (Value ticket)) → AllByRecursion (Fits ticket) vs → map ticket_value (map ticket_of vs) ≡ vs
+pub tickets_value-of : (vs : List (Value ticket)) → AllByRecursion (Fits ticket) vs → map ticket_value (map ticket_of vs) ≡ vs
 tickets_value-of [] f = refl
 tickets_value-of (v ∷ vs) f = ap₂ (λ t ts. t ∷ ts) (ticket_value-of v f.0) (tickets_value-of vs f.1)
 
-additional_tickets_value-of : (o : Option (List (Value ticket))) → IfPresent (Fits (sequence_of ticket)) o → option_map (map ticket_value) (option_map (map ticket_of) o) ≡ o
+pub additional_tickets_value-of : (o : Option (List (Value ticket))) → IfPresent (Fits (sequence_of ticket)) o → option_map (map ticket_value) (option_map (map ticket_of) o) ≡ o
 additional_tickets_value-of None f = refl
 additional_tickets_value-of (Some vs) f = ap Some (tickets_value-of vs f.1)
 
 -- other fields that may be left out
-name_value-of : (o : Option (Value principal_name)) → option_map principal_name_value (option_map principal_name_of o) ≡ o
+pub name_value-of : (o : Option (Value principal_name)) → option_map principal_name_value (option_map principal_name_of o) ≡ o
 name_value-of = option-back principal_name_of principal_name_value (λ p. refl)
 
-sealed_value-of : (o : Option (Value encrypted_data)) → option_map encrypted_data_value (option_map encrypted_data_of o) ≡ o
+pub sealed_value-of : (o : Option (Value encrypted_data)) → option_map encrypted_data_value (option_map encrypted_data_of o) ≡ o
 sealed_value-of = option-back encrypted_data_of encrypted_data_value (λ e. refl)
 
-address_value-of : (o : Option (Value host_address)) → option_map host_address_value (option_map host_address_of o) ≡ o
+pub address_value-of : (o : Option (Value host_address)) → option_map host_address_value (option_map host_address_of o) ≡ o
 address_value-of = option-back host_address_of host_address_value (λ a. refl)
 
-addresses_value-of : (o : Option (List (Value host_address))) → option_map (map host_address_value) (option_map (map host_address_of) o) ≡ o
+pub addresses_value-of : (o : Option (List (Value host_address))) → option_map (map host_address_value) (option_map (map host_address_of) o) ≡ o
 addresses_value-of = list-back host_address_of host_address_value (λ a. refl)
 
-padata_value-of : (o : Option (List (Value pa_data))) → option_map (map pa_data_value) (option_map (map pa_data_of) o) ≡ o
+pub padata_value-of : (o : Option (List (Value pa_data))) → option_map (map pa_data_value) (option_map (map pa_data_of) o) ≡ o
 padata_value-of = list-back pa_data_of pa_data_value (λ p. refl)
 
 -- the values of a KDC-REQ-BODY, and the numbers that a KDC-REQ of either kind fixes
@@ -121,7 +121,7 @@ kdc_rep_value-of : (n : ℕ) (v : KdcRepValue) → pos 5 ≡ v.0 → pos n ≡ v
 kdc_rep_value-of n v p q f = same_pair _ _ p (same_pair _ _ q (search (padata_value-of, ticket_value-of)))
 
 -- the numbers that a KRB-ERROR fixes, and its microseconds
-micros_value-of : (z : ℤ) → pos 0 ≤ℤ z → pos (micros_of z) ≡ z
+pub micros_value-of : (z : ℤ) → pos 0 ≤ℤ z → pos (micros_of z) ≡ z
 micros_value-of (pos number) f = refl
 micros_value-of (negsuc number) f = absurd (omega (arith, ints, f))
 

@@ -1,13 +1,12 @@
 -- Lengths of several octets, and the items that stand first.
-use Rattle.std.proofs.Common.{◌≡◌, ℕ, zero, suc, ◌+◌, ◌-◌, ◌*◌, ◌^◌, ◌<◌, ◌≤◌, ◌⊎◌, inl, inr, List, [], ◌∷◌, ◌++◌, length, take, drop, get_or, refl, sym, ◌∙◌, ap, arith, append-nil, length-append, ◌≢◌}
+use Rattle.std.proofs.Common.{◌≡◌, ℕ, suc, ◌+◌, ◌-◌, ◌^◌, ◌<◌, ◌≤◌, ◌⊎◌, inl, inr, List, [], ◌∷◌, ◌++◌, length, take, drop, get_or, refl, sym, ◌∙◌, ap, arith, append-nil, length-append, ◌≢◌}
 use Rattle.std.proofs.lemmas.Bool.{cases_lt}
 use Rattle.std.proofs.lemmas.List.{take_at}
-use Rattle.std.proofs.Common.{drop_at}
 use Rattle.krb_der.specs.Octets.{AreOctets, number, length_octets, item}
-use Rattle.krb_der.specs.inner.Numbers.{spelled, IsShortest, IsShortest-spelled, number-fewest, AreOctets-spelled, length-spelled-le, spelled-number, number_from-ge}
+use Rattle.krb_der.specs.inner.Numbers.{spelled, IsShortest, IsShortest-spelled, number-fewest, AreOctets-spelled, length-spelled-le, spelled-number}
 use Rattle.std.proofs.lemmas.List.{take_all}
 use Rattle.krb_der.specs.inner.Items.{same_from_length_octets, length_octets-short, length_octets-long, length-item, item-append, same_from_cons, same_from_item}
-use Rattle.krb_msg.specs.Viewed.{HasNoItem, IsNoItem, HasNoLength}
+use Rattle.krb_msg.specs.Viewed.{HasNoItem, IsNoItem}
 
 -- ---- a long length that is there
 shortest : (digits : List ℕ) → AreOctets digits → 0 < length digits → get_or digits 0 0 ≢ 0 → IsShortest 256 digits

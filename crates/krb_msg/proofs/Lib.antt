@@ -34,3 +34,5 @@ pub mod WholeViews
 pub mod ShapeViews
 pub mod NotedViews
 pub mod MessageViews
+pub mod Copies
+pub mod SeenFits

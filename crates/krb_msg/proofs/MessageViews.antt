@@ -1,5 +1,5 @@
 -- A message as it is viewed: its first octet chooses the term by which it is judged.
-use Rattle.std.proofs.Common.{◌≡◌, ℕ, ◌^◌, ◌<◌, ◌≤◌, ◌⊎◌, inl, inr, true, false, if◌then◌else◌, eqb, eqb-true, List, [], ◌∷◌, length, get_or, Option, Some, None, refl, sym, ◌∙◌, ap, subst, arith}
+use Rattle.std.proofs.Common.{◌≡◌, ℕ, ◌^◌, ◌<◌, ◌⊎◌, inl, inr, true, false, if◌then◌else◌, eqb, eqb-true, List, [], ◌∷◌, length, get_or, Option, Some, None, refl, sym, ◌∙◌, ap, subst, arith}
 use Rattle.std.specs.Option.{unwrap_or}
 use Rattle.std.proofs.lemmas.Bool.{cases_Bool}
 use Rattle.krb_der.specs.Octets.{AreOctets}
@@ -10,7 +10,7 @@ use Rattle.krb_msg.specs.declared.message.Kind.TheVariants as kind
 use Rattle.krb_msg.specs.declared.message.Message.{Message}
 use Rattle.krb_msg.specs.Judgement.{judgement, term_judgement}
 use Rattle.krb_msg.specs.Laws.{AreMessage}
-use Rattle.krb_msg.specs.Reading.{message_read, message_of_kind, value_read, first_or_zero}
+use Rattle.krb_msg.specs.Reading.{message_read, message_of_kind}
 use Rattle.krb_msg.specs.Term.{Value, tag_of}
 use Rattle.krb_msg.specs.Views.{kind_of, kind_of_tag, kind_tag, kind_term, kind_with_tag, message_der, message_of, message_value, IsInProfile}
 use Rattle.krb_msg.specs.inner.Values.{der_is}

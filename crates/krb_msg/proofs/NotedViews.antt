@@ -1,5 +1,5 @@
 -- What notes hold of what is viewed.
-use Rattle.std.proofs.Common.{ℕ, ◌≡◌, Bool, false, ◌||◌, ◌∷◌, [], List, Option, Some, None, map, refl, sym, ap, ◌∙◌}
+use Rattle.std.proofs.Common.{ℕ, ◌≡◌, Bool, ◌||◌, ◌∷◌, [], List, Option, Some, None, map, refl, ap, ◌∙◌}
 use Rattle.std.specs.List.{list_any}
 use Rattle.std.specs.Option.{option_map}
 use Rattle.krb_msg.specs.Grammar.{ticket, principal_name, encrypted_data, host_address, pa_data, kdc_req_body, as_req, as_rep, krb_cred, krb_error}

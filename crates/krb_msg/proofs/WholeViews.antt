@@ -1,5 +1,5 @@
 -- What is viewed is what is judged whole.
-use Rattle.std.proofs.Common.{◌≡◌, ℕ, ◌^◌, ◌<◌, ◌≤◌, true, List, [], ◌∷◌, ◌++◌, length, take, refl, sym, ap, ◌∙◌, arith, append-nil}
+use Rattle.std.proofs.Common.{◌≡◌, ℕ, ◌^◌, ◌<◌, true, List, [], length, refl, sym, ap, ◌∙◌, arith, append-nil}
 use Rattle.std.proofs.lemmas.List.{take_all}
 use Rattle.krb_der.specs.Octets.{item, AreOctets}
 use Rattle.krb_der.specs.declared.verdict.Verdict.TheVariants as verdict

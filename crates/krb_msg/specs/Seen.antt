@@ -3,7 +3,7 @@ use Rattle.std.specs.Prelude.{ℕ, pos, ◌≡◌, ◌≤ℤ◌, ◌^◌, ◌<�
 use Rattle.std.specs.Option.{option_map}
 use Rattle.krb_der.specs.Scalars.{IsTimeFrom}
 use Rattle.krb_msg.specs.Term.{Value}
-use Rattle.krb_msg.specs.Grammar.{int32, kerberos_string, kerberos_time, encrypted_data, principal_name, pa_data, checksum, ticket, host_address, kdc_req_body, ap_req, ap_rep, krb_safe_body, krb_safe, krb_priv, krb_cred, krb_error}
+use Rattle.krb_msg.specs.Grammar.{int32, kerberos_string, encrypted_data, principal_name, pa_data, checksum, ticket, host_address, kdc_req_body, ap_req, ap_rep, krb_safe_body, krb_safe, krb_priv, krb_cred, krb_error}
 use Rattle.krb_msg.specs.Views.{KdcReqValue, KdcRepValue, encrypted_data_of, principal_name_of, pa_data_of, checksum_of, ticket_of, host_address_of, kdc_req_body_of, kdc_req_of, kdc_rep_of, ap_req_of, ap_rep_of, krb_safe_body_of, krb_safe_of, krb_priv_of, krb_cred_of, krb_error_of, kind_tag, message_der, IsInProfile}
 use Rattle.krb_der.specs.declared.profile.Profile.TheVariants.{Lenient}
 use Rattle.krb_der.specs.declared.verdict.Verdict.TheVariants.{Whole}
@@ -48,7 +48,6 @@ use Rattle.krb_msg.specs.declared.message.Message.TheVariants as message
 use Rattle.krb_msg.specs.declared.message_view.MessageView.{MessageView}
 use Rattle.krb_msg.specs.declared.message_view.MessageView.TheVariants as view
 use Rattle.krb_msg.specs.declared.view.scalars.FlagsView.{FlagsView}
-use Rattle.krb_msg.specs.declared.view.items.ItemsView.{ItemsView}
 
 -- ---- the parts of messages: each view as a value of its term, the value of the crate's type that it stands for, and what is known of what is seen: lists are items, times are times, microseconds are not negative, octets are fewer than 2147483648
 abbrev pub flags_seen : FlagsView → ℕ × List ℕ

@@ -1,8 +1,8 @@
 -- What octets are viewed as.
-use Rattle.std.specs.Prelude.{⊤, Bool, ℕ, ℤ, ◌+◌, ◌^◌, ◌<◌, ◌≡◌, ◌≤ℤ◌, true, false, List, ◌∷◌, ◌++◌, length, Option, Some, None}
+use Rattle.std.specs.Prelude.{⊤, Bool, ℕ, ℤ, ◌^◌, ◌<◌, ◌≡◌, ◌≤ℤ◌, true, false, List, ◌∷◌, ◌++◌, length, Option, Some, None}
 use Rattle.std.specs.List.{AllByRecursion, flat_map}
 use Rattle.krb_der.specs.Octets.{item, length_octets, integer_octets}
-use Rattle.krb_msg.specs.Term.{Term, Fields, Tagged, tag_of, Value, Values, der, der_of_fields, Fits, AllFit}
+use Rattle.krb_msg.specs.Term.{Term, Fields, tag_of, Value, Values, der, der_of_fields, Fits, AllFit}
 use Rattle.krb_msg.specs.Grammar.{sequence_of}
 use Rattle.krb_msg.specs.Reading.{begins_with, value_of, value_read}
 use Rattle.krb_msg.specs.Judgement.{term_judgement}

@@ -3,3 +3,4 @@ pub mod Told
 pub mod MessageTold
 pub mod RoundTrips
 pub mod Fitting
+pub mod Copies

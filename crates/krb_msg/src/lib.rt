@@ -1,11 +1,33 @@
-//! The messages of Kerberos V5 (RFC 4120, section 5 and appendix A) as values, and in `specs/`
-//! their grammar, their one DER form, the judgement of octets and the frames of a stream.
+//! The messages of Kerberos V5 (RFC 4120, section 5 and appendix A): as values, as octets, and as
+//! views of octets; and in `specs/` their grammar, their one DER form, the judgement of octets and
+//! the frames of a stream.
+//!
+//! A message is a [`Message`], an enum of ten kinds ([`Kind`]) whose fields are public. Its version
+//! and its message type are fixed by its kind, and so not kept. [`encode`] returns its DER octets,
+//! [`put`] appends them into room that is there, and [`size`] is their number.
+//!
+//! Octets are read in two ways. [`view_message`] judges and views a message where it stands, in one
+//! pass and with no memory: a [`MessageView`] has the same fields as plain numbers, borrowed octets
+//! and lists ([`ItemsView`], walked by [`next_item`]). [`MessageView::to_message`] copies it out as a
+//! `Message`. [`view_whole`] views an item of any type alone (the trait [`View`]), such as a
+//! [`Ticket`], and [`FromView`] copies it. [`decode`] makes the message of octets that are known to be
+//! one, from any [`Source`].
+//!
+//! [`notes_of`], and [`notes_of_view`] of a view, tell what of a message is unusual, and [`is_strict`]
+//! whether it is in the strict profile, too. [`grammar`] is the table by which octets are judged, and
+//! [`law`] has the laws about all this.
+//!
+//! Nothing here says why octets are no message, nor where that shows: `krb_judge` does, and `krb_scan`
+//! of octets that come one after another. Views are of the lenient profile. No cipher is opened, and
+//! what a field means is not looked into: not whether a time exists, nor whom a name names. Only what
+//! encodes, decodes or copies takes memory, and it says if there was none.
 //!
 //! `specs/` reads from the bottom: `Term` (terms, their values and the DER of a value), `Profiles`
-//! (what the strict profile narrows), `Grammar` (appendix A as terms), `Judgement` (what the octets present of a message decide), `Stream` (the
-//! frames of a stream), `Views` (the types of this crate as values of terms), and `Laws`, which
-//! the functions of [`law`] prove. `Nodes` and `Table` say what the table of the grammar, of
-//! [`grammar`], has to do with the terms; on the files of
+//! (what the strict profile narrows), `Grammar` (appendix A as terms), `Judgement` (what the octets
+//! present of a message decide), `Stream` (the frames of a stream), `Views` (the types of this crate
+//! as values of terms), `Reading` (the value that octets are read as), `Viewed` and `Seen` (what octets
+//! are viewed as, and what a view stands for), and `Laws`, which the functions of [`law`] prove.
+//! `Nodes` and `Table` say what the table of the grammar has to do with the terms; on the files of
 //! `specs/inner` the laws of `Der` stand.
 #![tactic(auto)]
 
@@ -13,6 +35,7 @@ mod ap_rep;
 mod ap_req;
 mod checksum;
 mod contents;
+mod copying;
 mod decoding;
 mod encoding;
 mod encrypted_data;
@@ -44,6 +67,7 @@ pub use ap_rep::{ApRep, ApRepView};
 pub use ap_req::{ApReq, ApReqView};
 pub use checksum::{Checksum, ChecksumView};
 pub use contents::{has_bits, is_padded, is_time_octet};
+pub use copying::FromView;
 pub use decoding::{decode, decode_whole, whole_kind};
 pub use encoding::{EncodeFault, encode, put, size};
 pub use encrypted_data::{EncryptedData, EncryptedDataView};

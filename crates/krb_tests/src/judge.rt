@@ -9,6 +9,7 @@ use krb_judge::{
     ParseFault, TicketView, judge_in, parse, parse_in, parse_method_data, parse_ticket,
     parse_ticket_in, read_ticket,
 };
+use krb_msg::{Message, view_message};
 use std::alloc::Global;
 use std::fmt::Debug;
 use std::test::Fail;
@@ -80,11 +81,30 @@ fn parsed(alloc: Global, profile: Profile, frame: &str) -> Result<String, Fail> 
     shown(alloc, parse_in(alloc, profile, octets.as_slice()))
 }
 
+/// The message that octets are, copied out of a view of them. Of other octets memory is the fault.
+fn copy_of(alloc: Global, octets: &[u8]) -> Result<Message, ParseFault> {
+    if octets.len() >= 0x8000_0000 {
+        return Err(ParseFault::Memory);
+    }
+    match view_message(octets) {
+        Some(view) => Ok(view.to_message(alloc)?),
+        None => Err(ParseFault::Memory),
+    }
+}
+
+/// What is shown of the message of a frame that is copied out of a view of it.
+fn copied(alloc: Global, frame: &str) -> Result<String, Fail> {
+    let octets = contents(alloc, frame)?;
+    shown(alloc, copy_of(alloc, octets.as_slice()))
+}
+
 #[test]
 fn reads_messages(rt: HostRuntime) -> Result<(), Fail> {
     for (frame, text) in MESSAGES {
         let lenient = parsed(rt.alloc(), Profile::Lenient, frame)?;
         assert_eq!(rt; lenient.as_str(), text);
+        let copy = copied(rt.alloc(), frame)?;
+        assert_eq!(rt; copy.as_str(), text);
         let strict = parsed(rt.alloc(), Profile::Strict, frame)?;
         assert!(rt; strict.as_str() == text || frame == AS_REQ);
     }

@@ -1,7 +1,6 @@
-use Rattle.std.proofs.Common.{◌≡◌, ◌<◌, length, [], arith, rules, refl}
+use Rattle.std.proofs.Common.{◌≡◌, ◌<◌, length, arith, rules, refl}
 use Rattle.std.proofs.lemmas.List.{nil_from_length}
 use Rattle.krb_msg.proofs.Lengths.{item_small}
-use Rattle.krb_msg.proofs.FieldViews.{match_none}
 use Rattle.krb_msg.proofs.ItemViews.{none_passed, passed_smaller, passed_more, all_passed, no_items, no_first, many_none, many_some}
 use Rattle.krb_msg.proofs.view.items.are_items.Goals as goal
 

@@ -1,0 +1,13 @@
+use Rattle.std.proofs.Common.{refl}
+use Rattle.krb_msg.specs.Views.{pa_data_of}
+use Rattle.krb_msg.proofs.copying.messages.copy_kdc_rep.Goals as goal
+
+pub returns : goal.returns
+returns c =
+    λ i. record {
+      padata = c.in_ok-copy_item_option.ensures pa_data_of (λ seen. refl) i;
+      crealm = c.in_ok-from_view.ensures i;
+      cname = c.in_ok-from_view-2.ensures i;
+      ticket = c.in_ok-from_view-3.ensures i;
+      enc_part = c.in_ok-from_view-4.ensures i;
+    }

@@ -1,0 +1,11 @@
+-- Lists that are copied, by what is known of a copy of each item.
+use Rattle.std.specs.Prelude.{◌≡◌, List, map, Option}
+use Rattle.std.specs.Option.{option_map}
+
+-- The items that values of a term stand for, in order: `value` is what is seen of one as such a value, and `copied` the item.
+abbrev pub AreCopies : {Seen Of Copy : Type 0} → (value : Seen → Of) → (copied : Seen → Copy) → List Of → List Copy → Type 0
+AreCopies {Seen = Seen} {Of = Of} {Copy = Copy} value copied values copies = (of : Of → Copy) → ((seen : Seen) → copied seen ≡ of (value seen)) → copies ≡ map of values
+
+-- and of a list that may be left out
+abbrev pub MayBeCopies : {Seen Of Copy : Type 0} → (value : Seen → Of) → (copied : Seen → Copy) → Option (List Of) → Option (List Copy) → Type 0
+MayBeCopies {Seen = Seen} {Of = Of} {Copy = Copy} value copied values copies = (of : Of → Copy) → ((seen : Seen) → copied seen ≡ of (value seen)) → copies ≡ option_map (map of) values
