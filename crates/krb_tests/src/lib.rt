@@ -26,6 +26,8 @@ mod keytab;
 #[cfg(test)]
 mod list;
 #[cfg(test)]
+mod registry;
+#[cfg(test)]
 mod runs;
 #[cfg(test)]
 mod scan;

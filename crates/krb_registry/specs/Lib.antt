@@ -1,0 +1,12 @@
+pub mod EncryptionTypes
+pub mod ChecksumTypes
+pub mod PreAuthenticationData
+pub mod ErrorCodes
+pub mod KdcOptions
+pub mod ApOptions
+pub mod TicketFlags
+pub mod NameTypes
+pub mod AddressTypes
+pub mod Notes
+pub mod Rows
+pub mod Laws
