@@ -15,7 +15,8 @@ from reference.grammar import (
     Tagged,
     Time,
 )
-from reference.messages import CODES, LIMIT, MOST_TEXT
+from reference.messages import LIMIT, MOST_TEXT
+from reference.values import NAMED_CODES
 
 # How much more often than the tag or the length of an item other parts are wrong: else faults in them
 # would be few.
@@ -139,7 +140,7 @@ class Maker:
     def field(self, field):
         """A field: as its type says, but that most errors have a code with a name, and METHOD-DATA."""
         if field.name == "error-code" and self.dice.random() < 0.8:
-            code = self.dice.choice([*CODES, 25, 25, 25, 25, 25])
+            code = self.dice.choice([*NAMED_CODES, 25, 25, 25, 25, 25])
             return self.item(Tagged(field.item.tag, Integer(code, code, 4)))
         if field.name == "e-data" and self.dice.random() < 0.8:
             return self.wrapped(field.item.tag, self.wrapped(0x04, self.item(METHOD_DATA)))

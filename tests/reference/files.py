@@ -1,32 +1,30 @@
-"""The listings of keytabs and of credential caches."""
-
-import time
+"""The records of keytabs and of credential caches."""
 
 from .grammar import TICKET
-from .judging import REASONS, Refused, fault, whole
+from .judging import Refused, whole
 from .messages import ticket_server
-from .texts import line, principal, sealed
+from .records import Record, refused
+from .registries import ENCRYPTION_TYPES, NAME_TYPES
+from .values import (
+    ABSENT,
+    NO_TICKET,
+    count,
+    file_time,
+    named,
+    number,
+    offset,
+    principal,
+    refused_ticket,
+    sealed,
+    ticket_flags,
+    word,
+    yes_or_no,
+)
 
 # how many octets a field of octets may have
 FIELD_LIMIT = 16777216
 
 FILE_REASONS = "Magic Version Truncated Overrun TooLong".split()
-
-TICKET_FLAGS = {
-    1: "forwardable",
-    2: "forwarded",
-    3: "proxiable",
-    4: "proxy",
-    5: "may-postdate",
-    6: "postdated",
-    7: "invalid",
-    8: "renewable",
-    9: "initial",
-    10: "pre-authent",
-    11: "hw-authent",
-    12: "transited-policy-checked",
-    13: "ok-as-delegate",
-}
 
 
 class Fields:
@@ -66,24 +64,19 @@ class Fields:
         return self.place >= len(self.octets)
 
 
-def file_time(seconds):
-    """T"""
-    return time.strftime("%Y-%m-%dT%H:%M:%SZ", time.gmtime(seconds)) if seconds else "-"
-
-
-def file_listing(lines_of, octets):
-    """The lines of a file up to its end or its refusal, and the status of the program."""
-    lines = []
+def file_listing(records_of, octets):
+    """The records of a file up to its end or its refusal, and the status of the program."""
+    records = []
     try:
-        for one in lines_of(octets):
-            lines.append(one)
+        for one in records_of(octets):
+            records.append(one)
     except Refused as refusal:
-        return [*lines, f"refused {fault(refusal, FILE_REASONS)}"], 1
-    return lines, 0
+        return [*records, refused(refusal, reasons=FILE_REASONS)], 1
+    return records, 0
 
 
 def entry(fields):
-    """The line of an entry, of which the length was taken and is the room."""
+    """The record of an entry, of which the length was taken and is the room."""
     components = fields.number(2)
     realm = fields.data(2)
     names = [fields.data(2) for _ in range(components)]
@@ -96,40 +89,39 @@ def entry(fields):
     if len(rest) >= 4:
         kvno = int.from_bytes(rest[:4], "big") or kvno
     shown = {
-        "principal": principal(names, realm),
-        "type": name_type,
+        "principal": principal(name_type, names, realm),
+        "type": named(name_type, NAME_TYPES),
         "time": file_time(written),
-        "kvno": kvno,
-        "enctype": enctype,
-        "key": len(key),
-        "rest": len(rest),
+        "kvno": number(kvno),
+        "enctype": named(enctype, ENCRYPTION_TYPES),
+        "key": count(key),
+        "rest": count(rest),
     }
-    return line("entry", shown)
+    return Record("entry", shown)
 
 
-def keytab_lines(octets):
+def keytab_records(octets):
     fields = Fields(octets)
     fields.version(0x02)
     records = 0
-    zero = "no"
+    zero = False
     while not fields.at_end():
         size = fields.number(4, signed=True)
         if size == 0:
-            zero = "yes"
+            zero = True
             break
         if size > 0:
             fields.room_end = fields.place + size
             yield entry(fields)
             fields.room_end = None
         else:
-            clean = "no" if any(fields.take(-size)) else "yes"
-            yield f"hole size={-size} clean={clean}"
+            yield Record("hole", {"size": number(-size), "clean": yes_or_no(not any(fields.take(-size)))})
         records += 1
-    yield f"end records={records} zero={zero}"
+    yield Record("end", {"records": number(records), "zero": yes_or_no(zero)})
 
 
 def keytab(octets):
-    return file_listing(keytab_lines, octets)
+    return file_listing(keytab_records, octets)
 
 
 def header(fields):
@@ -143,12 +135,11 @@ def header(fields):
     return found
 
 
-def offset(header_fields):
+def clock_offset(header_fields):
     value = next((value for tag, value in header_fields if tag == 1 and len(value) == 8), None)
     if value is None:
-        return "-"
-    seconds, micros = (int.from_bytes(part, "big", signed=True) for part in (value[:4], value[4:]))
-    return f"{seconds}:{micros}"
+        return ABSENT
+    return offset(*(int.from_bytes(part, "big", signed=True) for part in (value[:4], value[4:])))
 
 
 def file_principal(fields):
@@ -173,29 +164,27 @@ def typed_items(fields):
     return items
 
 
-def ticket_flags(value):
-    """G"""
-    set_bits = [bit for bit in range(32) if value & 1 << 31 - bit]
-    shown = ",".join(TICKET_FLAGS[bit] for bit in set_bits if bit in TICKET_FLAGS) or "-"
-    others = sum(1 << 31 - bit for bit in set_bits if bit not in TICKET_FLAGS)
-    return f"{shown}+{others:08x}" if others else shown
-
-
-def ticket_texts(octets):
+def ticket_and_server(octets):
     """K, and the server of the Ticket."""
     if not octets:
-        return "absent", "-"
+        return NO_TICKET, ABSENT
     try:
         ticket = whole(octets, {"Ticket": TICKET})[1]
     except Refused as refusal:
-        return f"refused:{refusal.place}:{REASONS.index(refusal.why) + 1}", "-"
+        return refused_ticket(refusal), ABSENT
     return sealed(ticket["enc-part"]), ticket_server(ticket)
 
 
+def state(end, now):
+    if now is None:
+        return ABSENT
+    return word("live" if now < end else "expired")
+
+
 def credential(fields, version, now):
-    """The line of a credential or of a configuration entry."""
-    _, client_names, client_realm = file_principal(fields)
-    _, server_names, server_realm = file_principal(fields)
+    """The record of a credential or of a configuration entry."""
+    client = file_principal(fields)
+    server = file_principal(fields)
     enctype = fields.number(2)
     if version == 3:
         fields.number(2)
@@ -207,51 +196,46 @@ def credential(fields, version, now):
     authdata = typed_items(fields)
     ticket = fields.data(4)
     second = fields.data(4)
-    named = {
-        "client": principal(client_names, client_realm),
-        "server": principal(server_names, server_realm),
-    }
+    whose = {"client": principal(*client), "server": principal(*server)}
+    _, server_names, server_realm = server
     if server_realm == b"X-CACHECONF:" and server_names[:1] == [b"krb5_ccache_conf_data"]:
-        return line("config", {**named, "size": len(ticket)})
-    state = "-"
-    if now is not None:
-        state = "live" if now < times[2] else "expired"
-    sealed_part, ticket_principal = ticket_texts(ticket)
+        return Record("config", {**whose, "size": count(ticket)})
+    ticket_part, ticket_principal = ticket_and_server(ticket)
     shown = {
-        **named,
-        "enctype": enctype,
-        "key": len(key),
+        **whose,
+        "enctype": named(enctype, ENCRYPTION_TYPES),
+        "key": count(key),
         **dict(zip(("auth", "start", "end", "renew"), map(file_time, times))),
-        "skey": is_skey,
+        "skey": number(is_skey),
         "flags": ticket_flags(flags),
-        "state": state,
-        "addresses": addresses,
-        "authdata": authdata,
-        "ticket": sealed_part,
+        "state": state(times[2], now),
+        "addresses": number(addresses),
+        "authdata": number(authdata),
+        "ticket": ticket_part,
         "tserver": ticket_principal,
-        "second": len(second),
+        "second": count(second),
     }
-    return line("cred", shown)
+    return Record("cred", shown)
 
 
-def ccache_lines(octets, now):
+def ccache_records(octets, now):
     fields = Fields(octets)
     version = fields.version(3, 4)
     header_fields = header(fields) if version == 4 else []
-    name_type, names, realm = file_principal(fields)
+    owner = file_principal(fields)
     shown = {
-        "principal": principal(names, realm),
-        "type": name_type,
-        "offset": offset(header_fields),
-        "fields": len(header_fields),
+        "principal": principal(*owner),
+        "type": named(owner[0], NAME_TYPES),
+        "offset": clock_offset(header_fields),
+        "fields": count(header_fields),
     }
-    yield line("cache", shown)
+    yield Record("cache", shown)
     credentials = 0
     while not fields.at_end():
         yield credential(fields, version, now)
         credentials += 1
-    yield f"end credentials={credentials}"
+    yield Record("end", {"credentials": number(credentials)})
 
 
 def ccache(octets, now=None):
-    return file_listing(lambda octets: ccache_lines(octets, now), octets)
+    return file_listing(lambda octets: ccache_records(octets, now), octets)

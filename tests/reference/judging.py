@@ -185,8 +185,3 @@ def whole(octets, choices=MESSAGES):
     if not octets:
         raise Refused(0, "Empty")
     return judge(octets, len(octets), choices)
-
-
-def fault(refusal, reasons=REASONS):
-    """The place and the reason at the end of a line."""
-    return f"place={refusal.place} why={reasons.index(refusal.why) + 1} {refusal.why}"

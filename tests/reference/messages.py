@@ -1,25 +1,30 @@
-"""The lines of messages, with their notes, and the listings of streams and of a message in hexadecimal."""
+"""The records of messages, with their notes, and those of streams and of a message in hexadecimal."""
 
 from .grammar import MESSAGES, METHOD_DATA, STRICT_MESSAGES, Bits, ListOf, Sequence, String, Tagged
-from .judging import Ended, Refused, fault, judge, whole
-from .texts import ascii_text, count, escaped, line, numbers, optional, principal, quoted, sealed
+from .judging import Ended, Refused, judge, whole
+from .records import Record, refused
+from .registries import AP_OPTIONS, ENCRYPTION_TYPES, KDC_OPTIONS, NOTES, PA_DATA_TYPES
+from .values import (
+    ABSENT,
+    address,
+    checksum,
+    count,
+    error_code,
+    flags,
+    message_time,
+    number,
+    numbers,
+    optional,
+    principal,
+    quoted,
+    sealed,
+    string,
+    word,
+)
 
 LIMIT = 16777216
 
 MOST_TEXT = 16777216
-
-CODES = {
-    6: "KDC_ERR_C_PRINCIPAL_UNKNOWN",
-    7: "KDC_ERR_S_PRINCIPAL_UNKNOWN",
-    14: "KDC_ERR_ETYPE_NOSUPP",
-    24: "KDC_ERR_PREAUTH_FAILED",
-    25: "KDC_ERR_PREAUTH_REQUIRED",
-    37: "KRB_AP_ERR_SKEW",
-    52: "KRB_ERR_RESPONSE_TOO_BIG",
-    60: "KRB_ERR_GENERIC",
-    61: "KRB_ERR_FIELD_TOOLONG",
-}
-
 
 def notes(item, value, field=""):
     """The numbers of what is to be noted of a value, which stands in some field, and of all its parts."""
@@ -47,19 +52,18 @@ def notes(item, value, field=""):
     return found
 
 
-def bits_of(flags):
-    unused, octets = flags
+def bits_of(value):
+    unused, octets = value
     return 8 * len(octets) - unused
 
 
-def flags(value):
-    """F"""
-    return f"{bits_of(value)}:{value[1].hex()}"
+def options(value, registry):
+    return flags(bits_of(value), value[1], registry)
 
 
 def name_in(realm):
     """What shows a PrincipalName in a realm."""
-    return lambda name: principal(name["name-string"], realm)
+    return lambda name: principal(name["name-type"], name["name-string"], realm)
 
 
 def ticket_server(ticket):
@@ -68,22 +72,22 @@ def ticket_server(ticket):
 
 def types(items):
     """LIST of the types of PA-DATA."""
-    return numbers(item["padata-type"] for item in items)
+    return numbers([item["padata-type"] for item in items], PA_DATA_TYPES)
 
 
 def request(value):
     body = value["req-body"]
     shown_name = name_in(body["realm"])
     return {
-        "realm": escaped(body["realm"]),
+        "realm": string(body["realm"]),
         "client": optional(shown_name, body.get("cname")),
         "server": optional(shown_name, body.get("sname")),
-        "options": flags(body["kdc-options"]),
-        "from": optional(ascii_text, body.get("from")),
-        "till": ascii_text(body["till"]),
-        "rtime": optional(ascii_text, body.get("rtime")),
-        "nonce": body["nonce"],
-        "etypes": numbers(body["etype"]),
+        "options": options(body["kdc-options"], KDC_OPTIONS),
+        "from": optional(message_time, body.get("from")),
+        "till": message_time(body["till"]),
+        "rtime": optional(message_time, body.get("rtime")),
+        "nonce": number(body["nonce"]),
+        "etypes": numbers(body["etype"], ENCRYPTION_TYPES),
         "padata": optional(types, value.get("padata")),
         "addresses": optional(count, body.get("addresses")),
         "authdata": optional(sealed, body.get("enc-authorization-data")),
@@ -104,7 +108,7 @@ def reply(value):
 def ap_request(value):
     return {
         "server": ticket_server(value["ticket"]),
-        "options": flags(value["ap-options"]),
+        "options": options(value["ap-options"], AP_OPTIONS),
         "ticket": sealed(value["ticket"]["enc-part"]),
         "auth": sealed(value["authenticator"]),
     }
@@ -114,22 +118,16 @@ def ap_reply(value):
     return {"enc": sealed(value["enc-part"])}
 
 
-def address(value):
-    """H"""
-    return f"{value['addr-type']}:{value['address'].hex()}"
-
-
 def safe(value):
     body = value["safe-body"]
-    checksum = value["cksum"]
     return {
         "size": count(body["user-data"]),
-        "time": optional(ascii_text, body.get("timestamp")),
-        "usec": optional(str, body.get("usec")),
-        "seq": optional(str, body.get("seq-number")),
+        "time": optional(message_time, body.get("timestamp")),
+        "usec": optional(number, body.get("usec")),
+        "seq": optional(number, body.get("seq-number")),
         "sender": address(body["s-address"]),
         "receiver": optional(address, body.get("r-address")),
-        "cksum": f"{checksum['cksumtype']}:{count(checksum['checksum'])}",
+        "cksum": checksum(value["cksum"]),
     }
 
 
@@ -144,29 +142,28 @@ def credentials(value):
 def methods(value):
     """LIST of the types in the METHOD-DATA of an error, if there are any."""
     if value["error-code"] != 25 or "e-data" not in value:
-        return None
+        return ABSENT
     try:
         return types(whole(value["e-data"], {"METHOD-DATA": METHOD_DATA})[1])
     except Refused:
-        return None
+        return ABSENT
 
 
 def error(value):
-    code = value["error-code"]
-    client = "-"
+    client = ABSENT
     if "cname" in value and "crealm" in value:
         client = name_in(value["crealm"])(value["cname"])
     return {
-        "code": f"{code}:{CODES[code]}" if code in CODES else code,
+        "code": error_code(value["error-code"]),
         "client": client,
         "server": name_in(value["realm"])(value["sname"]),
-        "ctime": optional(ascii_text, value.get("ctime")),
-        "cusec": optional(str, value.get("cusec")),
-        "stime": ascii_text(value["stime"]),
-        "susec": value["susec"],
+        "ctime": optional(message_time, value.get("ctime")),
+        "cusec": optional(number, value.get("cusec")),
+        "stime": message_time(value["stime"]),
+        "susec": number(value["susec"]),
         "text": optional(quoted, value.get("e-text")),
         "data": optional(count, value.get("e-data")),
-        "methods": optional(str, methods(value)),
+        "methods": methods(value),
     }
 
 
@@ -184,13 +181,13 @@ FIELDS = {
 }
 
 
-def message_line(name, value):
-    noted = numbers(sorted(notes(MESSAGES[name], value)))
-    return line(name, {**FIELDS[name](value), "notes": noted})
+def message_record(name, value):
+    noted = sorted(notes(MESSAGES[name], value))
+    return Record(name, {**FIELDS[name](value), "notes": numbers(noted, NOTES)})
 
 
 def frame(octets, limit, messages):
-    """The line of the message at the front of a stream, and the size of its frame."""
+    """The record of the message at the front of a stream, and the size of its frame."""
     if len(octets) < 4:
         raise Refused(len(octets), "Truncated")
     n = int.from_bytes(octets[:4], "big")
@@ -198,7 +195,7 @@ def frame(octets, limit, messages):
         if holds:
             raise Refused(3, why)
     try:
-        return message_line(*judge(octets[4 : 4 + n], n, messages)), 4 + n
+        return message_record(*judge(octets[4 : 4 + n], n, messages)), 4 + n
     except Refused as refusal:
         raise Refused(refusal.place + 4, refusal.why) from None
     except Ended:
@@ -206,47 +203,53 @@ def frame(octets, limit, messages):
 
 
 def stream(octets, limit=LIMIT, messages=MESSAGES):
-    """The lines of a stream of frames, and the status of the program."""
-    lines = []
+    """The records of a stream of frames, and the status of the program."""
+    records = []
     while octets:
+        found = {"messages": number(len(records))}
         try:
-            text, size = frame(octets, limit, messages)
+            record, size = frame(octets, limit, messages)
         except Refused as refusal:
-            return [*lines, f"refused messages={len(lines)} {fault(refusal)}"], 1
-        lines.append(text)
+            return [*records, refused(refusal, found)], 1
+        records.append(record)
         octets = octets[size:]
-    return [*lines, f"end messages={len(lines)}"], 0
+    return [*records, Record("end", {"messages": number(len(records))})], 0
 
 
 def stream_going_on(octets, limit=LIMIT, messages=MESSAGES):
     """The same of a stream in which one goes on after a frame that is refused, where that one ends."""
-    lines, found, refused = [], 0, 0
+    records, found, faults = [], 0, 0
     while octets:
         try:
-            text, size = frame(octets, limit, messages)
+            record, size = frame(octets, limit, messages)
             found += 1
         except Refused as refusal:
-            text = f"refused messages={found} {fault(refusal)}"
+            record = refused(refusal, {"messages": number(found)})
             size = 4 + int.from_bytes(octets[:4], "big")
-            refused += 1
+            faults += 1
             if refusal.why in ("HighBit", "Truncated"):
                 size = len(octets)
-        lines.append(text)
+        records.append(record)
         octets = octets[size:]
-    return [*lines, f"end messages={found} refused={refused}"], min(refused, 1)
+    return [*records, Record("end", {"messages": number(found), "refused": number(faults)})], min(faults, 1)
+
+
+def refused_input(why):
+    """A refusal of text that stands for no octets."""
+    return Record("refused", {"input": word(why)})
 
 
 def message(text, messages=MESSAGES):
     """The same of one message in hexadecimal."""
     if len(text) > MOST_TEXT:
-        return ["refused length"], 1
+        return [refused_input("length")], 1
     digits = text.translate(None, delete=b" \t\r\n")
     if len(digits) % 2 != 0 or digits.strip(b"0123456789abcdefABCDEF"):
-        return ["refused hex"], 1
+        return [refused_input("hex")], 1
     try:
-        return [message_line(*whole(bytes.fromhex(digits.decode("ascii")), messages))], 0
+        return [message_record(*whole(bytes.fromhex(digits.decode("ascii")), messages))], 0
     except Refused as refusal:
-        return [f"refused {fault(refusal)}"], 1
+        return [refused(refusal)], 1
 
 
 def strict_stream(octets):

@@ -8,7 +8,7 @@ use krb_file::{Field, FieldLimit, FieldReader, FileFault, SliceReader, String16}
 use krb_frame::{Decoder, Limit, Status, frame};
 use krb_judge::{ParseFault, judge, parse, read_ticket};
 use krb_keytab::{Next, Record, Records};
-use krb_list::{message_line, principal_text};
+use krb_list::{Form, message_line, principal_text};
 use krb_msg::{ApRep, EncodeFault, EncryptedData, Kind, Message, PrincipalName, encode};
 use krb_scan::Scanner;
 use krb_tool::{run_keytab, status};
@@ -136,7 +136,7 @@ fn upgraded(alloc: Global, file: &[u8]) -> Result<Ccache, FileFault> {
 /// The line of an AP-REP, as `krbls` prints it.
 fn line_of(alloc: Global, sealed: &[u8]) -> Result<String, Memory> {
     let message = ap_rep(alloc, sealed)?;
-    message_line(alloc, &message)
+    message_line(alloc, Form::Lines, &message)
 }
 
 /// The text of a user's name in a realm.

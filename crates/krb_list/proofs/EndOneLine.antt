@@ -1,67 +1,57 @@
--- All that the lines of refusals and of the ends of streams show is printable, and then there is one line feed.
-use Rattle.std.proofs.Common.{ℕ, List, ◌++◌, refl, codes}
-use Rattle.krb_file.specs.Faults.{file_reason_number, file_reason_name}
+-- What is printed of refusals, ends and the names of files is one line.
+use Rattle.std.proofs.Common.{◌≡◌, ℕ, true, List, ◌++◌, refl, codes}
+use Rattle.std.specs.List.{list_all}
+use Rattle.krb_der.specs.Octets.{AreOctets}
 use Rattle.krb_der.specs.Reasons.{reason_number, reason_name}
-use Rattle.krb_file.specs.declared.fault.FileWhy.{FileWhy}
-use Rattle.krb_file.specs.declared.fault.FileWhy.TheVariants as files
 use Rattle.krb_der.specs.declared.verdict.Refusal.{Refusal}
 use Rattle.krb_der.specs.declared.why.Why.{Why}
 use Rattle.krb_der.specs.declared.why.Why.TheVariants as whys
+use Rattle.krb_file.specs.Faults.{file_reason_number, file_reason_name}
+use Rattle.krb_file.specs.declared.fault.FileWhy.{FileWhy}
 use Rattle.krb_msg.specs.Stream.{End, Boundary, Within, Refused}
+use Rattle.krb_list.specs.declared.form.Form.{Form}
+use Rattle.krb_list.specs.declared.form.Form.TheVariants as forms
+use Rattle.krb_list.specs.Files.{file_line, file_record}
+use Rattle.krb_list.specs.Forms.{record_line}
 use Rattle.krb_list.specs.Laws.{IsOneLine}
+use Rattle.krb_list.specs.Refusals.{fault_record, file_refused_line, message_refused_line, input_refused_line}
+use Rattle.krb_list.specs.Streams.{counted_end_line, counted_end_record, end_line, end_record, refused_line, refused_record}
 use Rattle.krb_list.specs.Text.{line_feed}
-use Rattle.krb_list.specs.Refusals.{fault_text, file_refused_line, message_refused_line}
-use Rattle.krb_list.specs.Streams.{refused_line, end_line, counted_end_line}
-use Rattle.krb_list.proofs.OneLine.{Prints, word, join, number}
-
-file_name : (reason : FileWhy) → Prints (file_reason_name reason)
-file_name files.Magic = word _ refl
-file_name files.Version = word _ refl
-file_name files.Truncated = word _ refl
-file_name files.Overrun = word _ refl
-file_name files.TooLong = word _ refl
-
-name : (reason : Why) → Prints (reason_name reason)
-name whys.HighBit = word _ refl
-name whys.TooLong = word _ refl
-name whys.Empty = word _ refl
-name whys.Tag = word _ refl
-name whys.Overrun = word _ refl
-name whys.Indefinite = word _ refl
-name whys.LengthWide = word _ refl
-name whys.LengthNotMinimal = word _ refl
-name whys.Loose = word _ refl
-name whys.Size = word _ refl
-name whys.IntegerNotMinimal = word _ refl
-name whys.Range = word _ refl
-name whys.Time = word _ refl
-name whys.Bits = word _ refl
-name whys.Missing = word _ refl
-name whys.Truncated = word _ refl
-name whys.Charset = word _ refl
-
-fault : (place n : ℕ) {text : List ℕ} → Prints text → Prints (fault_text place n text)
-unfolding fault_text
-fault place n text =
-    join (join (join (join (join (word (codes " place=") refl) (number place)) (word (codes " why=") refl)) (number n)) (word (codes " ") refl)) text
+use Rattle.krb_list.specs.Values.{Printed}
+use Rattle.krb_list.proofs.Printable.{Prints, is_printable, word}
+use Rattle.krb_list.proofs.Reasons as reasons
+use Rattle.krb_list.proofs.EachForm.{AreShown, names_are_plain, record_prints}
 
 ended : {text : List ℕ} → Prints text → IsOneLine (text ++ line_feed)
 ended {text} h = (text, h.all, refl)
 
-pub file_line : (place : ℕ) (reason : FileWhy) → IsOneLine (file_refused_line place reason)
-file_line place reason = ended (join (word (codes "refused") refl) (fault place (file_reason_number reason) (file_name reason)))
+-- a record of plain names whose values are shown
+pub one_line : (form : Form) (r : Printed) → list_all is_printable r.kind ≡ true → names_are_plain r.fields ≡ true → AreShown r.fields → IsOneLine (record_line form r)
+one_line form r kind names h = ended (record_prints form r kind names h)
 
-pub message_line : (refusal : Refusal) → IsOneLine (message_refused_line refusal)
-message_line refusal = ended (join (word (codes "refused") refl) (fault refusal.place (reason_number refusal.why) (name refusal.why)))
+pub file_refused : (form : Form) (place : ℕ) (reason : FileWhy) → IsOneLine (file_refused_line form place reason)
+file_refused form place reason =
+    one_line form (fault_record place (file_reason_number reason) (file_reason_name reason)) refl refl (tt, ((reasons.file_name reason).all, tt))
 
-refused : (messages place : ℕ) (reason : Why) → IsOneLine (refused_line messages place reason)
-refused messages place reason = ended (join (join (word (codes "refused messages=") refl) (number messages)) (fault place (reason_number reason) (name reason)))
+pub message_refused : (form : Form) (refusal : Refusal) → IsOneLine (message_refused_line form refusal)
+message_refused form refusal =
+    one_line form (fault_record refusal.place (reason_number refusal.why) (reason_name refusal.why)) refl refl (tt, ((reasons.name refusal.why).all, tt))
 
-pub end_of_stream : (messages : ℕ) (end : End) → IsOneLine (end_line messages end)
-end_of_stream messages Boundary = ended (join (word (codes "end messages=") refl) (number messages))
-end_of_stream messages (Within present) = refused messages present whys.Truncated
-end_of_stream messages (Refused place reason) = refused messages place reason
+pub input_refused : (form : Form) → IsOneLine (input_refused_line form)
+input_refused forms.Lines = ended (word (codes "refused hex") refl)
+input_refused forms.NamedLines = ended (word (codes "refused hex") refl)
+input_refused forms.Json = ended (word (codes "{\"kind\":\"refused\",\"input\":\"hex\"}") refl)
 
-pub counted_end : (messages refused : ℕ) → IsOneLine (counted_end_line messages refused)
-counted_end messages refused =
-    ended (join (join (join (word (codes "end messages=") refl) (number messages)) (word (codes " refused=") refl)) (number refused))
+refused : (form : Form) (messages place : ℕ) (reason : Why) → IsOneLine (refused_line form messages place reason)
+refused form messages place reason = one_line form (refused_record messages place reason) refl refl (tt, (tt, ((reasons.name reason).all, tt)))
+
+pub end_of_stream : (form : Form) (messages : ℕ) (end : End) → IsOneLine (end_line form messages end)
+end_of_stream form messages Boundary = one_line form (end_record messages Boundary) refl refl (tt, tt)
+end_of_stream form messages (Within present) = refused form messages present whys.Truncated
+end_of_stream form messages (Refused place reason) = refused form messages place reason
+
+pub counted_end : (form : Form) (messages refused : ℕ) → IsOneLine (counted_end_line form messages refused)
+counted_end form messages refused = one_line form (counted_end_record messages refused) refl refl (tt, (tt, tt))
+
+pub file : (form : Form) (name : List ℕ) → AreOctets name → IsOneLine (file_line form name)
+file form name h = one_line form (file_record name) refl refl (h, tt)

@@ -12,6 +12,7 @@ use Rattle.hex.specs.Hex.{lower_digits, encode_lower, encode_with}
 use Rattle.hex.proofs.HexLemmas.{IsAscii-encode_with}
 use Rattle.krb_der.specs.Octets.{AreOctets}
 use Rattle.krb_list.specs.Text.{hex}
+use Rattle.krb_list.specs.Forms.{four_octets}
 use Rattle.krb_list.specs.TicketFlags.{eight_hex}
 
 digits_are : lower_digits ≡ map (digit_glyph false) (range_with_len 0 16)
@@ -35,9 +36,13 @@ ascii_digits = IsAscii-from_all lower_digits (λ k d within. below (slice_index_
 pub IsAscii-encode_lower : (octets : List ℕ) → IsAscii (encode_lower octets)
 IsAscii-encode_lower octets = IsAscii-encode_with lower_digits octets ascii_digits
 
--- four octets, the highest first, are eight digits
-pub eight_hex_is : (n : ℕ) → n < 2 ^ 32 → hex (to_be_bytes w32 n) ≡ eight_hex n
-unfolding eight_hex
-eight_hex_is n h =
+-- the octets of a number of 32 bits
+pub four_octets_are : (n : ℕ) → n < 2 ^ 32 → to_be_bytes w32 n ≡ four_octets n
+four_octets_are n h =
     let high : n / 16777216 % 256 ≡ n / 16777216 = omega arith in
     rw high refl
+
+-- are eight digits
+pub eight_hex_is : (n : ℕ) → n < 2 ^ 32 → hex (to_be_bytes w32 n) ≡ eight_hex n
+unfolding eight_hex
+eight_hex_is n h = ap hex (four_octets_are n h)

@@ -7,6 +7,14 @@ others-text : {A B : Type 0} (f : A → B) (separator : List ℕ) (text : B → 
 others-text f separator text [] = refl
 others-text f separator text (v ∷ vs) = ap (λ rest. (separator ++ text (f v)) ++ rest) (others-text f separator text vs)
 
-pub list_text-map : {A B : Type 0} (f : A → B) (text : B → List ℕ) (values : List A) → list_text text (map f values) ≡ list_text (λ v. text (f v)) values
-list_text-map f text [] = refl
-list_text-map f text (v ∷ vs) = rw (others-text f (codes ",") text vs) refl
+pub list_text_map : {A B : Type 0} (f : A → B) (text : B → List ℕ) (values : List A) → list_text text (map f values) ≡ list_text (λ v. text (f v)) values
+list_text_map f text [] = refl
+list_text_map f text (v ∷ vs) = rw (others-text f (codes ",") text vs) refl
+
+pub map-same : {A : Type 0} (values : List A) → map (λ value. value) values ≡ values
+map-same [] = refl
+map-same (v ∷ vs) = ap (λ rest. v ∷ rest) (map-same vs)
+
+pub map-map : {A B C : Type 0} (f : B → C) (g : A → B) (values : List A) → map f (map g values) ≡ map (λ value. f (g value)) values
+map-map f g [] = refl
+map-map f g (v ∷ vs) = ap (λ rest. f (g v) ∷ rest) (map-map f g vs)

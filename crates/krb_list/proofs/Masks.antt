@@ -1,30 +1,70 @@
--- The lines of a keytab show no octet of a key.
-use Rattle.std.proofs.Common.{◌≡◌, ℕ, zero, suc, List, [], ◌∷◌, ◌++◌, length, map, refl, ap}
+-- No octet of a key has a part in what is printed of keytabs and of caches.
+use Rattle.std.proofs.Common.{◌≡◌, ℕ, zero, suc, Option, List, [], ◌∷◌, length, map, refl, ap, ◌∙◌}
+use Rattle.std.proofs.lemmas.List.{length-map}
 use Rattle.std.specs.List.{flat_map}
 use Rattle.krb_file.specs.Fields.{zeros}
 use Rattle.krb_keytab.specs.declared.value.Keytab.{Keytab}
 use Rattle.krb_keytab.specs.declared.value.Record.{Record}
 use Rattle.krb_keytab.specs.declared.value.Record.TheVariants as records
 use Rattle.krb_keytab.specs.Spelling.{masked, masked_record}
-use Rattle.krb_list.specs.Text.{line_feed}
-use Rattle.krb_list.specs.Keytabs.{name_text, version_text, sizes_text, entry_text, record_text, keytab_lines}
+use Rattle.krb_ccache.specs.declared.value.Cache3.{Cache3}
+use Rattle.krb_ccache.specs.declared.value.Ccache.{Ccache}
+use Rattle.krb_ccache.specs.declared.value.Credential.{Credential}
+use Rattle.krb_ccache.specs.declared.value.Credential3.{Credential3}
+use Rattle.krb_ccache.specs.declared.ticket.TicketState.{TicketState}
+use Rattle.krb_ccache.specs.declared.ticket.TicketState.TheVariants as states
+use Rattle.krb_ccache.specs.Spelling.{masked as masked_cache, masked_credential, masked3, masked_credential3, upgraded, no_header}
+use Rattle.krb_ccache.specs.Tickets.{state_of}
+use Rattle.krb_list.specs.declared.form.Form.{Form}
+use Rattle.krb_list.specs.Forms.{record_line}
+use Rattle.krb_list.specs.Values.{Printed, Value}
+use Rattle.krb_list.specs.Keytabs.{printed_record, keytab_lines}
+use Rattle.krb_list.specs.Ccaches.{ticketed_record, config_record, state_record, credential_record, ccache_lines}
 
-pub length-zeros : (n : ℕ) → length (zeros n) ≡ n
+length-zeros : (n : ℕ) → length (zeros n) ≡ n
 length-zeros zero = refl
 length-zeros (suc n) = ap (λ m. suc m) (length-zeros n)
 
-pub same_text : (r : Record) → record_text (masked_record r) ≡ record_text r
-unfolding name_text version_text sizes_text entry_text
-same_text (records.Entry e) = rw (length-zeros (length e.key)) refl
-same_text (records.Hole hole) = refl
+-- values of the same records have the same lines
+same_lines : {A : Type 0} (mask : A → A) (record_of : A → Printed) → ((a : A) → record_of (mask a) ≡ record_of a) → (form : Form) (values : List A) → flat_map (λ a. record_line form (record_of a)) (map mask values) ≡ flat_map (λ a. record_line form (record_of a)) values
+same_lines mask record_of same form [] = refl
+same_lines mask record_of same form (a ∷ others) = rw (same a, same_lines mask record_of same form others) refl
 
-same_texts : (rs : List Record) → flat_map (λ r. record_text r ++ line_feed) (map masked_record rs) ≡ flat_map (λ r. record_text r ++ line_feed) rs
-same_texts [] = refl
-same_texts (r ∷ rs) = rw (same_text r, same_texts rs) refl
+-- ---- keytabs
+pub same_record : (r : Record) → printed_record (masked_record r) ≡ printed_record r
+unfolding printed_record
+same_record (records.Entry e) = rw (length-zeros (length e.key)) refl
+same_record (records.Hole hole) = refl
 
-same_count : (rs : List Record) → length (map masked_record rs) ≡ length rs
-same_count [] = refl
-same_count (r ∷ rs) = ap (λ m. suc m) (same_count rs)
+pub same_keytab : (form : Form) (v : Keytab) → keytab_lines form (masked v) ≡ keytab_lines form v
+same_keytab form v = rw (same_lines masked_record printed_record same_record form v.records, length-map v.records masked_record) refl
 
-pub same_lines : (v : Keytab) → keytab_lines (masked v) ≡ keytab_lines v
-same_lines v = rw (same_texts v.records, same_count v.records) refl
+-- ---- caches
+same_ticketed : (now : Option ℕ) (c : Credential) (ticket server : Value) → ticketed_record now (masked_credential c) ticket server ≡ ticketed_record now c ticket server
+unfolding ticketed_record
+same_ticketed now c its_ticket its_server = rw (length-zeros (length c.key)) refl
+
+same_in_state : (now : Option ℕ) (c : Credential) (state : TicketState) → state_record now (masked_credential c) state ≡ state_record now c state
+unfolding config_record
+same_in_state now c states.Config = refl
+same_in_state now c states.Absent = same_ticketed now c _ _
+same_in_state now c (states.Ticket t) = same_ticketed now c _ _
+same_in_state now c (states.Refused r) = same_ticketed now c _ _
+
+pub same_credential : (now : Option ℕ) (c : Credential) → credential_record now (masked_credential c) ≡ credential_record now c
+unfolding credential_record state_of
+same_credential now c = same_in_state now c (state_of c)
+
+pub same_cache : (form : Form) (now : Option ℕ) (v : Ccache) → ccache_lines form now (masked_cache v) ≡ ccache_lines form now v
+unfolding ccache_lines
+same_cache form now v = rw (same_lines masked_credential (credential_record now) (same_credential now) form v.credentials, length-map v.credentials masked_credential) refl
+
+-- masked and then upgraded, or upgraded and then masked
+masked_upgraded : (cs : List Credential3) → map (λ c. c.credential) (map masked_credential3 cs) ≡ map masked_credential (map (λ c. c.credential) cs)
+masked_upgraded [] = refl
+masked_upgraded (c ∷ cs) = ap (λ (others : List Credential). masked_credential c.credential ∷ others) (masked_upgraded cs)
+
+pub same_cache3 : (form : Form) (now : Option ℕ) (v : Cache3) → ccache_lines form now (upgraded (masked3 v)) ≡ ccache_lines form now (upgraded v)
+same_cache3 form now v =
+    ap (λ (cs : List Credential). let cache : Ccache = record { header = no_header; principal = v.principal; credentials = cs } in ccache_lines form now cache) (masked_upgraded v.credentials)
+    ∙ same_cache form now (upgraded v)

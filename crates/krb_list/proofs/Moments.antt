@@ -1,6 +1,5 @@
 -- What the printer of `jiff_fmt` writes of a moment.
-use Rattle.std.proofs.Common.{◌≡◌, ℕ, ◌/◌, ◌%◌, ◌<◌, ◌^◌, pos, false, None, List, [], ◌∷◌, ◌++◌, length, refl, ap, ◌∙◌, arith, codes, Bool, Option}
-use Rattle.std.proofs.lemmas.Str.Ascii.{IsAscii-nil, IsAscii-cons}
+use Rattle.std.proofs.Common.{◌≡◌, ℕ, ◌/◌, ◌%◌, ◌<◌, ◌^◌, pos, false, None, List, ◌++◌, length, refl, ap, ◌∙◌, arith, codes, Bool, Option}
 use Rattle.std.specs.Str.{IsAscii}
 use Rattle.jiff_core.specs.Date.{epoch_day}
 use Rattle.jiff_core.specs.Time.{time_seconds}
@@ -8,10 +7,10 @@ use Rattle.jiff_core.specs.declared.civil.datetime.DateTime.{DateTime}
 use Rattle.jiff_fmt.specs.Text.{datetime_text}
 use Rattle.jiff_fmt.specs.Printer as printer
 use Rattle.jiff_fmt.specs.declared.temporal.printer.DateTimePrinter.{DateTimePrinter}
-use Rattle.krb_list.specs.Laws.{IsPrintable}
 use Rattle.krb_list.specs.Time.{moment_text, two_digits, date_text, clock_text}
 use Rattle.krb_list.proofs.Dates.{civil_date-of, year-is}
-use Rattle.krb_list.proofs.KeytabOneLine.{moment}
+use Rattle.krb_list.proofs.Printable.{ascii}
+use Rattle.krb_list.proofs.Times.{moment}
 
 pub moment_is : (shown : DateTime) (seconds : ℕ) → epoch_day shown.date ≡ pos (seconds / 86400) → time_seconds shown.time ≡ seconds % 86400 → shown.time.subsec_nanosecond ≡ 0 → datetime_text false 84 None shown ++ codes "Z" ≡ moment_text seconds
 unfolding two_digits date_text clock_text
@@ -34,10 +33,6 @@ printed p shown seconds text written options date time whole e f =
 pub moment_length : (seconds : ℕ) → length (moment_text seconds) ≡ 20
 unfolding two_digits date_text clock_text
 moment_length seconds = refl
-
-ascii : (text : List ℕ) → IsPrintable text → IsAscii text
-ascii [] h = IsAscii-nil
-ascii (c ∷ cs) h = IsAscii-cons c cs (omega (arith, h.0.1)) (ascii cs h.1)
 
 pub moment_ascii : (seconds : ℕ) → seconds < 2 ^ 32 → IsAscii (moment_text seconds)
 moment_ascii seconds h = ascii (moment_text seconds) (moment seconds h).all

@@ -1,9 +1,6 @@
--- The lines of a credential cache, each without its line feed, and then all of them.
-use Rattle.std.specs.Prelude.{ℕ, ℤ, nat_lt, Option, Some, None, List, ◌++◌, length, codes, if◌then◌else◌}
+-- What is printed of a credential cache.
+use Rattle.std.specs.Prelude.{ℕ, ℤ, pos, nat_lt, Option, Some, None, List, [], ◌∷◌, ◌++◌, length, codes, if◌then◌else◌}
 use Rattle.std.specs.List.{flat_map}
-use Rattle.std.specs.Fmt.{decimal, signed_decimal}
-use Rattle.krb_der.specs.Reasons.{reason_number}
-use Rattle.krb_der.specs.declared.verdict.Refusal.{Refusal}
 use Rattle.krb_msg.specs.declared.ticket.Ticket.{Ticket}
 use Rattle.krb_ccache.specs.declared.value.Ccache.{Ccache}
 use Rattle.krb_ccache.specs.declared.value.Credential.{Credential}
@@ -13,98 +10,96 @@ use Rattle.krb_ccache.specs.declared.ticket.TicketState.{TicketState}
 use Rattle.krb_ccache.specs.declared.ticket.TicketState.TheVariants as states
 use Rattle.krb_ccache.specs.Spelling.{offset}
 use Rattle.krb_ccache.specs.Tickets.{state_of}
-use Rattle.krb_list.specs.Text.{line_feed, field, or_dash, principal_text, sealed_text}
-use Rattle.krb_list.specs.Time.{time_text}
-use Rattle.krb_list.specs.TicketFlags.{ticket_flags_text}
+use Rattle.krb_registry.specs.declared.registry.Registry.TheVariants as registries
+use Rattle.krb_list.specs.declared.form.Form.{Form}
+use Rattle.krb_list.specs.Forms.{record_line}
+use Rattle.krb_list.specs.Time.{file_time}
+use Rattle.krb_list.specs.Values.{Value, Absent, NoTicket, Number, Named, Word, TicketFlags, Principal, Offset, RefusedTicket, Field, Printed, the, printed, if_there, count, sealed}
 
-abbrev pub file_principal_text : FilePrincipal → List ℕ
-file_principal_text p = principal_text p.components p.realm
+abbrev pub file_principal : FilePrincipal → Value
+file_principal p = Principal p.name_type p.components p.realm
 
--- ---- the line of the cache
-
+-- ---- the cache
 -- seconds and microseconds
-abbrev pub offset_text : ℤ × ℤ → List ℕ
-offset_text numbers = signed_decimal numbers.0 ++ codes ":" ++ signed_decimal numbers.1
+abbrev pub offset_value : ℤ × ℤ → Value
+offset_value numbers = Offset numbers.0 numbers.1
 
-unfoldable pub cache_text : Header → FilePrincipal → List ℕ
-cache_text header principal =
-    codes "cache"
-    ++ field (codes "principal") (file_principal_text principal)
-    ++ field (codes "type") (signed_decimal principal.name_type)
-    ++ field (codes "offset") (or_dash offset_text (offset header))
-    ++ field (codes "fields") (decimal (length header.fields))
+unfoldable pub cache_record : Header → FilePrincipal → Printed
+cache_record header principal =
+    printed (codes "cache") (the (codes "principal") (file_principal principal)
+    ∷ the (codes "type") (Named registries.NameTypes principal.name_type)
+    ∷ the (codes "offset") (if_there offset_value (offset header))
+    ∷ the (codes "fields") (count header.fields)
+    ∷ [])
 
--- ---- the line of a credential
-
-unfoldable pub who_text : Credential → List ℕ
-who_text c = field (codes "client") (file_principal_text c.client) ++ field (codes "server") (file_principal_text c.server)
-
--- of the key, the number of octets alone
-unfoldable pub key_text : Credential → List ℕ
-key_text c = field (codes "enctype") (decimal c.enctype) ++ field (codes "key") (decimal (length c.key))
-
-unfoldable pub times_text : Credential → List ℕ
-times_text c =
-    field (codes "auth") (time_text c.authtime)
-    ++ field (codes "start") (time_text c.starttime)
-    ++ field (codes "end") (time_text c.endtime)
-    ++ field (codes "renew") (time_text c.renew_till)
+-- ---- credentials
+abbrev pub who_fields : Credential → List Field
+who_fields c = the (codes "client") (file_principal c.client) ∷ the (codes "server") (file_principal c.server) ∷ []
 
 -- whether a credential that ends then has ended now, if a now is given
-abbrev pub state_text : Option ℕ → ℕ → List ℕ
-state_text None endtime = codes "-"
-state_text (Some now) endtime = if nat_lt now endtime then codes "live" else codes "expired"
+abbrev pub state : Option ℕ → ℕ → Value
+state None endtime = Absent
+state (Some now) endtime = if nat_lt now endtime then Word (codes "live") else Word (codes "expired")
 
-unfoldable pub flags_text : Option ℕ → Credential → List ℕ
-flags_text now c =
-    field (codes "skey") (decimal c.is_skey)
-    ++ field (codes "flags") (ticket_flags_text c.flags)
-    ++ field (codes "state") (state_text now c.endtime)
+-- of the key, the number of octets alone
+abbrev pub key_fields : Credential → List Field
+key_fields c = the (codes "enctype") (Named registries.EncryptionTypes (pos c.enctype)) ∷ the (codes "key") (count c.key) ∷ []
 
-unfoldable pub counts_text : Credential → List ℕ
-counts_text c = field (codes "addresses") (decimal (length c.addresses)) ++ field (codes "authdata") (decimal (length c.authdata))
+abbrev pub times_fields : Credential → List Field
+times_fields c =
+    the (codes "auth") (file_time c.authtime)
+    ∷ the (codes "start") (file_time c.starttime)
+    ∷ the (codes "end") (file_time c.endtime)
+    ∷ the (codes "renew") (file_time c.renew_till)
+    ∷ []
 
--- the ticket and its server, as texts, and the size of the second ticket
-unfoldable pub tickets_text : Credential → List ℕ → List ℕ → List ℕ
-tickets_text c ticket server =
-    field (codes "ticket") ticket
-    ++ field (codes "tserver") server
-    ++ field (codes "second") (decimal (length c.second_ticket))
+abbrev pub flags_fields : Option ℕ → Credential → List Field
+flags_fields now c =
+    the (codes "skey") (Number (pos c.is_skey))
+    ∷ the (codes "flags") (TicketFlags c.flags)
+    ∷ the (codes "state") (state now c.endtime)
+    ∷ []
 
--- up to its ticket
-unfoldable pub credential_front : Option ℕ → Credential → List ℕ
-credential_front now c = codes "cred" ++ who_text c ++ key_text c ++ times_text c ++ flags_text now c
+abbrev pub counts_fields : Credential → List Field
+counts_fields c = the (codes "addresses") (count c.addresses) ∷ the (codes "authdata") (count c.authdata) ∷ []
 
-unfoldable pub credential_text : Option ℕ → Credential → List ℕ → List ℕ → List ℕ
-credential_text now c ticket server = credential_front now c ++ counts_text c ++ tickets_text c ticket server
+-- the ticket, its server, and the size of the second ticket
+abbrev pub tickets_fields : Credential → Value → Value → List Field
+tickets_fields c ticket server =
+    the (codes "ticket") ticket
+    ∷ the (codes "tserver") server
+    ∷ the (codes "second") (count c.second_ticket)
+    ∷ []
 
-unfoldable pub config_text : Credential → List ℕ
-config_text c = codes "config" ++ who_text c ++ field (codes "size") (decimal (length c.ticket))
+unfoldable pub ticketed_record : Option ℕ → Credential → Value → Value → Printed
+ticketed_record now c ticket server =
+    printed (codes "cred") (who_fields c ++ key_fields c ++ times_fields c ++ flags_fields now c ++ counts_fields c ++ tickets_fields c ticket server)
 
--- why and where octets are no ticket
-unfoldable pub refused_ticket_text : Refusal → List ℕ
-refused_ticket_text refusal = codes "refused:" ++ decimal refusal.place ++ codes ":" ++ decimal (reason_number refusal.why)
+unfoldable pub config_record : Credential → Printed
+config_record c = printed (codes "config") (who_fields c ++ the (codes "size") (count c.ticket) ∷ [])
 
-abbrev pub ticket_server_text : Ticket → List ℕ
-ticket_server_text t = principal_text t.sname.name t.realm
+abbrev pub ticket_server : Ticket → Value
+ticket_server t = Principal t.sname.name_type t.sname.name t.realm
 
 -- by what the ticket field holds
-abbrev pub state_line : Option ℕ → Credential → TicketState → List ℕ
-state_line now c states.Config = config_text c
-state_line now c states.Absent = credential_text now c (codes "absent") (codes "-")
-state_line now c (states.Ticket t) = credential_text now c (sealed_text t.enc_part) (ticket_server_text t)
-state_line now c (states.Refused r) = credential_text now c (refused_ticket_text r) (codes "-")
+abbrev pub state_record : Option ℕ → Credential → TicketState → Printed
+state_record now c states.Config = config_record c
+state_record now c states.Absent = ticketed_record now c NoTicket Absent
+state_record now c (states.Ticket t) = ticketed_record now c (sealed t.enc_part) (ticket_server t)
+state_record now c (states.Refused r) = ticketed_record now c (RefusedTicket r) Absent
 
-unfoldable pub credential_line : Option ℕ → Credential → List ℕ
-credential_line now c = state_line now c (state_of c)
+unfoldable pub credential_record : Option ℕ → Credential → Printed
+credential_record now c = state_record now c (state_of c)
 
--- ---- the lines in order
+-- ---- all in order
+unfoldable pub cache_end : ℕ → Printed
+cache_end count = printed (codes "end") (the (codes "credentials") (Number (pos count)) ∷ [])
 
-unfoldable pub cache_end_text : ℕ → List ℕ
-cache_end_text count = codes "end" ++ field (codes "credentials") (decimal count)
+abbrev pub credential_lines : Form → Option ℕ → List Credential → List ℕ
+credential_lines form now cs = flat_map (λ c. record_line form (credential_record now c)) cs
 
-abbrev pub credential_lines : Option ℕ → List Credential → List ℕ
-credential_lines now cs = flat_map (λ c. credential_line now c ++ line_feed) cs
-
-unfoldable pub ccache_lines : Option ℕ → Ccache → List ℕ
-ccache_lines now v = cache_text v.header v.principal ++ line_feed ++ credential_lines now v.credentials ++ cache_end_text (length v.credentials) ++ line_feed
+unfoldable pub ccache_lines : Form → Option ℕ → Ccache → List ℕ
+ccache_lines form now v =
+    record_line form (cache_record v.header v.principal)
+    ++ credential_lines form now v.credentials
+    ++ record_line form (cache_end (length v.credentials))

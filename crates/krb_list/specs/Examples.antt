@@ -1,19 +1,24 @@
--- Texts, computed.
-use Rattle.std.specs.Prelude.{pos, true, Some, None, ◌≡◌, [], ◌∷◌, refl, codes}
+-- What is printed of files, and its parts, computed.
+use Rattle.std.specs.Prelude.{pos, true, Some, ◌≡◌, [], ◌∷◌, refl, codes}
 use Rattle.std.specs.Fmt.{digits}
 use Rattle.krb_file.specs.declared.fault.FileWhy.TheVariants as why
 use Rattle.krb_keytab.specs.declared.value.Entry.{Entry}
+use Rattle.krb_keytab.specs.declared.value.Keytab.{Keytab}
 use Rattle.krb_keytab.specs.declared.value.Record.TheVariants as records
 use Rattle.krb_keytab.specs.declared.value.Stop.TheVariants as stops
-use Rattle.krb_list.specs.Keytabs.{name_text, version_text, sizes_text, entry_text, hole_text, stop_text, keytab_end_text, keytab_lines}
-use Rattle.krb_list.specs.Refusals.{fault_text, file_refused_line}
 use Rattle.krb_ccache.specs.declared.value.Credential.{Credential}
 use Rattle.krb_ccache.specs.declared.value.FilePrincipal.{FilePrincipal}
 use Rattle.krb_ccache.specs.Tickets.{state_of}
-use Rattle.krb_list.specs.Ccaches.{cache_text, who_text, key_text, times_text, state_text, flags_text, counts_text, tickets_text, credential_front, credential_text, config_text, refused_ticket_text, credential_line, cache_end_text}
+use Rattle.krb_registry.specs.Rows.{rows, name_in, name_of}
+use Rattle.krb_list.specs.declared.form.Form.TheVariants.{Lines, NamedLines, Json}
+use Rattle.krb_list.specs.Ccaches.{cache_end, cache_record, config_record, credential_record, state, ticketed_record}
+use Rattle.krb_list.specs.Forms.{closing, json_value, labelled, members, named_flags_text, names_member, opening, record_text, set_names, unnamed, value_text}
+use Rattle.krb_list.specs.Keytabs.{keytab_end, keytab_lines, printed_record}
+use Rattle.krb_list.specs.Refusals.{file_refused_line}
 use Rattle.krb_list.specs.TicketFlags.{ticket_flags_text, names_text, flag_name, eight_hex}
-use Rattle.krb_list.specs.Text.{principal_text, field}
+use Rattle.krb_list.specs.Text.{principal_text}
 use Rattle.krb_list.specs.Time.{civil_date, date_from, date_in_year, the_date, time_text, two_digits, date_text, clock_text}
+use Rattle.krb_list.specs.Values.{Word}
 
 no_components : principal_text [] (codes "A") ≡ codes "\\-@A"
 unfolding principal_text
@@ -90,17 +95,32 @@ last_time = refl
 abbrev pub entry : Entry
 entry = record { realm = codes "A"; components = codes "h" ∷ []; name_type = pos 1; time = 946684800; vno8 = 2; enctype = 18; key = 0xAB ∷ 0xCD ∷ []; rest = 0 ∷ 0 ∷ 1 ∷ 2 ∷ [] }
 
-keytab : keytab_lines (record { records = records.Entry entry ∷ records.Hole (record { size = 8; clean = true }) ∷ []; stop = stops.Zero }) ≡ codes "entry principal=h@A type=1 time=2000-01-01T00:00:00Z kvno=258 enctype=18 key=2 rest=4\nhole size=8 clean=yes\nend records=2 zero=yes\n"
-unfolding digits principal_text civil_date date_from date_in_year two_digits date_text clock_text name_text version_text sizes_text entry_text hole_text stop_text keytab_end_text field
+abbrev a_keytab : Keytab
+a_keytab = record { records = records.Entry entry ∷ records.Hole (record { size = 8; clean = true }) ∷ []; stop = stops.Zero }
+
+keytab : keytab_lines Lines a_keytab ≡ codes "entry principal=h@A type=1 time=2000-01-01T00:00:00Z kvno=258 enctype=18 key=2 rest=4\nhole size=8 clean=yes\nend records=2 zero=yes\n"
+unfolding digits principal_text civil_date date_from date_in_year two_digits date_text clock_text printed_record keytab_end opening closing labelled record_text value_text
 keytab = refl
 
-no_record : keytab_lines (record { records = []; stop = stops.File }) ≡ codes "end records=0 zero=no\n"
-unfolding digits stop_text keytab_end_text field
+named_keytab : keytab_lines NamedLines a_keytab ≡ codes "entry principal=h@A type=1:NT-PRINCIPAL time=2000-01-01T00:00:00Z kvno=258 enctype=18:aes256-cts-hmac-sha1-96 key=2 rest=4\nhole size=8 clean=yes\nend records=2 zero=yes\n"
+unfolding digits principal_text civil_date date_from date_in_year two_digits date_text clock_text printed_record keytab_end opening closing labelled record_text value_text rows name_in name_of
+named_keytab = refl
+
+keytab_objects : keytab_lines Json a_keytab ≡ codes "{\"kind\":\"entry\",\"principal\":{\"text\":\"h@A\",\"type\":1,\"type_name\":\"NT-PRINCIPAL\",\"components\":[\"h\"],\"realm\":\"A\"},\"type\":1,\"type_name\":\"NT-PRINCIPAL\",\"time\":\"2000-01-01T00:00:00Z\",\"kvno\":258,\"enctype\":18,\"enctype_name\":\"aes256-cts-hmac-sha1-96\",\"key\":2,\"rest\":4}\n{\"kind\":\"hole\",\"size\":8,\"clean\":true}\n{\"kind\":\"end\",\"records\":2,\"zero\":true}\n"
+unfolding digits principal_text civil_date date_from date_in_year two_digits date_text clock_text printed_record keytab_end opening closing labelled record_text members json_value names_member rows name_in name_of
+keytab_objects = refl
+
+no_record : keytab_lines Lines (record { records = []; stop = stops.File }) ≡ codes "end records=0 zero=no\n"
+unfolding digits principal_text civil_date date_from date_in_year two_digits date_text clock_text printed_record keytab_end opening closing labelled record_text value_text
 no_record = refl
 
-refused : file_refused_line 37 why.Truncated ≡ codes "refused place=37 why=3 Truncated\n"
-unfolding digits fault_text
+refused : file_refused_line Lines 37 why.Truncated ≡ codes "refused place=37 why=3 Truncated\n"
+unfolding digits opening closing labelled record_text value_text
 refused = refl
+
+refused_object : file_refused_line Json 37 why.Truncated ≡ codes "{\"kind\":\"refused\",\"place\":37,\"why\":3,\"why_name\":\"Truncated\"}\n"
+unfolding digits opening closing labelled record_text members json_value names_member
+refused_object = refl
 
 -- ---- ticket flags
 flags : ticket_flags_text 0x40E1_0000 ≡ codes "forwardable,renewable,initial,pre-authent+00010000"
@@ -125,28 +145,40 @@ no_ticket = record { client = user; server = record { name_type = pos 2; realm =
 abbrev config : Credential
 config = record no_ticket { server = record { name_type = pos 0; realm = codes "X-CACHECONF:"; components = codes "krb5_ccache_conf_data" ∷ codes "pa_type" ∷ [] }; ticket = codes "2" }
 
-cache_line : cache_text (record { fields = record { tag = 1; value = 0 ∷ 0 ∷ 0 ∷ 0 ∷ 0 ∷ 0 ∷ 0 ∷ 0 ∷ [] } ∷ [] }) user ≡ codes "cache principal=u@A type=1 offset=0:0 fields=1"
-unfolding cache_text field principal_text digits
+cache_line : record_text Lines (cache_record (record { fields = record { tag = 1; value = 0 ∷ 0 ∷ 0 ∷ 0 ∷ 0 ∷ 0 ∷ 0 ∷ 0 ∷ [] } ∷ [] }) user) ≡ codes "cache principal=u@A type=1 offset=0:0 fields=1"
+unfolding digits principal_text civil_date date_from date_in_year two_digits date_text clock_text cache_record cache_end credential_record config_record ticketed_record state_of ticket_flags_text names_text flag_name eight_hex named_flags_text set_names unnamed opening closing labelled record_text value_text
 cache_line = refl
 
-no_offset : cache_text (record { fields = [] }) user ≡ codes "cache principal=u@A type=1 offset=- fields=0"
-unfolding cache_text field principal_text digits
+cache_object : record_text Json (cache_record (record { fields = record { tag = 1; value = 0 ∷ 0 ∷ 0 ∷ 0 ∷ 0 ∷ 0 ∷ 0 ∷ 0 ∷ [] } ∷ [] }) user) ≡ codes "{\"kind\":\"cache\",\"principal\":{\"text\":\"u@A\",\"type\":1,\"type_name\":\"NT-PRINCIPAL\",\"components\":[\"u\"],\"realm\":\"A\"},\"type\":1,\"type_name\":\"NT-PRINCIPAL\",\"offset\":{\"seconds\":0,\"microseconds\":0},\"fields\":1}"
+unfolding digits principal_text civil_date date_from date_in_year two_digits date_text clock_text cache_record cache_end credential_record config_record ticketed_record state_of ticket_flags_text names_text flag_name eight_hex named_flags_text set_names unnamed opening closing labelled record_text members json_value names_member rows name_in name_of
+cache_object = refl
+
+no_offset : record_text Lines (cache_record (record { fields = [] }) user) ≡ codes "cache principal=u@A type=1 offset=- fields=0"
+unfolding digits principal_text civil_date date_from date_in_year two_digits date_text clock_text cache_record cache_end credential_record config_record ticketed_record state_of ticket_flags_text names_text flag_name eight_hex named_flags_text set_names unnamed opening closing labelled record_text value_text
 no_offset = refl
 
-config_line : config_text config ≡ codes "config client=u@A server=krb5_ccache_conf_data/pa_type@X-CACHECONF: size=1"
-unfolding config_text who_text field principal_text digits
+config_line : record_text Lines (config_record config) ≡ codes "config client=u@A server=krb5_ccache_conf_data/pa_type@X-CACHECONF: size=1"
+unfolding digits principal_text civil_date date_from date_in_year two_digits date_text clock_text cache_record cache_end credential_record config_record ticketed_record state_of ticket_flags_text names_text flag_name eight_hex named_flags_text set_names unnamed opening closing labelled record_text value_text
 config_line = refl
 
-refused_line : credential_line None no_ticket ≡ codes "cred client=u@A server=h@A enctype=18 key=2 auth=2000-01-01T00:00:00Z start=2000-01-01T00:00:00Z end=2000-01-01T01:00:00Z renew=- skey=0 flags=forwardable,renewable,initial,pre-authent+00010000 state=- addresses=0 authdata=0 ticket=refused:1:6 tserver=- second=0"
-unfolding credential_line state_of credential_text credential_front who_text key_text times_text flags_text counts_text tickets_text refused_ticket_text field principal_text ticket_flags_text names_text flag_name eight_hex civil_date date_from date_in_year two_digits date_text clock_text digits
+refused_line : record_text Lines (credential_record (Some 946688399) no_ticket) ≡ codes "cred client=u@A server=h@A enctype=18 key=2 auth=2000-01-01T00:00:00Z start=2000-01-01T00:00:00Z end=2000-01-01T01:00:00Z renew=- skey=0 flags=forwardable,renewable,initial,pre-authent+00010000 state=live addresses=0 authdata=0 ticket=refused:1:6 tserver=- second=0"
+unfolding digits principal_text civil_date date_from date_in_year two_digits date_text clock_text cache_record cache_end credential_record config_record ticketed_record state_of ticket_flags_text names_text flag_name eight_hex named_flags_text set_names unnamed opening closing labelled record_text value_text
 refused_line = refl
 
-still_live : state_text (Some 946688399) 946688400 ≡ codes "live"
+named_refused_line : record_text NamedLines (credential_record (Some 946688399) no_ticket) ≡ codes "cred client=u@A server=h@A enctype=18:aes256-cts-hmac-sha1-96 key=2 auth=2000-01-01T00:00:00Z start=2000-01-01T00:00:00Z end=2000-01-01T01:00:00Z renew=- skey=0 flags=forwardable,renewable,initial,pre-authent,enc-pa-rep state=live addresses=0 authdata=0 ticket=refused:1:6:Indefinite tserver=- second=0"
+unfolding digits principal_text civil_date date_from date_in_year two_digits date_text clock_text cache_record cache_end credential_record config_record ticketed_record state_of ticket_flags_text names_text flag_name eight_hex named_flags_text set_names unnamed opening closing labelled record_text value_text rows name_in name_of
+named_refused_line = refl
+
+refused_credential : record_text Json (credential_record (Some 946688399) no_ticket) ≡ codes "{\"kind\":\"cred\",\"client\":{\"text\":\"u@A\",\"type\":1,\"type_name\":\"NT-PRINCIPAL\",\"components\":[\"u\"],\"realm\":\"A\"},\"server\":{\"text\":\"h@A\",\"type\":2,\"type_name\":\"NT-SRV-INST\",\"components\":[\"h\"],\"realm\":\"A\"},\"enctype\":18,\"enctype_name\":\"aes256-cts-hmac-sha1-96\",\"key\":2,\"auth\":\"2000-01-01T00:00:00Z\",\"start\":\"2000-01-01T00:00:00Z\",\"end\":\"2000-01-01T01:00:00Z\",\"renew\":null,\"skey\":0,\"flags\":{\"bits\":32,\"hex\":\"40e10000\",\"names\":[\"forwardable\",\"renewable\",\"initial\",\"pre-authent\",\"enc-pa-rep\"]},\"state\":\"live\",\"addresses\":0,\"authdata\":0,\"ticket\":{\"refused\":{\"place\":1,\"why\":6,\"why_name\":\"Indefinite\"}},\"tserver\":null,\"second\":0}"
+unfolding digits principal_text civil_date date_from date_in_year two_digits date_text clock_text cache_record cache_end credential_record config_record ticketed_record state_of ticket_flags_text names_text flag_name eight_hex named_flags_text set_names unnamed opening closing labelled record_text members json_value names_member rows name_in name_of
+refused_credential = refl
+
+still_live : state (Some 946688399) 946688400 ≡ Word (codes "live")
 still_live = refl
 
-expired : state_text (Some 946688400) 946688400 ≡ codes "expired"
+expired : state (Some 946688400) 946688400 ≡ Word (codes "expired")
 expired = refl
 
-cache_end : cache_end_text 2 ≡ codes "end credentials=2"
-unfolding cache_end_text field digits
-cache_end = refl
+its_end : record_text Lines (cache_end 2) ≡ codes "end credentials=2"
+unfolding digits principal_text civil_date date_from date_in_year two_digits date_text clock_text cache_record cache_end credential_record config_record ticketed_record state_of ticket_flags_text names_text flag_name eight_hex named_flags_text set_names unnamed opening closing labelled record_text value_text
+its_end = refl

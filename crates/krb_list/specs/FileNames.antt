@@ -1,7 +1,7 @@
--- The names of files, and the record that stands before the listing of each of several.
+-- The names of files.
 use Rattle.std.specs.Prelude.{ℕ, Bool, ◌||◌, ◌==◌, List, [], ◌∷◌, ◌++◌, codes, if◌then◌else◌}
 use Rattle.std.specs.List.{flat_map}
-use Rattle.krb_list.specs.Text.{is_plain, two_hex, line_feed}
+use Rattle.krb_list.specs.Text.{is_plain, two_hex}
 
 -- 21 to 7E but `\`
 abbrev pub is_plain_in_name : ℕ → Bool
@@ -13,6 +13,3 @@ name_octet octet = if is_plain_in_name octet then octet ∷ [] else codes "\\x" 
 
 abbrev pub name_text : List ℕ → List ℕ
 name_text name = flat_map name_octet name
-
-abbrev pub file_line : List ℕ → List ℕ
-file_line name = codes "file name=" ++ name_text name ++ line_feed

@@ -1,7 +1,6 @@
--- The lines of a keytab, each without its line feed, and then all of them.
-use Rattle.std.specs.Prelude.{ℕ, true, false, List, ◌++◌, length, codes}
+-- What is printed of a keytab.
+use Rattle.std.specs.Prelude.{ℕ, pos, true, false, List, [], ◌∷◌, ◌++◌, length, codes}
 use Rattle.std.specs.List.{flat_map}
-use Rattle.std.specs.Fmt.{decimal, signed_decimal}
 use Rattle.krb_keytab.specs.declared.value.Keytab.{Keytab}
 use Rattle.krb_keytab.specs.declared.value.Record.{Record}
 use Rattle.krb_keytab.specs.declared.value.Record.TheVariants as records
@@ -10,44 +9,39 @@ use Rattle.krb_keytab.specs.declared.value.Stop.TheVariants as stops
 use Rattle.krb_keytab.specs.declared.value.Entry.{Entry}
 use Rattle.krb_keytab.specs.Holes.{HoleModel}
 use Rattle.krb_keytab.specs.Spelling.{kvno}
-use Rattle.krb_list.specs.Text.{line_feed, field, principal_text, yes_or_no}
-use Rattle.krb_list.specs.Time.{time_text}
+use Rattle.krb_registry.specs.declared.registry.Registry.TheVariants as registries
+use Rattle.krb_list.specs.declared.form.Form.{Form}
+use Rattle.krb_list.specs.Forms.{record_line}
+use Rattle.krb_list.specs.Time.{file_time}
+use Rattle.krb_list.specs.Values.{Value, Number, Named, Principal, YesNo, Field, Printed, the, printed, count}
 
--- the principal, and how its name is meant
-unfoldable pub name_text : Entry → List ℕ
-name_text e = field (codes "principal") (principal_text e.components e.realm) ++ field (codes "type") (signed_decimal e.name_type)
+-- the principal and how its name is meant, the version of its key; of the key and of what stands after it, the number of octets alone
+abbrev pub entry_fields : Entry → List Field
+entry_fields e =
+    the (codes "principal") (Principal e.name_type e.components e.realm)
+    ∷ the (codes "type") (Named registries.NameTypes e.name_type)
+    ∷ the (codes "time") (file_time e.time)
+    ∷ the (codes "kvno") (Number (pos (kvno e)))
+    ∷ the (codes "enctype") (Named registries.EncryptionTypes (pos e.enctype))
+    ∷ the (codes "key") (count e.key)
+    ∷ the (codes "rest") (count e.rest)
+    ∷ []
 
--- when the key was written, its version and its encryption type
-unfoldable pub version_text : Entry → List ℕ
-version_text e =
-    field (codes "time") (time_text e.time)
-    ++ field (codes "kvno") (decimal (kvno e))
-    ++ field (codes "enctype") (decimal e.enctype)
+abbrev pub hole_fields : HoleModel → List Field
+hole_fields hole = the (codes "size") (Number (pos hole.size)) ∷ the (codes "clean") (YesNo hole.clean) ∷ []
 
--- of the key and of what stands after it, the number of octets alone
-unfoldable pub sizes_text : Entry → List ℕ
-sizes_text e = field (codes "key") (decimal (length e.key)) ++ field (codes "rest") (decimal (length e.rest))
-
-unfoldable pub entry_text : Entry → List ℕ
-entry_text e = codes "entry" ++ name_text e ++ version_text e ++ sizes_text e
-
-unfoldable pub hole_text : HoleModel → List ℕ
-hole_text hole = codes "hole" ++ field (codes "size") (decimal hole.size) ++ field (codes "clean") (yes_or_no hole.clean)
-
--- the line of a record
-abbrev pub record_text : Record → List ℕ
-record_text (records.Entry e) = entry_text e
-record_text (records.Hole hole) = hole_text hole
+unfoldable pub printed_record : Record → Printed
+printed_record (records.Entry e) = printed (codes "entry") (entry_fields e)
+printed_record (records.Hole hole) = printed (codes "hole") (hole_fields hole)
 
 -- whether a record of length 0 ends the keytab
-unfoldable pub stop_text : Stop → List ℕ
-stop_text stops.File = yes_or_no false
-stop_text stops.Zero = yes_or_no true
+abbrev pub is_zero : Stop → Value
+is_zero stops.File = YesNo false
+is_zero stops.Zero = YesNo true
 
--- the line of the end
-unfoldable pub keytab_end_text : ℕ → Stop → List ℕ
-keytab_end_text count stop = codes "end" ++ field (codes "records") (decimal count) ++ field (codes "zero") (stop_text stop)
+unfoldable pub keytab_end : ℕ → Stop → Printed
+keytab_end count stop = printed (codes "end") (the (codes "records") (Number (pos count)) ∷ the (codes "zero") (is_zero stop) ∷ [])
 
--- a line for each record, and the line of the end, each with its line feed
-abbrev pub keytab_lines : Keytab → List ℕ
-keytab_lines v = flat_map (λ r. record_text r ++ line_feed) v.records ++ keytab_end_text (length v.records) v.stop ++ line_feed
+-- a line for each record, and the line of the end
+abbrev pub keytab_lines : Form → Keytab → List ℕ
+keytab_lines form v = flat_map (λ r. record_line form (printed_record r)) v.records ++ record_line form (keytab_end (length v.records) v.stop)

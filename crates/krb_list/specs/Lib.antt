@@ -1,9 +1,13 @@
 pub mod Text
 pub mod FileNames
+pub mod Values
 pub mod Time
-pub mod Refusals
-pub mod Keytabs
+pub mod Errors
 pub mod TicketFlags
+pub mod Forms
+pub mod Refusals
+pub mod Files
+pub mod Keytabs
 pub mod Ccaches
 pub mod Messages
 pub mod Streams

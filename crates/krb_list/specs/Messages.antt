@@ -1,91 +1,38 @@
--- The lines of messages, as the table of lines in docs/FORMATS.md has them. A line is the name of the message and its fields, and then its notes.
-use Rattle.std.specs.Prelude.{ℕ, ℤ, pos, negsuc, ◌-◌, ◌*◌, ◌==◌, Bool, false, List, [], ◌∷◌, ◌++◌, length, Option, Some, None, codes, if◌then◌else◌}
+-- What is printed of messages, as the table of lines in docs/FORMATS.md has it: the name of the message and its fields, and then its notes.
+use Rattle.std.specs.Prelude.{ℕ, ℤ, pos, negsuc, ◌==◌, Bool, false, List, [], ◌∷◌, ◌++◌, map, Option, Some, None, codes, if◌then◌else◌}
 use Rattle.std.specs.List.{filter}
-use Rattle.std.specs.Fmt.{decimal, signed_decimal}
 use Rattle.krb_msg.specs.Grammar.{method_data}
 use Rattle.krb_msg.specs.Term.{Value}
 use Rattle.krb_msg.specs.Reading.{value_read}
 use Rattle.krb_msg.specs.Notes.{notes_of, notes_have}
 use Rattle.krb_msg.specs.declared.notes.Notes.{Notes}
-use Rattle.krb_msg.specs.declared.principal_name.PrincipalName.{PrincipalName}
 use Rattle.krb_msg.specs.declared.pa_data.PaData.{PaData}
 use Rattle.krb_msg.specs.declared.kdc_req.KdcReq.{KdcReq}
 use Rattle.krb_msg.specs.declared.kdc_rep.KdcRep.{KdcRep}
 use Rattle.krb_msg.specs.declared.ap_req.ApReq.{ApReq}
 use Rattle.krb_msg.specs.declared.ap_rep.ApRep.{ApRep}
-use Rattle.krb_msg.specs.declared.host_address.HostAddress.{HostAddress}
-use Rattle.krb_msg.specs.declared.checksum.Checksum.{Checksum}
 use Rattle.krb_msg.specs.declared.krb_safe.KrbSafe.{KrbSafe}
 use Rattle.krb_msg.specs.declared.krb_priv.KrbPriv.{KrbPriv}
 use Rattle.krb_msg.specs.declared.krb_cred.KrbCred.{KrbCred}
 use Rattle.krb_msg.specs.declared.krb_error.KrbError.{KrbError}
 use Rattle.krb_msg.specs.declared.message.Message.{Message}
-use Rattle.krb_msg.specs.declared.message.Kind.TheVariants as kind
-use Rattle.krb_msg.specs.Views.{kind_name}
+use Rattle.krb_msg.specs.Views.{kind_name, kind_of, pa_data_of}
 use Rattle.krb_msg.specs.declared.message.Message.TheVariants as message
 use Rattle.krb_judge.specs.Parses.{method_data_refusal}
 use Rattle.krb_der.specs.declared.verdict.Refusal.{Refusal}
-use Rattle.krb_list.specs.Text.{field, line_feed, hex, escape, or_dash, list_text, principal_text, sealed_text}
+use Rattle.krb_registry.specs.declared.registry.Registry.TheVariants as registries
+use Rattle.krb_list.specs.declared.form.Form.{Form}
+use Rattle.krb_list.specs.Forms.{record_text, record_line}
+use Rattle.krb_list.specs.Values.{Value as Shown, Number, Numbers, ErrorCode, String, Quoted, Word, Flags, Field, Printed, the, printed, if_there, count, sealed, principal, client, address, checksum}
 
 -- ---- fields
--- the name of a principal in a realm
-abbrev pub in_realm : List ℕ → PrincipalName → List ℕ
-in_realm realm name = principal_text name.name realm
-
--- a client, if its name and its realm are both there
-abbrev pub client_text : Option PrincipalName → Option (List ℕ) → List ℕ
-client_text (Some name) (Some realm) = in_realm realm name
-client_text name realm = codes "-"
-
--- the number of bits, and their octets in hexadecimal
-abbrev pub flags_text : ℕ × List ℕ → List ℕ
-flags_text bits = decimal (8 * length bits.1 - bits.0) ++ codes ":" ++ hex bits.1
-
--- how many there are
-abbrev pub count_text : {A : Type 0} → List A → List ℕ
-count_text values = decimal (length values)
-
-abbrev pub quoted_text : List ℕ → List ℕ
-quoted_text octets = codes "\"" ++ escape octets ++ codes "\""
-
 -- pre-authentication data is listed by its types
-abbrev pub padata_text : PaData → List ℕ
-padata_text padata = signed_decimal padata.padata_type
+abbrev pub padata : List PaData → Shown
+padata items = Numbers registries.PreAuthenticationData (map (λ item. item.padata_type) items)
 
--- an address is its type, and its octets in hexadecimal
-abbrev pub address_text : HostAddress → List ℕ
-address_text address = signed_decimal address.addr_type ++ codes ":" ++ hex address.address
-
--- a checksum is its type, and how many octets it has
-abbrev pub checksum_text : Checksum → List ℕ
-checksum_text checksum = signed_decimal checksum.cksumtype ++ codes ":" ++ count_text checksum.checksum
-
--- ---- notes
 -- the numbers of the notes that hold
-abbrev pub notes_text : Notes → List ℕ
-notes_text notes = list_text decimal (filter (notes_have notes) (1 ∷ 2 ∷ 3 ∷ 4 ∷ []))
-
--- ---- errors
-unfoldable pub code_name : ℕ → List ℕ
-code_name number =
-    if number == 6 then codes ":KDC_ERR_C_PRINCIPAL_UNKNOWN"
-    else if number == 7 then codes ":KDC_ERR_S_PRINCIPAL_UNKNOWN"
-    else if number == 14 then codes ":KDC_ERR_ETYPE_NOSUPP"
-    else if number == 24 then codes ":KDC_ERR_PREAUTH_FAILED"
-    else if number == 25 then codes ":KDC_ERR_PREAUTH_REQUIRED"
-    else if number == 37 then codes ":KRB_AP_ERR_SKEW"
-    else if number == 52 then codes ":KRB_ERR_RESPONSE_TOO_BIG"
-    else if number == 60 then codes ":KRB_ERR_GENERIC"
-    else if number == 61 then codes ":KRB_ERR_FIELD_TOOLONG"
-    else []
-
--- `:` and the name of an error that has one
-unfoldable pub code_suffix : ℤ → List ℕ
-code_suffix (pos number) = code_name number
-code_suffix (negsuc number) = []
-
-unfoldable pub code_text : ℤ → List ℕ
-code_text code = signed_decimal code ++ code_suffix code
+abbrev pub notes : Notes → Shown
+notes n = Numbers registries.Notes (map pos (filter (notes_have n) (1 ∷ 2 ∷ 3 ∷ 4 ∷ [])))
 
 -- the items of METHOD-DATA, unless the octets are refused as that
 abbrev pub items_unless : Option Refusal → List ℕ → Option (Value method_data)
@@ -102,100 +49,100 @@ abbrev pub methods_in : ℤ → Option (List ℕ) → Option (Value method_data)
 methods_in code None = None
 methods_in code (Some octets) = if asks_for_preauth code then items_unless (method_data_refusal octets) octets else None
 
--- the types of the METHOD-DATA of an error, in brackets
-unfoldable pub methods_text : ℤ → Option (List ℕ) → List ℕ
-methods_text code octets = or_dash (list_text (λ item. signed_decimal item.0)) (methods_in code octets)
+-- the METHOD-DATA of an error, by its types
+abbrev pub methods : ℤ → Option (List ℕ) → Shown
+methods code octets = if_there (λ items. padata (map pa_data_of items)) (methods_in code octets)
 
--- ---- lines
+-- ---- messages
 -- AS-REQ and TGS-REQ
-unfoldable pub kdc_req_text : List ℕ → KdcReq → List ℕ
-kdc_req_text name m =
-    name
-    ++ field (codes "realm") (escape m.body.realm)
-    ++ field (codes "client") (or_dash (in_realm m.body.realm) m.body.cname)
-    ++ field (codes "server") (or_dash (in_realm m.body.realm) m.body.sname)
-    ++ field (codes "options") (flags_text m.body.kdc_options)
-    ++ field (codes "from") (or_dash (λ time. time) m.body.from)
-    ++ field (codes "till") m.body.till
-    ++ field (codes "rtime") (or_dash (λ time. time) m.body.rtime)
-    ++ field (codes "nonce") (signed_decimal m.body.nonce)
-    ++ field (codes "etypes") (list_text signed_decimal m.body.etype)
-    ++ field (codes "padata") (or_dash (list_text padata_text) m.padata)
-    ++ field (codes "addresses") (or_dash count_text m.body.addresses)
-    ++ field (codes "authdata") (or_dash sealed_text m.body.enc_authorization_data)
-    ++ field (codes "tickets") (or_dash count_text m.body.additional_tickets)
+abbrev pub kdc_req_fields : KdcReq → List Field
+kdc_req_fields m =
+    the (codes "realm") (String m.body.realm)
+    ∷ the (codes "client") (if_there (principal m.body.realm) m.body.cname)
+    ∷ the (codes "server") (if_there (principal m.body.realm) m.body.sname)
+    ∷ the (codes "options") (Flags registries.KdcOptions m.body.kdc_options)
+    ∷ the (codes "from") (if_there Word m.body.from)
+    ∷ the (codes "till") (Word m.body.till)
+    ∷ the (codes "rtime") (if_there Word m.body.rtime)
+    ∷ the (codes "nonce") (Number m.body.nonce)
+    ∷ the (codes "etypes") (Numbers registries.EncryptionTypes m.body.etype)
+    ∷ the (codes "padata") (if_there padata m.padata)
+    ∷ the (codes "addresses") (if_there count m.body.addresses)
+    ∷ the (codes "authdata") (if_there sealed m.body.enc_authorization_data)
+    ∷ the (codes "tickets") (if_there count m.body.additional_tickets)
+    ∷ []
 
 -- AS-REP and TGS-REP
-unfoldable pub kdc_rep_text : List ℕ → KdcRep → List ℕ
-kdc_rep_text name m =
-    name
-    ++ field (codes "client") (in_realm m.crealm m.cname)
-    ++ field (codes "server") (in_realm m.ticket.realm m.ticket.sname)
-    ++ field (codes "padata") (or_dash (list_text padata_text) m.padata)
-    ++ field (codes "ticket") (sealed_text m.ticket.enc_part)
-    ++ field (codes "enc") (sealed_text m.enc_part)
+abbrev pub kdc_rep_fields : KdcRep → List Field
+kdc_rep_fields m =
+    the (codes "client") (principal m.crealm m.cname)
+    ∷ the (codes "server") (principal m.ticket.realm m.ticket.sname)
+    ∷ the (codes "padata") (if_there padata m.padata)
+    ∷ the (codes "ticket") (sealed m.ticket.enc_part)
+    ∷ the (codes "enc") (sealed m.enc_part)
+    ∷ []
 
-unfoldable pub ap_req_text : List ℕ → ApReq → List ℕ
-ap_req_text name m =
-    name
-    ++ field (codes "server") (in_realm m.ticket.realm m.ticket.sname)
-    ++ field (codes "options") (flags_text m.ap_options)
-    ++ field (codes "ticket") (sealed_text m.ticket.enc_part)
-    ++ field (codes "auth") (sealed_text m.authenticator)
+abbrev pub ap_req_fields : ApReq → List Field
+ap_req_fields m =
+    the (codes "server") (principal m.ticket.realm m.ticket.sname)
+    ∷ the (codes "options") (Flags registries.ApOptions m.ap_options)
+    ∷ the (codes "ticket") (sealed m.ticket.enc_part)
+    ∷ the (codes "auth") (sealed m.authenticator)
+    ∷ []
 
-unfoldable pub ap_rep_text : List ℕ → ApRep → List ℕ
-ap_rep_text name m = name ++ field (codes "enc") (sealed_text m.enc_part)
+abbrev pub ap_rep_fields : ApRep → List Field
+ap_rep_fields m = the (codes "enc") (sealed m.enc_part) ∷ []
 
-unfoldable pub krb_safe_text : List ℕ → KrbSafe → List ℕ
-krb_safe_text name m =
-    name
-    ++ field (codes "size") (count_text m.body.user_data)
-    ++ field (codes "time") (or_dash (λ time. time) m.body.timestamp)
-    ++ field (codes "usec") (or_dash decimal m.body.usec)
-    ++ field (codes "seq") (or_dash signed_decimal m.body.seq_number)
-    ++ field (codes "sender") (address_text m.body.s_address)
-    ++ field (codes "receiver") (or_dash address_text m.body.r_address)
-    ++ field (codes "cksum") (checksum_text m.cksum)
+abbrev pub krb_safe_fields : KrbSafe → List Field
+krb_safe_fields m =
+    the (codes "size") (count m.body.user_data)
+    ∷ the (codes "time") (if_there Word m.body.timestamp)
+    ∷ the (codes "usec") (if_there (λ n. Number (pos n)) m.body.usec)
+    ∷ the (codes "seq") (if_there Number m.body.seq_number)
+    ∷ the (codes "sender") (address m.body.s_address)
+    ∷ the (codes "receiver") (if_there address m.body.r_address)
+    ∷ the (codes "cksum") (checksum m.cksum)
+    ∷ []
 
-unfoldable pub krb_priv_text : List ℕ → KrbPriv → List ℕ
-krb_priv_text name m = name ++ field (codes "enc") (sealed_text m.enc_part)
+abbrev pub krb_priv_fields : KrbPriv → List Field
+krb_priv_fields m = the (codes "enc") (sealed m.enc_part) ∷ []
 
-unfoldable pub krb_cred_text : List ℕ → KrbCred → List ℕ
-krb_cred_text name m =
-    name
-    ++ field (codes "tickets") (count_text m.tickets)
-    ++ field (codes "enc") (sealed_text m.enc_part)
+abbrev pub krb_cred_fields : KrbCred → List Field
+krb_cred_fields m = the (codes "tickets") (count m.tickets) ∷ the (codes "enc") (sealed m.enc_part) ∷ []
 
-unfoldable pub krb_error_text : List ℕ → KrbError → List ℕ
-krb_error_text name m =
-    name
-    ++ field (codes "code") (code_text m.error_code)
-    ++ field (codes "client") (client_text m.cname m.crealm)
-    ++ field (codes "server") (in_realm m.realm m.sname)
-    ++ field (codes "ctime") (or_dash (λ time. time) m.ctime)
-    ++ field (codes "cusec") (or_dash decimal m.cusec)
-    ++ field (codes "stime") m.stime
-    ++ field (codes "susec") (decimal m.susec)
-    ++ field (codes "text") (or_dash quoted_text m.e_text)
-    ++ field (codes "data") (or_dash count_text m.e_data)
-    ++ field (codes "methods") (methods_text m.error_code m.e_data)
+abbrev pub krb_error_fields : KrbError → List Field
+krb_error_fields m =
+    the (codes "code") (ErrorCode m.error_code)
+    ∷ the (codes "client") (client m.cname m.crealm)
+    ∷ the (codes "server") (principal m.realm m.sname)
+    ∷ the (codes "ctime") (if_there Word m.ctime)
+    ∷ the (codes "cusec") (if_there (λ n. Number (pos n)) m.cusec)
+    ∷ the (codes "stime") (Word m.stime)
+    ∷ the (codes "susec") (Number (pos m.susec))
+    ∷ the (codes "text") (if_there Quoted m.e_text)
+    ∷ the (codes "data") (if_there count m.e_data)
+    ∷ the (codes "methods") (methods m.error_code m.e_data)
+    ∷ []
 
--- the name of a message, and its fields but the notes
-abbrev pub fields_text : Message → List ℕ
-fields_text (message.AsReq m) = kdc_req_text (kind_name kind.AsReq) m
-fields_text (message.AsRep m) = kdc_rep_text (kind_name kind.AsRep) m
-fields_text (message.TgsReq m) = kdc_req_text (kind_name kind.TgsReq) m
-fields_text (message.TgsRep m) = kdc_rep_text (kind_name kind.TgsRep) m
-fields_text (message.ApReq m) = ap_req_text (kind_name kind.ApReq) m
-fields_text (message.ApRep m) = ap_rep_text (kind_name kind.ApRep) m
-fields_text (message.KrbSafe m) = krb_safe_text (kind_name kind.KrbSafe) m
-fields_text (message.KrbPriv m) = krb_priv_text (kind_name kind.KrbPriv) m
-fields_text (message.KrbCred m) = krb_cred_text (kind_name kind.KrbCred) m
-fields_text (message.KrbError m) = krb_error_text (kind_name kind.KrbError) m
+-- the fields of a message but the notes
+abbrev pub fields_of : Message → List Field
+fields_of (message.AsReq m) = kdc_req_fields m
+fields_of (message.AsRep m) = kdc_rep_fields m
+fields_of (message.TgsReq m) = kdc_req_fields m
+fields_of (message.TgsRep m) = kdc_rep_fields m
+fields_of (message.ApReq m) = ap_req_fields m
+fields_of (message.ApRep m) = ap_rep_fields m
+fields_of (message.KrbSafe m) = krb_safe_fields m
+fields_of (message.KrbPriv m) = krb_priv_fields m
+fields_of (message.KrbCred m) = krb_cred_fields m
+fields_of (message.KrbError m) = krb_error_fields m
 
-abbrev pub message_text : Message → List ℕ
-message_text m = fields_text m ++ field (codes "notes") (notes_text (notes_of m))
+unfoldable pub message_record : Message → Printed
+message_record m = printed (kind_name (kind_of m)) (fields_of m ++ the (codes "notes") (notes (notes_of m)) ∷ [])
 
--- the line of a message in a listing, which ends with a line feed
-unfoldable pub message_line : Message → List ℕ
-message_line m = message_text m ++ line_feed
+-- a message in a form, without its line feed, and with it
+abbrev pub message_text : Form → Message → List ℕ
+message_text form m = record_text form (message_record m)
+
+unfoldable pub message_line : Form → Message → List ℕ
+message_line form m = record_line form (message_record m)

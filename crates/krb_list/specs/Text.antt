@@ -1,8 +1,8 @@
 -- The pieces of the printed lines, as lists of ASCII codes.
-use Rattle.std.specs.Prelude.{ℕ, ◌/◌, ◌%◌, Bool, true, false, not, ◌&&◌, ◌||◌, ◌==◌, nat_le, List, [], ◌∷◌, ◌++◌, length, Option, Some, None, codes, if◌then◌else◌}
-use Rattle.std.specs.List.{flat_map}
-use Rattle.std.specs.Fmt.{decimal, signed_decimal, digit_glyph}
-use Rattle.krb_msg.specs.declared.encrypted_data.EncryptedData.{EncryptedData}
+use Rattle.std.specs.Prelude.{ℕ, ◌/◌, ◌%◌, Bool, true, false, not, ◌&&◌, ◌||◌, ◌==◌, nat_le, ◌≤◌, List, [], ◌∷◌, ◌++◌, Option, Some, None, codes, if◌then◌else◌}
+use Rattle.std.specs.List.{AllByRecursion, flat_map}
+use Rattle.krb_der.specs.Octets.{AreOctets}
+use Rattle.std.specs.Fmt.{digit_glyph}
 
 -- 21 to 7E but `/`, `@` and `\`
 abbrev pub is_plain : ℕ → Bool
@@ -39,10 +39,6 @@ abbrev pub or_dash : {A : Type 0} → (A → List ℕ) → Option A → List ℕ
 or_dash text None = codes "-"
 or_dash text (Some value) = text value
 
--- what is sealed: the encryption type, the key version and the number of cipher octets
-abbrev pub sealed_text : EncryptedData → List ℕ
-sealed_text sealed = signed_decimal sealed.etype ++ codes ":" ++ or_dash signed_decimal sealed.kvno ++ codes ":" ++ decimal (length sealed.cipher)
-
 -- elements in brackets
 abbrev pub list_text : {A : Type 0} → (A → List ℕ) → List A → List ℕ
 list_text text values = codes "[" ++ joined [] (codes ",") text values ++ codes "]"
@@ -54,6 +50,9 @@ yes_or_no false = codes "no"
 abbrev pub line_feed : List ℕ
 line_feed = 10 ∷ []
 
--- a field of a line: its name and what it shows
-unfoldable pub field : List ℕ → List ℕ → List ℕ
-field name text = codes " " ++ name ++ codes "=" ++ text
+-- each is a blank or a graphic character of ASCII
+abbrev pub IsPrintable : List ℕ → Type 0
+IsPrintable text = AllByRecursion (λ c. (32 ≤ c) × (c ≤ 126)) text
+
+abbrev pub AllAreOctets : List (List ℕ) → Type 0
+AllAreOctets lists = AllByRecursion AreOctets lists

@@ -1,2 +1,4 @@
--- What the parts of a line promise each other.
+-- What the parts of a record promise each other.
+pub mod Strings
 pub mod Items
+pub mod Flags

@@ -1,117 +1,227 @@
-//! Lines of credential caches.
+//! What is printed of credential caches.
 
-ghost use Rattle.std.specs.Prelude.{◌≡◌, ◌++◌, IfOk, OnOk, string_bytes};
-ghost use Rattle.krb_list.specs.Ccaches.{file_principal_text, offset_text, cache_text, credential_lines, cache_end_text, ccache_lines};
+ghost use Rattle.std.specs.Prelude.{◌≡◌, ◌++◌, [], ◌∷◌, IfOk, OnOk, codes, string_bytes};
+ghost use Rattle.std.specs.Fmt.{signed_decimal};
+ghost use Rattle.krb_registry.specs.declared.registry.Registry.TheVariants.{NameTypes};
+ghost use Rattle.krb_ccache.specs.Spelling.{offset};
+ghost use Rattle.krb_list.specs.Ccaches.{file_principal, offset_value, cache_record, credential_lines, cache_end, ccache_lines};
+ghost use Rattle.krb_list.specs.Forms.{fields_text, offset_object, record_line, record_text};
+ghost use Rattle.krb_list.specs.Values.{Named, count, if_there, the};
 
 use crate::credential::put_credential;
-use crate::field::put_field;
-use crate::principal::put_principal;
-use crate::shown::Shown;
+use crate::field::{put_closing, put_field, put_opening};
+use crate::form::Form;
+use crate::number::Numbered;
+use crate::principal::{Principal, Strings};
+use crate::shown::{Shown, put_begin, put_number};
 use krb_ccache::{Ccache, Credential, FilePrincipal, Header};
 use krb_der::Memory;
+use krb_registry::Registry;
 use std::alloc::{AllocError, Global};
 
-impl Shown for FilePrincipal {
-    ghost text = { file_principal_text };
-
-    fn put(&self, line: &mut String) -> Result<(), AllocError> {
-        put_principal(line, self.components.as_slice(), &self.realm)
+/// Returns what is shown of a principal.
+#[inline(always)]
+pub(crate) fn principal_of(principal: &FilePrincipal) -> Principal<'_, Strings<'_>>
+    ensures name_type { result.name_type ≡ principal.now.name_type }
+    ensures components { result.components.0.now ≡ principal.now.components }
+    ensures realm { result.realm.now ≡ principal.now.realm }
+{
+    Principal {
+        name_type: i64::from(principal.name_type),
+        components: Strings(principal.components.as_slice()),
+        realm: principal.realm.octets(),
     }
+}
+
+/// Returns how the name of a principal is meant.
+fn name_type_of(principal: &FilePrincipal) -> Numbered
+    ensures registry { result.registry ≡ NameTypes }
+    ensures number { result.number ≡ principal.now.name_type }
+{
+    Numbered {
+        registry: Registry::NameTypes,
+        number: i64::from(principal.name_type),
+    }
+}
+
+/// Appends what stands before the microseconds in an object.
+fn put_seconds(object: &mut String, seconds: i32) -> Result<(), AllocError>
+    ensures { OnOk result (string_bytes object.new ≡ string_bytes object.old ++ codes "{\"seconds\":" ++ signed_decimal seconds ++ codes ",\"microseconds\":") }
+{
+    object.push_str("{\"seconds\":")?;
+    put_number(object, seconds)?;
+    object.push_str(",\"microseconds\":")
+}
+
+/// Appends what an object has of the offset of a clock.
+fn put_offset_object(object: &mut String, offset: (i32, i32)) -> Result<(), AllocError>
+    ensures { OnOk result (string_bytes object.new ≡ string_bytes object.old ++ offset_object offset.0 offset.1) }
+{
+    put_seconds(object, offset.0)?;
+    put_number(object, offset.1)?;
+    object.push('}')
 }
 
 /// The offset of a clock: seconds and microseconds, with `:` between.
 impl Shown for (i32, i32) {
-    ghost text = { offset_text };
+    ghost shown = { offset_value };
 
-    fn put(&self, line: &mut String) -> Result<(), AllocError> {
-        self.0.put(line)?;
+    #[tactic(auto, unfolding(crate::specs::Forms::value_text))]
+    fn put_text(&self, line: &mut String, _names: bool) -> Result<(), AllocError> {
+        put_number(line, self.0)?;
         line.push(':')?;
-        self.1.put(line)
+        put_number(line, self.1)
+    }
+
+    #[tactic(auto, unfolding(crate::specs::Forms::members, crate::specs::Forms::json_value, crate::specs::Forms::names_member))]
+    fn put_members(&self, object: &mut String, begin: &str) -> Result<(), AllocError> {
+        put_begin(object, begin)?;
+        put_offset_object(object, *self)
     }
 }
 
-/// Appends the line of a cache, which is [`cache_line`]'s.
-#[tactic(auto, unfolding(crate::specs::Ccaches::cache_text))]
-pub fn put_cache(
-    line: &mut String,
+/// Appends the fields of the default principal.
+fn put_who(text: &mut String, form: Form, principal: &FilePrincipal) -> Result<(), AllocError>
+    ensures { OnOk result (string_bytes text.new ≡ string_bytes text.old ++ fields_text form (
+        the (codes "principal") (file_principal principal.now)
+        ∷ the (codes "type") (Named NameTypes principal.now.name_type)
+        ∷ [])) }
+{
+    put_field(
+        text,
+        form,
+        " principal=",
+        ",\"principal",
+        &principal_of(principal),
+    )?;
+    put_field(text, form, " type=", ",\"type", &name_type_of(principal))
+}
+
+/// Appends the fields of a header: the offset of the clock, and how many fields it has.
+fn put_header(text: &mut String, form: Form, header: &Header) -> Result<(), AllocError>
+    ensures { OnOk result (string_bytes text.new ≡ string_bytes text.old ++ fields_text form (
+        the (codes "offset") (if_there offset_value (offset header.now))
+        ∷ the (codes "fields") (count header.now.fields)
+        ∷ [])) }
+{
+    let fields = header.fields.as_slice().len() as u64;
+    put_field(text, form, " offset=", ",\"offset", &header.offset())?;
+    put_field(text, form, " fields=", ",\"fields", &fields)
+}
+
+/// Appends the line of a cache without its line feed.
+#[tactic(auto, unfolding(crate::specs::Forms::record_text, crate::specs::Ccaches::cache_record))]
+fn put_cache_text(
+    text: &mut String,
+    form: Form,
     header: &Header,
     principal: &FilePrincipal,
 ) -> Result<(), AllocError>
-    ensures { OnOk result (string_bytes line.new ≡ string_bytes line.old ++ cache_text header.now principal.now) }
+    ensures { OnOk result (string_bytes text.new ≡ string_bytes text.old ++ record_text form (cache_record header.now principal.now)) }
 {
-    line.push_str("cache")?;
-    put_field(line, "principal", principal)?;
-    put_field(line, "type", &principal.name_type)?;
-    put_field(line, "offset", &header.offset())?;
-    put_field(line, "fields", &header.fields.as_slice().len())
+    put_opening(text, form, "cache")?;
+    put_who(text, form, principal)?;
+    put_header(text, form, header)?;
+    put_closing(text, form)
+}
+
+/// Appends the line of a cache, which is [`cache_line`]'s.
+pub fn put_cache(
+    text: &mut String,
+    form: Form,
+    header: &Header,
+    principal: &FilePrincipal,
+) -> Result<(), AllocError>
+    ensures { OnOk result (string_bytes text.new ≡ string_bytes text.old ++ record_line form (cache_record header.now principal.now)) }
+{
+    put_cache_text(text, form, header, principal)?;
+    text.push('\n')
 }
 
 /// Returns the line of a cache with this header and this default principal, without its line feed.
 pub fn cache_line(
     alloc: Global,
+    form: Form,
     header: &Header,
     principal: &FilePrincipal,
 ) -> Result<String, Memory>
-    ensures { IfOk result (λ line. string_bytes line ≡ cache_text header.now principal.now) }
+    ensures { IfOk result (λ line. string_bytes line ≡ record_text form (cache_record header.now principal.now)) }
 {
     let mut line = String::new(alloc);
-    put_cache(&mut line, header, principal)?;
+    put_cache_text(&mut line, form, header, principal)?;
     Ok(line)
 }
 
-fn put_lines(
-    lines: &mut String,
+fn put_credentials(
+    text: &mut String,
+    form: Form,
     now: Option<u32>,
     credentials: &[Credential],
 ) -> Result<(), AllocError>
-    ensures { OnOk result (string_bytes lines.new ≡ string_bytes lines.old ++ credential_lines now credentials.now) }
+    ensures { OnOk result (string_bytes text.new ≡ string_bytes text.old ++ credential_lines form now credentials.now) }
 {
     for credential in credentials {
-        put_credential(lines, credential, now)?;
-        lines.push_str("\n")?;
+        put_credential(text, form, credential, now)?;
     }
     Ok(())
 }
 
-/// Appends the line of the end of a cache, which is [`cache_end_line`]'s.
-#[tactic(auto, unfolding(crate::specs::Ccaches::cache_end_text))]
-pub fn put_cache_end(line: &mut String, credentials: u64) -> Result<(), AllocError>
-    ensures { OnOk result (string_bytes line.new ≡ string_bytes line.old ++ cache_end_text credentials) }
+/// Appends the line of the end of a cache without its line feed.
+#[tactic(auto, unfolding(crate::specs::Forms::record_text, crate::specs::Ccaches::cache_end))]
+fn put_end_text(text: &mut String, form: Form, credentials: u64) -> Result<(), AllocError>
+    ensures { OnOk result (string_bytes text.new ≡ string_bytes text.old ++ record_text form (cache_end credentials)) }
 {
-    line.push_str("end")?;
-    put_field(line, "credentials", &credentials)
+    put_opening(text, form, "end")?;
+    put_field(text, form, " credentials=", ",\"credentials", &credentials)?;
+    put_closing(text, form)
+}
+
+/// Appends the line of the end of a cache, which is [`cache_end_line`]'s.
+pub fn put_cache_end(text: &mut String, form: Form, credentials: u64) -> Result<(), AllocError>
+    ensures { OnOk result (string_bytes text.new ≡ string_bytes text.old ++ record_line form (cache_end credentials)) }
+{
+    put_end_text(text, form, credentials)?;
+    text.push('\n')
 }
 
 /// Returns the line of the end of a cache of this many credentials, without its line feed.
-pub fn cache_end_line(alloc: Global, credentials: u64) -> Result<String, Memory>
-    ensures { IfOk result (λ line. string_bytes line ≡ cache_end_text credentials) }
+pub fn cache_end_line(alloc: Global, form: Form, credentials: u64) -> Result<String, Memory>
+    ensures { IfOk result (λ line. string_bytes line ≡ record_text form (cache_end credentials)) }
 {
     let mut line = String::new(alloc);
-    put_cache_end(&mut line, credentials)?;
+    put_end_text(&mut line, form, credentials)?;
     Ok(line)
 }
 
 /// Appends the lines of a cache, those of [`ccache_lines`].
 #[tactic(auto, unfolding(crate::specs::Ccaches::ccache_lines))]
-pub fn put_ccache(lines: &mut String, ccache: &Ccache, now: Option<u32>) -> Result<(), AllocError>
-    ensures { OnOk result (string_bytes lines.new ≡ string_bytes lines.old ++ ccache_lines now ccache.now) }
+pub fn put_ccache(
+    text: &mut String,
+    form: Form,
+    ccache: &Ccache,
+    now: Option<u32>,
+) -> Result<(), AllocError>
+    ensures { OnOk result (string_bytes text.new ≡ string_bytes text.old ++ ccache_lines form now ccache.now) }
 {
     let credentials = ccache.credentials.as_slice();
-    put_cache(lines, &ccache.header, &ccache.principal)?;
-    lines.push_str("\n")?;
-    put_lines(lines, now, credentials)?;
-    put_cache_end(lines, credentials.len() as u64)?;
-    lines.push_str("\n")
+    put_cache(text, form, &ccache.header, &ccache.principal)?;
+    put_credentials(text, form, now, credentials)?;
+    put_cache_end(text, form, credentials.len() as u64)
 }
 
 /// Returns the lines of a cache: [`cache_line`], [`credential_line`](crate::credential_line) of
 /// each credential, in order, and [`cache_end_line`], each with a line feed after it. They show no
 /// octet of a key, which is a law:
 /// [`session_keys_are_not_shown`](crate::session_keys_are_not_shown).
-pub fn ccache_lines(alloc: Global, ccache: &Ccache, now: Option<u32>) -> Result<String, Memory>
-    ensures { IfOk result (λ text. string_bytes text ≡ ccache_lines now ccache.now) }
+pub fn ccache_lines(
+    alloc: Global,
+    form: Form,
+    ccache: &Ccache,
+    now: Option<u32>,
+) -> Result<String, Memory>
+    ensures { IfOk result (λ text. string_bytes text ≡ ccache_lines form now ccache.now) }
 {
     let mut text = String::new(alloc);
-    put_ccache(&mut text, ccache, now)?;
+    put_ccache(&mut text, form, ccache, now)?;
     Ok(text)
 }

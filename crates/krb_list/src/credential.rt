@@ -1,214 +1,394 @@
-//! Lines of credentials.
+//! What is printed of credentials.
 
-ghost use Rattle.std.specs.Prelude.{◌≡◌, ◌+◌, ◌++◌, ◌≤◌, IfOk, OnOk, codes, decimal, length, string_bytes};
+ghost use Rattle.std.specs.Prelude.{◌≡◌, ◌++◌, [], ◌∷◌, false, IfOk, OnOk, codes, decimal, length, pos, string_bytes};
+ghost use Rattle.krb_der.specs.Reasons.{reason_name, reason_number};
 ghost use Rattle.krb_judge.specs.Viewed.{sealed_viewed, ticket_viewed};
 ghost use Rattle.krb_ccache.specs.Tickets.{state_viewed};
-ghost use Rattle.krb_list.specs.Text.{sealed_text};
-ghost use Rattle.krb_list.specs.Ccaches.{who_text, key_text, times_text, state_text, flags_text, counts_text, tickets_text, credential_front, credential_text, config_text, refused_ticket_text, ticket_server_text, state_line, credential_line};
+ghost use Rattle.krb_registry.specs.declared.registry.Registry.TheVariants.{EncryptionTypes};
+ghost use Rattle.krb_list.specs.Ccaches.{config_record, counts_fields, credential_record, flags_fields, key_fields, state, state_record, ticket_server, ticketed_record, tickets_fields, times_fields, who_fields};
+ghost use Rattle.krb_list.specs.Forms.{fields_text, json_string, record_line, record_text, refused_object, refused_ticket_text};
+ghost use Rattle.krb_list.specs.Values.{Absent, Named, NoTicket, Principal as IsPrincipal, RefusedTicket, Sealed as IsSealed, Word, if_there, sealed};
 
-use crate::ending::Ending;
-use crate::escape::{put_ascii, put_escaped};
-use crate::field::put_labelled;
-use crate::principal::put_components;
-use crate::shown::{Name, Shown, put_number};
+use crate::ccache::principal_of;
+use crate::field::{put_closing, put_field, put_opening};
+use crate::form::Form;
+use crate::json::put_string;
+use crate::number::{Numbered, Sealed};
+use crate::principal::{Principal, TicketNames};
+use crate::shown::{Plain, Shown, put_begin, put_number};
 use crate::ticket_flags::TicketFlags;
+use crate::time::FileTime;
 use krb_ccache::{Credential, TicketStateView, ticket_view_of};
-use krb_der::{Memory, Refusal, why_number};
+use krb_der::{Memory, Refusal, Why, why_number, why_text};
 use krb_judge::{SealedView, TicketView};
+use krb_registry::Registry;
 use std::alloc::{AllocError, Global};
 
-#[tactic(auto, unfolding(crate::specs::Ccaches::who_text, crate::specs::Text::field))]
-fn put_who(line: &mut String, credential: &Credential) -> Result<(), AllocError>
-    ensures { OnOk result (string_bytes line.new ≡ string_bytes line.old ++ who_text credential.now) }
+/// Appends the fields of the client and the server.
+fn put_who(text: &mut String, form: Form, credential: &Credential) -> Result<(), AllocError>
+    ensures { OnOk result (string_bytes text.new ≡ string_bytes text.old ++ fields_text form (who_fields credential.now)) }
 {
-    put_labelled(line, " client=", &credential.client)?;
-    put_labelled(line, " server=", &credential.server)
+    put_field(
+        text,
+        form,
+        " client=",
+        ",\"client",
+        &principal_of(&credential.client),
+    )?;
+    put_field(
+        text,
+        form,
+        " server=",
+        ",\"server",
+        &principal_of(&credential.server),
+    )
 }
 
-/// Puts the type and the size of the key before what stands after it.
-#[inline(always)]
-#[tactic(auto, unfolding(crate::specs::Ccaches::key_text, crate::specs::Text::field))]
-fn key(credential: &Credential, ending: &mut Ending)
-    requires { length ending.old ≤ 200 }
-    ensures { ending.new ≡ key_text credential.now ++ ending.old }
+/// Returns the encryption type of the session key.
+fn enctype_of(credential: &Credential) -> Numbered
+    ensures { Named result.registry result.number ≡ Named EncryptionTypes (pos credential.now.enctype) }
 {
-    ending.number_field(" key=", credential.key.as_slice().len() as u64);
-    ending.number_field(" enctype=", u64::from(credential.enctype));
-}
-
-/// Puts the times before what stands after them.
-#[inline(always)]
-#[tactic(auto, unfolding(crate::specs::Ccaches::times_text, crate::specs::Text::field))]
-fn times(credential: &Credential, ending: &mut Ending)
-    requires { length ending.old ≤ 100 }
-    ensures text { ending.new ≡ times_text credential.now ++ ending.old }
-    ensures room { length ending.new ≤ 105 + length ending.old }
-{
-    ending.time_field(" renew=", credential.renew_till);
-    ending.time_field(" end=", credential.endtime);
-    ending.time_field(" start=", credential.starttime);
-    ending.time_field(" auth=", credential.authtime);
-}
-
-/// Appends what stands between the principals and the flags.
-fn put_before_flags(line: &mut String, credential: &Credential) -> Result<(), AllocError>
-    ensures { OnOk result (string_bytes line.new ≡ string_bytes line.old ++ (key_text credential.now ++ times_text credential.now ++ codes " skey=" ++ decimal credential.now.is_skey ++ codes " flags=")) }
-{
-    let mut ending = Ending::new();
-    ending.label(" flags=");
-    ending.number_field(" skey=", u64::from(credential.is_skey));
-    times(credential, &mut ending);
-    key(credential, &mut ending);
-    put_ascii(line, ending.octets())
-}
-
-/// Returns whether a credential that ends then has ended now, if a now is given.
-fn state_name(now: Option<u32>, endtime: u32) -> Name
-    ensures { result ≡ state_text now endtime }
-{
-    match now {
-        None => Name("-"),
-        Some(now) if now < endtime => Name("live"),
-        Some(_) => Name("expired"),
+    Numbered {
+        registry: Registry::EncryptionTypes,
+        number: i64::from(credential.enctype),
     }
 }
 
-/// Appends what stands between the principals and the numbers of addresses and of authorization data.
-#[tactic(auto, unfolding(crate::specs::Ccaches::flags_text, crate::specs::Text::field))]
-fn put_flags(line: &mut String, now: Option<u32>, credential: &Credential) -> Result<(), AllocError>
-    ensures { OnOk result (string_bytes line.new ≡ string_bytes line.old ++ (key_text credential.now ++ times_text credential.now ++ flags_text now credential.now)) }
+/// Appends the fields of the session key, of which there is the number of octets.
+fn put_key(text: &mut String, form: Form, credential: &Credential) -> Result<(), AllocError>
+    ensures { OnOk result (string_bytes text.new ≡ string_bytes text.old ++ fields_text form (key_fields credential.now)) }
 {
-    put_before_flags(line, credential)?;
-    TicketFlags(credential.flags).put(line)?;
-    put_labelled(line, " state=", &state_name(now, credential.endtime))
+    let key = credential.key.as_slice().len() as u64;
+    put_field(
+        text,
+        form,
+        " enctype=",
+        ",\"enctype",
+        &enctype_of(credential),
+    )?;
+    put_field(text, form, " key=", ",\"key", &key)
 }
 
-#[tactic(auto, unfolding(crate::specs::Ccaches::counts_text, crate::specs::Text::field))]
-fn put_counts(line: &mut String, credential: &Credential) -> Result<(), AllocError>
-    ensures { OnOk result (string_bytes line.new ≡ string_bytes line.old ++ counts_text credential.now) }
+/// Appends the fields of the times.
+fn put_times(text: &mut String, form: Form, credential: &Credential) -> Result<(), AllocError>
+    ensures { OnOk result (string_bytes text.new ≡ string_bytes text.old ++ fields_text form (times_fields credential.now)) }
 {
-    put_labelled(line, " addresses=", &credential.addresses.as_slice().len())?;
-    put_labelled(line, " authdata=", &credential.authdata.as_slice().len())
+    put_field(
+        text,
+        form,
+        " auth=",
+        ",\"auth",
+        &FileTime(credential.authtime),
+    )?;
+    put_field(
+        text,
+        form,
+        " start=",
+        ",\"start",
+        &FileTime(credential.starttime),
+    )?;
+    put_field(text, form, " end=", ",\"end", &FileTime(credential.endtime))?;
+    put_field(
+        text,
+        form,
+        " renew=",
+        ",\"renew",
+        &FileTime(credential.renew_till),
+    )
 }
 
-#[tactic(auto, unfolding(crate::specs::Ccaches::tickets_text, crate::specs::Text::field))]
+/// Returns whether a credential that ends then has ended now, if a now is given.
+fn state_of(now: Option<u32>, endtime: u32) -> Option<Plain<'static>>
+    ensures { if_there Word result ≡ state now endtime }
+{
+    match now {
+        None => None,
+        Some(now) if now < endtime => Some(Plain::new("live".as_bytes())),
+        Some(_) => Some(Plain::new("expired".as_bytes())),
+    }
+}
+
+/// Appends the fields of the flags, and of the state.
+fn put_flags(
+    text: &mut String,
+    form: Form,
+    now: Option<u32>,
+    credential: &Credential,
+) -> Result<(), AllocError>
+    ensures { OnOk result (string_bytes text.new ≡ string_bytes text.old ++ fields_text form (flags_fields now credential.now)) }
+{
+    put_field(
+        text,
+        form,
+        " skey=",
+        ",\"skey",
+        &u64::from(credential.is_skey),
+    )?;
+    put_field(
+        text,
+        form,
+        " flags=",
+        ",\"flags",
+        &TicketFlags(credential.flags),
+    )?;
+    put_field(
+        text,
+        form,
+        " state=",
+        ",\"state",
+        &state_of(now, credential.endtime),
+    )
+}
+
+/// Returns how many addresses a credential has.
+fn address_count(credential: &Credential) -> u64
+    ensures { result ≡ length credential.now.addresses }
+{
+    credential.addresses.as_slice().len() as u64
+}
+
+/// Returns how many pieces of authorization data a credential has.
+fn authdata_count(credential: &Credential) -> u64
+    ensures { result ≡ length credential.now.authdata }
+{
+    credential.authdata.as_slice().len() as u64
+}
+
+/// Appends the fields of how many addresses and how much authorization data there are.
+fn put_counts(text: &mut String, form: Form, credential: &Credential) -> Result<(), AllocError>
+    ensures { OnOk result (string_bytes text.new ≡ string_bytes text.old ++ fields_text form (counts_fields credential.now)) }
+{
+    put_field(
+        text,
+        form,
+        " addresses=",
+        ",\"addresses",
+        &address_count(credential),
+    )?;
+    put_field(
+        text,
+        form,
+        " authdata=",
+        ",\"authdata",
+        &authdata_count(credential),
+    )
+}
+
+/// Appends the fields of the ticket, of its server, and of the second ticket.
 fn put_tickets<T: Shown, S: Shown>(
-    line: &mut String,
+    text: &mut String,
+    form: Form,
     credential: &Credential,
     ticket: &T,
     server: &S,
 ) -> Result<(), AllocError>
-    ensures { OnOk result (string_bytes line.new ≡ string_bytes line.old ++ tickets_text credential.now (T.text ticket.now) (S.text server.now)) }
+    ensures { OnOk result (string_bytes text.new ≡ string_bytes text.old ++ fields_text form (tickets_fields credential.now (T.shown ticket.now) (S.shown server.now))) }
 {
-    put_labelled(line, " ticket=", ticket)?;
-    put_labelled(line, " tserver=", server)?;
-    put_labelled(line, " second=", &credential.second_ticket.as_slice().len())
+    let second = credential.second_ticket.as_slice().len() as u64;
+    put_field(text, form, " ticket=", ",\"ticket", ticket)?;
+    put_field(text, form, " tserver=", ",\"tserver", server)?;
+    put_field(text, form, " second=", ",\"second", &second)
 }
 
-#[tactic(auto, unfolding(crate::specs::Ccaches::credential_front))]
-fn put_front(line: &mut String, now: Option<u32>, credential: &Credential) -> Result<(), AllocError>
-    ensures { OnOk result (string_bytes line.new ≡ string_bytes line.old ++ credential_front now credential.now) }
+/// Appends the fields up to the flags.
+fn put_front(text: &mut String, form: Form, credential: &Credential) -> Result<(), AllocError>
+    ensures { OnOk result (string_bytes text.new ≡ string_bytes text.old ++ fields_text form (who_fields credential.now ++ key_fields credential.now ++ times_fields credential.now)) }
 {
-    line.push_str("cred")?;
-    put_who(line, credential)?;
-    put_flags(line, now, credential)
+    put_who(text, form, credential)?;
+    put_key(text, form, credential)?;
+    put_times(text, form, credential)
 }
 
-#[tactic(auto, unfolding(crate::specs::Ccaches::credential_text))]
+#[tactic(auto, unfolding(crate::specs::Forms::record_text, crate::specs::Ccaches::ticketed_record))]
 fn put_ticketed<T: Shown, S: Shown>(
-    line: &mut String,
+    text: &mut String,
+    form: Form,
     now: Option<u32>,
     credential: &Credential,
     ticket: &T,
     server: &S,
 ) -> Result<(), AllocError>
-    ensures { OnOk result (string_bytes line.new ≡ string_bytes line.old ++ credential_text now credential.now (T.text ticket.now) (S.text server.now)) }
+    ensures { OnOk result (string_bytes text.new ≡ string_bytes text.old ++ record_text form (ticketed_record now credential.now (T.shown ticket.now) (S.shown server.now))) }
 {
-    put_front(line, now, credential)?;
-    put_counts(line, credential)?;
-    put_tickets(line, credential, ticket, server)
+    put_opening(text, form, "cred")?;
+    put_front(text, form, credential)?;
+    put_flags(text, form, now, credential)?;
+    put_counts(text, form, credential)?;
+    put_tickets(text, form, credential, ticket, server)?;
+    put_closing(text, form)
 }
 
-#[tactic(auto, unfolding(crate::specs::Ccaches::config_text, crate::specs::Text::field))]
-fn put_config(line: &mut String, credential: &Credential) -> Result<(), AllocError>
-    ensures { OnOk result (string_bytes line.new ≡ string_bytes line.old ++ config_text credential.now) }
+#[tactic(auto, unfolding(crate::specs::Forms::record_text, crate::specs::Ccaches::config_record))]
+fn put_config(text: &mut String, form: Form, credential: &Credential) -> Result<(), AllocError>
+    ensures { OnOk result (string_bytes text.new ≡ string_bytes text.old ++ record_text form (config_record credential.now)) }
 {
-    line.push_str("config")?;
-    put_who(line, credential)?;
-    put_labelled(line, " size=", &credential.ticket.as_slice().len())
+    let size = credential.ticket.as_slice().len() as u64;
+    put_opening(text, form, "config")?;
+    put_who(text, form, credential)?;
+    put_field(text, form, " size=", ",\"size", &size)?;
+    put_closing(text, form)
 }
 
-/// `refused`, the place and the number of the reason, with `:` between.
+/// A credential without a ticket.
+struct WithoutTicket;
+
+/// `absent` in a line, and null in an object.
+impl Shown for WithoutTicket {
+    ghost shown = { λ without. NoTicket };
+
+    #[tactic(auto, unfolding(crate::specs::Forms::value_text))]
+    fn put_text(&self, line: &mut String, _names: bool) -> Result<(), AllocError> {
+        line.push_str("absent")
+    }
+
+    #[tactic(auto, unfolding(crate::specs::Forms::members, crate::specs::Forms::json_value, crate::specs::Forms::names_member))]
+    fn put_members(&self, object: &mut String, begin: &str) -> Result<(), AllocError> {
+        put_begin(object, begin)?;
+        object.push_str("null")
+    }
+}
+
+/// Appends `refused`, the place and the number of the reason, with `:` between.
+fn put_refused(line: &mut String, refusal: Refusal) -> Result<(), AllocError>
+    ensures { OnOk result (string_bytes line.new ≡ string_bytes line.old ++ refused_ticket_text false refusal) }
+{
+    line.push_str("refused:")?;
+    put_number(line, refusal.place)?;
+    line.push(':')?;
+    put_number(line, why_number(refusal.why))
+}
+
+/// Appends the place and the number of the reason in an object.
+fn put_refused_numbers(object: &mut String, refusal: Refusal) -> Result<(), AllocError>
+    ensures { OnOk result (string_bytes object.new ≡ string_bytes object.old ++ decimal refusal.place ++ codes ",\"why\":" ++ decimal (reason_number refusal.why)) }
+{
+    put_number(object, refusal.place)?;
+    object.push_str(",\"why\":")?;
+    put_number(object, why_number(refusal.why))
+}
+
+/// Appends what stands before the name of the reason in an object.
+fn put_refused_front(object: &mut String, refusal: Refusal) -> Result<(), AllocError>
+    ensures { OnOk result (string_bytes object.new ≡ string_bytes object.old ++ codes "{\"refused\":{\"place\":" ++ decimal refusal.place ++ codes ",\"why\":" ++ decimal (reason_number refusal.why) ++ codes ",\"why_name\":") }
+{
+    object.push_str("{\"refused\":{\"place\":")?;
+    put_refused_numbers(object, refusal)?;
+    object.push_str(",\"why_name\":")
+}
+
+/// Appends what an object has of a ticket that is refused.
+fn put_refused_object(object: &mut String, refusal: Refusal) -> Result<(), AllocError>
+    ensures { OnOk result (string_bytes object.new ≡ string_bytes object.old ++ refused_object refusal) }
+{
+    put_refused_front(object, refusal)?;
+    put_reason_name(object, refusal.why)?;
+    object.push_str("}}")
+}
+
+/// Appends the name of a reason as a string.
+#[tactic(auto, using(crate::proofs::Reasons::reason_is_ascii))]
+fn put_reason_name(object: &mut String, why: Why) -> Result<(), AllocError>
+    ensures { OnOk result (string_bytes object.new ≡ string_bytes object.old ++ json_string (reason_name why)) }
+{
+    put_string(object, why_text(why).as_bytes())
+}
+
+/// `refused`, the place and the number of the reason, and with names its name, with `:` between.
 impl Shown for Refusal {
-    ghost text = { refused_ticket_text };
+    ghost shown = { λ refusal. RefusedTicket refusal };
 
-    #[tactic(auto, unfolding(crate::specs::Ccaches::refused_ticket_text))]
-    fn put(&self, line: &mut String) -> Result<(), AllocError> {
-        line.push_str("refused:")?;
-        put_number(line, self.place)?;
-        line.push(':')?;
-        put_number(line, why_number(self.why))
+    #[tactic(auto, unfolding(crate::specs::Forms::value_text))]
+    fn put_text(&self, line: &mut String, names: bool) -> Result<(), AllocError> {
+        put_refused(line, *self)?;
+        if names {
+            line.push(':')?;
+            line.push_str(why_text(self.why))
+        } else {
+            Ok(())
+        }
+    }
+
+    #[tactic(auto, unfolding(crate::specs::Forms::members, crate::specs::Forms::json_value, crate::specs::Forms::names_member))]
+    fn put_members(&self, object: &mut String, begin: &str) -> Result<(), AllocError> {
+        put_begin(object, begin)?;
+        put_refused_object(object, *self)
     }
 }
 
-/// The encryption type, the key version or `-`, and the number of cipher octets, with `:` between.
-impl<'a> Shown for SealedView<'a> {
-    ghost text = { λ view. sealed_text (sealed_viewed view) };
-
-    fn put(&self, line: &mut String) -> Result<(), AllocError> {
-        put_number(line, self.etype)?;
-        line.push(':')?;
-        self.kvno.put(line)?;
-        line.push(':')?;
-        put_number(line, self.cipher.len())
+/// Returns what is shown of a sealed part of a ticket.
+fn sealed_of(view: &SealedView<'_>) -> Sealed
+    ensures { IsSealed result.etype result.kvno result.size ≡ sealed (sealed_viewed view.now) }
+{
+    Sealed {
+        etype: view.etype,
+        kvno: view.kvno,
+        size: view.cipher.len() as u64,
     }
 }
 
-/// The server of the ticket.
-impl<'a> Shown for TicketView<'a> {
-    ghost text = { λ view. ticket_server_text (ticket_viewed view) };
-
-    #[tactic(auto, unfolding(crate::specs::Text::principal_text))]
-    fn put(&self, line: &mut String) -> Result<(), AllocError> {
-        put_components(line, &self.sname.name)?;
-        line.push('@')?;
-        put_escaped(line, self.realm)
+/// Returns the server of a ticket.
+fn server_of<'b, 'a>(view: &'b TicketView<'a>) -> Principal<'b, TicketNames<'b, 'a>>
+    ensures { IsPrincipal result.name_type result.components.0.now result.realm.now ≡ ticket_server (ticket_viewed view.now) }
+{
+    Principal {
+        name_type: view.sname.name_type,
+        components: TicketNames(&view.sname.name),
+        realm: view.realm,
     }
 }
+
+/// No server.
+const NONE: Option<Plain<'static>> = None;
 
 /// Appends the line of a credential whose ticket field holds this, without its line feed.
 fn put_with_state(
-    line: &mut String,
+    text: &mut String,
+    form: Form,
     now: Option<u32>,
     credential: &Credential,
     state: &TicketStateView<'_>,
 ) -> Result<(), AllocError>
-    ensures { OnOk result (string_bytes line.new ≡ string_bytes line.old ++ state_line now credential.now (state_viewed state.now)) }
+    ensures { OnOk result (string_bytes text.new ≡ string_bytes text.old ++ record_text form (state_record now credential.now (state_viewed state.now))) }
 {
     match state {
-        TicketStateView::Config => put_config(line, credential),
+        TicketStateView::Config => put_config(text, form, credential),
         TicketStateView::Absent => {
-            put_ticketed(line, now, credential, &Name("absent"), &Name("-"))
+            put_ticketed(text, form, now, credential, &WithoutTicket, &NONE)
         }
         TicketStateView::Ticket(ticket) => {
-            put_ticketed(line, now, credential, &ticket.enc_part, ticket)
+            let sealed = sealed_of(&ticket.enc_part);
+            put_ticketed(text, form, now, credential, &sealed, &server_of(ticket))
         }
         TicketStateView::Refused(refusal) => {
-            put_ticketed(line, now, credential, refusal, &Name("-"))
+            put_ticketed(text, form, now, credential, refusal, &NONE)
         }
     }
 }
 
-/// Appends the line of a credential, which is [`credential_line`]'s.
-#[tactic(auto, unfolding(crate::specs::Ccaches::credential_line))]
-pub fn put_credential(
-    line: &mut String,
+/// Appends the line of a credential without its line feed.
+#[tactic(auto, unfolding(crate::specs::Ccaches::credential_record))]
+fn put_credential_text(
+    text: &mut String,
+    form: Form,
     credential: &Credential,
     now: Option<u32>,
 ) -> Result<(), AllocError>
-    ensures { OnOk result (string_bytes line.new ≡ string_bytes line.old ++ credential_line now credential.now) }
+    ensures { OnOk result (string_bytes text.new ≡ string_bytes text.old ++ record_text form (credential_record now credential.now)) }
 {
-    put_with_state(line, now, credential, &ticket_view_of(credential))
+    put_with_state(text, form, now, credential, &ticket_view_of(credential))
+}
+
+/// Appends the line of a credential, which is [`credential_line`]'s.
+pub fn put_credential(
+    text: &mut String,
+    form: Form,
+    credential: &Credential,
+    now: Option<u32>,
+) -> Result<(), AllocError>
+    ensures { OnOk result (string_bytes text.new ≡ string_bytes text.old ++ record_line form (credential_record now credential.now)) }
+{
+    put_credential_text(text, form, credential, now)?;
+    text.push('\n')
 }
 
 /// Returns the line of a credential, without its line feed. If a now is given, in seconds since
@@ -216,12 +396,13 @@ pub fn put_credential(
 /// a key, which is a law: [`session_keys_are_not_shown`](crate::session_keys_are_not_shown).
 pub fn credential_line(
     alloc: Global,
+    form: Form,
     credential: &Credential,
     now: Option<u32>,
 ) -> Result<String, Memory>
-    ensures { IfOk result (λ line. string_bytes line ≡ credential_line now credential.now) }
+    ensures { IfOk result (λ line. string_bytes line ≡ record_text form (credential_record now credential.now)) }
 {
     let mut line = String::new(alloc);
-    put_credential(&mut line, credential, now)?;
+    put_credential_text(&mut line, form, credential, now)?;
     Ok(line)
 }

@@ -1,34 +1,40 @@
-//! The line of a KRB-ERROR.
+//! What is printed of a KRB-ERROR.
 
-ghost use Rattle.std.specs.Prelude.{◌≡◌, ◌++◌, ◌^◌, ◌<◌, Some, None, codes, decimal, length, MatchOption, OnOk, string_bytes};
+ghost use Rattle.std.specs.Prelude.{◌≡◌, ◌++◌, ◌^◌, ◌<◌, Some, None, codes, length, pos, MatchOption, OnOk, string_bytes};
 ghost use Rattle.krb_msg.specs.Grammar.{pa_data};
 ghost use Rattle.krb_msg.specs.Seen.{KrbErrorLists, krb_error_seen};
 ghost use Rattle.krb_msg.specs.Viewed.{AreViewed, items_of};
 ghost use Rattle.krb_judge.specs.Parses.{method_data_refusal};
-ghost use Rattle.krb_list.specs.Text.{field, or_dash};
-ghost use Rattle.krb_list.specs.Messages.{client_text, count_text, in_realm, quoted_text, code_suffix, code_text, items_unless, methods_in, methods_text, krb_error_text};
+ghost use Rattle.krb_list.specs.Errors.{code_suffix, code_text};
+ghost use Rattle.krb_list.specs.Forms.{field, fields_text, labelled};
+ghost use Rattle.krb_list.specs.Messages.{items_unless, krb_error_fields, methods, methods_in};
+ghost use Rattle.krb_list.specs.Values.{ErrorCode, Number, Quoted, Word, client, count, if_there, principal};
 
-use crate::field::put_labelled;
-use crate::list::put_item_list;
-use crate::shown::{Shown, put_number};
+use crate::field::put_field;
+use crate::form::Form;
+use crate::item::{put_name_member, put_named};
+use crate::list::PaDataTypes;
+use crate::shown::{Shown, put_begin, put_number};
 use crate::view_field::{
-    put_client_field, put_micros_field, put_optional_micros_field, put_optional_time_field,
-    put_principal_field, put_size_field, put_string_field, put_time_field,
+    put_absent_field, put_client_field, put_micros_field, put_optional_micros_field,
+    put_optional_size_field, put_optional_time_field, put_principal_field, put_quoted_field,
+    put_time_field,
 };
 use krb_der::Many;
 use krb_msg::{ItemsView, KrbErrorView, PaData, view_whole};
+use krb_registry::Registry;
 use std::alloc::AllocError;
 
 /// The code of an error that asks for pre-authentication (RFC 4120, 7.5.9).
 const PREAUTH_REQUIRED: i64 = 25;
 
 /// The code of an error: its number, and `:` and its name if it is one of those that KDCs and
-/// servers answer most.
+/// servers answer most, or with names in any case.
 #[derive(Clone, Copy)]
 struct Code(i64);
 
-/// `:` and the name of an error that has one here.
-#[tactic(auto, unfolding(crate::specs::Messages::code_suffix, crate::specs::Messages::code_name))]
+/// `:` and the name of an error that has one in any line.
+#[tactic(auto, unfolding(crate::specs::Errors::code_suffix, crate::specs::Errors::code_name))]
 fn code_suffix<'a>(code: i64) -> &'a str
     ensures { result.now ≡ code_suffix code }
 {
@@ -46,13 +52,33 @@ fn code_suffix<'a>(code: i64) -> &'a str
     }
 }
 
-impl Shown for Code {
-    ghost text = { λ code. code_text code.0 };
+/// Appends a code, and `:` and its name if it has one in any line.
+#[tactic(auto, unfolding(crate::specs::Errors::code_text))]
+fn put_code(line: &mut String, code: i64) -> Result<(), AllocError>
+    ensures { OnOk result (string_bytes line.new ≡ string_bytes line.old ++ code_text code) }
+{
+    put_number(line, code)?;
+    line.push_str(code_suffix(code))
+}
 
-    #[tactic(auto, unfolding(crate::specs::Messages::code_text))]
-    fn put(&self, line: &mut String) -> Result<(), AllocError> {
-        put_number(line, self.0)?;
-        line.push_str(code_suffix(self.0))
+impl Shown for Code {
+    ghost shown = { λ code. ErrorCode code.0 };
+
+    #[inline(always)]
+    #[tactic(auto, unfolding(crate::specs::Forms::value_text))]
+    fn put_text(&self, line: &mut String, names: bool) -> Result<(), AllocError> {
+        if names {
+            put_named(line, true, Registry::ErrorCodes, self.0)
+        } else {
+            put_code(line, self.0)
+        }
+    }
+
+    #[tactic(auto, unfolding(crate::specs::Forms::members, crate::specs::Forms::json_value, crate::specs::Forms::names_member))]
+    fn put_members(&self, object: &mut String, begin: &str) -> Result<(), AllocError> {
+        put_begin(object, begin)?;
+        put_number(object, self.0)?;
+        put_name_member(object, begin, Registry::ErrorCodes, self.0)
     }
 }
 
@@ -76,65 +102,80 @@ fn methods_of<'a>(error: &KrbErrorView<'a>) -> Option<ItemsView<'a>>
     }
 }
 
-/// Appends the field that shows the types of the METHOD-DATA, or `-`.
-#[tactic(auto, unfolding(crate::specs::Messages::methods_text))]
+/// Appends the field of the types of the METHOD-DATA of an error.
 fn put_methods_field(
-    line: &mut String,
+    text: &mut String,
+    form: Form,
     label: &str,
+    begin: &str,
     error: &KrbErrorView<'_>,
 ) -> Result<(), AllocError>
     requires { KrbErrorLists error.now }
-    ensures { let seen = krb_error_seen error.now in OnOk result (string_bytes line.new ≡ string_bytes line.old ++ label.now ++ methods_text seen.error_code seen.e_data) }
+    ensures { let seen = krb_error_seen error.now in OnOk result (string_bytes text.new ≡ string_bytes text.old ++ labelled form label.now begin.now (methods seen.error_code seen.e_data)) }
 {
-    line.push_str(label)?;
     match methods_of(error) {
-        None => line.push('-'),
-        Some(items) => put_item_list::<PaData>(line, items),
+        None => put_absent_field(text, form, label, begin),
+        Some(items) => put_field(text, form, label, begin, &PaDataTypes::new(items)),
     }
 }
 
 /// Appends the fields of a KRB-ERROR up to the time of the client.
-#[tactic(auto, unfolding(crate::specs::Text::field))]
-fn put_krb_error_front(line: &mut String, error: &KrbErrorView<'_>) -> Result<(), AllocError>
+fn put_front(text: &mut String, form: Form, error: &KrbErrorView<'_>) -> Result<(), AllocError>
     requires { KrbErrorLists error.now }
-    ensures { let seen = krb_error_seen error.now in OnOk result (string_bytes line.new ≡ string_bytes line.old
-        ++ field (codes "code") (code_text seen.error_code)
-        ++ field (codes "client") (client_text seen.cname seen.crealm)
-        ++ field (codes "server") (in_realm seen.realm seen.sname)
-        ++ field (codes "ctime") (or_dash (λ time. time) seen.ctime)
-        ++ field (codes "cusec") (or_dash decimal seen.cusec)) }
+    ensures { let seen = krb_error_seen error.now in OnOk result (string_bytes text.new ≡ string_bytes text.old
+        ++ field form (codes "code") (ErrorCode seen.error_code)
+        ++ field form (codes "client") (client seen.cname seen.crealm)
+        ++ field form (codes "server") (principal seen.realm seen.sname)
+        ++ field form (codes "ctime") (if_there Word seen.ctime)
+        ++ field form (codes "cusec") (if_there (λ n. Number (pos n)) seen.cusec)) }
 {
-    put_labelled(line, " code=", &Code(error.error_code))?;
-    put_client_field(line, " client=", &error.cname, error.crealm)?;
-    put_principal_field(line, " server=", &error.sname, error.realm)?;
-    put_optional_time_field(line, " ctime=", error.ctime)?;
-    put_optional_micros_field(line, " cusec=", error.cusec)
+    put_field(text, form, " code=", ",\"code", &Code(error.error_code))?;
+    put_client_field(
+        text,
+        form,
+        " client=",
+        ",\"client",
+        &error.cname,
+        error.crealm,
+    )?;
+    put_principal_field(
+        text,
+        form,
+        " server=",
+        ",\"server",
+        &error.sname,
+        error.realm,
+    )?;
+    put_optional_time_field(text, form, " ctime=", ",\"ctime", error.ctime)?;
+    put_optional_micros_field(text, form, " cusec=", ",\"cusec", error.cusec)
 }
 
 /// Appends the fields of a KRB-ERROR from the time of the server on.
-#[tactic(auto, unfolding(crate::specs::Text::field))]
-fn put_krb_error_rest(line: &mut String, error: &KrbErrorView<'_>) -> Result<(), AllocError>
+fn put_rest(text: &mut String, form: Form, error: &KrbErrorView<'_>) -> Result<(), AllocError>
     requires { KrbErrorLists error.now }
-    ensures { let seen = krb_error_seen error.now in OnOk result (string_bytes line.new ≡ string_bytes line.old
-        ++ field (codes "stime") seen.stime
-        ++ field (codes "susec") (decimal seen.susec)
-        ++ field (codes "text") (or_dash quoted_text seen.e_text)
-        ++ field (codes "data") (or_dash count_text seen.e_data)
-        ++ field (codes "methods") (methods_text seen.error_code seen.e_data)) }
+    ensures { let seen = krb_error_seen error.now in OnOk result (string_bytes text.new ≡ string_bytes text.old
+        ++ field form (codes "stime") (Word seen.stime)
+        ++ field form (codes "susec") (Number (pos seen.susec))
+        ++ field form (codes "text") (if_there Quoted seen.e_text)
+        ++ field form (codes "data") (if_there count seen.e_data)
+        ++ field form (codes "methods") (methods seen.error_code seen.e_data)) }
 {
-    put_time_field(line, " stime=", error.stime)?;
-    put_micros_field(line, " susec=", error.susec)?;
-    put_string_field(line, " text=", error.e_text)?;
-    put_size_field(line, " data=", error.e_data)?;
-    put_methods_field(line, " methods=", error)
+    put_time_field(text, form, " stime=", ",\"stime", error.stime)?;
+    put_micros_field(text, form, " susec=", ",\"susec", error.susec)?;
+    put_quoted_field(text, form, " text=", ",\"text", error.e_text)?;
+    put_optional_size_field(text, form, " data=", ",\"data", error.e_data)?;
+    put_methods_field(text, form, " methods=", ",\"methods", error)
 }
 
 /// Appends the fields of a KRB-ERROR.
-#[tactic(auto, unfolding(crate::specs::Messages::krb_error_text))]
-pub(crate) fn put_krb_error(line: &mut String, error: &KrbErrorView<'_>) -> Result<(), AllocError>
+pub(crate) fn put_krb_error(
+    text: &mut String,
+    form: Form,
+    error: &KrbErrorView<'_>,
+) -> Result<(), AllocError>
     requires { KrbErrorLists error.now }
-    ensures { OnOk result (string_bytes line.new ≡ krb_error_text (string_bytes line.old) (krb_error_seen error.now)) }
+    ensures { OnOk result (string_bytes text.new ≡ string_bytes text.old ++ fields_text form (krb_error_fields (krb_error_seen error.now))) }
 {
-    put_krb_error_front(line, error)?;
-    put_krb_error_rest(line, error)
+    put_front(text, form, error)?;
+    put_rest(text, form, error)
 }

@@ -2,9 +2,15 @@
 
 ghost use Rattle.std.specs.Prelude.{◌≡◌, ◌++◌, ◌<◌, OnOk, Some, false, string_bytes};
 ghost use Rattle.std.specs.Fmt.{digit_glyph};
-ghost use Rattle.krb_list.specs.FileNames.{is_plain_in_name, name_octet, name_text, file_line};
+ghost use Rattle.krb_list.specs.FileNames.{is_plain_in_name, name_octet, name_text};
+ghost use Rattle.krb_list.specs.Files.{file_line};
+ghost use Rattle.krb_list.specs.Values.{FileName as IsFileName};
 
 use crate::escape::is_plain;
+use crate::field::{put_end, put_field, put_opening};
+use crate::form::Form;
+use crate::json::put_octets_string;
+use crate::shown::{Shown, put_begin};
 use std::alloc::AllocError;
 use std::fmt;
 
@@ -61,10 +67,27 @@ impl fmt::Display for FileName<'_> {
     }
 }
 
+impl<'a> Shown for FileName<'a> {
+    ghost shown = { λ name. IsFileName name.0.now };
+
+    #[tactic(auto, unfolding(crate::specs::Forms::value_text))]
+    fn put_text(&self, line: &mut String, _names: bool) -> Result<(), AllocError> {
+        write!(line, "{}", *self)
+    }
+
+    #[tactic(auto, unfolding(crate::specs::Forms::members, crate::specs::Forms::json_value, crate::specs::Forms::names_member))]
+    fn put_members(&self, object: &mut String, begin: &str) -> Result<(), AllocError> {
+        put_begin(object, begin)?;
+        put_octets_string(object, self.0.as_bytes())
+    }
+}
+
 /// Appends the line that stands before the listing of the file of a name, if several are listed.
-pub fn put_file(text: &mut String, name: &str) -> Result<(), AllocError>
-    ensures { OnOk result (string_bytes text.new ≡ string_bytes text.old ++ file_line name.now) }
+#[tactic(auto, unfolding(crate::specs::Forms::record_text))]
+pub fn put_file(text: &mut String, form: Form, name: &str) -> Result<(), AllocError>
+    ensures { OnOk result (string_bytes text.new ≡ string_bytes text.old ++ file_line form name.now) }
 {
-    let name = FileName(name);
-    writeln!(text, "file name={name}")
+    put_opening(text, form, "file")?;
+    put_field(text, form, " name=", ",\"name", &FileName(name))?;
+    put_end(text, form)
 }

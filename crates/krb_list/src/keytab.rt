@@ -1,169 +1,228 @@
-//! Lines of keytabs.
+//! What is printed of keytabs.
 
-ghost use Rattle.std.specs.Prelude.{◌≡◌, ◌+◌, ◌++◌, ◌≤◌, IfOk, OnOk, codes, length, string_bytes};
-ghost use Rattle.std.specs.Fmt.{signed_decimal};
+ghost use Rattle.std.specs.Prelude.{◌≡◌, ◌++◌, [], ◌∷◌, IfOk, OnOk, codes, pos, string_bytes};
 ghost use Rattle.std.specs.List.{flat_map};
-ghost use Rattle.krb_list.specs.Text.{field, line_feed, principal_text};
-ghost use Rattle.krb_list.specs.Keytabs.{version_text, sizes_text, entry_text, hole_text, record_text, stop_text, keytab_end_text, keytab_lines};
+ghost use Rattle.krb_keytab.specs.Spelling.{kvno};
+ghost use Rattle.krb_registry.specs.declared.registry.Registry.TheVariants.{EncryptionTypes, NameTypes};
+ghost use Rattle.krb_list.specs.Forms.{fields_text, record_line, record_text};
+ghost use Rattle.krb_list.specs.Keytabs.{entry_fields, hole_fields, is_zero, keytab_end, keytab_lines, printed_record};
+ghost use Rattle.krb_list.specs.Time.{file_time};
+ghost use Rattle.krb_list.specs.Values.{Named, Number, Principal as IsPrincipal, YesNo, count, printed, the};
 
-use crate::ending::Ending;
-use crate::escape::put_ascii;
-use crate::field::put_field;
-use crate::principal::put_principal;
-use crate::shown::Shown;
+use crate::field::{put_closing, put_field, put_opening};
+use crate::form::Form;
+use crate::number::Numbered;
+use crate::principal::{Principal, Strings};
+use crate::time::FileTime;
 use krb_der::Memory;
 use krb_keytab::{Entry, Hole, Keytab, Record, Stop};
+use krb_registry::Registry;
 use std::alloc::{AllocError, Global};
 
-/// Appends a field that shows the principal of an entry.
+/// Returns the principal of an entry.
 #[inline(always)]
-fn put_principal_of(line: &mut String, label: &str, entry: &Entry) -> Result<(), AllocError>
-    ensures { OnOk result (string_bytes line.new ≡ string_bytes line.old ++ label.now ++ principal_text entry.now.components entry.now.realm) }
+fn principal_of(entry: &Entry) -> Principal<'_, Strings<'_>>
+    ensures name_type { result.name_type ≡ entry.now.name_type }
+    ensures components { result.components.0.now ≡ entry.now.components }
+    ensures realm { result.realm.now ≡ entry.now.realm }
 {
-    line.push_str(label)?;
-    put_principal(line, entry.components.as_slice(), &entry.realm)
-}
-
-/// Puts the version of the key before what stands after it.
-#[inline(always)]
-#[tactic(auto, unfolding(crate::specs::Keytabs::version_text, crate::specs::Text::field))]
-fn version(entry: &Entry, ending: &mut Ending)
-    requires { length ending.old ≤ 100 }
-    ensures text { ending.new ≡ version_text entry.now ++ ending.old }
-    ensures room { length ending.new ≤ 81 + length ending.old }
-{
-    ending.number_field(" enctype=", u64::from(entry.enctype));
-    ending.number_field(" kvno=", u64::from(entry.kvno()));
-    ending.time_field(" time=", entry.time);
-}
-
-/// Puts the sizes of the key and of what stands after it before what stands after these.
-#[inline(always)]
-#[tactic(auto, unfolding(crate::specs::Keytabs::sizes_text, crate::specs::Text::field))]
-fn sizes(entry: &Entry, ending: &mut Ending)
-    requires { length ending.old ≤ 100 }
-    ensures text { ending.new ≡ sizes_text entry.now ++ ending.old }
-    ensures room { length ending.new ≤ 51 + length ending.old }
-{
-    ending.number_field(" rest=", entry.rest.as_slice().len() as u64);
-    ending.number_field(" key=", entry.key.as_slice().len() as u64);
-}
-
-/// Appends what stands after the principal.
-#[tactic(auto, unfolding(crate::specs::Text::field))]
-fn put_after_principal(line: &mut String, entry: &Entry) -> Result<(), AllocError>
-    ensures { OnOk result (string_bytes line.new ≡ string_bytes line.old ++ (field (codes "type") (signed_decimal entry.now.name_type) ++ version_text entry.now ++ sizes_text entry.now)) }
-{
-    let mut ending = Ending::new();
-    sizes(entry, &mut ending);
-    version(entry, &mut ending);
-    ending.signed_field(" type=", i64::from(entry.name_type));
-    put_ascii(line, ending.octets())
-}
-
-/// The principal and the version of a key. Of the key itself, the number of its octets.
-impl Shown for Entry {
-    ghost text = { entry_text };
-
-    #[tactic(auto, unfolding(crate::specs::Keytabs::entry_text, crate::specs::Keytabs::name_text, crate::specs::Text::field))]
-    fn put(&self, line: &mut String) -> Result<(), AllocError> {
-        put_principal_of(line, "entry principal=", self)?;
-        put_after_principal(line, self)
+    Principal {
+        name_type: i64::from(entry.name_type),
+        components: Strings(entry.components.as_slice()),
+        realm: entry.realm.octets(),
     }
 }
 
-impl Shown for Hole {
-    ghost text = { hole_text };
-
-    #[tactic(auto, unfolding(crate::specs::Keytabs::hole_text))]
-    fn put(&self, line: &mut String) -> Result<(), AllocError> {
-        line.push_str("hole")?;
-        put_field(line, "size", &self.size())?;
-        put_field(line, "clean", &self.clean())
+/// Returns how the name of an entry is meant.
+#[inline(always)]
+fn name_type_of(entry: &Entry) -> Numbered
+    ensures registry { result.registry ≡ NameTypes }
+    ensures number { result.number ≡ entry.now.name_type }
+{
+    Numbered {
+        registry: Registry::NameTypes,
+        number: i64::from(entry.name_type),
     }
 }
 
-/// The line of the record, without its line feed.
-impl Shown for Record {
-    ghost text = { record_text };
-
-    fn put(&self, line: &mut String) -> Result<(), AllocError> {
-        match self {
-            Record::Entry(entry) => entry.put(line),
-            Record::Hole(hole) => hole.put(line),
-        }
+/// Returns the encryption type of the key of an entry.
+#[inline(always)]
+fn enctype_of(entry: &Entry) -> Numbered
+    ensures { Named result.registry result.number ≡ Named EncryptionTypes (pos entry.now.enctype) }
+{
+    Numbered {
+        registry: Registry::EncryptionTypes,
+        number: i64::from(entry.enctype),
     }
+}
+
+/// Appends the fields of the principal of an entry.
+fn put_who(text: &mut String, form: Form, entry: &Entry) -> Result<(), AllocError>
+    ensures { OnOk result (string_bytes text.new ≡ string_bytes text.old ++ fields_text form (
+        the (codes "principal") (IsPrincipal entry.now.name_type entry.now.components entry.now.realm)
+        ∷ the (codes "type") (Named NameTypes entry.now.name_type)
+        ∷ [])) }
+{
+    put_field(
+        text,
+        form,
+        " principal=",
+        ",\"principal",
+        &principal_of(entry),
+    )?;
+    put_field(text, form, " type=", ",\"type", &name_type_of(entry))
+}
+
+/// Appends the fields of the time and of the version of the key of an entry.
+fn put_version(text: &mut String, form: Form, entry: &Entry) -> Result<(), AllocError>
+    ensures { OnOk result (string_bytes text.new ≡ string_bytes text.old ++ fields_text form (
+        the (codes "time") (file_time entry.now.time)
+        ∷ the (codes "kvno") (Number (pos (kvno entry.now)))
+        ∷ [])) }
+{
+    put_field(text, form, " time=", ",\"time", &FileTime(entry.time))?;
+    put_field(text, form, " kvno=", ",\"kvno", &u64::from(entry.kvno()))
+}
+
+/// Appends the fields of an entry from the encryption type on. Of the key itself there is the number of
+/// its octets.
+fn put_key(text: &mut String, form: Form, entry: &Entry) -> Result<(), AllocError>
+    ensures { OnOk result (string_bytes text.new ≡ string_bytes text.old ++ fields_text form (
+        the (codes "enctype") (Named EncryptionTypes (pos entry.now.enctype))
+        ∷ the (codes "key") (count entry.now.key)
+        ∷ the (codes "rest") (count entry.now.rest)
+        ∷ [])) }
+{
+    let key = entry.key.as_slice().len() as u64;
+    let rest = entry.rest.as_slice().len() as u64;
+    put_field(text, form, " enctype=", ",\"enctype", &enctype_of(entry))?;
+    put_field(text, form, " key=", ",\"key", &key)?;
+    put_field(text, form, " rest=", ",\"rest", &rest)
+}
+
+#[tactic(auto, unfolding(crate::specs::Forms::record_text))]
+fn put_entry(text: &mut String, form: Form, entry: &Entry) -> Result<(), AllocError>
+    ensures { OnOk result (string_bytes text.new ≡ string_bytes text.old ++ record_text form (printed (codes "entry") (entry_fields entry.now))) }
+{
+    put_opening(text, form, "entry")?;
+    put_who(text, form, entry)?;
+    put_version(text, form, entry)?;
+    put_key(text, form, entry)?;
+    put_closing(text, form)
+}
+
+#[tactic(auto, unfolding(crate::specs::Forms::record_text))]
+fn put_hole(text: &mut String, form: Form, hole: &Hole) -> Result<(), AllocError>
+    ensures { OnOk result (string_bytes text.new ≡ string_bytes text.old ++ record_text form (printed (codes "hole") (hole_fields hole.now))) }
+{
+    put_opening(text, form, "hole")?;
+    put_field(text, form, " size=", ",\"size", &u64::from(hole.size()))?;
+    put_field(text, form, " clean=", ",\"clean", &hole.clean())?;
+    put_closing(text, form)
+}
+
+/// Appends what is printed of a record, without a line feed.
+#[tactic(auto, unfolding(crate::specs::Keytabs::printed_record))]
+fn put_record_text(text: &mut String, form: Form, record: &Record) -> Result<(), AllocError>
+    ensures { OnOk result (string_bytes text.new ≡ string_bytes text.old ++ record_text form (printed_record «record».now)) }
+{
+    match record {
+        Record::Entry(entry) => put_entry(text, form, entry),
+        Record::Hole(hole) => put_hole(text, form, hole),
+    }
+}
+
+/// Appends the line of a record, which is [`record_line`]'s.
+pub fn put_record(text: &mut String, form: Form, record: &Record) -> Result<(), AllocError>
+    ensures { OnOk result (string_bytes text.new ≡ string_bytes text.old ++ record_line form (printed_record «record».now)) }
+{
+    put_record_text(text, form, record)?;
+    text.push('\n')
 }
 
 /// Returns the line of a record, without its line feed. It shows no octet of a key, which is a law:
 /// [`keys_are_not_shown`](crate::keys_are_not_shown).
-pub fn record_line(alloc: Global, record: &Record) -> Result<String, Memory>
-    ensures { IfOk result (λ line. string_bytes line ≡ record_text «record».now) }
+pub fn record_line(alloc: Global, form: Form, record: &Record) -> Result<String, Memory>
+    ensures { IfOk result (λ line. string_bytes line ≡ record_text form (printed_record «record».now)) }
 {
     let mut line = String::new(alloc);
-    record.put(&mut line)?;
+    put_record_text(&mut line, form, record)?;
     Ok(line)
 }
 
-/// `yes` if a record of length 0 ends the keytab, else `no`.
-impl Shown for Stop {
-    ghost text = { stop_text };
-
-    #[tactic(auto, unfolding(crate::specs::Keytabs::stop_text))]
-    fn put(&self, line: &mut String) -> Result<(), AllocError> {
-        match self {
-            Stop::File => false.put(line),
-            Stop::Zero => true.put(line),
-        }
+/// Returns whether a record of length 0 ends the keytab.
+fn is_zero(stop: &Stop) -> bool
+    ensures { YesNo result ≡ is_zero stop.now }
+{
+    match stop {
+        Stop::File => false,
+        Stop::Zero => true,
     }
 }
 
-/// Appends the line of the end of a keytab, which is [`keytab_end_line`]'s.
-#[tactic(auto, unfolding(crate::specs::Keytabs::keytab_end_text))]
-pub fn put_keytab_end(line: &mut String, records: u64, stop: &Stop) -> Result<(), AllocError>
-    ensures { OnOk result (string_bytes line.new ≡ string_bytes line.old ++ keytab_end_text records stop.now) }
+/// Appends the line of the end of a keytab without its line feed.
+#[tactic(auto, unfolding(crate::specs::Forms::record_text, crate::specs::Keytabs::keytab_end))]
+fn put_end_text(text: &mut String, form: Form, records: u64, stop: &Stop) -> Result<(), AllocError>
+    ensures { OnOk result (string_bytes text.new ≡ string_bytes text.old ++ record_text form (keytab_end records stop.now)) }
 {
-    line.push_str("end")?;
-    put_field(line, "records", &records)?;
-    put_field(line, "zero", stop)
+    put_opening(text, form, "end")?;
+    put_field(text, form, " records=", ",\"records", &records)?;
+    put_field(text, form, " zero=", ",\"zero", &is_zero(stop))?;
+    put_closing(text, form)
+}
+
+/// Appends the line of the end of a keytab, which is [`keytab_end_line`]'s.
+pub fn put_keytab_end(
+    text: &mut String,
+    form: Form,
+    records: u64,
+    stop: &Stop,
+) -> Result<(), AllocError>
+    ensures { OnOk result (string_bytes text.new ≡ string_bytes text.old ++ record_line form (keytab_end records stop.now)) }
+{
+    put_end_text(text, form, records, stop)?;
+    text.push('\n')
 }
 
 /// Returns the line of the end of a keytab of this many records, without its line feed.
-pub fn keytab_end_line(alloc: Global, records: u64, stop: &Stop) -> Result<String, Memory>
-    ensures { IfOk result (λ line. string_bytes line ≡ keytab_end_text records stop.now) }
+pub fn keytab_end_line(
+    alloc: Global,
+    form: Form,
+    records: u64,
+    stop: &Stop,
+) -> Result<String, Memory>
+    ensures { IfOk result (λ line. string_bytes line ≡ record_text form (keytab_end records stop.now)) }
 {
     let mut line = String::new(alloc);
-    put_keytab_end(&mut line, records, stop)?;
+    put_end_text(&mut line, form, records, stop)?;
     Ok(line)
 }
 
-fn put_records(lines: &mut String, records: &[Record]) -> Result<(), AllocError>
-    ensures { OnOk result (string_bytes lines.new ≡ string_bytes lines.old ++ flat_map (λ r. record_text r ++ line_feed) records.now) }
+fn put_records(text: &mut String, form: Form, records: &[Record]) -> Result<(), AllocError>
+    ensures { OnOk result (string_bytes text.new ≡ string_bytes text.old ++ flat_map (λ r. record_line form (printed_record r)) records.now) }
 {
     for record in records {
-        record.put(lines)?;
-        lines.push('\n')?;
+        put_record(text, form, record)?;
     }
     Ok(())
 }
 
 /// Appends the lines of a keytab, which are [`keytab_lines`]'s.
-pub fn put_keytab(lines: &mut String, keytab: &Keytab) -> Result<(), AllocError>
-    ensures { OnOk result (string_bytes lines.new ≡ string_bytes lines.old ++ keytab_lines keytab.now) }
+pub fn put_keytab(text: &mut String, form: Form, keytab: &Keytab) -> Result<(), AllocError>
+    ensures { OnOk result (string_bytes text.new ≡ string_bytes text.old ++ keytab_lines form keytab.now) }
 {
     let records = keytab.records.as_slice();
-    put_records(lines, records)?;
-    put_keytab_end(lines, records.len() as u64, &keytab.stop)?;
-    lines.push('\n')
+    put_records(text, form, records)?;
+    put_keytab_end(text, form, records.len() as u64, &keytab.stop)
 }
 
 /// Returns the lines of a keytab: [`record_line`] of each record, in order, and
 /// [`keytab_end_line`], each with a line feed after it. They show no octet of a key, which is a
 /// law: [`keys_are_not_shown`](crate::keys_are_not_shown).
-pub fn keytab_lines(alloc: Global, keytab: &Keytab) -> Result<String, Memory>
-    ensures { IfOk result (λ text. string_bytes text ≡ keytab_lines keytab.now) }
+pub fn keytab_lines(alloc: Global, form: Form, keytab: &Keytab) -> Result<String, Memory>
+    ensures { IfOk result (λ text. string_bytes text ≡ keytab_lines form keytab.now) }
 {
     let mut text = String::new(alloc);
-    put_keytab(&mut text, keytab)?;
+    put_keytab(&mut text, form, keytab)?;
     Ok(text)
 }

@@ -1,5 +1,5 @@
-//! Laws of the texts. Each is the contract of a function that does nothing.
-ghost use Rattle.krb_list.specs.Laws.{CacheEndIsOneLine, CacheIsOneLine, CredentialIsOneLine, CredentialKeyIsNotShown, DatesAreTheCalendars, EscapeIsGraphic, FileRefusalIsOneLine, KeysAreNotShown, KeytabEndIsOneLine, MessageIsOneLine, MessageRefusalIsOneLine, PrincipalTextTells, RecordIsOneLine, RecordKeyIsNotShown, SessionKeys3AreNotShown, SessionKeysAreNotShown, StreamEndIsOneLine, CountedStreamEndIsOneLine};
+//! Laws of what is printed. Each is the contract of a function that does nothing.
+ghost use Rattle.krb_list.specs.Laws.{CacheEndIsOneLine, CacheIsOneLine, CountedStreamEndIsOneLine, CredentialIsOneLine, CredentialKeyIsNotShown, DatesAreTheCalendars, EscapeIsGraphic, FileNameIsOneLine, FileRefusalIsOneLine, InputRefusalIsOneLine, KeysAreNotShown, KeytabEndIsOneLine, MessageIsOneLine, MessageRefusalIsOneLine, PrincipalTextTells, RecordIsOneLine, RecordKeyIsNotShown, SessionKeys3AreNotShown, SessionKeysAreNotShown, StreamEndIsOneLine};
 
 /// Different components or realms have different texts.
 pub fn principal_text_tells()
@@ -11,30 +11,36 @@ pub fn escape_is_graphic()
     ensures { EscapeIsGraphic }
 {}
 
-/// The line of a message has no line feed inside: blanks and graphic characters of ASCII alone.
+/// What is printed of a message is one line in each form: blanks and graphic characters of ASCII, and
+/// a line feed after them.
 pub fn message_is_one_line()
     ensures { MessageIsOneLine }
 {}
 
-/// No line of a keytab has a line feed inside: blanks and graphic characters of ASCII alone.
+/// What is printed of a record of a keytab, and of its end, is one line in each form: blanks and
+/// graphic characters of ASCII, and a line feed after them.
 pub fn keytab_is_one_line_each()
     ensures record { RecordIsOneLine }
     ensures end { KeytabEndIsOneLine }
 {}
 
-/// No line of a cache has a line feed inside: blanks and graphic characters of ASCII alone.
+/// What is printed of a cache, of a credential, and of a cache's end, is one line in each form: blanks
+/// and graphic characters of ASCII, and a line feed after them.
 pub fn ccache_is_one_line_each()
     ensures cache { CacheIsOneLine }
     ensures credential { CredentialIsOneLine }
     ensures end { CacheEndIsOneLine }
 {}
 
-/// The line of a refusal, and the last line of a stream, has a line feed at its end alone.
+/// What is printed of a refusal, of the end of a stream, and of a file's name, is one line in each
+/// form: blanks and graphic characters of ASCII, and a line feed after them.
 pub fn end_is_one_line()
     ensures file { FileRefusalIsOneLine }
     ensures message { MessageRefusalIsOneLine }
+    ensures input { InputRefusalIsOneLine }
     ensures stream { StreamEndIsOneLine }
     ensures counted { CountedStreamEndIsOneLine }
+    ensures name { FileNameIsOneLine }
 {}
 
 /// The date n days after 1970-01-01, found by counting, is the calendar's.
@@ -42,15 +48,15 @@ pub fn dates_are_the_calendars()
     ensures { DatesAreTheCalendars }
 {}
 
-/// The lines of a keytab, and the line of each record, are those of the same with every octet of each
-/// key 00.
+/// What is printed of a keytab, in each form, and of each record, is as of the same with every octet
+/// of each key 00.
 pub fn keys_are_not_shown()
     ensures keytab { KeysAreNotShown }
     ensures record { RecordKeyIsNotShown }
 {}
 
-/// The lines of a cache, in version 4 or 3, and the line of each credential, are those of the same
-/// with every octet of each key 00.
+/// What is printed of a cache, in version 4 or 3 and in each form, and of each credential, is as of the
+/// same with every octet of each key 00.
 pub fn session_keys_are_not_shown()
     ensures cache { SessionKeysAreNotShown }
     ensures cache3 { SessionKeys3AreNotShown }

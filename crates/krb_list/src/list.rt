@@ -1,105 +1,202 @@
-//! Lists that stand in octets, as lines show them.
+//! Lists that stand in octets, as records show them.
 
-ghost use Rattle.std.specs.Prelude.{◌≡◌, ◌++◌, true, OnOk, length, string_bytes};
+ghost use Rattle.std.specs.Prelude.{◌≡◌, ◌++◌, [], true, length, map, OnOk, codes, string_bytes};
 ghost use Rattle.std.specs.List.{flat_map};
+ghost use Rattle.krb_msg.specs.Grammar.{int32, pa_data};
+ghost use Rattle.krb_registry.specs.declared.registry.Registry.TheVariants.{EncryptionTypes, PreAuthenticationData};
 ghost use Rattle.krb_msg.specs.Shape.{is_unambiguous, has_octet_tags};
 ghost use Rattle.krb_msg.specs.Viewed.{AreViewed, items_of};
+ghost use Rattle.krb_msg.specs.Views.{pa_data_of};
+ghost use Rattle.std.specs.Fmt.{signed_decimal};
+ghost use Rattle.krb_list.specs.Forms.{members, name_string, number_text, value_text};
+ghost use Rattle.krb_list.specs.Messages.{padata};
 ghost use Rattle.krb_list.specs.Text.{joined, list_text};
-ghost use Rattle.krb_list.specs.inner.Items.{item_text};
+ghost use Rattle.krb_list.specs.Values.{Numbers};
+ghost use Rattle.krb_list.specs.inner.Items.{item_number, number_item};
 
-use crate::escape::put_escaped;
-use crate::shown::put_number;
-use krb_der::{Int32, KString};
+use crate::item::{ItemForm, put_number_item};
+use crate::shown::{Shown, put_begin, put_names_begin};
+use krb_der::Int32;
 use krb_msg::{ItemsView, PaData, PaDataView, View, next_item};
+use krb_registry::Registry;
 use std::alloc::AllocError;
+use std::marker::Model;
 
-/// A type of items as lines show them.
+/// A type of items that are numbers of a registry, or begin with one.
 pub(crate) trait Listed<'a>: View<'a> {
-    /// Appends the text of an item.
-    fn put_item(line: &mut String, seen: &Self::Of) -> Result<(), AllocError>
-        ensures { OnOk result (string_bytes line.new ≡ string_bytes line.old ++ item_text Self.View.term (Self.View.value seen.now)) };
+    /// Returns the number of an item.
+    fn number(seen: &Self::Of) -> i64
+        ensures { result ≡ item_number Self.View.term (Self.View.value seen.now) };
 }
 
 impl<'a> Listed<'a> for Int32 {
     #[inline(always)]
-    fn put_item(line: &mut String, seen: &i64) -> Result<(), AllocError> {
-        put_number(line, *seen)
+    fn number(seen: &i64) -> i64 {
+        *seen
     }
 }
 
 /// Its type alone.
 impl<'a> Listed<'a> for PaData {
     #[inline(always)]
-    fn put_item(line: &mut String, seen: &PaDataView<'a>) -> Result<(), AllocError> {
-        put_number(line, seen.padata_type)
+    fn number(seen: &PaDataView<'a>) -> i64 {
+        seen.padata_type
     }
 }
 
-/// The octets, escaped.
-impl<'a> Listed<'a> for KString {
-    #[inline(always)]
-    fn put_item(line: &mut String, seen: &&'a [u8]) -> Result<(), AllocError> {
-        put_escaped(line, seen)
-    }
-}
-
-/// Appends the separator and the text of an item, for each of the items.
+/// Appends the number of an item.
 #[inline(always)]
-fn put_other_items<'a, T: Listed<'a>>(
-    line: &mut String,
-    separator: &str,
+fn put_item<'a, T: Listed<'a>>(
+    text: &mut String,
+    form: ItemForm,
+    seen: &T::Of,
+) -> Result<(), AllocError>
+    ensures { OnOk result (string_bytes text.new ≡ string_bytes text.old ++ number_item form (item_number T.View.term (T.View.value seen.now))) }
+{
+    put_number_item(text, form, T::number(seen))
+}
+
+/// Appends a comma and the number of an item, for each of the items.
+#[inline(always)]
+fn put_other_numbers<'a, T: Listed<'a>>(
+    text: &mut String,
+    form: ItemForm,
     items: ItemsView<'a>,
 ) -> Result<(), AllocError>
     requires tags { has_octet_tags T.View.term ≡ true }
     requires unambiguous { is_unambiguous T.View.term ≡ true }
     requires viewed { AreViewed T.View.term items.octets.now }
-    ensures { OnOk result (string_bytes line.new ≡ string_bytes line.old ++ flat_map (λ item. separator.now ++ item_text T.View.term item) (items_of T.View.term items.entry.octets.now)) }
+    ensures { OnOk result (string_bytes text.new ≡ string_bytes text.old ++ flat_map (λ item. codes "," ++ number_item form (item_number T.View.term item)) (items_of T.View.term items.entry.octets.now)) }
 {
     let mut others = items;
     'others: while let Some((seen, rest)) = next_item::<T>(others) {
-        line.push_str(separator)?;
-        T::put_item(line, &seen)?;
+        text.push(',')?;
+        put_item::<T>(text, form, &seen)?;
         others = rest;
     }
     Ok(())
 }
 
-/// Appends the texts of items, with the separator between two, or another text if there are none.
+/// Appends the numbers of items with commas between them.
 #[inline(always)]
-pub(crate) fn put_items<'a, T: Listed<'a>>(
-    line: &mut String,
-    none: &str,
-    separator: &str,
+fn put_numbers<'a, T: Listed<'a>>(
+    text: &mut String,
+    form: ItemForm,
     items: ItemsView<'a>,
 ) -> Result<(), AllocError>
     requires tags { has_octet_tags T.View.term ≡ true }
     requires unambiguous { is_unambiguous T.View.term ≡ true }
     requires viewed { AreViewed T.View.term items.octets.now }
-    ensures { OnOk result (string_bytes line.new ≡ string_bytes line.old ++ joined none.now separator.now (item_text T.View.term) (items_of T.View.term items.entry.octets.now)) }
+    ensures { OnOk result (string_bytes text.new ≡ string_bytes text.old ++ joined [] (codes ",") (λ item. number_item form (item_number T.View.term item)) (items_of T.View.term items.entry.octets.now)) }
 {
     match next_item::<T>(items) {
-        None => line.push_str(none),
+        None => Ok(()),
         Some((first, others)) => {
-            T::put_item(line, &first)?;
-            put_other_items::<T>(line, separator, others)
+            put_item::<T>(text, form, &first)?;
+            put_other_numbers::<T>(text, form, others)
         }
     }
 }
 
-/// Appends the texts of items in brackets, with commas between them.
+/// Appends the numbers of items in brackets, with commas between them.
 #[inline(always)]
-pub(crate) fn put_item_list<'a, T: Listed<'a>>(
-    line: &mut String,
+fn put_number_list<'a, T: Listed<'a>>(
+    text: &mut String,
+    form: ItemForm,
     items: ItemsView<'a>,
 ) -> Result<(), AllocError>
     requires tags { has_octet_tags T.View.term ≡ true }
     requires unambiguous { is_unambiguous T.View.term ≡ true }
     requires viewed { AreViewed T.View.term items.octets.now }
-    ensures { OnOk result (string_bytes line.new ≡ string_bytes line.old ++ list_text (item_text T.View.term) (items_of T.View.term items.entry.octets.now)) }
+    ensures { OnOk result (string_bytes text.new ≡ string_bytes text.old ++ list_text (λ item. number_item form (item_number T.View.term item)) (items_of T.View.term items.entry.octets.now)) }
 {
-    line.push('[')?;
-    put_items::<T>(line, "", ",", items)?;
-    line.push(']')
+    text.push('[')?;
+    put_numbers::<T>(text, form, items)?;
+    text.push(']')
+}
+
+/// Appends numbers in brackets.
+#[inline(always)]
+fn put_plain_list<'a, T: Listed<'a>>(
+    text: &mut String,
+    items: ItemsView<'a>,
+) -> Result<(), AllocError>
+    requires tags { has_octet_tags T.View.term ≡ true }
+    requires unambiguous { is_unambiguous T.View.term ≡ true }
+    requires viewed { AreViewed T.View.term items.octets.now }
+    ensures { OnOk result (string_bytes text.new ≡ string_bytes text.old ++ list_text signed_decimal (map (item_number T.View.term) (items_of T.View.term items.entry.octets.now))) }
+{
+    put_number_list::<T>(text, ItemForm::Line, items)
+}
+
+/// Appends numbers in brackets, each with `:` and its name, or `-` if it has none.
+#[inline(always)]
+fn put_named_list<'a, T: Listed<'a>>(
+    text: &mut String,
+    registry: Registry,
+    items: ItemsView<'a>,
+) -> Result<(), AllocError>
+    requires tags { has_octet_tags T.View.term ≡ true }
+    requires unambiguous { is_unambiguous T.View.term ≡ true }
+    requires viewed { AreViewed T.View.term items.octets.now }
+    ensures { OnOk result (string_bytes text.new ≡ string_bytes text.old ++ list_text (number_text true registry) (map (item_number T.View.term) (items_of T.View.term items.entry.octets.now))) }
+{
+    put_number_list::<T>(text, ItemForm::Named(registry), items)
+}
+
+/// Appends the names of numbers in brackets, each a string, or null if there is none.
+#[inline(always)]
+fn put_name_list<'a, T: Listed<'a>>(
+    text: &mut String,
+    registry: Registry,
+    items: ItemsView<'a>,
+) -> Result<(), AllocError>
+    requires tags { has_octet_tags T.View.term ≡ true }
+    requires unambiguous { is_unambiguous T.View.term ≡ true }
+    requires viewed { AreViewed T.View.term items.octets.now }
+    ensures { OnOk result (string_bytes text.new ≡ string_bytes text.old ++ list_text (name_string registry) (map (item_number T.View.term) (items_of T.View.term items.entry.octets.now))) }
+{
+    put_number_list::<T>(text, ItemForm::Name(registry), items)
+}
+
+/// Appends what a line shows of numbers of a registry.
+#[inline(always)]
+#[tactic(auto, unfolding(crate::specs::Forms::value_text))]
+fn put_numbers_text<'a, T: Listed<'a>>(
+    line: &mut String,
+    names: bool,
+    registry: Registry,
+    items: ItemsView<'a>,
+) -> Result<(), AllocError>
+    requires tags { has_octet_tags T.View.term ≡ true }
+    requires unambiguous { is_unambiguous T.View.term ≡ true }
+    requires viewed { AreViewed T.View.term items.octets.now }
+    ensures { OnOk result (string_bytes line.new ≡ string_bytes line.old ++ value_text names (Numbers registry (map (item_number T.View.term) (items_of T.View.term items.entry.octets.now)))) }
+{
+    if names {
+        put_named_list::<T>(line, registry, items)
+    } else {
+        put_plain_list::<T>(line, items)
+    }
+}
+
+/// Appends the members of numbers of a registry.
+#[tactic(auto, unfolding(crate::specs::Forms::members, crate::specs::Forms::json_value, crate::specs::Forms::names_member))]
+fn put_numbers_members<'a, T: Listed<'a>>(
+    object: &mut String,
+    begin: &str,
+    registry: Registry,
+    items: ItemsView<'a>,
+) -> Result<(), AllocError>
+    requires tags { has_octet_tags T.View.term ≡ true }
+    requires unambiguous { is_unambiguous T.View.term ≡ true }
+    requires viewed { AreViewed T.View.term items.octets.now }
+    ensures { OnOk result (string_bytes object.new ≡ string_bytes object.old ++ members begin.now (Numbers registry (map (item_number T.View.term) (items_of T.View.term items.entry.octets.now)))) }
+{
+    put_begin(object, begin)?;
+    put_plain_list::<T>(object, items)?;
+    put_names_begin(object, begin)?;
+    put_name_list::<T>(object, registry, items)
 }
 
 /// Returns how many items there are.
@@ -116,4 +213,86 @@ pub(crate) fn count_items<'a, T: View<'a>>(items: ItemsView<'a>) -> usize
         others = rest;
     }
     count
+}
+
+/// Encryption types that stand in octets. Contracts see the numbers.
+#[derive(Drop)]
+pub(crate) struct EncryptionTypes<'a>(ItemsView<'a>);
+
+impl<'a> Model for EncryptionTypes<'a> {
+    ghost use Rattle.std.specs.Prelude.{List, ℤ, map};
+    ghost use Rattle.krb_msg.specs.Grammar.{int32};
+    ghost use Rattle.krb_msg.specs.Viewed.{AreViewed, items_of};
+    ghost use Rattle.krb_list.specs.inner.Items.{item_number};
+
+    ghost Value = { List ℤ };
+
+    ghost view = { λ seen. map (item_number int32) (items_of int32 seen.0.octets.now) };
+
+    ghost invariant = { λ seen. AreViewed int32 seen.0.octets.now };
+}
+
+impl<'a> EncryptionTypes<'a> {
+    /// Takes the items of a list.
+    #[inline(always)]
+    pub(crate) fn new(items: ItemsView<'a>) -> EncryptionTypes<'a>
+        requires { AreViewed int32 items.octets.now }
+        ensures { result ≡ items_of int32 items.entry.octets.now }
+    {
+        EncryptionTypes(items)
+    }
+}
+
+/// The numbers in brackets, with commas between them.
+impl<'a> Shown for EncryptionTypes<'a> {
+    ghost shown = { λ numbers. Numbers EncryptionTypes numbers };
+
+    fn put_text(&self, line: &mut String, names: bool) -> Result<(), AllocError> {
+        put_numbers_text::<Int32>(line, names, Registry::EncryptionTypes, self.0)
+    }
+
+    fn put_members(&self, object: &mut String, begin: &str) -> Result<(), AllocError> {
+        put_numbers_members::<Int32>(object, begin, Registry::EncryptionTypes, self.0)
+    }
+}
+
+/// The types of pre-authentication data that stand in octets. Contracts see the numbers.
+#[derive(Drop)]
+pub(crate) struct PaDataTypes<'a>(ItemsView<'a>);
+
+impl<'a> Model for PaDataTypes<'a> {
+    ghost use Rattle.std.specs.Prelude.{List, ℤ, map};
+    ghost use Rattle.krb_msg.specs.Grammar.{pa_data};
+    ghost use Rattle.krb_msg.specs.Viewed.{AreViewed, items_of};
+    ghost use Rattle.krb_list.specs.inner.Items.{item_number};
+
+    ghost Value = { List ℤ };
+
+    ghost view = { λ seen. map (item_number pa_data) (items_of pa_data seen.0.octets.now) };
+
+    ghost invariant = { λ seen. AreViewed pa_data seen.0.octets.now };
+}
+
+impl<'a> PaDataTypes<'a> {
+    /// Takes the items of a list.
+    #[inline(always)]
+    pub(crate) fn new(items: ItemsView<'a>) -> PaDataTypes<'a>
+        requires { AreViewed pa_data items.octets.now }
+        ensures { Numbers PreAuthenticationData result ≡ padata (map pa_data_of (items_of pa_data items.entry.octets.now)) }
+    {
+        PaDataTypes(items)
+    }
+}
+
+/// The numbers in brackets, with commas between them.
+impl<'a> Shown for PaDataTypes<'a> {
+    ghost shown = { λ numbers. Numbers PreAuthenticationData numbers };
+
+    fn put_text(&self, line: &mut String, names: bool) -> Result<(), AllocError> {
+        put_numbers_text::<PaData>(line, names, Registry::PreAuthenticationData, self.0)
+    }
+
+    fn put_members(&self, object: &mut String, begin: &str) -> Result<(), AllocError> {
+        put_numbers_members::<PaData>(object, begin, Registry::PreAuthenticationData, self.0)
+    }
 }

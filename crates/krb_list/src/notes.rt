@@ -1,26 +1,72 @@
 //! The notes of a message.
 
-ghost use Rattle.std.specs.Prelude.{◌≡◌, ◌++◌, OnOk, string_bytes};
-ghost use Rattle.krb_list.specs.Messages.{notes_text};
+ghost use Rattle.std.specs.Prelude.{◌≡◌, ◌++◌, ◌∷◌, [], map, pos, codes, OnOk, string_bytes};
+ghost use Rattle.std.specs.List.{filter};
+ghost use Rattle.krb_msg.specs.Notes.{notes_have};
+ghost use Rattle.krb_list.specs.Messages.{notes};
+ghost use Rattle.krb_list.specs.Text.{joined, list_text};
+ghost use Rattle.krb_list.specs.inner.Items.{number_item};
 
-use crate::shown::{Shown, put_number};
+use crate::item::{ItemForm, put_number_item};
+use crate::shown::{Shown, put_begin, put_names_begin};
 use krb_msg::Notes;
+use krb_registry::Registry;
 use std::alloc::AllocError;
+
+/// Appends the number of a note.
+#[inline(always)]
+fn put_note(text: &mut String, form: ItemForm, number: u8) -> Result<(), AllocError>
+    ensures { OnOk result (string_bytes text.new ≡ string_bytes text.old ++ number_item form (pos number)) }
+{
+    put_number_item(text, form, i64::from(number))
+}
+
+/// Appends the numbers of the notes, with commas between them.
+#[inline(always)]
+fn put_numbers(text: &mut String, form: ItemForm, notes: &Notes) -> Result<(), AllocError>
+    ensures { OnOk result (string_bytes text.new ≡ string_bytes text.old ++ joined [] (codes ",") (λ number. number_item form (pos number)) (filter (notes_have notes.now) (1 ∷ 2 ∷ 3 ∷ 4 ∷ []))) }
+{
+    let mut separator = "";
+    for number in [1u8, 2, 3, 4] {
+        if notes.has(number) {
+            text.push_str(separator)?;
+            put_note(text, form, number)?;
+            separator = ",";
+        }
+    }
+    Ok(())
+}
+
+/// Appends the numbers of the notes in brackets, with commas between them.
+#[inline(always)]
+#[tactic(auto, using(crate::proofs::Items::list_text_map))]
+fn put_number_list(text: &mut String, form: ItemForm, notes: &Notes) -> Result<(), AllocError>
+    ensures { OnOk result (string_bytes text.new ≡ string_bytes text.old ++ list_text (number_item form) (map pos (filter (notes_have notes.now) (1 ∷ 2 ∷ 3 ∷ 4 ∷ [])))) }
+{
+    text.push('[')?;
+    put_numbers(text, form, notes)?;
+    text.push(']')
+}
 
 /// The numbers of the notes, in brackets, with commas between them.
 impl Shown for Notes {
-    ghost text = { notes_text };
+    ghost shown = { notes };
 
-    fn put(&self, line: &mut String) -> Result<(), AllocError> {
-        line.push('[')?;
-        let mut separator = "";
-        for number in [1u8, 2, 3, 4] {
-            if self.has(number) {
-                line.push_str(separator)?;
-                put_number(line, number)?;
-                separator = ",";
-            }
+    #[inline(always)]
+    #[tactic(auto, unfolding(crate::specs::Forms::value_text))]
+    fn put_text(&self, line: &mut String, names: bool) -> Result<(), AllocError> {
+        if names {
+            put_number_list(line, ItemForm::Named(Registry::Notes), self)
+        } else {
+            put_number_list(line, ItemForm::Line, self)
         }
-        line.push(']')
+    }
+
+    #[tactic(auto, unfolding(crate::specs::Forms::members, crate::specs::Forms::json_value, crate::specs::Forms::names_member))]
+    fn put_members(&self, object: &mut String, begin: &str) -> Result<(), AllocError> {
+        put_begin(object, begin)?;
+        put_number_list(object, ItemForm::Line, self)?;
+        put_names_begin(object, begin)?;
+        put_number_list(object, ItemForm::Name(Registry::Notes), self)
     }
 }

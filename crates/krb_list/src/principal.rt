@@ -1,18 +1,310 @@
 //! Names of principals.
 
-ghost use Rattle.std.specs.Prelude.{◌≡◌, ◌++◌, IfOk, OnOk, codes, string_bytes};
+ghost use Rattle.std.specs.Prelude.{◌≡◌, ◌++◌, IfOk, List, OnOk, codes, ℕ, map, string_bytes};
+ghost use Rattle.std.specs.Fmt.{signed_decimal};
 ghost use Rattle.std.specs.List.{flat_map};
-ghost use Rattle.krb_msg.specs.Seen.{PrincipalNameLists, principal_name_seen};
-ghost use Rattle.krb_list.specs.Messages.{in_realm};
-ghost use Rattle.krb_list.specs.Text.{escape, components_text, principal_text};
+ghost use Rattle.krb_msg.specs.Grammar.{kerberos_string};
+ghost use Rattle.krb_msg.specs.Viewed.{AreViewed, items_of};
+ghost use Rattle.krb_registry.specs.declared.registry.Registry.TheVariants.{NameTypes};
+ghost use Rattle.krb_list.specs.Forms.{json_character, json_string, name_string, octets_string, principal_object};
+ghost use Rattle.krb_list.specs.Text.{escape, joined, list_text, principal_text};
+ghost use Rattle.krb_list.specs.Values.{Principal as IsPrincipal};
+ghost use Rattle.krb_list.specs.declared.item.ItemForm.TheVariants.{Part};
+ghost use Rattle.krb_list.specs.inner.Items.{octets_item};
 
 use crate::escape::put_escaped;
-use crate::list::put_items;
-use crate::shown::{Shown, put_joined};
+use crate::item::{ItemForm, put_octets_item};
+use crate::json::put_octets_string;
+use crate::number::put_number_and_name;
+use crate::shown::{Shown, put_begin};
 use krb_der::{KString, Memory};
 use krb_judge::Items;
-use krb_msg::PrincipalNameView;
+use krb_msg::{ItemsView, next_item};
+use krb_registry::Registry;
 use std::alloc::{AllocError, Global};
+use std::marker::Model;
+
+/// The components of a name.
+pub(crate) trait Components {
+    ghost components: { Self → List (List ℕ) };
+
+    /// Appends the components, with the separator between two, or another text if there are none.
+    fn put_components(
+        &self,
+        text: &mut String,
+        form: ItemForm,
+        none: &str,
+        separator: &str,
+    ) -> Result<(), AllocError>
+        ensures { OnOk result (string_bytes text.new ≡ string_bytes text.old ++ joined none.now separator.now (octets_item form) (components self.now)) };
+}
+
+/// Appends the separator and a component, for each of the components.
+fn put_others(
+    text: &mut String,
+    form: ItemForm,
+    separator: &str,
+    components: &[KString],
+) -> Result<(), AllocError>
+    ensures { OnOk result (string_bytes text.new ≡ string_bytes text.old ++ flat_map (λ c. separator.now ++ octets_item form c) components.now) }
+{
+    for component in components {
+        text.push_str(separator)?;
+        put_octets_item(text, form, component.octets())?;
+    }
+    Ok(())
+}
+
+/// Components that are strings.
+#[derive(Clone, Copy)]
+pub(crate) struct Strings<'a>(pub(crate) &'a [KString]);
+
+impl<'a> Components for Strings<'a> {
+    ghost components = { λ strings. strings.0.now };
+
+    fn put_components(
+        &self,
+        text: &mut String,
+        form: ItemForm,
+        none: &str,
+        separator: &str,
+    ) -> Result<(), AllocError> {
+        match self.0.split_first() {
+            None => text.push_str(none),
+            Some((first, others)) => {
+                put_octets_item(text, form, first.octets())?;
+                put_others(text, form, separator, others)
+            }
+        }
+    }
+}
+
+/// Appends the separator and a component, for each of the components that stand in octets.
+fn put_other_items(
+    text: &mut String,
+    form: ItemForm,
+    separator: &str,
+    components: Items<'_>,
+) -> Result<(), AllocError>
+    ensures { OnOk result (string_bytes text.new ≡ string_bytes text.old ++ flat_map (λ c. separator.now ++ octets_item form c) components.entry) }
+{
+    let mut others = components;
+    'others: while let Some((component, rest)) = others.split_first() {
+        text.push_str(separator)?;
+        put_octets_item(text, form, component)?;
+        others = rest;
+    }
+    Ok(())
+}
+
+/// The components of the server of a ticket that is judged where it stands.
+#[derive(Clone, Copy)]
+pub(crate) struct TicketNames<'b, 'a>(pub(crate) &'b Items<'a>);
+
+impl<'b, 'a> Components for TicketNames<'b, 'a> {
+    ghost components = { λ names. names.0.now };
+
+    fn put_components(
+        &self,
+        text: &mut String,
+        form: ItemForm,
+        none: &str,
+        separator: &str,
+    ) -> Result<(), AllocError> {
+        match self.0.split_first() {
+            None => text.push_str(none),
+            Some((first, others)) => {
+                put_octets_item(text, form, first)?;
+                put_other_items(text, form, separator, others)
+            }
+        }
+    }
+}
+
+/// Appends the separator and a component, for each of the components that are viewed.
+#[inline(always)]
+fn put_other_viewed(
+    text: &mut String,
+    form: ItemForm,
+    separator: &str,
+    components: ItemsView<'_>,
+) -> Result<(), AllocError>
+    requires { AreViewed kerberos_string components.octets.now }
+    ensures { OnOk result (string_bytes text.new ≡ string_bytes text.old ++ flat_map (λ c. separator.now ++ octets_item form c) (items_of kerberos_string components.entry.octets.now)) }
+{
+    let mut others = components;
+    'others: while let Some((component, rest)) = next_item::<KString>(others) {
+        text.push_str(separator)?;
+        put_octets_item(text, form, component)?;
+        others = rest;
+    }
+    Ok(())
+}
+
+/// Components that are viewed where they stand. Contracts see the octets of each.
+#[derive(Drop)]
+pub(crate) struct ViewedStrings<'a>(ItemsView<'a>);
+
+impl<'a> Model for ViewedStrings<'a> {
+    ghost use Rattle.std.specs.Prelude.{List, ℕ};
+    ghost use Rattle.krb_msg.specs.Grammar.{kerberos_string};
+    ghost use Rattle.krb_msg.specs.Viewed.{AreViewed, items_of};
+
+    ghost Value = { List (List ℕ) };
+
+    ghost view = { λ seen. items_of kerberos_string seen.0.octets.now };
+
+    ghost invariant = { λ seen. AreViewed kerberos_string seen.0.octets.now };
+}
+
+impl<'a> ViewedStrings<'a> {
+    /// Takes the items of a list.
+    #[inline(always)]
+    pub(crate) fn new(items: ItemsView<'a>) -> ViewedStrings<'a>
+        requires { AreViewed kerberos_string items.octets.now }
+        ensures { result ≡ items_of kerberos_string items.entry.octets.now }
+    {
+        ViewedStrings(items)
+    }
+}
+
+impl<'a> Components for ViewedStrings<'a> {
+    ghost components = { λ strings. strings };
+
+    #[inline(always)]
+    fn put_components(
+        &self,
+        text: &mut String,
+        form: ItemForm,
+        none: &str,
+        separator: &str,
+    ) -> Result<(), AllocError> {
+        match next_item::<KString>(self.0) {
+            None => text.push_str(none),
+            Some((first, others)) => {
+                put_octets_item(text, form, first)?;
+                put_other_viewed(text, form, separator, others)
+            }
+        }
+    }
+}
+
+/// A principal: how its name is meant, its components and its realm.
+#[derive(Drop)]
+pub(crate) struct Principal<'a, C> {
+    pub(crate) name_type: i64,
+    pub(crate) components: C,
+    pub(crate) realm: &'a [u8],
+}
+
+/// Appends the parts of the text of a principal, each as it stands in a string.
+fn put_text_parts<C: Components>(
+    object: &mut String,
+    components: &C,
+    realm: &[u8],
+) -> Result<(), AllocError>
+    ensures { OnOk result (string_bytes object.new ≡ string_bytes object.old ++ (joined (codes "\\\\-") (codes "/") (octets_item Part) (C.components components.now) ++ codes "@" ++ octets_item Part realm.now)) }
+{
+    components.put_components(object, ItemForm::Part, "\\\\-", "/")?;
+    object.push('@')?;
+    put_octets_item(object, ItemForm::Part, realm)
+}
+
+/// Appends the text of a principal as it stands in a string.
+fn put_principal_part<C: Components>(
+    object: &mut String,
+    components: &C,
+    realm: &[u8],
+) -> Result<(), AllocError>
+    ensures { OnOk result (string_bytes object.new ≡ string_bytes object.old ++ flat_map json_character (principal_text (C.components components.now) realm.now)) }
+{
+    put_text_parts(object, components, realm)
+}
+
+/// Appends the member of the text of a principal, the first of its object.
+fn put_text_member<C: Components>(
+    object: &mut String,
+    components: &C,
+    realm: &[u8],
+) -> Result<(), AllocError>
+    ensures { OnOk result (string_bytes object.new ≡ string_bytes object.old ++ codes "{\"text\":" ++ json_string (principal_text (C.components components.now) realm.now)) }
+{
+    object.push_str("{\"text\":\"")?;
+    put_principal_part(object, components, realm)?;
+    object.push('"')
+}
+
+/// Appends what an object has of a principal, up to its components.
+fn put_front<'a, C: Components>(
+    object: &mut String,
+    principal: &Principal<'a, C>,
+) -> Result<(), AllocError>
+    ensures { OnOk result (string_bytes object.new ≡ string_bytes object.old ++ codes "{\"text\":" ++ json_string (principal_text (C.components principal.now.components) principal.now.realm.now) ++ codes ",\"type\":" ++ signed_decimal principal.now.name_type ++ codes ",\"type_name\":" ++ name_string NameTypes principal.now.name_type) }
+{
+    put_text_member(object, &principal.components, principal.realm)?;
+    let registry = Registry::NameTypes;
+    put_number_and_name(
+        object,
+        ",\"type\":",
+        ",\"type_name\":",
+        registry,
+        principal.name_type,
+    )
+}
+
+/// Appends components as strings in brackets.
+fn put_component_list<C: Components>(object: &mut String, components: &C) -> Result<(), AllocError>
+    ensures { OnOk result (string_bytes object.new ≡ string_bytes object.old ++ list_text octets_string (C.components components.now)) }
+{
+    object.push('[')?;
+    components.put_components(object, ItemForm::Object, "", ",")?;
+    object.push(']')
+}
+
+/// Appends the members of the parts of a principal, the last of its object.
+fn put_parts<C: Components>(
+    object: &mut String,
+    components: &C,
+    realm: &[u8],
+) -> Result<(), AllocError>
+    ensures { OnOk result (string_bytes object.new ≡ string_bytes object.old ++ codes ",\"components\":" ++ list_text octets_string (C.components components.now) ++ codes ",\"realm\":" ++ octets_string realm.now ++ codes "}") }
+{
+    object.push_str(",\"components\":")?;
+    put_component_list(object, components)?;
+    object.push_str(",\"realm\":")?;
+    put_octets_string(object, realm)?;
+    object.push('}')
+}
+
+/// Appends what an object has of a principal.
+fn put_principal_object<'a, C: Components>(
+    object: &mut String,
+    principal: &Principal<'a, C>,
+) -> Result<(), AllocError>
+    ensures { OnOk result (string_bytes object.new ≡ string_bytes object.old ++ principal_object principal.now.name_type (C.components principal.now.components) principal.now.realm.now) }
+{
+    put_front(object, principal)?;
+    put_parts(object, &principal.components, principal.realm)
+}
+
+/// The components with `/` between them, `@` and the realm.
+impl<'a, C: Components> Shown for Principal<'a, C> {
+    ghost shown = { λ p. IsPrincipal p.name_type (C.components p.components) p.realm.now };
+
+    #[tactic(auto, unfolding(crate::specs::Forms::value_text, crate::specs::Text::principal_text))]
+    fn put_text(&self, line: &mut String, _names: bool) -> Result<(), AllocError> {
+        self.components
+            .put_components(line, ItemForm::Line, "\\-", "/")?;
+        line.push('@')?;
+        put_escaped(line, self.realm)
+    }
+
+    #[tactic(auto, unfolding(crate::specs::Forms::members, crate::specs::Forms::json_value, crate::specs::Forms::names_member))]
+    fn put_members(&self, object: &mut String, begin: &str) -> Result<(), AllocError> {
+        put_begin(object, begin)?;
+        put_principal_object(object, self)
+    }
+}
 
 /// Appends the text of a principal, which is [`principal_text`]'s.
 #[tactic(auto, unfolding(crate::specs::Text::principal_text))]
@@ -23,51 +315,9 @@ pub fn put_principal(
 ) -> Result<(), AllocError>
     ensures { OnOk result (string_bytes line.new ≡ string_bytes line.old ++ principal_text components.now realm.now) }
 {
-    put_joined(line, "\\-", "/", components)?;
+    Strings(components).put_components(line, ItemForm::Line, "\\-", "/")?;
     line.push('@')?;
-    realm.put(line)
-}
-
-/// Appends `/` and the text of a component, for each of the components.
-fn put_other_components(line: &mut String, components: Items<'_>) -> Result<(), AllocError>
-    ensures { OnOk result (string_bytes line.new ≡ string_bytes line.old ++ flat_map (λ c. codes "/" ++ escape c) components.entry) }
-{
-    let mut others = components;
-    'others: while let Some((component, rest)) = others.split_first() {
-        line.push('/')?;
-        put_escaped(line, component)?;
-        others = rest;
-    }
-    Ok(())
-}
-
-/// Appends the components of a principal that stand in octets, as [`put_principal`] does.
-pub(crate) fn put_components(line: &mut String, components: &Items<'_>) -> Result<(), AllocError>
-    ensures { OnOk result (string_bytes line.new ≡ string_bytes line.old ++ components_text components.now) }
-{
-    match components.split_first() {
-        None => line.push_str("\\-"),
-        Some((first, others)) => {
-            put_escaped(line, first)?;
-            put_other_components(line, others)
-        }
-    }
-}
-
-/// Appends the text of a principal that is viewed where it stands, as [`put_principal`] does.
-#[inline(always)]
-#[tactic(auto, unfolding(crate::specs::Text::principal_text))]
-pub(crate) fn put_name(
-    line: &mut String,
-    name: &PrincipalNameView<'_>,
-    realm: &[u8],
-) -> Result<(), AllocError>
-    requires { PrincipalNameLists name.now }
-    ensures { OnOk result (string_bytes line.new ≡ string_bytes line.old ++ in_realm realm.now (principal_name_seen name.now)) }
-{
-    put_items::<KString>(line, "\\-", "/", name.name)?;
-    line.push('@')?;
-    put_escaped(line, realm)
+    put_escaped(line, realm.octets())
 }
 
 /// Returns the text of a principal: its components with `/` between them, `@`, and the realm, each

@@ -1,37 +1,130 @@
-//! Lines of what is refused.
+//! Records of what is refused.
 
 ghost use Rattle.std.specs.Prelude.{◌≡◌, ◌++◌, OnOk, string_bytes};
-ghost use Rattle.krb_list.specs.Refusals.{fault_text, file_refused_line, message_refused_line};
+ghost use Rattle.krb_der.specs.Reasons.{reason_name, reason_number};
+ghost use Rattle.krb_file.specs.Faults.{file_reason_name, file_reason_number};
+ghost use Rattle.krb_list.specs.Forms.{record_line};
+ghost use Rattle.krb_list.specs.Refusals.{fault_record, file_refused_line, input_refused_line, message_refused_line};
+ghost use Rattle.krb_list.specs.Values.{Reason as IsReason};
 
-use krb_der::{Refusal, why_number, why_text};
+use crate::field::{put_end, put_field, put_opening};
+use crate::form::Form;
+use crate::json::put_string;
+use crate::shown::{Shown, put_begin, put_number};
+use krb_der::{Refusal, Why, why_number, why_text};
 use krb_file::{FileWhy, file_why_number, file_why_text};
 use std::alloc::AllocError;
+use std::marker::Model;
 
-/// Appends a place, and the number and the name of a reason: ` place=P why=NUMBER NAME`.
-#[tactic(auto, unfolding(crate::specs::Refusals::fault_text))]
-pub fn put_fault(line: &mut String, place: u64, number: u8, name: &str) -> Result<(), AllocError>
-    ensures { OnOk result (string_bytes line.new ≡ string_bytes line.old ++ fault_text place number name.now) }
+/// The number and the name of a reason. Contracts see the two.
+#[derive(Drop)]
+pub(crate) struct Reason {
+    number: u8,
+    name: &'static str,
+}
+
+impl Model for Reason {
+    ghost use Rattle.std.specs.Prelude.{List, ℕ};
+    ghost use Rattle.std.specs.Str.{IsAscii};
+
+    ghost Value = { ℕ × List ℕ };
+
+    ghost view = { λ reason. (reason.number, reason.name.now) };
+
+    ghost invariant = { λ reason. IsAscii reason.name.now };
+}
+
+impl Reason {
+    /// Returns the number and the name of why octets are refused.
+    #[tactic(auto, using(crate::proofs::Reasons::reason_is_ascii))]
+    pub(crate) fn of(why: Why) -> Reason
+        ensures { result ≡ (reason_number why, reason_name why) }
+    {
+        Reason {
+            number: why_number(why),
+            name: why_text(why),
+        }
+    }
+
+    /// Returns the number and the name of why a file is refused.
+    #[tactic(auto, using(crate::proofs::Reasons::file_reason_is_ascii))]
+    pub(crate) fn of_file(why: FileWhy) -> Reason
+        ensures { result ≡ (file_reason_number why, file_reason_name why) }
+    {
+        Reason {
+            number: file_why_number(why),
+            name: file_why_text(why),
+        }
+    }
+}
+
+/// The number, a blank and the name.
+impl Shown for Reason {
+    ghost shown = { λ reason. IsReason reason.0 reason.1 };
+
+    #[tactic(auto, unfolding(crate::specs::Forms::value_text))]
+    fn put_text(&self, line: &mut String, _names: bool) -> Result<(), AllocError> {
+        put_number(line, self.number)?;
+        line.push(' ')?;
+        line.push_str(self.name)
+    }
+
+    #[tactic(auto, unfolding(crate::specs::Forms::members, crate::specs::Forms::json_value, crate::specs::Forms::names_member))]
+    fn put_members(&self, object: &mut String, begin: &str) -> Result<(), AllocError> {
+        put_begin(object, begin)?;
+        put_number(object, self.number)?;
+        object.push_str(begin)?;
+        object.push_str("_name\":")?;
+        put_string(object, self.name.as_bytes())
+    }
+}
+
+/// Appends the line of what is refused at a place.
+#[tactic(auto, unfolding(crate::specs::Forms::record_text))]
+fn put_fault(text: &mut String, form: Form, place: u64, reason: &Reason) -> Result<(), AllocError>
+    ensures { OnOk result (string_bytes text.new ≡ string_bytes text.old ++ record_line form (fault_record place reason.now.0 reason.now.1)) }
 {
-    write!(line, " place={place}")?;
-    write!(line, " why={number} {name}")
+    put_opening(text, form, "refused")?;
+    put_field(text, form, " place=", ",\"place", &place)?;
+    put_field(text, form, " why=", ",\"why", reason)?;
+    put_end(text, form)
 }
 
 /// Appends the line of a refused file: the place of the field at fault, and what is wrong with it.
-pub fn put_file_refusal(lines: &mut String, place: u64, why: FileWhy) -> Result<(), AllocError>
-    ensures { OnOk result (string_bytes lines.new ≡ string_bytes lines.old ++ file_refused_line place why) }
+pub fn put_file_refusal(
+    text: &mut String,
+    form: Form,
+    place: u64,
+    why: FileWhy,
+) -> Result<(), AllocError>
+    ensures { OnOk result (string_bytes text.new ≡ string_bytes text.old ++ file_refused_line form place why) }
 {
-    lines.push_str("refused")?;
-    put_fault(lines, place, file_why_number(why), file_why_text(why))?;
-    lines.push('\n')
+    put_fault(text, form, place, &Reason::of_file(why))
 }
 
 /// Appends the line of octets that are no message: the place of the octet at fault, and what is wrong
 /// with it.
-pub fn put_message_refusal(lines: &mut String, refusal: Refusal) -> Result<(), AllocError>
-    ensures { OnOk result (string_bytes lines.new ≡ string_bytes lines.old ++ message_refused_line refusal) }
+pub fn put_message_refusal(
+    text: &mut String,
+    form: Form,
+    refusal: Refusal,
+) -> Result<(), AllocError>
+    ensures { OnOk result (string_bytes text.new ≡ string_bytes text.old ++ message_refused_line form refusal) }
 {
-    lines.push_str("refused")?;
-    let place = u64::from(refusal.place);
-    put_fault(lines, place, why_number(refusal.why), why_text(refusal.why))?;
-    lines.push('\n')
+    put_fault(
+        text,
+        form,
+        u64::from(refusal.place),
+        &Reason::of(refusal.why),
+    )
+}
+
+/// Appends the line of input that is no hexadecimal.
+pub fn put_input_refusal(text: &mut String, form: Form) -> Result<(), AllocError>
+    ensures { OnOk result (string_bytes text.new ≡ string_bytes text.old ++ input_refused_line form) }
+{
+    match form {
+        Form::Lines | Form::NamedLines => text.push_str("refused hex\n"),
+        Form::Json => text.push_str("{\"kind\":\"refused\",\"input\":\"hex\"}\n"),
+    }
 }

@@ -1,23 +1,30 @@
-//! A piece of a line, appended to the text so far.
+//! Values as records show them, appended to the text so far.
 
-ghost use Rattle.std.specs.Prelude.{◌≡◌, ◌++◌, List, ℕ, OnOk, string_bytes};
-ghost use Rattle.std.specs.List.{flat_map};
-ghost use Rattle.std.specs.Fmt.{decimal, signed_decimal};
-ghost use Rattle.krb_list.specs.Text.{escape, or_dash, list_text, joined, yes_or_no};
+ghost use Rattle.std.specs.Prelude.{◌≡◌, ◌++◌, ℕ, ℤ, pos, codes, OnOk, string_bytes};
+ghost use Rattle.std.specs.Fmt.{signed_decimal};
+ghost use Rattle.std.specs.Str.{IsAscii};
+ghost use Rattle.krb_list.specs.Forms.{members, value_text};
+ghost use Rattle.krb_list.specs.Values.{Value, Absent, Number, Quoted, String as Escaped, Word, YesNo, if_there};
 
-use crate::escape::put_escaped;
+use crate::escape::{put_ascii, put_escaped};
+use crate::json::{put_octets_string, put_string};
 use itoa::{Buffer, Integer};
-use krb_der::KString;
 use std::alloc::AllocError;
 use std::marker::Model;
 
-/// What a line shows of a value.
+/// What records show of a value.
 pub trait Shown {
-    ghost text: { Self → List ℕ };
+    ghost shown: { Self → Value };
 
-    /// Appends the text of the value, or a part of it when out of memory.
-    fn put(&self, line: &mut String) -> Result<(), AllocError>
-        ensures { OnOk result (string_bytes line.new ≡ string_bytes line.old ++ text self.now) };
+    /// Appends what a line shows of the value, with the names of numbers or without, or a part of it
+    /// when out of memory.
+    fn put_text(&self, line: &mut String, names: bool) -> Result<(), AllocError>
+        ensures { OnOk result (string_bytes line.new ≡ string_bytes line.old ++ value_text names (shown self.now)) };
+
+    /// Appends the members of an object for the value: first that which `begin` and `":` begin, and
+    /// then, if the value has names, that of the names. `begin` is `,"` and the name of the field.
+    fn put_members(&self, object: &mut String, begin: &str) -> Result<(), AllocError>
+        ensures { OnOk result (string_bytes object.new ≡ string_bytes object.old ++ members begin.now (shown self.now)) };
 }
 
 /// Appends a number in decimal.
@@ -28,153 +35,172 @@ pub(crate) fn put_number<I: Integer>(line: &mut String, number: I) -> Result<(),
     line.push_str(buffer.format(number))
 }
 
-/// A word that a line shows as it is. Contracts see it as its octets.
-#[derive(Drop)]
-pub struct Name(pub &'static str);
+/// Appends what stands before a value in an object.
+#[inline(always)]
+pub(crate) fn put_begin(object: &mut String, begin: &str) -> Result<(), AllocError>
+    ensures { OnOk result (string_bytes object.new ≡ string_bytes object.old ++ begin.now ++ codes "\":") }
+{
+    object.push_str(begin)?;
+    object.push_str("\":")
+}
 
-impl Model for Name {
+/// Appends what stands before the names of a list in an object.
+pub(crate) fn put_names_begin(object: &mut String, begin: &str) -> Result<(), AllocError>
+    ensures { OnOk result (string_bytes object.new ≡ string_bytes object.old ++ begin.now ++ codes "_names\":") }
+{
+    object.push_str(begin)?;
+    object.push_str("_names\":")
+}
+
+/// A number of no registry.
+impl Shown for i64 {
+    ghost shown = { λ number. Number number };
+
+    #[tactic(auto, unfolding(crate::specs::Forms::value_text))]
+    fn put_text(&self, line: &mut String, _names: bool) -> Result<(), AllocError> {
+        put_number(line, *self)
+    }
+
+    #[tactic(auto, unfolding(crate::specs::Forms::members, crate::specs::Forms::json_value, crate::specs::Forms::names_member))]
+    fn put_members(&self, object: &mut String, begin: &str) -> Result<(), AllocError> {
+        put_begin(object, begin)?;
+        put_number(object, *self)
+    }
+}
+
+/// A number that is not negative, or how many there are.
+impl Shown for u64 {
+    ghost shown = { λ number. Number (pos number) };
+
+    #[tactic(auto, unfolding(crate::specs::Forms::value_text))]
+    fn put_text(&self, line: &mut String, _names: bool) -> Result<(), AllocError> {
+        put_number(line, *self)
+    }
+
+    #[tactic(auto, unfolding(crate::specs::Forms::members, crate::specs::Forms::json_value, crate::specs::Forms::names_member))]
+    fn put_members(&self, object: &mut String, begin: &str) -> Result<(), AllocError> {
+        put_begin(object, begin)?;
+        put_number(object, *self)
+    }
+}
+
+/// `yes` or `no` in a line.
+impl Shown for bool {
+    ghost shown = { λ holds. YesNo holds };
+
+    #[tactic(auto, unfolding(crate::specs::Forms::value_text))]
+    fn put_text(&self, line: &mut String, _names: bool) -> Result<(), AllocError> {
+        line.push_str(if *self { "yes" } else { "no" })
+    }
+
+    #[tactic(auto, unfolding(crate::specs::Forms::members, crate::specs::Forms::json_value, crate::specs::Forms::names_member))]
+    fn put_members(&self, object: &mut String, begin: &str) -> Result<(), AllocError> {
+        put_begin(object, begin)?;
+        object.push_str(if *self { "true" } else { "false" })
+    }
+}
+
+/// Octets, escaped.
+#[derive(Clone, Copy)]
+pub(crate) struct Text<'a>(pub(crate) &'a [u8]);
+
+impl<'a> Shown for Text<'a> {
+    ghost shown = { λ text. Escaped text.0.now };
+
+    #[tactic(auto, unfolding(crate::specs::Forms::value_text))]
+    fn put_text(&self, line: &mut String, _names: bool) -> Result<(), AllocError> {
+        put_escaped(line, self.0)
+    }
+
+    #[tactic(auto, unfolding(crate::specs::Forms::members, crate::specs::Forms::json_value, crate::specs::Forms::names_member))]
+    fn put_members(&self, object: &mut String, begin: &str) -> Result<(), AllocError> {
+        put_begin(object, begin)?;
+        put_octets_string(object, self.0)
+    }
+}
+
+/// Octets, escaped, which a line has between quotes.
+#[derive(Clone, Copy)]
+pub(crate) struct QuotedText<'a>(pub(crate) &'a [u8]);
+
+impl<'a> Shown for QuotedText<'a> {
+    ghost shown = { λ text. Quoted text.0.now };
+
+    #[tactic(auto, unfolding(crate::specs::Forms::value_text))]
+    fn put_text(&self, line: &mut String, _names: bool) -> Result<(), AllocError> {
+        line.push('"')?;
+        put_escaped(line, self.0)?;
+        line.push('"')
+    }
+
+    #[tactic(auto, unfolding(crate::specs::Forms::members, crate::specs::Forms::json_value, crate::specs::Forms::names_member))]
+    fn put_members(&self, object: &mut String, begin: &str) -> Result<(), AllocError> {
+        put_begin(object, begin)?;
+        put_octets_string(object, self.0)
+    }
+}
+
+/// Words and times, which are ASCII and stand as they are. Contracts see the octets.
+#[derive(Drop)]
+pub(crate) struct Plain<'a>(&'a [u8]);
+
+impl<'a> Model for Plain<'a> {
     ghost use Rattle.std.specs.Prelude.{List, ℕ};
+    ghost use Rattle.std.specs.Str.{IsAscii};
 
     ghost Value = { List ℕ };
 
-    ghost view = { λ name. name.0.now };
+    ghost view = { λ plain. plain.0.now };
+
+    ghost invariant = { λ plain. IsAscii plain.0.now };
 }
 
-impl Shown for Name {
-    ghost text = { λ name. name };
-
-    fn put(&self, line: &mut String) -> Result<(), AllocError> {
-        line.push_str(self.0)
+impl<'a> Plain<'a> {
+    /// Takes octets of ASCII.
+    #[inline(always)]
+    pub(crate) fn new(octets: &'a [u8]) -> Plain<'a>
+        requires { IsAscii octets.now }
+        ensures { result ≡ octets.now }
+    {
+        Plain(octets)
     }
 }
 
-impl Shown for u8 {
-    ghost text = { decimal };
+impl<'a> Shown for Plain<'a> {
+    ghost shown = { λ octets. Word octets };
 
-    fn put(&self, line: &mut String) -> Result<(), AllocError> {
-        put_number(line, *self)
+    #[tactic(auto, unfolding(crate::specs::Forms::value_text))]
+    fn put_text(&self, line: &mut String, _names: bool) -> Result<(), AllocError> {
+        put_ascii(line, self.0)
+    }
+
+    #[tactic(auto, unfolding(crate::specs::Forms::members, crate::specs::Forms::json_value, crate::specs::Forms::names_member))]
+    fn put_members(&self, object: &mut String, begin: &str) -> Result<(), AllocError> {
+        put_begin(object, begin)?;
+        put_string(object, self.0)
     }
 }
 
-impl Shown for u16 {
-    ghost text = { decimal };
-
-    fn put(&self, line: &mut String) -> Result<(), AllocError> {
-        put_number(line, *self)
-    }
-}
-
-impl Shown for u32 {
-    ghost text = { decimal };
-
-    fn put(&self, line: &mut String) -> Result<(), AllocError> {
-        put_number(line, *self)
-    }
-}
-
-impl Shown for u64 {
-    ghost text = { decimal };
-
-    fn put(&self, line: &mut String) -> Result<(), AllocError> {
-        put_number(line, *self)
-    }
-}
-
-impl Shown for usize {
-    ghost text = { decimal };
-
-    fn put(&self, line: &mut String) -> Result<(), AllocError> {
-        // Most counts are one digit, which needs no buffer.
-        if *self < 10 {
-            line.push(char::from(b'0' + *self as u8))
-        } else {
-            put_number(line, *self)
-        }
-    }
-}
-
-impl Shown for i32 {
-    ghost text = { signed_decimal };
-
-    fn put(&self, line: &mut String) -> Result<(), AllocError> {
-        put_number(line, *self)
-    }
-}
-
-impl Shown for i64 {
-    ghost text = { signed_decimal };
-
-    fn put(&self, line: &mut String) -> Result<(), AllocError> {
-        put_number(line, *self)
-    }
-}
-
-/// `yes` or `no`.
-impl Shown for bool {
-    ghost text = { yes_or_no };
-
-    fn put(&self, line: &mut String) -> Result<(), AllocError> {
-        line.push_str(if *self { "yes" } else { "no" })
-    }
-}
-
-/// The octets, escaped.
-impl Shown for KString {
-    ghost text = { escape };
-
-    fn put(&self, line: &mut String) -> Result<(), AllocError> {
-        put_escaped(line, self.octets())
-    }
-}
-
-/// `-` if there is none.
+/// `-` in a line if there is none, and null in an object.
 impl<T: Shown> Shown for Option<T> {
-    ghost text = { or_dash T.text };
+    ghost shown = { if_there T.shown };
 
-    fn put(&self, line: &mut String) -> Result<(), AllocError> {
+    #[tactic(auto, unfolding(crate::specs::Forms::value_text))]
+    fn put_text(&self, line: &mut String, names: bool) -> Result<(), AllocError> {
         match self {
             None => line.push('-'),
-            Some(value) => value.put(line),
+            Some(value) => value.put_text(line, names),
         }
     }
-}
 
-/// Appends the separator and the text of a value, for each of the values.
-#[inline(always)]
-fn put_others<T: Shown>(line: &mut String, separator: &str, values: &[T]) -> Result<(), AllocError>
-    ensures { OnOk result (string_bytes line.new ≡ string_bytes line.old ++ flat_map (λ value. separator.now ++ T.text value) values.now) }
-{
-    for value in values {
-        line.push_str(separator)?;
-        value.put(line)?;
-    }
-    Ok(())
-}
-
-/// Appends the texts of the values, with the separator between two, or another text if there are none.
-#[inline(always)]
-pub fn put_joined<T: Shown>(
-    line: &mut String,
-    none: &str,
-    separator: &str,
-    values: &[T],
-) -> Result<(), AllocError>
-    ensures { OnOk result (string_bytes line.new ≡ string_bytes line.old ++ joined none.now separator.now T.text values.now) }
-{
-    match values.split_first() {
-        None => line.push_str(none),
-        Some((first, others)) => {
-            first.put(line)?;
-            put_others(line, separator, others)
+    #[tactic(auto, unfolding(crate::specs::Forms::members, crate::specs::Forms::json_value, crate::specs::Forms::names_member))]
+    fn put_members(&self, object: &mut String, begin: &str) -> Result<(), AllocError> {
+        match self {
+            None => {
+                put_begin(object, begin)?;
+                object.push_str("null")
+            }
+            Some(value) => value.put_members(object, begin),
         }
     }
-}
-
-/// Appends the texts of the values in brackets, with commas between them.
-pub fn put_list<T: Shown>(line: &mut String, values: &[T]) -> Result<(), AllocError>
-    ensures { OnOk result (string_bytes line.new ≡ string_bytes line.old ++ list_text T.text values.now) }
-{
-    line.push('[')?;
-    put_joined(line, "", ",", values)?;
-    line.push(']')
 }

@@ -1,43 +1,56 @@
-//! Last lines of streams.
+//! The last records of streams, and those of their refusals.
 
 ghost use Rattle.std.specs.Prelude.{◌≡◌, ◌++◌, OnOk, string_bytes};
 ghost use Rattle.krb_msg.specs.Stream.{Boundary};
 ghost use Rattle.krb_list.specs.Streams.{refused_line, end_line, counted_end_line};
 
-use crate::refusal::put_fault;
-use krb_der::{Refusal, why_number, why_text};
+use crate::field::{put_end, put_field, put_opening};
+use crate::form::Form;
+use crate::refusal::Reason;
+use krb_der::Refusal;
 use std::alloc::AllocError;
 
 /// Appends the last line of a stream that ends between frames, after n messages.
-pub fn put_stream_end(text: &mut String, messages: u64) -> Result<(), AllocError>
-    ensures { OnOk result (string_bytes text.new ≡ string_bytes text.old ++ end_line messages Boundary) }
+#[tactic(auto, unfolding(crate::specs::Forms::record_text))]
+pub fn put_stream_end(text: &mut String, form: Form, messages: u64) -> Result<(), AllocError>
+    ensures { OnOk result (string_bytes text.new ≡ string_bytes text.old ++ end_line form messages Boundary) }
 {
-    writeln!(text, "end messages={messages}")
+    put_opening(text, form, "end")?;
+    put_field(text, form, " messages=", ",\"messages", &messages)?;
+    put_end(text, form)
 }
 
-/// Appends the last line of a stream that was gone on with after refusals: after n messages, so many
-/// frames were refused.
+/// Appends the last line of a stream that was gone on with after refusals, and how many messages and
+/// how many refused frames it had.
+#[tactic(auto, unfolding(crate::specs::Forms::record_text))]
 pub fn put_counted_stream_end(
     text: &mut String,
+    form: Form,
     messages: u64,
     refused: u64,
 ) -> Result<(), AllocError>
-    ensures { OnOk result (string_bytes text.new ≡ string_bytes text.old ++ counted_end_line messages refused) }
+    ensures { OnOk result (string_bytes text.new ≡ string_bytes text.old ++ counted_end_line form messages refused) }
 {
-    writeln!(text, "end messages={messages} refused={refused}")
+    put_opening(text, form, "end")?;
+    put_field(text, form, " messages=", ",\"messages", &messages)?;
+    put_field(text, form, " refused=", ",\"refused", &refused)?;
+    put_end(text, form)
 }
 
 /// Appends the line of a frame that is refused, after n messages. Unless one goes on after it, it is
 /// the last line of the stream.
+#[tactic(auto, unfolding(crate::specs::Forms::record_text))]
 pub fn put_stream_refusal(
     text: &mut String,
+    form: Form,
     messages: u64,
     refusal: Refusal,
 ) -> Result<(), AllocError>
-    ensures { OnOk result (string_bytes text.new ≡ string_bytes text.old ++ refused_line messages refusal.place refusal.why) }
+    ensures { OnOk result (string_bytes text.new ≡ string_bytes text.old ++ refused_line form messages refusal.place refusal.why) }
 {
-    write!(text, "refused messages={messages}")?;
-    let place = u64::from(refusal.place);
-    put_fault(text, place, why_number(refusal.why), why_text(refusal.why))?;
-    text.push('\n')
+    put_opening(text, form, "refused")?;
+    put_field(text, form, " messages=", ",\"messages", &messages)?;
+    put_field(text, form, " place=", ",\"place", &u64::from(refusal.place))?;
+    put_field(text, form, " why=", ",\"why", &Reason::of(refusal.why))?;
+    put_end(text, form)
 }

@@ -1,11 +1,16 @@
 //! The flags of a ticket by name.
 
 ghost use Rattle.std.specs.Prelude.{⊤, ◌≡◌, ◌∷◌, ◌++◌, [], OnOk, codes, string_bytes};
+ghost use Rattle.krb_registry.specs.declared.registry.Registry.TheVariants as registries;
+ghost use Rattle.krb_list.specs.Forms.{flags_object, four_octets, named_flags_text};
+ghost use Rattle.krb_list.specs.Values.{TicketFlags as IsTicketFlags};
 ghost use Rattle.krb_list.specs.TicketFlags.{eight_hex, flag_name, names_text, others_text, ticket_flags_text};
 
 use crate::escape::put_hex;
-use crate::shown::Shown;
+use crate::flags::{put_flags_object, put_named_flags};
+use crate::shown::{Shown, put_begin};
 use bitflags::{Flag, Flags, bitflag_items};
+use krb_registry::Registry;
 use std::alloc::AllocError;
 
 /// The flags of a ticket (RFC 4120, 5.3), bit 0 the highest.
@@ -135,14 +140,46 @@ fn put_others(line: &mut String, others: u32) -> Result<(), AllocError>
     }
 }
 
+/// Appends the names of the flags that are set, or `-`, and the bits without a name.
+#[tactic(auto, unfolding(crate::specs::TicketFlags::ticket_flags_text))]
+fn put_flags(line: &mut String, flags: TicketFlags) -> Result<(), AllocError>
+    ensures { OnOk result (string_bytes line.new ≡ string_bytes line.old ++ ticket_flags_text flags.0) }
+{
+    put_names(line, flags)?;
+    put_others(line, flags.0 & NAMELESS)
+}
+
+/// Appends the same, where two more flags have names (RFC 6806, RFC 8062).
+fn put_all_names(line: &mut String, flags: u32) -> Result<(), AllocError>
+    ensures { OnOk result (string_bytes line.new ≡ string_bytes line.old ++ named_flags_text registries.TicketFlags (four_octets flags)) }
+{
+    put_named_flags(line, Registry::TicketFlags, &flags.to_be_bytes())
+}
+
+/// Appends what an object has of flags.
+fn put_object(object: &mut String, flags: u32) -> Result<(), AllocError>
+    ensures { OnOk result (string_bytes object.new ≡ string_bytes object.old ++ flags_object registries.TicketFlags (0, four_octets flags)) }
+{
+    put_flags_object(object, Registry::TicketFlags, 0, &flags.to_be_bytes())
+}
+
 /// The names of the flags that are set, with `,` between them, or `-` if there is none; then `+`
 /// and eight hexadecimal digits if bits without a name are set.
 impl Shown for TicketFlags {
-    ghost text = { λ flags. ticket_flags_text flags.0 };
+    ghost shown = { λ flags. IsTicketFlags flags.0 };
 
-    #[tactic(auto, unfolding(crate::specs::TicketFlags::ticket_flags_text))]
-    fn put(&self, line: &mut String) -> Result<(), AllocError> {
-        put_names(line, *self)?;
-        put_others(line, self.0 & NAMELESS)
+    #[tactic(auto, unfolding(crate::specs::Forms::value_text))]
+    fn put_text(&self, line: &mut String, names: bool) -> Result<(), AllocError> {
+        if names {
+            put_all_names(line, self.0)
+        } else {
+            put_flags(line, *self)
+        }
+    }
+
+    #[tactic(auto, unfolding(crate::specs::Forms::members, crate::specs::Forms::json_value, crate::specs::Forms::names_member))]
+    fn put_members(&self, object: &mut String, begin: &str) -> Result<(), AllocError> {
+        put_begin(object, begin)?;
+        put_object(object, self.0)
     }
 }

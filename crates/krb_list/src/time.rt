@@ -2,10 +2,12 @@
 
 ghost use Rattle.std.specs.Prelude.{◌≡◌, ◌++◌, ◌/◌, ◌%◌, ◌<◌, IfOk, OnOk, length, pos, string_bytes};
 ghost use Rattle.std.specs.Str.{IsAscii};
-ghost use Rattle.krb_list.specs.Time.{moment_text, time_text};
+ghost use Rattle.krb_list.specs.Time.{file_time, moment_text, time_text};
 ghost use Rattle.jiff_core.specs.Date.{epoch_day};
 ghost use Rattle.jiff_core.specs.Time.{time_seconds};
 
+use crate::json::put_string;
+use crate::shown::{Shown, put_begin};
 use arrayvec::ArrayString;
 use jiff_core::civil::{Date, DateTime, Time};
 use jiff_fmt::temporal::DateTimePrinter;
@@ -63,4 +65,28 @@ pub fn time_text(alloc: Global, seconds: u32) -> Result<String, Memory>
     let mut text = String::new(alloc);
     put_time(&mut text, seconds)?;
     Ok(text)
+}
+
+/// A time of a file: seconds since the beginning of 1970, 0 if there is none.
+#[derive(Clone, Copy)]
+pub(crate) struct FileTime(pub(crate) u32);
+
+/// `-` in a line and null in an object at 0.
+impl Shown for FileTime {
+    ghost shown = { λ time. file_time time.0 };
+
+    #[tactic(auto, unfolding(crate::specs::Forms::value_text))]
+    fn put_text(&self, line: &mut String, _names: bool) -> Result<(), AllocError> {
+        put_time(line, self.0)
+    }
+
+    #[tactic(auto, unfolding(crate::specs::Forms::members, crate::specs::Forms::json_value, crate::specs::Forms::names_member))]
+    fn put_members(&self, object: &mut String, begin: &str) -> Result<(), AllocError> {
+        put_begin(object, begin)?;
+        if self.0 == 0 {
+            object.push_str("null")
+        } else {
+            put_string(object, moment(self.0).as_str().as_bytes())
+        }
+    }
 }

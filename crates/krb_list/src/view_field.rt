@@ -1,276 +1,426 @@
-//! Fields of the lines of messages, which show what stands in a view.
+//! Fields of messages, which show what stands in a view.
 
-ghost use Rattle.std.specs.Prelude.{◌≡◌, ◌++◌, OnOk, decimal, map, string_bytes};
+ghost use Rattle.std.specs.Prelude.{◌≡◌, ◌++◌, OnOk, map, pos, string_bytes};
 ghost use Rattle.std.specs.Option.{option_map};
-ghost use Rattle.std.specs.Fmt.{signed_decimal};
 ghost use Rattle.krb_der.specs.Scalars.{IsTimeFrom};
 ghost use Rattle.krb_msg.specs.Grammar.{host_address, int32, pa_data, ticket};
 ghost use Rattle.krb_msg.specs.Views.{encrypted_data_of, host_address_of, micros_of, pa_data_of, principal_name_of, ticket_of};
 ghost use Rattle.krb_msg.specs.Viewed.{AreViewed, OfSome, items_of};
-ghost use Rattle.krb_msg.specs.Seen.{PrincipalNameLists, encrypted_data_view_value, host_address_view_value, principal_name_seen, principal_name_view_value};
-ghost use Rattle.krb_list.specs.Text.{list_text, or_dash, sealed_text};
-ghost use Rattle.krb_list.specs.Messages.{address_text, in_realm, client_text, count_text, padata_text, quoted_text};
+ghost use Rattle.krb_msg.specs.Seen.{PrincipalNameLists, checksum_seen, encrypted_data_seen, encrypted_data_view_value, flags_seen, host_address_seen, host_address_view_value, principal_name_seen, principal_name_view_value};
+ghost use Rattle.krb_registry.specs.declared.registry.Registry.TheVariants.{EncryptionTypes as EncryptionTypeNumbers};
+ghost use Rattle.krb_list.specs.Forms.{labelled};
+ghost use Rattle.krb_list.specs.Messages.{padata};
+ghost use Rattle.krb_list.specs.Values.{Absent, Flags, Number, Numbers, Quoted, String as Escaped, Word, address, checksum, client, count, if_there, principal, sealed};
 
-use crate::escape::{put_ascii, put_escaped};
-use crate::list::{count_items, put_item_list};
-use crate::principal::put_name;
-use crate::shown::{Shown, put_number};
-use krb_der::Int32;
+use crate::field::put_field;
+use crate::flags::FlagBits;
+use crate::form::Form;
+use crate::list::{EncryptionTypes, PaDataTypes, count_items};
+use crate::number::{Address, Digest, Sealed};
+use crate::principal::{Principal, ViewedStrings};
+use crate::shown::{Plain, QuotedText, Text};
 use krb_msg::{
-    EncryptedDataView, HostAddress, HostAddressView, ItemsView, PaData, PrincipalNameView, Ticket,
+    ChecksumView, EncryptedDataView, FlagsView, HostAddress, HostAddressView, ItemsView,
+    PrincipalNameView, Ticket,
 };
+use krb_registry::Registry;
 use std::alloc::AllocError;
 
-/// Appends a field that shows a principal.
+/// Appends a field of what is not there.
+#[inline(always)]
+pub(crate) fn put_absent_field(
+    text: &mut String,
+    form: Form,
+    label: &str,
+    begin: &str,
+) -> Result<(), AllocError>
+    ensures { OnOk result (string_bytes text.new ≡ string_bytes text.old ++ labelled form label.now begin.now Absent) }
+{
+    put_field(text, form, label, begin, &None::<u64>)
+}
+
+/// Appends a field of a string.
+#[inline(always)]
+pub(crate) fn put_text_field(
+    text: &mut String,
+    form: Form,
+    label: &str,
+    begin: &str,
+    octets: &[u8],
+) -> Result<(), AllocError>
+    ensures { OnOk result (string_bytes text.new ≡ string_bytes text.old ++ labelled form label.now begin.now (Escaped octets.now)) }
+{
+    put_field(text, form, label, begin, &Text(octets))
+}
+
+/// Appends a field of a principal.
 #[inline(always)]
 pub(crate) fn put_principal_field(
-    line: &mut String,
+    text: &mut String,
+    form: Form,
     label: &str,
+    begin: &str,
     name: &PrincipalNameView<'_>,
     realm: &[u8],
 ) -> Result<(), AllocError>
     requires { PrincipalNameLists name.now }
-    ensures { OnOk result (string_bytes line.new ≡ string_bytes line.old ++ label.now ++ in_realm realm.now (principal_name_seen name.now)) }
+    ensures { OnOk result (string_bytes text.new ≡ string_bytes text.old ++ labelled form label.now begin.now (principal realm.now (principal_name_seen name.now))) }
 {
-    line.push_str(label)?;
-    put_name(line, name, realm)
+    let shown = Principal {
+        name_type: name.name_type,
+        components: ViewedStrings::new(name.name),
+        realm,
+    };
+    put_field(text, form, label, begin, &shown)
 }
 
-/// Appends a field that shows a principal of a realm, or `-`.
+/// Appends a field of a principal of a realm, if it is there.
 #[inline(always)]
 pub(crate) fn put_optional_principal_field(
-    line: &mut String,
+    text: &mut String,
+    form: Form,
     label: &str,
+    begin: &str,
     name: &Option<PrincipalNameView<'_>>,
     realm: &[u8],
 ) -> Result<(), AllocError>
     requires { OfSome PrincipalNameLists name.now }
-    ensures { OnOk result (string_bytes line.new ≡ string_bytes line.old ++ label.now ++ or_dash (in_realm realm.now) (option_map principal_name_of (option_map principal_name_view_value name.now))) }
+    ensures { OnOk result (string_bytes text.new ≡ string_bytes text.old ++ labelled form label.now begin.now (if_there (principal realm.now) (option_map principal_name_of (option_map principal_name_view_value name.now)))) }
 {
-    line.push_str(label)?;
     match name {
-        None => line.push('-'),
-        Some(name) => put_name(line, name, realm),
+        None => put_absent_field(text, form, label, begin),
+        Some(name) => put_principal_field(text, form, label, begin, name, realm),
     }
 }
 
-/// Appends a field that shows a principal, or `-` unless its name and its realm are both there.
+/// Appends a field of a principal, if its name and its realm are both there.
 #[inline(always)]
 pub(crate) fn put_client_field(
-    line: &mut String,
+    text: &mut String,
+    form: Form,
     label: &str,
-    client: &Option<PrincipalNameView<'_>>,
+    begin: &str,
+    name: &Option<PrincipalNameView<'_>>,
     realm: Option<&[u8]>,
 ) -> Result<(), AllocError>
-    requires { OfSome PrincipalNameLists client.now }
-    ensures { OnOk result (string_bytes line.new ≡ string_bytes line.old ++ label.now ++ client_text (option_map principal_name_of (option_map principal_name_view_value client.now)) (option_map (λ octets. octets.now) realm.entry)) }
+    requires { OfSome PrincipalNameLists name.now }
+    ensures { OnOk result (string_bytes text.new ≡ string_bytes text.old ++ labelled form label.now begin.now (client (option_map principal_name_of (option_map principal_name_view_value name.now)) (option_map (λ octets. octets.now) realm.entry))) }
 {
-    line.push_str(label)?;
-    match (client, realm) {
-        (Some(client), Some(realm)) => put_name(line, client, realm),
-        _ => line.push('-'),
+    match (name, realm) {
+        (Some(name), Some(realm)) => put_principal_field(text, form, label, begin, name, realm),
+        _ => put_absent_field(text, form, label, begin),
     }
 }
 
-/// Appends a field that shows a time as it is.
+/// Appends a field of flags.
 #[inline(always)]
-pub(crate) fn put_time_field(line: &mut String, label: &str, time: &[u8]) -> Result<(), AllocError>
-    requires { IsTimeFrom 14 time.now }
-    ensures { OnOk result (string_bytes line.new ≡ string_bytes line.old ++ label.now ++ time.now) }
+pub(crate) fn put_flags_field(
+    text: &mut String,
+    form: Form,
+    label: &str,
+    begin: &str,
+    registry: Registry,
+    flags: &FlagsView<'_>,
+) -> Result<(), AllocError>
+    ensures { OnOk result (string_bytes text.new ≡ string_bytes text.old ++ labelled form label.now begin.now (Flags registry (flags_seen flags.now))) }
 {
-    line.push_str(label)?;
-    put_ascii(line, time)
+    let shown = FlagBits {
+        registry,
+        unused: flags.unused,
+        octets: flags.octets,
+    };
+    put_field(text, form, label, begin, &shown)
 }
 
-/// Appends a field that shows a time as it is, or `-`.
+/// Appends a field of a time.
+#[inline(always)]
+pub(crate) fn put_time_field(
+    text: &mut String,
+    form: Form,
+    label: &str,
+    begin: &str,
+    time: &[u8],
+) -> Result<(), AllocError>
+    requires { IsTimeFrom 14 time.now }
+    ensures { OnOk result (string_bytes text.new ≡ string_bytes text.old ++ labelled form label.now begin.now (Word time.now)) }
+{
+    put_field(text, form, label, begin, &Plain::new(time))
+}
+
+/// Appends a field of a time, if it is there.
 #[inline(always)]
 pub(crate) fn put_optional_time_field(
-    line: &mut String,
+    text: &mut String,
+    form: Form,
     label: &str,
+    begin: &str,
     time: Option<&[u8]>,
 ) -> Result<(), AllocError>
     requires { OfSome (λ time. IsTimeFrom 14 time.now) time }
-    ensures { OnOk result (string_bytes line.new ≡ string_bytes line.old ++ label.now ++ or_dash (λ time. time) (option_map (λ time. time.now) time.entry)) }
+    ensures { OnOk result (string_bytes text.new ≡ string_bytes text.old ++ labelled form label.now begin.now (if_there Word (option_map (λ time. time.now) time.entry))) }
 {
     match time {
-        None => {
-            line.push_str(label)?;
-            line.push('-')
-        }
-        Some(time) => put_time_field(line, label, time),
+        None => put_absent_field(text, form, label, begin),
+        Some(time) => put_time_field(text, form, label, begin, time),
     }
 }
 
-/// Appends a field that shows microseconds.
+/// Appends a field of microseconds.
 #[inline(always)]
 pub(crate) fn put_micros_field(
-    line: &mut String,
+    text: &mut String,
+    form: Form,
     label: &str,
+    begin: &str,
     micros: i64,
 ) -> Result<(), AllocError>
-    ensures { OnOk result (string_bytes line.new ≡ string_bytes line.old ++ label.now ++ decimal (micros_of micros)) }
+    ensures { OnOk result (string_bytes text.new ≡ string_bytes text.old ++ labelled form label.now begin.now (Number (pos (micros_of micros)))) }
 {
-    line.push_str(label)?;
     // They are not negative.
-    put_number(line, if micros < 0 { 0 } else { micros as u64 })
+    let count = if micros < 0 { 0 } else { micros as u64 };
+    put_field(text, form, label, begin, &count)
 }
 
-/// Appends a field that shows microseconds, or `-`.
+/// Appends a field of microseconds, if they are there.
 #[inline(always)]
 pub(crate) fn put_optional_micros_field(
-    line: &mut String,
+    text: &mut String,
+    form: Form,
     label: &str,
+    begin: &str,
     micros: Option<i64>,
 ) -> Result<(), AllocError>
-    ensures { OnOk result (string_bytes line.new ≡ string_bytes line.old ++ label.now ++ or_dash decimal (option_map micros_of micros)) }
+    ensures { OnOk result (string_bytes text.new ≡ string_bytes text.old ++ labelled form label.now begin.now (if_there (λ n. Number (pos n)) (option_map micros_of micros))) }
 {
     match micros {
-        None => {
-            line.push_str(label)?;
-            line.push('-')
-        }
-        Some(micros) => put_micros_field(line, label, micros),
+        None => put_absent_field(text, form, label, begin),
+        Some(micros) => put_micros_field(text, form, label, begin, micros),
     }
 }
 
-/// Appends a field that shows what is sealed, or `-`.
+/// Appends a field of what is sealed.
+#[inline(always)]
+pub(crate) fn put_sealed_field(
+    text: &mut String,
+    form: Form,
+    label: &str,
+    begin: &str,
+    data: &EncryptedDataView<'_>,
+) -> Result<(), AllocError>
+    ensures { OnOk result (string_bytes text.new ≡ string_bytes text.old ++ labelled form label.now begin.now (sealed (encrypted_data_seen data.now))) }
+{
+    put_field(text, form, label, begin, &Sealed::of(data))
+}
+
+/// Appends a field of what is sealed, if it is there.
 #[inline(always)]
 pub(crate) fn put_optional_sealed_field(
-    line: &mut String,
+    text: &mut String,
+    form: Form,
     label: &str,
-    sealed: &Option<EncryptedDataView<'_>>,
+    begin: &str,
+    data: &Option<EncryptedDataView<'_>>,
 ) -> Result<(), AllocError>
-    ensures { OnOk result (string_bytes line.new ≡ string_bytes line.old ++ label.now ++ or_dash sealed_text (option_map encrypted_data_of (option_map encrypted_data_view_value sealed.now))) }
+    ensures { OnOk result (string_bytes text.new ≡ string_bytes text.old ++ labelled form label.now begin.now (if_there sealed (option_map encrypted_data_of (option_map encrypted_data_view_value data.now)))) }
 {
-    line.push_str(label)?;
-    match sealed {
-        None => line.push('-'),
-        Some(sealed) => sealed.put(line),
+    match data {
+        None => put_absent_field(text, form, label, begin),
+        Some(data) => put_sealed_field(text, form, label, begin, data),
     }
 }
 
-/// Appends a field that shows an address, or `-`.
+/// Appends a field of an address.
+#[inline(always)]
+pub(crate) fn put_address_field(
+    text: &mut String,
+    form: Form,
+    label: &str,
+    begin: &str,
+    host: &HostAddressView<'_>,
+) -> Result<(), AllocError>
+    ensures { OnOk result (string_bytes text.new ≡ string_bytes text.old ++ labelled form label.now begin.now (address (host_address_seen host.now))) }
+{
+    put_field(text, form, label, begin, &Address::of(host))
+}
+
+/// Appends a field of an address, if it is there.
 #[inline(always)]
 pub(crate) fn put_optional_address_field(
-    line: &mut String,
+    text: &mut String,
+    form: Form,
     label: &str,
-    address: &Option<HostAddressView<'_>>,
+    begin: &str,
+    host: &Option<HostAddressView<'_>>,
 ) -> Result<(), AllocError>
-    ensures { OnOk result (string_bytes line.new ≡ string_bytes line.old ++ label.now ++ or_dash address_text (option_map host_address_of (option_map host_address_view_value address.now))) }
+    ensures { OnOk result (string_bytes text.new ≡ string_bytes text.old ++ labelled form label.now begin.now (if_there address (option_map host_address_of (option_map host_address_view_value host.now)))) }
 {
-    line.push_str(label)?;
-    match address {
-        None => line.push('-'),
-        Some(address) => address.put(line),
+    match host {
+        None => put_absent_field(text, form, label, begin),
+        Some(host) => put_address_field(text, form, label, begin, host),
     }
 }
 
-/// Appends a field that shows encryption types in brackets.
+/// Appends a field of a checksum.
+#[inline(always)]
+pub(crate) fn put_checksum_field(
+    text: &mut String,
+    form: Form,
+    label: &str,
+    begin: &str,
+    digest: &ChecksumView<'_>,
+) -> Result<(), AllocError>
+    ensures { OnOk result (string_bytes text.new ≡ string_bytes text.old ++ labelled form label.now begin.now (checksum (checksum_seen digest.now))) }
+{
+    put_field(text, form, label, begin, &Digest::of(digest))
+}
+
+/// Appends a field of encryption types.
 #[inline(always)]
 pub(crate) fn put_etypes_field(
-    line: &mut String,
+    text: &mut String,
+    form: Form,
     label: &str,
+    begin: &str,
     etypes: ItemsView<'_>,
 ) -> Result<(), AllocError>
     requires { AreViewed int32 etypes.octets.now }
-    ensures { OnOk result (string_bytes line.new ≡ string_bytes line.old ++ label.now ++ list_text signed_decimal (items_of int32 etypes.entry.octets.now)) }
+    ensures { OnOk result (string_bytes text.new ≡ string_bytes text.old ++ labelled form label.now begin.now (Numbers EncryptionTypeNumbers (items_of int32 etypes.entry.octets.now))) }
 {
-    line.push_str(label)?;
-    put_item_list::<Int32>(line, etypes)
+    put_field(text, form, label, begin, &EncryptionTypes::new(etypes))
 }
 
-/// Appends the types of pre-authentication data in brackets.
+/// Appends a field of the types of pre-authentication data.
 #[inline(always)]
-fn put_padata(line: &mut String, padata: ItemsView<'_>) -> Result<(), AllocError>
-    requires { AreViewed pa_data padata.octets.now }
-    ensures { OnOk result (string_bytes line.new ≡ string_bytes line.old ++ list_text padata_text (map pa_data_of (items_of pa_data padata.entry.octets.now))) }
+pub(crate) fn put_types_field(
+    text: &mut String,
+    form: Form,
+    label: &str,
+    begin: &str,
+    items: ItemsView<'_>,
+) -> Result<(), AllocError>
+    requires { AreViewed pa_data items.octets.now }
+    ensures { OnOk result (string_bytes text.new ≡ string_bytes text.old ++ labelled form label.now begin.now (padata (map pa_data_of (items_of pa_data items.entry.octets.now)))) }
 {
-    put_item_list::<PaData>(line, padata)
+    put_field(text, form, label, begin, &PaDataTypes::new(items))
 }
 
-/// Appends a field that shows the types of pre-authentication data in brackets, or `-`.
+/// Appends a field of the types of pre-authentication data, if it is there.
 #[inline(always)]
 pub(crate) fn put_padata_field(
-    line: &mut String,
+    text: &mut String,
+    form: Form,
     label: &str,
-    padata: Option<ItemsView<'_>>,
+    begin: &str,
+    items: Option<ItemsView<'_>>,
 ) -> Result<(), AllocError>
-    requires { OfSome (λ items. AreViewed pa_data items.octets.now) padata }
-    ensures { OnOk result (string_bytes line.new ≡ string_bytes line.old ++ label.now ++ or_dash (list_text padata_text) (option_map (map pa_data_of) (option_map (λ items. items_of pa_data items.octets.now) padata.entry))) }
+    requires { OfSome (λ items. AreViewed pa_data items.octets.now) items }
+    ensures { OnOk result (string_bytes text.new ≡ string_bytes text.old ++ labelled form label.now begin.now (if_there padata (option_map (map pa_data_of) (option_map (λ items. items_of pa_data items.octets.now) items.entry)))) }
 {
-    line.push_str(label)?;
-    match padata {
-        None => line.push('-'),
-        Some(items) => put_padata(line, items),
+    match items {
+        None => put_absent_field(text, form, label, begin),
+        Some(items) => put_types_field(text, form, label, begin, items),
     }
 }
 
-/// Appends a field that shows how many addresses there are, or `-`.
-#[inline(always)]
-pub(crate) fn put_addresses_field(
-    line: &mut String,
-    label: &str,
-    addresses: Option<ItemsView<'_>>,
-) -> Result<(), AllocError>
-    requires { OfSome (λ items. AreViewed host_address items.octets.now) addresses }
-    ensures { OnOk result (string_bytes line.new ≡ string_bytes line.old ++ label.now ++ or_dash count_text (option_map (map host_address_of) (option_map (λ items. items_of host_address items.octets.now) addresses.entry))) }
-{
-    line.push_str(label)?;
-    match addresses {
-        None => line.push('-'),
-        Some(items) => put_number(line, count_items::<HostAddress>(items)),
-    }
-}
-
-/// Appends a field that shows how many tickets there are, or `-`.
-#[inline(always)]
-pub(crate) fn put_tickets_field(
-    line: &mut String,
-    label: &str,
-    tickets: Option<ItemsView<'_>>,
-) -> Result<(), AllocError>
-    requires { OfSome (λ items. AreViewed ticket items.octets.now) tickets }
-    ensures { OnOk result (string_bytes line.new ≡ string_bytes line.old ++ label.now ++ or_dash count_text (option_map (map ticket_of) (option_map (λ items. items_of ticket items.octets.now) tickets.entry))) }
-{
-    line.push_str(label)?;
-    match tickets {
-        None => line.push('-'),
-        Some(items) => put_number(line, count_items::<Ticket>(items)),
-    }
-}
-
-/// Appends a field that shows how many octets there are, or `-`.
+/// Appends a field of how many octets there are.
 #[inline(always)]
 pub(crate) fn put_size_field(
-    line: &mut String,
+    text: &mut String,
+    form: Form,
     label: &str,
+    begin: &str,
+    octets: &[u8],
+) -> Result<(), AllocError>
+    ensures { OnOk result (string_bytes text.new ≡ string_bytes text.old ++ labelled form label.now begin.now (count octets.now)) }
+{
+    put_field(text, form, label, begin, &(octets.len() as u64))
+}
+
+/// Appends a field of how many octets there are, if they are there.
+#[inline(always)]
+pub(crate) fn put_optional_size_field(
+    text: &mut String,
+    form: Form,
+    label: &str,
+    begin: &str,
     octets: Option<&[u8]>,
 ) -> Result<(), AllocError>
-    ensures { OnOk result (string_bytes line.new ≡ string_bytes line.old ++ label.now ++ or_dash count_text (option_map (λ octets. octets.now) octets.entry)) }
+    ensures { OnOk result (string_bytes text.new ≡ string_bytes text.old ++ labelled form label.now begin.now (if_there count (option_map (λ octets. octets.now) octets.entry))) }
 {
-    line.push_str(label)?;
     match octets {
-        None => line.push('-'),
-        Some(octets) => put_number(line, octets.len()),
+        None => put_absent_field(text, form, label, begin),
+        Some(octets) => put_size_field(text, form, label, begin, octets),
     }
 }
 
-/// Appends a field that shows a string, escaped and between quotes, or `-`.
+/// Appends a field of how many tickets there are.
 #[inline(always)]
-pub(crate) fn put_string_field(
-    line: &mut String,
+pub(crate) fn put_tickets_field(
+    text: &mut String,
+    form: Form,
     label: &str,
+    begin: &str,
+    items: ItemsView<'_>,
+) -> Result<(), AllocError>
+    requires { AreViewed ticket items.octets.now }
+    ensures { OnOk result (string_bytes text.new ≡ string_bytes text.old ++ labelled form label.now begin.now (count (map ticket_of (items_of ticket items.entry.octets.now)))) }
+{
+    let tickets = count_items::<Ticket>(items);
+    put_field(text, form, label, begin, &(tickets as u64))
+}
+
+/// Appends a field of how many tickets there are, if there are any.
+#[inline(always)]
+pub(crate) fn put_optional_tickets_field(
+    text: &mut String,
+    form: Form,
+    label: &str,
+    begin: &str,
+    items: Option<ItemsView<'_>>,
+) -> Result<(), AllocError>
+    requires { OfSome (λ items. AreViewed ticket items.octets.now) items }
+    ensures { OnOk result (string_bytes text.new ≡ string_bytes text.old ++ labelled form label.now begin.now (if_there count (option_map (map ticket_of) (option_map (λ items. items_of ticket items.octets.now) items.entry)))) }
+{
+    match items {
+        None => put_absent_field(text, form, label, begin),
+        Some(items) => put_tickets_field(text, form, label, begin, items),
+    }
+}
+
+/// Appends a field of how many addresses there are, if there are any.
+#[inline(always)]
+pub(crate) fn put_addresses_field(
+    text: &mut String,
+    form: Form,
+    label: &str,
+    begin: &str,
+    items: Option<ItemsView<'_>>,
+) -> Result<(), AllocError>
+    requires { OfSome (λ items. AreViewed host_address items.octets.now) items }
+    ensures { OnOk result (string_bytes text.new ≡ string_bytes text.old ++ labelled form label.now begin.now (if_there count (option_map (map host_address_of) (option_map (λ items. items_of host_address items.octets.now) items.entry)))) }
+{
+    match items {
+        None => put_absent_field(text, form, label, begin),
+        Some(items) => {
+            let addresses = count_items::<HostAddress>(items);
+            put_field(text, form, label, begin, &(addresses as u64))
+        }
+    }
+}
+
+/// Appends a field of a string that a line has between quotes, if it is there.
+#[inline(always)]
+pub(crate) fn put_quoted_field(
+    text: &mut String,
+    form: Form,
+    label: &str,
+    begin: &str,
     string: Option<&[u8]>,
 ) -> Result<(), AllocError>
-    ensures { OnOk result (string_bytes line.new ≡ string_bytes line.old ++ label.now ++ or_dash quoted_text (option_map (λ octets. octets.now) string.entry)) }
+    ensures { OnOk result (string_bytes text.new ≡ string_bytes text.old ++ labelled form label.now begin.now (if_there Quoted (option_map (λ octets. octets.now) string.entry))) }
 {
-    line.push_str(label)?;
     match string {
-        None => line.push('-'),
-        Some(string) => {
-            line.push('"')?;
-            put_escaped(line, string)?;
-            line.push('"')
-        }
+        None => put_absent_field(text, form, label, begin),
+        Some(string) => put_field(text, form, label, begin, &QuotedText(string)),
     }
 }

@@ -23,7 +23,7 @@ found_passes p (row ∷ others) number name all found =
     ] found
 
 -- the names of each registry are plain
-all_plain : (registry : Registry) → list_all (λ row. list_all is_plain row.1) (rows registry) ≡ true
+pub all_plain : (registry : Registry) → list_all (λ row. list_all is_plain row.1) (rows registry) ≡ true
 unfolding rows
 all_plain registries.EncryptionTypes = refl
 all_plain registries.ChecksumTypes = refl

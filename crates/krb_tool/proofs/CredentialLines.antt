@@ -10,7 +10,7 @@ use Rattle.krb_ccache.specs.declared.reading.Start.{Start}
 use Rattle.krb_ccache.specs.Reading.{Items}
 use Rattle.krb_ccache.specs.Streaming.{Reads, FailsStart, GivesNext, credentials}
 use Rattle.krb_list.specs.Text.{line_feed}
-use Rattle.krb_list.specs.Ccaches.{cache_text, credential_line, cache_end_text}
+use Rattle.krb_tool.specs.Lines.{cache_text, credential_line, cache_end_text}
 use Rattle.krb_tool.specs.declared.run.RunEnd.{RunEnd}
 use Rattle.krb_tool.specs.declared.run.RunEnd.TheVariants as run
 use Rattle.krb_tool.specs.declared.run.RunFault.{RunFault}

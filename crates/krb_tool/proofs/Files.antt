@@ -18,7 +18,7 @@ TakesAll-made had left after file piece room c g none some = record {
   ended = g.ended none some;
 }
 
--- what came so far, of which a front is kept
+-- what came so far, the first octets of which are kept
 pub record KeepsFront (had left : Option (List ℕ)) (most : Option ℕ) (kept : List ℕ) : Type 0 where
   pub rest : List ℕ
   pub taken : Consumes had left (kept ++ rest)
@@ -32,7 +32,7 @@ KeepsFront-start had (Some m) = record { rest = []; taken = Consumes-nil had; en
 grown : (kept piece : List ℕ) (n : ℕ) → n ≤ length piece → length kept + n ≡ length (kept ++ take n piece)
 grown kept piece n few = omega (arith, few, length-append kept (take n piece), length-take n piece)
 
--- and then a piece, of which a front is kept that is all of it or fills the rest
+-- and then a piece, of which all octets are kept, or the first that there is room for
 pub KeepsFront-more : (had left after : Option (List ℕ)) (most : Option ℕ) (kept piece : List ℕ) (n : ℕ) → KeepsFront had left most kept → Consumes left after piece → n ≤ length piece → IfSome most (λ m. length kept + n ≤ m) → (n ≡ length piece) ⊎ (most ≡ Some (length kept + n)) → KeepsFront had after most (kept ++ take n piece)
 KeepsFront-more had left after most kept piece n k c few within all = record {
   rest = k.rest ++ drop n piece;
@@ -97,7 +97,7 @@ pub told-ended : {T : Type 0} (state : ReaderState) (r : Result T RunFault) → 
 told-ended state (Ok x) s n = tt
 told-ended state (Err f) s n = subst (λ t. TellsRead t f) (sym s) n
 
--- a write failed when a front of the listing was written
+-- a write failed after the beginning of the listing
 pub failed-write : {T : Type 0} (r : Result T RunFault) (Lists : List ℕ → FileListing → Type 0) (had left held holds : Option (List ℕ)) → IfErr r IsWrite → ListsFront Lists had left held holds → IfErr r (FailsFile Lists had left held holds)
 failed-write (Ok x) Lists had left held holds w f = tt
 failed-write (Err (fault.Write e)) Lists had left held holds w f = f

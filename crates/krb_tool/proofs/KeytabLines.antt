@@ -11,7 +11,7 @@ use Rattle.krb_keytab.specs.declared.records.State.{State}
 use Rattle.krb_keytab.specs.Reading.{Items, items}
 use Rattle.krb_keytab.specs.Streaming.{Reads, GivesNext}
 use Rattle.krb_list.specs.Text.{line_feed}
-use Rattle.krb_list.specs.Keytabs.{record_text, keytab_end_text}
+use Rattle.krb_tool.specs.Lines.{record_text, keytab_end_text}
 use Rattle.krb_tool.specs.declared.run.RunEnd.{RunEnd}
 use Rattle.krb_tool.specs.declared.run.RunEnd.TheVariants as run
 use Rattle.krb_tool.specs.declared.run.RunFault.{RunFault}

@@ -8,8 +8,8 @@ use Rattle.krb_msg.specs.Reading.{message_read}
 use Rattle.krb_msg.specs.declared.message.Message.{Message}
 use Rattle.krb_msg.proofs.MessageRead.{message_is_read}
 use Rattle.krb_judge.specs.Parses.{refusal_of, AreOf}
-use Rattle.krb_list.specs.Messages.{message_line}
-use Rattle.krb_list.specs.Refusals.{message_refused_line}
+use Rattle.krb_tool.specs.Lines.{message_line}
+use Rattle.krb_tool.specs.Lines.{message_refused_line}
 use Rattle.krb_tool.specs.Files.{FileListing}
 use Rattle.krb_tool.specs.Messages.{IsHexListing, clean_with, decoded_listing, hex_listing, refused_with, parsed_listing, octets_listing, without_blanks}
 

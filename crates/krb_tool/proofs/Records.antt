@@ -36,7 +36,7 @@ pub Listed-start : (IsLeft : RecordListing → Type 0) (left : RecordListing) (h
 Listed-start IsLeft left held text is_left = record { written = []; left = left; added = Appends-nil held; is_left = is_left; parts = refl }
 
 module _ (IsLeft : RecordListing → Type 0) (all : RecordListing) (held holds : Option (List ℕ)) (text : List ℕ) (listed : Listed IsLeft all held holds text) where
-  -- a front of the text was written
+  -- the beginning of the text was written
   pub Listed-moved : (after : Option (List ℕ)) (new : List ℕ) → Moves holds after text new → Listed IsLeft all held after new
   Listed-moved after new moves = record {
     written = listed.written ++ moves.0;

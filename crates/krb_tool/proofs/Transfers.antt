@@ -4,7 +4,7 @@ use Rattle.std.specs.Io.KnownBytes.{Appends}
 use Rattle.std.proofs.KnownBytes.{Appends-trans}
 use Rattle.std.proofs.lemmas.List.{take_rest}
 
--- a front of all the octets is written, and the rest is left
+-- the first of all the octets are written, and the rest is left
 abbrev pub IsWritten : Option (List ℕ) → Option (List ℕ) → List ℕ → List ℕ → Type 0
 IsWritten held holds all rest = (front : List ℕ) × Appends held holds front × (all ≡ front ++ rest)
 

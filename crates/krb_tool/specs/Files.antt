@@ -10,9 +10,9 @@ use Rattle.krb_ccache.specs.declared.reading.Start.{Start}
 use Rattle.krb_ccache.specs.Reading.{Items}
 use Rattle.krb_ccache.specs.Streaming.{begun, credentials}
 use Rattle.krb_list.specs.Text.{line_feed}
-use Rattle.krb_list.specs.Keytabs.{record_text, keytab_end_text}
-use Rattle.krb_list.specs.Ccaches.{cache_text, credential_line, cache_end_text}
-use Rattle.krb_list.specs.Refusals.{file_refused_line}
+use Rattle.krb_tool.specs.Lines.{record_text, keytab_end_text}
+use Rattle.krb_tool.specs.Lines.{cache_text, credential_line, cache_end_text}
+use Rattle.krb_tool.specs.Lines.{file_refused_line}
 use Rattle.krb_tool.specs.declared.run.RunEnd.{RunEnd}
 use Rattle.krb_tool.specs.declared.run.RunEnd.TheVariants as run
 use Rattle.krb_tool.specs.declared.run.RunFault.{RunFault}
@@ -92,14 +92,14 @@ pub record ListsFile (Lists : List ℕ → FileListing → Type 0) (had left hel
   pub added : Appends held holds listing.text
   pub ended_so : ended ≡ listing.end
 
--- a front of a text was added to what a writer held
+-- The beginning of a text was added to what a writer held. It may be all of the text, or none.
 pub record AddsFront (held holds : Option (List ℕ)) (text : List ℕ) : Type 0 where
   pub front : List ℕ
   pub rest : List ℕ
   pub added : Appends held holds front
   pub whole : text ≡ front ++ rest
 
--- A run took all that its reader had, and added a front of the listing of that to what its writer held.
+-- A run took all that its reader had, and added the beginning of its listing to what its writer held.
 pub record ListsFront (Lists : List ℕ → FileListing → Type 0) (had left held holds : Option (List ℕ)) : Type 0 where
   pub file : List ℕ
   pub listing : FileListing
@@ -107,22 +107,22 @@ pub record ListsFront (Lists : List ℕ → FileListing → Type 0) (had left he
   pub taken : TakesAll had left file
   pub added : AddsFront held holds listing.text
 
--- octets were taken from the front of what a reader had
+-- the first octets of what a reader had were taken
 abbrev pub TakesSome : Option (List ℕ) → Option (List ℕ) → Type 0
 TakesSome had left = (taken : List ℕ) × Consumes had left taken
 
--- A run took octets from the front of what its reader had, and wrote nothing.
+-- A run took the first octets of what its reader had, and wrote nothing.
 pub record WritesNothing (had left held holds : Option (List ℕ)) : Type 0 where
   pub taken : TakesSome had left
   pub kept : Keeps held holds
 
--- Where a run fails by a write, a front of the listing is written, and else nothing.
+-- If a run fails by a write, the beginning of the listing is written, and else nothing.
 abbrev pub FailsFile : (List ℕ → FileListing → Type 0) → Option (List ℕ) → Option (List ℕ) → Option (List ℕ) → Option (List ℕ) → RunFault → Type 0
 FailsFile Lists had left held holds (fault.Read error) = WritesNothing had left held holds
 FailsFile Lists had left held holds (fault.Write error) = ListsFront Lists had left held holds
 FailsFile Lists had left held holds fault.Memory = WritesNothing had left held holds
 
--- What a run on records adds to what its writer held: the listing; a front of it where a write fails; and where a read fails or memory runs out, a front of the lines of records.
+-- What a run on records adds to what its writer held: the listing; the beginning of it if a write fails; and the beginning of the lines of records if a read fails or memory runs out.
 abbrev pub ListsRecords : RecordListing → Option (List ℕ) → Option (List ℕ) → Result RunEnd RunFault → Type 0
 ListsRecords listing held holds (Ok ended) = Appends held holds (text_of listing) × (ended ≡ listing.end)
 ListsRecords listing held holds (Err (fault.Write error)) = AddsFront held holds (text_of listing)

@@ -1,5 +1,5 @@
--- The listing of a stream in which one goes on after a refusal, and what a run that does so does to its reader and its writer.
-use Rattle.std.specs.Prelude.{ℕ, zero, suc, ◌+◌, ◌≡◌, ◌⊎◌, List, [], ◌∷◌, ◌++◌, map, Option}
+-- The listing of a stream that goes on after refusals, and what a run does to its reader and its writer.
+use Rattle.std.specs.Prelude.{ℕ, zero, suc, ◌+◌, ◌≡◌, ◌≤◌, ◌⊎◌, List, [], ◌∷◌, ◌++◌, length, map, Option}
 use Rattle.std.specs.Io.KnownBytes.{Consumes, Appends, IsAtEnd}
 use Rattle.krb_der.specs.declared.profile.Profile.{Profile}
 use Rattle.krb_der.specs.declared.why.Why.{Why}
@@ -8,8 +8,8 @@ use Rattle.krb_msg.specs.declared.message.Message.{Message}
 use Rattle.krb_msg.specs.Grammar.{messages}
 use Rattle.krb_msg.specs.Views.{message_der}
 use Rattle.krb_frame.specs.GoingOn.{Entry, Contents, Fault, entries}
-use Rattle.krb_list.specs.Messages.{message_line}
-use Rattle.krb_list.specs.Streams.{refused_line, counted_end_line}
+use Rattle.krb_tool.specs.Lines.{message_line}
+use Rattle.krb_tool.specs.Lines.{refused_line, counted_end_line}
 use Rattle.krb_tool.specs.declared.run.RunEnd.{RunEnd}
 use Rattle.krb_tool.specs.declared.run.RunEnd.TheVariants as run
 use Rattle.krb_tool.specs.declared.run.RunFault.{RunFault}
@@ -49,7 +49,7 @@ pub record IsCountedListing (profile : Profile) (limit : ℕ) (stream text : Lis
   pub in_frames : map entry_of found ≡ entries (messages profile) limit stream
   pub lines : text ≡ lines_after 0 found ++ counted_end_line (messages_in found) (refused_in found)
 
--- a run is clean where nothing is refused
+-- a run is clean if nothing is refused
 abbrev pub counted_run_end : ℕ → RunEnd
 counted_run_end zero = run.Clean
 counted_run_end (suc refused) = run.Refused
@@ -57,6 +57,14 @@ counted_run_end (suc refused) = run.Refused
 -- the last frame is one whose length is not known
 abbrev pub EndsUnknown : List Entry → Type 0
 EndsUnknown found = (front : List Entry) × (found ≡ front ++ Fault 3 HighBit ∷ [])
+
+-- no more was read than octets whose last frame has a known length, and then one piece
+pub record StopsInPiece (profile : Profile) (limit : ℕ) (read : List ℕ) : Type 0 where
+  pub front : List ℕ
+  pub piece : List ℕ
+  pub parts : read ≡ front ++ piece
+  pub goes_on : EndsUnknown (entries (messages profile) limit front) → ⊥
+  pub short : length piece ≤ 65536
 
 -- A run took octets from what its reader had, and added their listing to what its writer held. It left none, unless the length of the last frame is not known.
 pub record ListsAll (profile : Profile) (limit : ℕ) (had left held holds : Option (List ℕ)) (ended : RunEnd) : Type 0 where
@@ -67,6 +75,7 @@ pub record ListsAll (profile : Profile) (limit : ℕ) (had left held holds : Opt
   pub listed : IsCountedListing profile limit read written
   pub ended_so : ended ≡ counted_run_end (refused_in listed.found)
   pub all_read : IsAtEnd left ⊎ EndsUnknown (entries (messages profile) limit read)
+  pub stops : StopsInPiece profile limit read
 
 -- The text is the lines of the first frames of the stream, in order.
 pub record AreCountedLines (profile : Profile) (limit : ℕ) (stream text : List ℕ) : Type 0 where
@@ -75,7 +84,7 @@ pub record AreCountedLines (profile : Profile) (limit : ℕ) (stream text : List
   pub in_frames : entries (messages profile) limit stream ≡ map entry_of found ++ others
   pub lines : text ≡ lines_after 0 found
 
--- Where a run fails by a write, a front of the listing of what was read is written; and where a read fails or memory runs out, a front of the lines of its frames, and no last line.
+-- If a run fails by a write, the beginning of the listing of what was read is written. If a read fails or memory runs out, it is the beginning of the lines of its frames, and no last line.
 abbrev pub FailsAll : Profile → ℕ → Option (List ℕ) → Option (List ℕ) → Option (List ℕ) → Option (List ℕ) → RunFault → Type 0
 FailsAll profile limit had left held holds (fault.Write error) = WritesFront (IsCountedListing profile limit) had left held holds
 FailsAll profile limit had left held holds (fault.Read error) = WritesFront (AreCountedLines profile limit) had left held holds

@@ -7,8 +7,8 @@ use Rattle.krb_msg.specs.declared.message.Message.{Message}
 use Rattle.krb_msg.specs.Grammar.{messages}
 use Rattle.krb_msg.specs.Views.{message_der}
 use Rattle.krb_msg.specs.Stream.{End, Boundary, Within, Refused, frames}
-use Rattle.krb_list.specs.Messages.{message_line}
-use Rattle.krb_list.specs.Streams.{end_line}
+use Rattle.krb_tool.specs.Lines.{message_line}
+use Rattle.krb_tool.specs.Lines.{end_line}
 use Rattle.krb_tool.specs.declared.run.RunEnd.{RunEnd}
 use Rattle.krb_tool.specs.declared.run.RunEnd.TheVariants as run
 use Rattle.krb_tool.specs.declared.run.RunFault.{RunFault}
@@ -25,7 +25,7 @@ pub record IsListing (profile : Profile) (limit : ℕ) (stream text : List ℕ) 
   pub in_frames : map message_der found ≡ (frames (messages profile) limit stream).contents
   pub lines : text ≡ flat_map message_line found ++ end_line (length found) (end_of profile limit stream)
 
--- a run is clean where the stream ends between frames
+-- a run is clean if the stream ends between frames
 abbrev pub run_end : End → RunEnd
 run_end Boundary = run.Clean
 run_end (Within present) = run.Refused
@@ -68,7 +68,7 @@ pub record AreLines (profile : Profile) (limit : ℕ) (stream text : List ℕ) :
   pub in_frames : (frames (messages profile) limit stream).contents ≡ map message_der found ++ others
   pub lines : text ≡ flat_map message_line found
 
--- A run took octets from what its reader had, and added a front of a text of theirs to what its writer held.
+-- A run took octets from what its reader had, and added the beginning of a text of theirs to what its writer held.
 pub record WritesFront (IsText : List ℕ → List ℕ → Type 0) (had left held holds : Option (List ℕ)) : Type 0 where
   pub read : List ℕ
   pub text : List ℕ
@@ -76,7 +76,7 @@ pub record WritesFront (IsText : List ℕ → List ℕ → Type 0) (had left hel
   pub is_text : IsText read text
   pub added : AddsFront held holds text
 
--- Where a run fails by a write, a front of the listing of what was read is written; and where a read fails or memory runs out, a front of the lines of messages, and no last line.
+-- If a run fails by a write, the beginning of the listing of what was read is written. If a read fails or memory runs out, it is the beginning of the lines of messages, and no last line.
 abbrev pub Fails : Profile → ℕ → Option (List ℕ) → Option (List ℕ) → Option (List ℕ) → Option (List ℕ) → RunFault → Type 0
 Fails profile limit had left held holds (fault.Write error) = WritesFront (IsListing profile limit) had left held holds
 Fails profile limit had left held holds (fault.Read error) = WritesFront (AreLines profile limit) had left held holds

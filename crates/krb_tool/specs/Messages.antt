@@ -7,8 +7,8 @@ use Rattle.krb_der.specs.declared.profile.Profile.{Profile}
 use Rattle.krb_der.specs.declared.verdict.Refusal.{Refusal}
 use Rattle.krb_msg.specs.Reading.{message_read}
 use Rattle.krb_judge.specs.Parses.{refusal_of}
-use Rattle.krb_list.specs.Messages.{message_line}
-use Rattle.krb_list.specs.Refusals.{message_refused_line}
+use Rattle.krb_tool.specs.Lines.{message_line}
+use Rattle.krb_tool.specs.Lines.{message_refused_line}
 use Rattle.krb_tool.specs.Files.{FileListing}
 use Rattle.krb_tool.specs.declared.run.RunEnd.TheVariants as run
 

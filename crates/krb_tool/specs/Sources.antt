@@ -1,7 +1,7 @@
 -- What a run over several sources does to its writer, and the status that it gives.
-use Rattle.std.specs.Prelude.{ℕ, ◌≡◌, ◌⊎◌, max, Bool, true, false, List, [], ◌∷◌, Option, Result, Ok, Err}
+use Rattle.std.specs.Prelude.{ℕ, ◌≡◌, ◌⊎◌, max, Bool, true, false, List, [], ◌∷◌, Option, Result, Ok, Err, IfErr}
 use Rattle.std.specs.Io.KnownBytes.{Appends}
-use Rattle.krb_list.specs.FileNames.{file_line}
+use Rattle.krb_tool.specs.Lines.{file_line}
 use Rattle.krb_tool.specs.declared.run.RunEnd.{RunEnd}
 use Rattle.krb_tool.specs.declared.run.RunFault.{RunFault}
 use Rattle.krb_tool.specs.declared.run.RunFault.TheVariants as fault
@@ -18,7 +18,7 @@ Run = Option (List ℕ) → Option (List ℕ) → Outcome → Type 0
 
 -- ---- one source among several
 
--- The line of a name was not written whole, by a write that failed or for want of memory.
+-- The line of a name was not written whole, since a write failed or memory ran out.
 abbrev pub FailsName : List ℕ → Option (List ℕ) → Option (List ℕ) → RunFault → Type 0
 FailsName name held holds (fault.Read error) = ⊥
 FailsName name held holds (fault.Write error) = AddsFront held holds (file_line name)
@@ -39,9 +39,13 @@ abbrev pub ListsOne : Bool → List ℕ → Run → Run
 ListsOne false name Lists held holds outcome = Lists held holds outcome
 ListsOne true name Lists held holds outcome = ListsNamed Lists name held holds outcome ⊎ FailsFirst name held holds outcome
 
+-- a source is listed, and a fault by which its listing ends is reported
+abbrev pub Reports : (RunFault → Type 0) → Run → Run
+Reports IsReported Lists held holds outcome = Lists held holds outcome × IfErr outcome IsReported
+
 -- ---- all sources
 
--- a write that failed, or want of memory, ends the run; a refusal and a read that failed do not
+-- a write that failed and running out of memory end the run; a refusal and a read that failed do not
 abbrev pub ends_run : Outcome → Bool
 ends_run (Ok ended) = false
 ends_run (Err (fault.Read error)) = false

@@ -1,3 +1,5 @@
+pub mod Streams
+pub mod Pieces
 pub mod Listers
 pub mod CountingListers
 pub mod Transfers

@@ -17,7 +17,7 @@ pub(crate) struct FileText {
     pub end: RunEnd,
 }
 
-/// How many of the octets that came are kept, after those that are kept already: all, or those that
+/// Returns how many of `count` octets are kept after the `kept` others: all of them, or those that
 /// there is room for.
 fn room(most: Option<usize>, kept: usize, count: usize) -> usize
     requires { IfSome most (λ most. kept ≤ most) }
@@ -31,8 +31,8 @@ fn room(most: Option<usize>, kept: usize, count: usize) -> usize
     }
 }
 
-/// Reads all that a reader holds, and keeps it, up to a number of octets where one is given, in a
-/// vector that grows as the octets come.
+/// Reads all that a reader has, and returns it, or the first `most` octets of it. The vector grows
+/// as the octets come.
 fn read_all<R: Read>(
     alloc: Global,
     asked: &mut Asked<'_, R>,
@@ -63,19 +63,19 @@ pub(crate) trait FileFormat {
     /// What the listing of a file is.
     ghost Lists: { Self → List ℕ → FileListing → Type 0 };
 
-    /// How many octets of a file tell its listing, where there is such a number: octets after them
-    /// change nothing.
+    /// Returns the number of octets of a file that decide its listing, if there is one: octets
+    /// after them change nothing.
     fn most(&self) -> Option<usize>
         ensures { IsTold (Lists self.now) result };
 
-    /// The lines of what a file holds, or the line of its refusal.
+    /// Returns the lines of a file, or the line of its refusal.
     fn list(&self, alloc: Global, file: &[u8]) -> Result<FileText, RunFault>
         ensures listed { IfOk result (λ made. Lists self.now file.now (shown made)) }
         ensures fault { IfErr result (λ e. e ≡ RunFault.Memory) };
 }
 
-/// Lists a file of a format. All that the reader holds is read first, by at most 2^40 asks for 64
-/// KiB each.
+/// Lists a file of a format. All that the reader has is read first, by at most 2^40 reads of 64 KiB
+/// each.
 pub(crate) fn run_file<R: Read, W: Write, F: FileFormat>(
     alloc: Global,
     asked: &mut Asked<'_, R>,

@@ -1,7 +1,7 @@
 //! The runs of `krbls` over a reader and a writer: framed messages ([`run_stream`]), one message in
-//! hexadecimal ([`run_message`]), keytabs ([`run_keytab`]) and credential caches ([`run_ccache`]), each
-//! to a line for each message, record or credential, or to a numbered refusal at an exact place.
-//! [`run_sources`] lists several sources one after another.
+//! hexadecimal ([`run_message`]), keytabs ([`run_keytab`]) and credential caches ([`run_ccache`]).
+//! Each writes a line for each message, record or credential, and then the line of the end, or of
+//! what is refused and at which place. [`run_sources`] lists several sources one after another.
 //!
 //! The command line is `krb_words`, and the program itself `krbls`.
 #![tactic(auto)]
@@ -14,6 +14,7 @@ mod message_run;
 mod record_run;
 mod run;
 mod sources;
+mod stream_run;
 mod transfer;
 
 pub use going_on::run_stream_going_on;

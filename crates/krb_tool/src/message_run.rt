@@ -1,8 +1,8 @@
 //! A run over one message, which is given in hexadecimal.
 
 ghost use Rattle.std.specs.Prelude.{◌≡◌, IfErr, IfOk};
-ghost use Rattle.krb_list.specs.Messages.{message_line};
-ghost use Rattle.krb_list.specs.Refusals.{message_refused_line};
+ghost use Rattle.krb_tool.specs.Lines.{message_line};
+ghost use Rattle.krb_tool.specs.Lines.{message_refused_line};
 ghost use Rattle.krb_tool.specs.Files.{ListsFile, FailsFile};
 ghost use Rattle.krb_tool.specs.inner.FileRuns.{shown};
 ghost use Rattle.krb_tool.specs.Messages.{is_blank, without_blanks, clean_with, refused_with, octets_listing, IsHexListing};
@@ -13,22 +13,22 @@ use crate::transfer::Asked;
 use hex::FromHexError;
 use krb_der::{Profile, Refusal};
 use krb_judge::{ParseFault, parse_in};
-use krb_list::{put_message, put_message_refusal};
+use krb_list::{Form, put_message, put_message_refusal};
 use krb_msg::Message;
 use std::alloc::{AllocError, Global};
 use std::io::{Read, Write};
 
-/// How many octets of text a message is read from at most, blanks included.
+/// The greatest number of octets of a text that gives a message, with its blanks.
 const MOST_TEXT: usize = 16777216;
 
-/// Whether an octet of text is passed over: a space, a tab, CR or LF.
+/// Returns whether an octet of text is ignored: a space, a tab, CR or LF.
 fn is_blank(octet: u8) -> bool
     ensures { result ≡ is_blank octet }
 {
     matches!(octet, b' ' | b'\t' | b'\r' | b'\n')
 }
 
-/// The octets of a text that are no blanks.
+/// Returns the octets of a text that are no blanks.
 fn without_blanks(alloc: Global, text: &[u8]) -> Result<Vec<u8>, AllocError>
     ensures { IfOk result (λ digits. digits.items ≡ without_blanks text.now) }
 {
@@ -41,7 +41,7 @@ fn without_blanks(alloc: Global, text: &[u8]) -> Result<Vec<u8>, AllocError>
     Ok(digits)
 }
 
-/// The line that refuses a text.
+/// Returns the line that refuses a text.
 fn refused_with(alloc: Global, line: &str) -> Result<FileText, RunFault>
     ensures listed { IfOk result (λ made. shown made ≡ refused_with line.now) }
     ensures fault { IfErr result (λ e. e ≡ RunFault.Memory) }
@@ -51,29 +51,29 @@ fn refused_with(alloc: Global, line: &str) -> Result<FileText, RunFault>
     Ok(FileText { text, end })
 }
 
-/// The line of a message.
+/// Returns the line of a message.
 fn list_message(alloc: Global, message: &Message) -> Result<FileText, RunFault>
     ensures listed { IfOk result (λ made. shown made ≡ clean_with (message_line message.now)) }
     ensures fault { IfErr result (λ e. e ≡ RunFault.Memory) }
 {
     let mut text = String::new(alloc);
-    put_message(&mut text, message)?;
+    put_message(&mut text, Form::Lines, message)?;
     let end = RunEnd::Clean;
     Ok(FileText { text, end })
 }
 
-/// The line of octets that are no message.
+/// Returns the line of octets that are no message.
 fn list_refusal(alloc: Global, refusal: Refusal) -> Result<FileText, RunFault>
     ensures listed { IfOk result (λ made. shown made ≡ refused_with (message_refused_line refusal)) }
     ensures fault { IfErr result (λ e. e ≡ RunFault.Memory) }
 {
     let mut text = String::new(alloc);
-    put_message_refusal(&mut text, refusal)?;
+    put_message_refusal(&mut text, Form::Lines, refusal)?;
     let end = RunEnd::Refused;
     Ok(FileText { text, end })
 }
 
-/// The line of the message of a profile that octets are, or the line of their refusal.
+/// Returns the line of the message of a profile that octets are, or the line of their refusal.
 fn list_octets(alloc: Global, profile: Profile, octets: &[u8]) -> Result<FileText, RunFault>
     ensures listed { IfOk result (λ made. shown made ≡ octets_listing profile octets.now) }
     ensures fault { IfErr result (λ e. e ≡ RunFault.Memory) }
@@ -125,10 +125,10 @@ pub fn run_message<R: Read, W: Write>(
     run_message_in(alloc, Profile::Lenient, reader, writer)
 }
 
-/// Lists one message of a profile that is given in hexadecimal, of either case and with blanks
-/// anywhere: its line, or the line of its refusal, or `refused hex` if the text is not hexadecimal,
-/// or `refused length` if it is more than 16777216 octets, of which at most one more is kept. All
-/// that the reader holds is read first, by at most 2^40 reads of 64 KiB each.
+/// Lists one message of a profile that is given in hexadecimal, in digits of either case and with
+/// blanks anywhere: writes its line, or the line of its refusal, or `refused hex` if the text is
+/// not hexadecimal, or `refused length` if it has more than 16777216 octets, of which the first
+/// 16777217 are kept. All that the reader has is read first, by at most 2^40 reads of 64 KiB each.
 pub fn run_message_in<R: Read, W: Write>(
     alloc: Global,
     profile: Profile,

@@ -3,8 +3,8 @@
 ghost use Rattle.std.specs.Prelude.{◌≡◌, ◌≢◌, ◌++◌, ℕ, suc, List, None, Some, IfErr, IfOk, OnErr, OnOk, string_bytes};
 ghost use Rattle.std.specs.Io.Buffered.{reader_remaining};
 ghost use Rattle.krb_list.specs.Text.{line_feed};
-ghost use Rattle.krb_list.specs.Keytabs.{record_text, keytab_end_text};
-ghost use Rattle.krb_list.specs.Ccaches.{cache_text, credential_line, cache_end_text};
+ghost use Rattle.krb_tool.specs.Lines.{record_text, keytab_end_text};
+ghost use Rattle.krb_tool.specs.Lines.{cache_text, credential_line, cache_end_text};
 ghost use Rattle.krb_tool.specs.declared.run.RunEnd.TheVariants as run;
 ghost use Rattle.krb_tool.specs.Faults.{IsWrite};
 ghost use Rattle.krb_tool.specs.Files.{RecordListing, after_line, keytab_listing, ccache_listing, AddsFront, ListsRecords};
@@ -15,7 +15,9 @@ use crate::transfer::{MOST_ASKS, too_many_reads, write_all};
 use krb_ccache::{Credential, Credentials, FilePrincipal, Header};
 use krb_file::{FieldLimit, FileFault};
 use krb_keytab::{Next, Record, Records, Stop};
-use krb_list::{Shown, put_cache, put_cache_end, put_credential, put_file_refusal, put_keytab_end};
+use krb_list::{
+    Form, put_cache, put_cache_end, put_credential, put_file_refusal, put_keytab_end, put_record,
+};
 use std::alloc::Global;
 use std::cell::Cell;
 use std::io;
@@ -24,14 +26,15 @@ use std::io::{BufReader, Read, Write};
 /// What is known of a reader.
 #[derive(Drop)]
 struct Watch {
-    /// Whether it gave as many octets as it was asked for, as that of a fast file does.
+    /// Whether its last read gave all the octets that it was asked for, as that of a fast file
+    /// does.
     is_fast: Cell<bool>,
     /// The error of a read that failed.
     error: Cell<Option<io::Error>>,
 }
 
 impl Watch {
-    /// Of a reader that was not asked yet.
+    /// Returns what is known of a reader that was not asked yet.
     fn new() -> Watch {
         Watch {
             is_fast: Cell::new(true),
@@ -39,7 +42,7 @@ impl Watch {
         }
     }
 
-    /// Why the reader can be read no further.
+    /// Returns why the reader can be read no further.
     fn error(&self) -> io::Error {
         match self.error.get() {
             Some(error) => error,
@@ -72,7 +75,7 @@ impl<R: Read> Read for Watched<'_, R> {
     }
 }
 
-/// A reader that is asked for large pieces.
+/// Returns a reader that asks this one for large pieces.
 fn in_pieces<R: Read + Drop>(alloc: Global, reader: R) -> Result<BufReader<R>, RunFault>
     ensures same { IfOk result (λ made. (file : List ℕ) → R.remaining reader ≡ Some file → reader_remaining R.remaining made ≡ Some file) }
     ensures fault { IfErr result (λ e. e ≡ RunFault.Memory) }
@@ -83,7 +86,7 @@ fn in_pieces<R: Read + Drop>(alloc: Global, reader: R) -> Result<BufReader<R>, R
     }
 }
 
-/// How many octets a field of a file may have.
+/// Returns the greatest number of octets that a field of a file may have.
 fn field_limit() -> FieldLimit
     ensures { result ≡ 16777216 }
 {
@@ -98,8 +101,8 @@ trait RecordLines {
     /// What is left to be listed after a number of records.
     ghost IsLeft: { Self → ℕ → RecordListing → Type 0 };
 
-    /// Appends the line of the record after `count` others, or else the last line, and answers how
-    /// the run ends with that.
+    /// Appends the line of the record after the first `count`, and returns none. If there is no
+    /// record it appends the last line, and returns how the run ends.
     fn put_next(
         &mut self,
         alloc: Global,
@@ -111,12 +114,11 @@ trait RecordLines {
 }
 
 /// Appends the line of a record.
-fn put_record(text: &mut String, item: &Record) -> Result<(), RunFault>
+fn add_record(text: &mut String, item: &Record) -> Result<(), RunFault>
     ensures line { OnOk result (string_bytes text.new ≡ string_bytes text.old ++ (record_text item.now ++ line_feed)) }
     ensures fault { IfErr result (λ e. e ≡ RunFault.Memory) }
 {
-    item.put(text)?;
-    text.push('\n')?;
+    put_record(text, Form::Lines, item)?;
     Ok(())
 }
 
@@ -125,8 +127,7 @@ fn put_stop(text: &mut String, count: u64, stop: &Stop) -> Result<Option<RunEnd>
     ensures line { IfOk result (Adds (keytab_end_text count stop.now ++ line_feed) (Some run.Clean) (string_bytes text.old) (string_bytes text.new)) }
     ensures fault { IfErr result (λ e. e ≡ RunFault.Memory) }
 {
-    put_keytab_end(text, count, stop)?;
-    text.push('\n')?;
+    put_keytab_end(text, Form::Lines, count, stop)?;
     Ok(Some(RunEnd::Clean))
 }
 
@@ -148,7 +149,7 @@ impl<R: Read> RecordLines for KeytabLines<'_, R> {
     ) -> Result<Option<RunEnd>, RunFault> {
         match self.records.next_record(alloc) {
             Ok(Next::Item(record)) => {
-                put_record(text, &record)?;
+                add_record(text, &record)?;
                 self.records.give_back(record);
                 Ok(None)
             }
@@ -165,7 +166,7 @@ fn put_fault(text: &mut String, fault: FileFault, watch: &Watch) -> Result<Optio
 {
     match fault {
         FileFault::Refused { place, why } => {
-            put_file_refusal(text, place, why)?;
+            put_file_refusal(text, Form::Lines, place, why)?;
             Ok(Some(RunEnd::Refused))
         }
         FileFault::Read => Err(RunFault::Read(watch.error())),
@@ -198,8 +199,7 @@ fn put_first(text: &mut String, header: &Header, principal: &FilePrincipal) -> R
     ensures line { OnOk result (string_bytes text.new ≡ string_bytes text.old ++ (cache_text header.now principal.now ++ line_feed)) }
     ensures fault { IfErr result (λ e. e ≡ RunFault.Memory) }
 {
-    put_cache(text, header, principal)?;
-    text.push('\n')?;
+    put_cache(text, Form::Lines, header, principal)?;
     Ok(())
 }
 
@@ -208,8 +208,7 @@ fn put_one(text: &mut String, credential: &Credential, now: Option<u32>) -> Resu
     ensures line { OnOk result (string_bytes text.new ≡ string_bytes text.old ++ (credential_line now credential.now ++ line_feed)) }
     ensures fault { IfErr result (λ e. e ≡ RunFault.Memory) }
 {
-    put_credential(text, credential, now)?;
-    text.push('\n')?;
+    put_credential(text, Form::Lines, credential, now)?;
     Ok(())
 }
 
@@ -218,12 +217,11 @@ fn put_end(text: &mut String, count: u64) -> Result<Option<RunEnd>, RunFault>
     ensures line { IfOk result (Adds (cache_end_text count ++ line_feed) (Some run.Clean) (string_bytes text.old) (string_bytes text.new)) }
     ensures fault { IfErr result (λ e. e ≡ RunFault.Memory) }
 {
-    put_cache_end(text, count)?;
-    text.push('\n')?;
+    put_cache_end(text, Form::Lines, count)?;
     Ok(Some(RunEnd::Clean))
 }
 
-/// The lines of the credentials of a cache, at a time in seconds since 1970 where one is given.
+/// The lines of the credentials of a cache, at a time in seconds since 1970 if one is given.
 #[derive(Drop)]
 struct CredentialLines<'a, R: Read> {
     credentials: Credentials<R>,
@@ -265,8 +263,8 @@ fn write_early<W: Write>(writer: &mut W, text: &mut String, is_due: bool) -> Res
     Ok(())
 }
 
-/// Lists a file after a text that is not written yet. What is not written is written before the next
-/// record is read, but that of a fast file is kept until it is large.
+/// Lists a file after a text that is not written yet. Lines are written before the next record is
+/// read, but those of a fast file are kept until they have 64 KiB.
 fn list_records<L: RecordLines, W: Write>(
     alloc: Global,
     lines: &mut L,
@@ -287,11 +285,11 @@ fn list_records<L: RecordLines, W: Write>(
     Err(RunFault::Read(too_many_reads()))
 }
 
-/// Lists a keytab of format 0x0502: a line for each record, then the line of the end, or that of the
-/// refusal. A field of more than 16777216 octets is refused. The reader is asked at most 2^40 times,
-/// for 64 KiB or the octets of a field, and not again after its end or an error. Each line is written
-/// as its record ends, but the lines of a reader that gives all that it is asked for are written
-/// together.
+/// Lists a keytab of format 0x0502: writes a line for each record, and then the line of the end or
+/// of the refusal. A field of more than 16777216 octets is refused. The reader is asked at most
+/// 2^40 times, for 64 KiB or the octets of a field, and not again after its end or an error. Each
+/// line is written as its record ends, but the lines of a reader that gives all that it is asked
+/// for are written together.
 pub fn run_keytab<R: Read, W: Write>(
     alloc: Global,
     reader: &mut R,
@@ -313,9 +311,10 @@ pub fn run_keytab<R: Read, W: Write>(
     )
 }
 
-/// Lists a credential cache of version 3 or 4: a line for the cache, one for each credential, and the
-/// line of the end, or that of the refusal. If `now` is given, in seconds since 1970, each line of a
-/// credential says whether it has expired by then. It reads and writes as [`run_keytab`] does.
+/// Lists a credential cache of version 3 or 4: writes a line for the cache, one for each
+/// credential, and then the line of the end or of the refusal. If `now` is given, in seconds since
+/// 1970, each line of a credential says whether it has expired by then. Reads and writes as
+/// [`run_keytab`] does.
 pub fn run_ccache<R: Read, W: Write>(
     alloc: Global,
     reader: &mut R,

@@ -1,12 +1,12 @@
 //! Runs over a reader and a writer.
 
-ghost use Rattle.std.specs.Prelude.{◌≡◌, ◌^◌, ◌≤◌, IfErr, IfOk};
+ghost use Rattle.std.specs.Prelude.{◌≡◌, IfErr, IfOk};
 ghost use Rattle.krb_tool.specs.Listing.{Lists, Fails, status_of};
 ghost use Rattle.krb_tool.specs.declared.run.RunFault.TheVariants as fault;
-ghost use Rattle.krb_tool.specs.declared.transfer.ReaderState.TheVariants as reader;
 
 use crate::listing::Lister;
-use crate::transfer::{Asked, write_all};
+use crate::stream_run::list_all;
+use crate::transfer::Asked;
 use krb_der::{Memory, Profile};
 use krb_frame::Limit;
 use std::alloc::{AllocError, AllocFailed, Global};
@@ -14,26 +14,26 @@ use std::io;
 use std::io::{Read, Write};
 use thiserror::Error;
 
-/// How many octets a run asks its reader for at once: 64 KiB.
+/// The number of octets that a run asks its reader for at once: 64 KiB.
 pub(crate) const PIECE_OCTETS: usize = 1 << 16;
 
 /// How a run without faults ended.
 #[derive(Clone, Copy, PartialEq, Eq, Debug)]
 pub enum RunEnd {
-    /// All was read, and nothing refused.
+    /// All was read, and nothing was refused.
     Clean,
-    /// Something was refused, and the last line says what.
+    /// Something was refused, and a line says what.
     Refused,
 }
 
 /// Why a run could not go on.
 #[derive(Clone, Copy, Debug, Error)]
 pub enum RunFault {
-    /// A read failed by this error, or the reader was asked 2^40 times and was not at its end, which
-    /// is the error `too many reads`.
+    /// A read failed with this error. The error is `too many reads` if the reader was asked 2^40
+    /// times and has not ended.
     #[error("{0}")]
     Read(io::Error),
-    /// A write failed by this error, or took nothing, which is the error `write zero`.
+    /// A write failed with this error. The error is `write zero` if the write took nothing.
     #[error("{0}")]
     Write(io::Error),
     /// Out of memory.
@@ -41,8 +41,7 @@ pub enum RunFault {
     Memory,
 }
 
-/// The status that a run gives the process: 0 where it was clean, 1 where something was refused, 3
-/// for a fault.
+/// Returns the exit status of a run: 0 if it was clean, 1 if something was refused, 3 if it failed.
 pub fn status(outcome: &Result<RunEnd, RunFault>) -> u8
     ensures { result ≡ status_of outcome.now }
 {
@@ -91,12 +90,12 @@ pub fn run_stream<R: Read, W: Write>(
     run_stream_in(alloc, Profile::Lenient, reader, writer, limit)
 }
 
-/// Lists a stream of framed messages (RFC 4120, 7.2.2) of a profile: a line for each message, then
-/// the line of the end, or of the first refusal, after which nothing is looked at. Frames of more
-/// than `limit` octets are refused. The reader is asked at most 2^40 times, for 64 KiB each, and the
-/// lines of what came are written before it is asked again. It is not asked again after an error,
-/// its end or a refusal. If a read fails or memory runs out, the lines of the messages before that
-/// are written, all or the first of them, and no last line.
+/// Lists a stream of framed messages (RFC 4120, 7.2.2) of a profile: writes a line for each
+/// message, and then the line of the end, or of the first refusal, after which nothing is looked
+/// at. Frames of more than `limit` octets are refused. The reader is asked at most 2^40 times, for
+/// 64 KiB each, and the lines of what came are written before it is asked again. It is not asked
+/// again after an error, its end or a refusal. If a read fails or memory runs out, the lines of the
+/// messages before that are written, all or the first of them, and no last line.
 pub fn run_stream_in<R: Read, W: Write>(
     alloc: Global,
     profile: Profile,
@@ -108,38 +107,5 @@ pub fn run_stream_in<R: Read, W: Write>(
     ensures fault { IfErr result (Fails profile limit (R.remaining reader.old) (R.remaining reader.new) (W.contents writer.old) (W.contents writer.new)) }
 {
     let mut asked = Asked::new(reader);
-    list_all(alloc, profile, &mut asked, writer, limit)
-}
-
-fn list_all<R: Read, W: Write>(
-    alloc: Global,
-    profile: Profile,
-    asked: &mut Asked<'_, R>,
-    writer: &mut W,
-    limit: Limit,
-) -> Result<RunEnd, RunFault>
-    requires none { asked.old.made ≡ 0 }
-    requires open { asked.old.state ≡ reader.Open }
-    ensures same_reader { asked.new.reader.ghost_name ≡ asked.old.reader.ghost_name }
-    ensures listed { IfOk result (Lists profile limit (R.remaining asked.old.reader.now) (R.remaining asked.new.reader.now) (W.contents writer.old) (W.contents writer.new)) }
-    ensures fault { IfErr result (Fails profile limit (R.remaining asked.old.reader.now) (R.remaining asked.new.reader.now) (W.contents writer.old) (W.contents writer.new)) }
-    ensures asks { asked.new.made ≤ 2 ^ 40 }
-{
-    let mut buffer = vec![in alloc; 0u8; PIECE_OCTETS]?;
-    let mut lister = Lister::new(alloc, profile, limit);
-    'pieces: loop {
-        let count = asked.ask(buffer.as_mut_slice())?;
-        if count == 0 {
-            let ended = lister.finish()?;
-            write_all(writer, lister.text().as_bytes())?;
-            return Ok(ended);
-        }
-        if !lister.feed(&buffer[..count])? {
-            let ended = lister.finish()?;
-            write_all(writer, lister.text().as_bytes())?;
-            return Ok(ended);
-        }
-        write_all(writer, lister.text().as_bytes())?;
-        lister.clear_text();
-    }
+    list_all::<Lister, _, _>(alloc, profile, &mut asked, writer, limit)
 }

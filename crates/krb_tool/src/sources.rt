@@ -2,17 +2,19 @@
 
 ghost use Rattle.std.specs.Prelude.{◌≡◌, ℕ, List, Option, Result, Some, nat_lt, length, IfErr, OnOk};
 ghost use Rattle.std.specs.Io.KnownBytes.{Appends};
-ghost use Rattle.krb_list.specs.FileNames.{file_line};
-ghost use Rattle.krb_tool.specs.Sources.{Run, FailsName, ListsOne, ListsEach, ends_run};
+ghost use Rattle.krb_tool.specs.Lines.{file_line};
+ghost use Rattle.krb_tool.specs.Sources.{Run, FailsName, ListsOne, Reports, ListsEach, ends_run};
 
 use crate::run::{RunEnd, RunFault, status};
 use crate::transfer::write_all;
-use krb_list::put_file;
+use krb_list::{Form, put_file};
 use std::alloc::Global;
 use std::io::Write;
 
-/// What lists a source of a kind, opens it where it has to be opened, and tells of its faults.
+/// Lists sources of a kind: opens a source if it has to be opened, and reports its faults.
 pub trait ListSource<S> {
+    ghost use Rattle.krb_tool.specs.declared.run.RunFault.{RunFault};
+
     /// The name of a source.
     ghost called: { S → List ℕ };
 
@@ -23,12 +25,16 @@ pub trait ListSource<S> {
     fn name<'a>(&self, source: &'a S) -> &'a str
         ensures { result.now ≡ called source.now };
 
+    /// That a fault of a source was reported.
+    ghost IsReported: { Self → S → RunFault → Type 0 };
+
     /// Opens a source and lists it.
     fn list<W: Write>(&self, source: &S, writer: &mut W) -> Result<RunEnd, RunFault>
         ensures { Lists self.now source.now (W.contents writer.old) (W.contents writer.new) result };
 
-    /// Tells of a fault, by which the listing of a source ended.
-    fn report(&self, source: &S, fault: &RunFault);
+    /// Reports a fault by which the listing of a source ended.
+    fn report(&self, source: &S, fault: &RunFault)
+        ensures { IsReported self.now source.now fault.now };
 }
 
 /// Writes the line with the name of a source.
@@ -37,12 +43,12 @@ fn write_name<W: Write>(alloc: Global, name: &str, writer: &mut W) -> Result<(),
     ensures fault { IfErr result (FailsName name.now (W.contents writer.old) (W.contents writer.new)) }
 {
     let mut line = String::new(alloc);
-    put_file(&mut line, name)?;
+    put_file(&mut line, Form::Lines, name)?;
     write_all(writer, line.as_bytes())
 }
 
 /// Lists a source, after a line with its name if it is one of several.
-fn list_one<S, L: ListSource<S>, W: Write>(
+fn list_named<S, L: ListSource<S>, W: Write>(
     alloc: Global,
     lister: &L,
     source: &S,
@@ -57,6 +63,23 @@ fn list_one<S, L: ListSource<S>, W: Write>(
     lister.list(source, writer)
 }
 
+/// Lists a source, and reports the fault by which its listing ends, if there is one.
+fn list_one<S, L: ListSource<S>, W: Write>(
+    alloc: Global,
+    lister: &L,
+    source: &S,
+    is_named: bool,
+    writer: &mut W,
+) -> Result<RunEnd, RunFault>
+    ensures { Reports (L.IsReported lister.now source.now) (ListsOne is_named (L.called source.now) (L.Lists lister.now source.now)) (W.contents writer.old) (W.contents writer.new) result }
+{
+    let outcome = list_named(alloc, lister, source, is_named, writer);
+    if let Err(fault) = &outcome {
+        lister.report(source, fault);
+    }
+    outcome
+}
+
 /// Returns whether no source is listed after one of this outcome.
 fn ends_run(outcome: &Result<RunEnd, RunFault>) -> bool
     ensures { result ≡ ends_run outcome.now }
@@ -64,26 +87,23 @@ fn ends_run(outcome: &Result<RunEnd, RunFault>) -> bool
     matches!(outcome, Err(RunFault::Write(_) | RunFault::Memory))
 }
 
-/// Lists sources one after another, and returns the greatest of their statuses, which is that of the
-/// process. If there are several, a line with its name stands before the listing of each. A source
-/// that is refused, or that cannot be opened or read, does not end the run: the next one follows. A
-/// write that fails ends it, and so does want of memory.
+/// Lists sources one after another, and returns the greatest of their statuses, which is that of
+/// the process. If there are several, a line with its name is written before the listing of each. A
+/// source that is refused, or that cannot be opened or read, does not end the run: the next one
+/// follows. A write that fails ends the run, and so does running out of memory. Each fault is reported.
 pub fn run_sources<S, L: ListSource<S>, W: Write>(
     alloc: Global,
     lister: &L,
     sources: &[S],
     writer: &mut W,
 ) -> u8
-    ensures { ListsEach (λ source. ListsOne (nat_lt 1 (length sources.now)) (L.called source) (L.Lists lister.now source)) sources.now (W.contents writer.old) (W.contents writer.new) result }
+    ensures { ListsEach (λ source. Reports (L.IsReported lister.now source) (ListsOne (nat_lt 1 (length sources.now)) (L.called source) (L.Lists lister.now source))) sources.now (W.contents writer.old) (W.contents writer.new) result }
 {
     let is_named = sources.len() > 1;
     let mut greatest = 0;
     let mut rest = sources;
     'sources: while let Some((source, others)) = rest.split_first() {
         let outcome = list_one(alloc, lister, source, is_named, writer);
-        if let Err(fault) = &outcome {
-            lister.report(source, fault);
-        }
         greatest = greatest.max(status(&outcome));
         if ends_run(&outcome) {
             return greatest;

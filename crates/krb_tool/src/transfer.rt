@@ -10,10 +10,10 @@ use crate::run::RunFault;
 use std::io;
 use std::io::{ErrorKind, Read, Write};
 
-/// How often a run asks its reader at most.
+/// The greatest number of times that a run asks its reader.
 pub(crate) const MOST_ASKS: u64 = 1 << 40;
 
-/// The error of a reader that was asked [`MOST_ASKS`] times.
+/// Returns the error of a reader that was asked [`MOST_ASKS`] times.
 pub(crate) fn too_many_reads() -> io::Error {
     io::Error::other("too many reads")
 }
@@ -23,14 +23,14 @@ pub(crate) fn too_many_reads() -> io::Error {
 pub(crate) enum ReaderState {
     /// It gave octets whenever it was asked.
     Open,
-    /// It told its end.
+    /// It has ended.
     Ended,
     /// A read failed, or it was asked [`MOST_ASKS`] times.
     Failed,
 }
 
-/// A reader and how often it was asked. It holds the one borrow of the reader, so a run reads by
-/// [`ask`](Asked::ask) or not at all.
+/// A reader, and how often it was asked. It has the only borrow of the reader, so a run can read by
+/// [`ask`](Asked::ask) alone.
 #[derive(Drop)]
 pub(crate) struct Asked<'a, R> {
     reader: &'a mut R,
@@ -40,7 +40,7 @@ pub(crate) struct Asked<'a, R> {
 }
 
 impl<'a, R: Read> Asked<'a, R> {
-    /// A reader that was not asked yet.
+    /// Returns a reader that was not asked yet.
     pub(crate) fn new(reader: &'a mut R) -> Asked<'a, R>
         ensures same_reader { result.reader.ghost_name ≡ reader.entry.ghost_name }
         ensures untouched { result.reader.now ≡ reader.old }
@@ -54,9 +54,9 @@ impl<'a, R: Read> Asked<'a, R> {
         }
     }
 
-    /// Asks the reader for a piece of its octets, and answers how many came, 0 at its end. A read
-    /// that fails is a fault, and so is one ask more than [`MOST_ASKS`]. It may not be asked again
-    /// after its end or a fault.
+    /// Asks the reader for a piece of its octets, and returns how many came, 0 at its end. A read
+    /// that fails is a fault, and so is one ask more than [`MOST_ASKS`]. The reader may not be
+    /// asked again after its end or a fault.
     pub(crate) fn ask(&mut self, buffer: &mut [u8]) -> Result<usize, RunFault>
         requires open { self.old.state ≡ ReaderState.Open }
         requires room { 0 < length buffer.old }

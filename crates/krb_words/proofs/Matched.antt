@@ -16,7 +16,7 @@ use Rattle.krb_words.specs.declared.words.Order.{Order}
 pub subcommand_added : (old sub new : Command) (above below : App) → AddsSubcommand old sub new → app_of old ≡ above → app_of sub ≡ below → (out-Command sub).has_globals ≡ false → app_of new ≡ with_subcommand above below.top
 subcommand_added old sub new above below adds e f local = adds.shape local ∙ ap₂ with_subcommand e (ap (λ (a : App). a.top) f)
 
--- what a typed getter gives of a text, or of none
+-- what a getter of a type returns of a text, or of none
 pub number_found : (E : Type 0) (gives : Text → Result ℕ E → Type 0) (text : Option Text) (number : Option ℕ) → ((t : Text) (n : ℕ) → gives t (Ok n) → Spells t n) → (text ≡ None → number ≡ None) → ((t : Text) → text ≡ Some t → TriesOne gives t (Ok number)) → IsNumber text number
 number_found E gives None number spells none value = none refl
 number_found E gives (Some t) None spells none value = value t refl

@@ -22,7 +22,7 @@ abbrev pub words_of : Option (List Text) → List Text
 words_of None = []
 words_of (Some words) = words
 
--- the standard input where nothing is named
+-- the standard input if nothing is named
 abbrev pub or_input : List (Option Text) → List (Option Text)
 or_input [] = None ∷ []
 or_input (first ∷ others) = first ∷ others

@@ -79,7 +79,7 @@ krbls = with_subcommand (with_subcommand (with_subcommand (with_subcommand krbls
 abbrev pub Spells : Text → ℕ → Type 0
 Spells text number = ParsesUnsigned {E = ℕ} 32 10 text (Ok number)
 
--- the number that a text spells, or another text where there are none
+-- the number that a text spells, or else a number for no text
 abbrev pub IsNumberOr : ℕ → Option Text → ℕ → Type 0
 IsNumberOr none None number = number ≡ none
 IsNumberOr none (Some text) number = Spells text number
@@ -89,7 +89,7 @@ IsNumber None number = number ≡ None
 IsNumber (Some text) None = ⊥
 IsNumber (Some text) (Some number) = Spells text number
 
--- the profile by a flag, whose value is `true` where it is given
+-- the profile by a flag, whose value is `true` if it is given
 abbrev pub IsProfile : Option Text → Profile → Type 0
 IsProfile text profile.Lenient = text ≢ Some (codes "true")
 IsProfile text profile.Strict = text ≡ Some (codes "true")

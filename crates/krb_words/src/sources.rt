@@ -16,7 +16,7 @@ pub enum Source {
     File(String),
 }
 
-/// The source that a word names: the standard input if it is `-`, and else a file.
+/// Returns the source that a word names: the standard input if it is `-`, and else a file.
 fn source_of(alloc: Global, word: &str) -> Result<Source, AllocError>
     ensures { IfOk result (λ source. path_of source ≡ word_path word.now) }
 {
@@ -27,7 +27,7 @@ fn source_of(alloc: Global, word: &str) -> Result<Source, AllocError>
     }
 }
 
-/// The file of a name as the only source.
+/// Returns the file of a name as the only source.
 fn one_file(alloc: Global, path: &str) -> Result<Vec<Source>, AllocError>
     ensures { IfOk result (λ sources. map path_of sources.items ≡ Some path.now ∷ []) }
 {
@@ -37,7 +37,7 @@ fn one_file(alloc: Global, path: &str) -> Result<Vec<Source>, AllocError>
     Ok(sources)
 }
 
-/// The file of the option `--file`, if it is given.
+/// Returns the file of the option `--file`, if it is given.
 fn file_of(alloc: Global, found: &ArgMatches<'_>) -> Result<Vec<Source>, AllocError>
     ensures { IfOk result (λ sources. map path_of sources.items ≡ file_path (first_of (codes "file") (rows_of (found_of found.now)))) }
 {
@@ -81,8 +81,8 @@ fn put_input(sources: &mut Vec<Source>) -> Result<(), AllocError>
     Ok(())
 }
 
-/// The sources in order: the file of `--file`, and then those that words name. If there is none of
-/// either, the standard input.
+/// Returns the sources in order: the file of `--file`, and then those that words name. If there are
+/// none of either, it is the standard input.
 pub(crate) fn sources_of(alloc: Global, found: &ArgMatches<'_>) -> Result<Vec<Source>, AllocError>
     ensures { IfOk result (λ sources. map path_of sources.items ≡ or_input (file_path (first_of (codes "file") (rows_of (found_of found.now))) ++ map word_path (words_of (all_of (codes "file names") (rows_of (found_of found.now)))))) }
 {

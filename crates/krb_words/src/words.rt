@@ -32,7 +32,8 @@ pub enum Job {
     Message(Profile),
     /// A keytab.
     Keytab,
-    /// A credential cache, and the time that tells which credentials have expired.
+    /// A credential cache, and the time at which credentials may have expired, in seconds since
+    /// 1970.
     Ccache(Option<u32>),
     /// Nothing: this help is to be printed.
     Help(String),
@@ -45,15 +46,15 @@ pub enum Job {
 pub struct Order {
     /// What is to be listed.
     pub job: Job,
-    /// From where, one after another. There is none for a text that is to be printed.
+    /// The sources to list, in order. There are none if a text is to be printed.
     pub sources: Vec<Source>,
 }
 
 /// Why words give no order.
 #[derive(Drop)]
 pub enum WordsFault {
-    /// They are no command line of the program, and this text says what is wrong with them, how the
-    /// program is called and how to get help.
+    /// The words are no command line of the program. This text says what is wrong with them, how
+    /// the program is called and how to get help.
     Wrong(String),
     /// Out of memory.
     Memory,
@@ -166,7 +167,7 @@ Example:
     krbls ccache --now \"$(date +%s)\"",
 };
 
-/// A command with its help, and no options yet.
+/// Returns a command with its help and no options yet.
 fn new_command<'a>(alloc: Global, name: &'a str, help: &CommandHelp) -> Command<'a>
     ensures app { app_of result ≡ new_app name.entry.now }
     ensures local { (out-Command result).has_globals ≡ false }
@@ -177,7 +178,7 @@ fn new_command<'a>(alloc: Global, name: &'a str, help: &CommandHelp) -> Command<
         .after_help(help.below)
 }
 
-/// `--file PATH`.
+/// Returns the option `--file PATH`.
 fn file_option<'a>(alloc: Global) -> Arg<'a>
     ensures rule { rule_of result ≡ file_option }
     ensures local { result.global ≡ false }
@@ -189,7 +190,7 @@ fn file_option<'a>(alloc: Global) -> Arg<'a>
         .help("Reads this file before those that are named")
 }
 
-/// `FILE..`, after all options of a command.
+/// Returns the words `FILE..`, which stand after all options of a command.
 fn file_names<'a>(alloc: Global) -> Arg<'a>
     ensures rule { rule_of result ≡ file_names }
     ensures local { result.global ≡ false }
@@ -200,7 +201,7 @@ fn file_names<'a>(alloc: Global) -> Arg<'a>
         .help("Files to read, - for the standard input [-]")
 }
 
-/// An option with no value.
+/// Returns an option with no value.
 fn flag<'a>(alloc: Global, name: &'a str, help: &'a str) -> Arg<'a>
     ensures rule { rule_of result ≡ flag name.entry.now }
     ensures local { result.global ≡ false }
@@ -211,7 +212,7 @@ fn flag<'a>(alloc: Global, name: &'a str, help: &'a str) -> Arg<'a>
         .help(help)
 }
 
-/// `--strict`.
+/// Returns the option `--strict`.
 fn strict_flag<'a>(alloc: Global) -> Arg<'a>
     ensures rule { rule_of result ≡ strict_flag }
     ensures local { result.global ≡ false }
@@ -219,7 +220,7 @@ fn strict_flag<'a>(alloc: Global) -> Arg<'a>
     flag(alloc, "strict", "Refuses messages that have a note")
 }
 
-/// `--keep-going`.
+/// Returns the option `--keep-going`.
 fn keep_going_flag<'a>(alloc: Global) -> Arg<'a>
     ensures rule { rule_of result ≡ keep_going_flag }
     ensures local { result.global ≡ false }
@@ -231,7 +232,7 @@ fn keep_going_flag<'a>(alloc: Global) -> Arg<'a>
     )
 }
 
-/// An option whose value is a number that a parser takes.
+/// Returns an option whose value is a number that a parser takes.
 fn number_option<'a>(
     alloc: Global,
     name: &'a str,
@@ -250,7 +251,7 @@ fn number_option<'a>(
         .help(help)
 }
 
-/// A command that takes files.
+/// Returns a command that takes files.
 fn with_files<'a>(alloc: Global, command: Command<'a>) -> Result<Command<'a>, AllocError>
     requires local { (out-Command command).has_globals ≡ false }
     ensures { IfOk result (λ c. (app_of c ≡ with_files (app_of command.entry)) × ((out-Command c).has_globals ≡ false)) }
@@ -258,6 +259,7 @@ fn with_files<'a>(alloc: Global, command: Command<'a>) -> Result<Command<'a>, Al
     command.arg(file_option(alloc))?.arg(file_names(alloc))
 }
 
+/// Returns the command `stream`.
 fn stream_command<'a>(alloc: Global) -> Result<Command<'a>, AllocError>
     ensures { IfOk result (λ c. (app_of c ≡ stream_app) × ((out-Command c).has_globals ≡ false)) }
 {
@@ -275,6 +277,7 @@ fn stream_command<'a>(alloc: Global) -> Result<Command<'a>, AllocError>
     with_files(alloc, command)
 }
 
+/// Returns the command `message`.
 fn message_command<'a>(alloc: Global) -> Result<Command<'a>, AllocError>
     ensures { IfOk result (λ c. (app_of c ≡ message_app) × ((out-Command c).has_globals ≡ false)) }
 {
@@ -284,6 +287,7 @@ fn message_command<'a>(alloc: Global) -> Result<Command<'a>, AllocError>
         .arg(file_names(alloc))
 }
 
+/// Returns the command `keytab`.
 fn keytab_command<'a>(alloc: Global) -> Result<Command<'a>, AllocError>
     ensures { IfOk result (λ c. (app_of c ≡ keytab_app) × ((out-Command c).has_globals ≡ false)) }
 {
@@ -292,6 +296,7 @@ fn keytab_command<'a>(alloc: Global) -> Result<Command<'a>, AllocError>
         .arg(file_names(alloc))
 }
 
+/// Returns the command `ccache`.
 fn ccache_command<'a>(alloc: Global) -> Result<Command<'a>, AllocError>
     ensures { IfOk result (λ c. (app_of c ≡ ccache_app) × ((out-Command c).has_globals ≡ false)) }
 {
@@ -308,7 +313,7 @@ fn ccache_command<'a>(alloc: Global) -> Result<Command<'a>, AllocError>
         .arg(file_names(alloc))
 }
 
-/// The command, which `clap` calls simple.
+/// Returns the command `krbls`, which `clap` calls simple.
 fn krbls_command<'a>(alloc: Global) -> Result<Command<'a>, AllocError>
     ensures { IfOk result (λ c. app_of c ≡ krbls) }
 {
@@ -323,7 +328,7 @@ fn krbls_command<'a>(alloc: Global) -> Result<Command<'a>, AllocError>
         .subcommand(ccache_command(alloc)?)
 }
 
-/// The fault of words that `clap` takes and that give no order all the same. There are none.
+/// Returns the fault of words that `clap` takes and that give no order. There are no such words.
 fn not_read(alloc: Global) -> WordsFault {
     match String::from_str(alloc, "error: the command line is not read\n") {
         Ok(text) => WordsFault::Wrong(text),
@@ -331,7 +336,7 @@ fn not_read(alloc: Global) -> WordsFault {
     }
 }
 
-/// The number of an option, if it is given.
+/// Returns the number of an option, if it is given.
 fn number_of(alloc: Global, found: &ArgMatches<'_>, name: &str) -> Result<Option<u32>, WordsFault>
     ensures { IfOk result (IsNumber (one_of name.now (rows_of (found_of found.now)))) }
 {
@@ -341,7 +346,7 @@ fn number_of(alloc: Global, found: &ArgMatches<'_>, name: &str) -> Result<Option
     }
 }
 
-/// The limit that is given, or the usual one.
+/// Returns the limit that is given, or else the usual one.
 fn limit_of(alloc: Global, found: &ArgMatches<'_>) -> Result<Limit, WordsFault>
     ensures { IfOk result (IsNumberOr 16777216 (one_of (codes "limit") (rows_of (found_of found.now)))) }
 {
@@ -354,7 +359,7 @@ fn limit_of(alloc: Global, found: &ArgMatches<'_>) -> Result<Limit, WordsFault>
     }
 }
 
-/// Whether a flag is given.
+/// Returns whether a flag is given.
 fn is_given(found: &ArgMatches<'_>, name: &str) -> bool
     ensures { IsGiven (first_of name.now (rows_of (found_of found.now))) result }
 {
@@ -364,7 +369,7 @@ fn is_given(found: &ArgMatches<'_>, name: &str) -> bool
     }
 }
 
-/// Whether the value of a flag says that it is given.
+/// Returns whether the value of a flag says that it is given.
 fn is_true(value: &str) -> bool
     ensures { IsGiven (Some value.now) result }
 {
@@ -374,7 +379,7 @@ fn is_true(value: &str) -> bool
     }
 }
 
-/// The strict profile if its flag is given, and else the lenient one.
+/// Returns the strict profile if its flag is given, and else the lenient one.
 fn profile_of(found: &ArgMatches<'_>) -> Profile
     ensures { IsProfile (first_of (codes "strict") (rows_of (found_of found.now))) result }
 {
@@ -385,7 +390,7 @@ fn profile_of(found: &ArgMatches<'_>) -> Profile
     }
 }
 
-/// What becomes of a stream after a refusal: it goes on if its flag is given.
+/// Returns what becomes of a stream after a refusal: it goes on if its flag is given.
 fn after_refusal_of(found: &ArgMatches<'_>) -> AfterRefusal
     ensures { IsAfter (first_of (codes "keep-going") (rows_of (found_of found.now))) result }
 {
@@ -396,7 +401,7 @@ fn after_refusal_of(found: &ArgMatches<'_>) -> AfterRefusal
     }
 }
 
-/// The job of a command with its options.
+/// Returns the job of a command with its options.
 fn job_of(alloc: Global, name: &str, found: &ArgMatches<'_>) -> Result<Job, WordsFault>
     ensures { IfOk result (IsJob name.now (rows_of (found_of found.now))) }
 {
@@ -413,7 +418,7 @@ fn job_of(alloc: Global, name: &str, found: &ArgMatches<'_>) -> Result<Job, Word
     }
 }
 
-/// The order that matches name.
+/// Returns the order that matches name.
 fn order_of(alloc: Global, matches: &ArgMatches<'_>) -> Result<Order, WordsFault>
     ensures { IfOk result (IsOrderOf (subcommand_rows_of matches.now)) }
 {
@@ -427,7 +432,7 @@ fn order_of(alloc: Global, matches: &ArgMatches<'_>) -> Result<Order, WordsFault
     }
 }
 
-/// What becomes of words that `clap` does not accept: a text, if that is what they ask for.
+/// Returns the order to print a text, if that is what words ask for that `clap` does not accept.
 fn text_of(alloc: Global, error: &Error) -> Result<Order, WordsFault>
     ensures { IfOk result (λ order. IsTextBy (kind_of error.now) order.job × (order.sources.items ≡ [])) }
 {
@@ -442,8 +447,8 @@ fn text_of(alloc: Global, error: &Error) -> Result<Order, WordsFault>
     Ok(Order { job, sources })
 }
 
-/// The order that the words after the program's name give: a command, its options and the files to
-/// read, as `clap` reads them.
+/// Returns the order that the words after the program's name give: a command, its options and the
+/// files to read, as `clap` reads them.
 pub fn read_words(alloc: Global, words: &[String]) -> Result<Order, WordsFault>
     ensures { IfOk result (IsOrderIn (map string_bytes words.now)) }
 {

@@ -11,7 +11,7 @@
 
 ghost use Rattle.std.specs.Prelude.{◌≡◌, codes, length, nat_lt, unwrap_or};
 ghost use Rattle.std.specs.Process.{exit_status};
-ghost use Rattle.krb_tool.specs.Sources.{ListsEach, ListsOne};
+ghost use Rattle.krb_tool.specs.Sources.{ListsEach, ListsOne, Reports};
 ghost use Rattle.krb_words.specs.Sources.{path_of};
 
 use krb_list::FileName;
@@ -75,7 +75,7 @@ fn list_each<S, L: ListSource<S>, W: Write>(
     sources: &[S],
     writer: &mut W,
 ) -> ExitCode
-    ensures { ListsEach (λ source. ListsOne (nat_lt 1 (length sources.now)) (L.called source) (L.Lists lister.now source)) sources.now (W.contents writer.old) (W.contents writer.new) (exit_status result) }
+    ensures { ListsEach (λ source. Reports (L.IsReported lister.now source) (ListsOne (nat_lt 1 (length sources.now)) (L.called source) (L.Lists lister.now source))) sources.now (W.contents writer.old) (W.contents writer.new) (exit_status result) }
 {
     ExitCode::from(run_sources(alloc, lister, sources, writer))
 }
@@ -111,6 +111,9 @@ impl ListSource<Source> for Lister<'_> {
 
     // A contract does not see what a file or the standard input gives.
     ghost Lists = { λ lister source held holds outcome. Unit {0} };
+
+    // Nor what the standard error takes.
+    ghost IsReported = { λ lister source fault. Unit {0} };
 
     fn name<'a>(&self, source: &'a Source) -> &'a str {
         match source {

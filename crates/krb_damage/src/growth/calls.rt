@@ -11,7 +11,7 @@ use krb_frame::{Decoder, Framed, Limit, Status, frame};
 use krb_judge::{ParseFault, parse, parse_method_data, parse_ticket};
 use krb_keytab::{Keytab, KeytabFault, Record, Stop};
 use krb_list::{
-    cache_end_line, cache_line, ccache_lines, credential_line, keytab_end_line, keytab_lines,
+    Form, cache_end_line, cache_line, ccache_lines, credential_line, keytab_end_line, keytab_lines,
     message_line, principal_text, record_line, time_text,
 };
 use krb_msg::{EncodeFault, Message, encode};
@@ -209,18 +209,23 @@ impl Text {
             given.keytab.records.as_slice(),
             cache.credentials.as_slice(),
         ) {
-            (Text::Message, ..) => message_line(alloc, given.message),
-            (Text::Keytab, ..) => keytab_lines(alloc, given.keytab),
-            (Text::Record, [record, ..], _) => record_line(alloc, record),
-            (Text::KeytabEnd, ..) => keytab_end_line(alloc, 2, &Stop::Zero),
+            (Text::Message, ..) => message_line(alloc, Form::Lines, given.message),
+            (Text::Keytab, ..) => keytab_lines(alloc, Form::Json, given.keytab),
+            (Text::Record, [record, ..], _) => record_line(alloc, Form::NamedLines, record),
+            (Text::KeytabEnd, ..) => keytab_end_line(alloc, Form::Lines, 2, &Stop::Zero),
             (Text::Principal, [Record::Entry(entry), ..], _) => {
                 principal_text(alloc, entry.components.as_slice(), &entry.realm)
             }
             (Text::Time, ..) => time_text(alloc, 946684800),
-            (Text::Caches, ..) => ccache_lines(alloc, cache, None),
-            (Text::Cache, ..) => cache_line(alloc, &cache.header, &cache.principal),
-            (Text::CacheEnd, ..) => cache_end_line(alloc, 2),
-            (Text::Credential, _, [_, credential]) => credential_line(alloc, credential, None),
+            (Text::Caches, ..) => ccache_lines(alloc, Form::Json, cache, None),
+            (Text::Cache, ..) => cache_line(alloc, Form::Lines, &cache.header, &cache.principal),
+            (Text::CacheEnd, ..) => cache_end_line(alloc, Form::Lines, 2),
+            (Text::Credential, _, [_, credential]) => credential_line(
+                alloc,
+                Form::NamedLines,
+                credential,
+                None,
+            ),
             _ => Ok(String::new(alloc)),
         }
     }

@@ -1,13 +1,31 @@
--- The items of lists as lines show them.
-use Rattle.std.specs.Prelude.{ℕ, List, []}
+-- The items of lists as records show them.
+use Rattle.std.specs.Prelude.{ℕ, ℤ, pos, true, List}
 use Rattle.std.specs.Fmt.{signed_decimal}
-use Rattle.krb_msg.specs.Term.{Term, Integer, Text, Sequence, Tagged, Required, Value}
+use Rattle.krb_msg.specs.Term.{Term, Integer, Sequence, Tagged, Required, Value}
+use Rattle.krb_list.specs.declared.item.ItemForm.{ItemForm}
+use Rattle.krb_list.specs.declared.item.ItemForm.TheVariants as form
+use Rattle.krb_list.specs.declared.json.Escape.TheVariants as escapes
+use Rattle.krb_list.specs.Forms.{name_string, number_text, octets_string}
 use Rattle.krb_list.specs.Text.{escape}
+use Rattle.krb_list.specs.inner.Strings.{quoted}
 
--- a number, a string escaped, and of a SEQUENCE its first field alone
-abbrev pub item_text : (term : Term) → Value term → List ℕ
-item_text (Integer low high) number = signed_decimal number
-item_text (Text greatest) octets = escape octets
-item_text (Tagged index term) value = item_text term value
-item_text (Sequence (Required term fields)) values = item_text term values.0
-item_text other value = []
+abbrev pub number_item : ItemForm → ℤ → List ℕ
+number_item form.Line number = signed_decimal number
+number_item (form.Named registry) number = number_text true registry number
+number_item (form.Name registry) number = name_string registry number
+number_item form.Part number = signed_decimal number
+number_item form.Object number = signed_decimal number
+
+abbrev pub octets_item : ItemForm → List ℕ → List ℕ
+octets_item form.Line octets = escape octets
+octets_item (form.Named registry) octets = escape octets
+octets_item (form.Name registry) octets = escape octets
+octets_item form.Part octets = quoted escapes.Line octets
+octets_item form.Object octets = octets_string octets
+
+-- the number that an item is, or that a SEQUENCE begins with
+abbrev pub item_number : (term : Term) → Value term → ℤ
+item_number (Integer low high) number = number
+item_number (Tagged index term) value = item_number term value
+item_number (Sequence (Required term fields)) values = item_number term values.0
+item_number other value = pos 0

@@ -19,7 +19,7 @@ pub record TakesFront (had left : Option (List ℕ)) (most : Option ℕ) (kept :
   pub enough : IsAllOrFull most kept rest
   pub within : IfSome most (λ most. length kept ≤ most)
 
--- where there is a number, that many octets of a file tell its listing
+-- if there is a number, the first octets of a file, of that number, decide its listing
 abbrev pub IsTold : (List ℕ → FileListing → Type 0) → Option ℕ → Type 0
 IsTold Lists most = (kept rest : List ℕ) (listing : FileListing) → most ≡ Some (length kept) → Lists kept listing → Lists (kept ++ rest) listing
 
@@ -27,13 +27,13 @@ IsTold Lists most = (kept rest : List ℕ) (listing : FileListing) → most ≡ 
 abbrev pub shown : FileText → FileListing
 shown made = record { text = string_bytes made.text; end = made.end }
 
--- the fault of a run that has not written: that of its reader where this failed, and else out of memory
+-- the fault of a run that has not written: that of its reader if this failed, and else out of memory
 abbrev pub IsOfReading : ReaderState → RunFault → Type 0
 IsOfReading reader.Failed e = IsRead e
 IsOfReading reader.Open e = e ≡ fault.Memory
 IsOfReading reader.Ended e = e ≡ fault.Memory
 
--- a fault is that of the reader where this failed, and nowhere else
+-- a fault is that of the reader if this failed, and else it is not
 abbrev pub TellsRead : ReaderState → RunFault → Type 0
 TellsRead reader.Failed e = IsRead e
 TellsRead reader.Open e = IsRead e → ⊥

@@ -14,15 +14,15 @@ use Rattle.krb_ccache.specs.Reading.{Items}
 use Rattle.krb_ccache.specs.Streaming.{Reads as ReadsCredentials, credentials}
 use Rattle.krb_ccache.specs.declared.credentials.State.{State as CredentialsState}
 use Rattle.krb_list.specs.Text.{line_feed}
-use Rattle.krb_list.specs.Keytabs.{record_text}
-use Rattle.krb_list.specs.Ccaches.{credential_line}
-use Rattle.krb_list.specs.Refusals.{file_refused_line}
+use Rattle.krb_tool.specs.Lines.{record_text}
+use Rattle.krb_tool.specs.Lines.{credential_line}
+use Rattle.krb_tool.specs.Lines.{file_refused_line}
 use Rattle.krb_tool.specs.declared.run.RunEnd.{RunEnd}
 use Rattle.krb_tool.specs.declared.run.RunEnd.TheVariants as run
 use Rattle.krb_tool.specs.declared.run.RunFault.{RunFault}
 use Rattle.krb_tool.specs.Files.{RecordListing, after_line, end_of, field_limit, keytab_last, ccache_last, refused_listing}
 
--- What is added to a text where this is left to be listed: a line, after which others are left; or the last line, where it alone was left.
+-- What is added to a text if this is left to be listed: a line, after which others are left, or the last line, if it alone is left.
 abbrev pub AddsLine : (RecordListing → Type 0) → RecordListing → List ℕ → List ℕ → Result (Option RunEnd) RunFault → Type 0
 AddsLine IsLeft left old new (Ok None) = (line : List ℕ) × (others : RecordListing) × (new ≡ old ++ line) × (left ≡ after_line line others) × IsLeft others
 AddsLine IsLeft left old new (Ok (Some ended)) = (new ≡ old ++ left.last) × (left.lines ≡ []) × (ended ≡ left.end)
@@ -38,7 +38,7 @@ AddsRefusal (faults.Refused place why) old new ended = Adds (file_refused_line p
 AddsRefusal faults.Read old new ended = ⊥
 AddsRefusal faults.Memory old new ended = ⊥
 
--- a front of a text was written, and the rest is kept
+-- the beginning of a text was written, and the rest is kept
 abbrev pub Moves : Option (List ℕ) → Option (List ℕ) → List ℕ → List ℕ → Type 0
 Moves held holds old new = (front : List ℕ) × Appends held holds front × (old ≡ front ++ new)
 
@@ -58,13 +58,13 @@ pub record AreRecordsLeft (held : Held) (state : RecordsState) (count : ℕ) (le
   pub reads : ReadsRecords field_limit held state file count
   pub is : left ≡ records_left count (keytab_records field_limit file)
 
--- The same of credentials, at a time where one is given.
+-- The same of credentials, at a time if one is given.
 pub record AreCredentialsLeft (held : Held) (start : Start) (state : CredentialsState) (now : Option ℕ) (count : ℕ) (left : RecordListing) : Type 0 where
   pub file : List ℕ
   pub reads : ReadsCredentials field_limit held start state file count
   pub is : left ≡ credentials_left now count (credentials field_limit file)
 
--- where a file is refused, the line of the refusal is what is left
+-- if a file is refused, the line of the refusal is what is left
 abbrev pub IsRefusal : FileFault → RecordListing → Type 0
 IsRefusal (faults.Refused place why) left = left ≡ refused_listing (record { place = place; why = why })
 IsRefusal faults.Read left = Unit {0}

@@ -1,10 +1,8 @@
-use Rattle.std.proofs.Common.{◌∙◌, ap, length}
 use Rattle.std.proofs.lemmas.Result.{on_ok_weaker}
-use Rattle.krb_list.proofs.Counts.{counted}
+use Rattle.krb_list.proofs.Appended.{two_fields}
 use Rattle.krb_list.proofs.credential.put_counts.Goals as goal
 
 pub returns : goal.returns
 returns c =
-    on_ok_weaker c.put_labelled-2.result
-    (λ e. e ∙ counted _ _ c.args.credential.now _ _ c.in_ok-put_labelled.ensures (ap length c.as_slice.ensures) (ap length c.as_slice-2.ensures))
-    c.put_labelled-2.ensures
+    let first = rw c.address_count.ensures at c.in_ok-put_field.ensures in
+    on_ok_weaker c.put_field-2.result (λ e. two_fields _ _ _ first (rw c.authdata_count.ensures at e)) c.put_field-2.ensures

@@ -1,11 +1,11 @@
-use Rattle.krb_list.proofs.CcacheOneLine.{cache_line, credential_shown, cache_end_line}
+use Rattle.krb_list.proofs.FileOneLine.{cache_shown, credential_shown, cache_end_shown}
 use Rattle.krb_list.proofs.law.ccache_is_one_line_each.Goals as goal
 
 pub returns-clause-cache : goal.returns-clause-cache
-returns-clause-cache c = cache_line
+returns-clause-cache c = cache_shown
 
 pub returns-clause-credential : goal.returns-clause-credential
 returns-clause-credential c = credential_shown
 
 pub returns-clause-end : goal.returns-clause-end
-returns-clause-end c = cache_end_line
+returns-clause-end c = cache_end_shown

@@ -1,8 +1,8 @@
-use Rattle.krb_list.proofs.KeytabOneLine.{record_line, keytab_end_line}
+use Rattle.krb_list.proofs.FileOneLine.{record_shown, keytab_end_shown}
 use Rattle.krb_list.proofs.law.keytab_is_one_line_each.Goals as goal
 
 pub returns-clause-record : goal.returns-clause-record
-returns-clause-record c = record_line
+returns-clause-record c = record_shown
 
 pub returns-clause-end : goal.returns-clause-end
-returns-clause-end c = keytab_end_line
+returns-clause-end c = keytab_end_shown

@@ -1,5 +1,5 @@
 use Rattle.krb_der.proofs.Shapes.{ascii-from_time}
 use Rattle.krb_list.proofs.view_field.put_time_field.Goals as goal
 
-pub put_ascii-requires : goal.put_ascii-requires
-put_ascii-requires c = ascii-from_time 14 _ c.requires
+pub new-requires : goal.new-requires
+new-requires c = ascii-from_time 14 _ c.requires

@@ -1,6 +1,6 @@
 use Rattle.std.proofs.Common.{◌≡◌, ◌<◌, ◌≤◌, List, ℕ, [], length, take, refl, ◌∙◌, ap, arith, rules}
 use Rattle.std.proofs.KnownBytes.{Consumes-trans, Consumes-kept}
-use Rattle.krb_tool.proofs.Runs.{written-slice}
+use Rattle.krb_tool.proofs.StreamRuns.{written-slice}
 use Rattle.krb_tool.proofs.Files.{KeepsFront-start, KeepsFront-fed, TakesFront-made, some-taken}
 use Rattle.krb_tool.proofs.file_run.read_all.Goals as goal
 

@@ -2,7 +2,7 @@ use Rattle.std.proofs.Common.{◌≡◌, ◌++◌, ℕ, List, ◌∙◌, ap, ap�
 use Rattle.std.proofs.lemmas.Result.{err_from_is_err_and}
 use Rattle.krb_ccache.specs.Streaming.{credentials}
 use Rattle.krb_list.specs.Text.{line_feed}
-use Rattle.krb_list.specs.Ccaches.{cache_text}
+use Rattle.krb_tool.specs.Lines.{cache_text}
 use Rattle.krb_tool.specs.Files.{RecordListing, after_line, field_limit, credentials_listing, ccache_listing, ListsRecords}
 use Rattle.krb_tool.proofs.Records.{none_written}
 use Rattle.krb_tool.proofs.CredentialLines.{all_left, first_line, start_refused}

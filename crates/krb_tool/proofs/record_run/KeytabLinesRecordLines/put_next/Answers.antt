@@ -2,11 +2,11 @@ use Rattle.std.proofs.Common.{None, Ok, refl, string_bytes}
 use Rattle.krb_tool.proofs.KeytabLines.{record_added, stop_added, refusal_added}
 use Rattle.krb_tool.proofs.record_run.KeytabLinesRecordLines.put_next.Goals as goal
 
-pub returns-in_ok-put_record-in-Ok-Item-clause-line : goal.returns-in_ok-put_record-in-Ok-Item-clause-line
-returns-in_ok-put_record-in-Ok-Item-clause-line g c = λ left is_left.
+pub returns-in_ok-add_record-in-Ok-Item-clause-line : goal.returns-in_ok-add_record-in-Ok-Item-clause-line
+returns-in_ok-add_record-in-Ok-Item-clause-line g c = λ left is_left.
     let old = c.args.self.now.records in
     let new = c.next_record.new.self in
-    rw (c.give_back.ensures.same_reader, c.give_back.ensures.same_state) (record_added old.reader new.reader old.state new.state c.args.count left (string_bytes c.args.text.now) (string_bytes c.put_record.new.text) is_left c.in-Ok-Item.record (Ok None) (rw c.in-Ok-Item.field-0-is at c.in-Ok-Item.ensures.next) (refl, c.in_ok-put_record-in-Ok-Item.ensures.line))
+    rw (c.give_back.ensures.same_reader, c.give_back.ensures.same_state) (record_added old.reader new.reader old.state new.state c.args.count left (string_bytes c.args.text.now) (string_bytes c.add_record.new.text) is_left c.in-Ok-Item.record (Ok None) (rw c.in-Ok-Item.field-0-is at c.in-Ok-Item.ensures.next) (refl, c.in_ok-add_record-in-Ok-Item.ensures.line))
 
 pub returns-in-Ok-Done-clause-line : goal.returns-in-Ok-Done-clause-line
 returns-in-Ok-Done-clause-line g c = λ left is_left.

@@ -1,0 +1,72 @@
+-- What is printed, before it is text: records. A record is a kind and fields, a field is a name and a value.
+use Rattle.std.specs.Prelude.{ℕ, ℤ, pos, Bool, List, Option, Some, None, length}
+use Rattle.krb_der.specs.declared.verdict.Refusal.{Refusal}
+use Rattle.krb_msg.specs.declared.checksum.Checksum.{Checksum}
+use Rattle.krb_msg.specs.declared.encrypted_data.EncryptedData.{EncryptedData}
+use Rattle.krb_msg.specs.declared.host_address.HostAddress.{HostAddress}
+use Rattle.krb_msg.specs.declared.principal_name.PrincipalName.{PrincipalName}
+use Rattle.krb_registry.specs.declared.registry.Registry.{Registry}
+
+-- A number has a name if its registry has one. Of what is sealed, of a checksum and of a key, there is the number of octets and none of these.
+pub data Value : Type 0 where
+  Absent : Value
+  NoTicket : Value
+  Number : (number : ℤ) → Value
+  Named : (registry : Registry) → (number : ℤ) → Value
+  Numbers : (registry : Registry) → (numbers : List ℤ) → Value
+  ErrorCode : (code : ℤ) → Value
+  Reason : (number : ℕ) → (name : List ℕ) → Value
+  String : (octets : List ℕ) → Value
+  Quoted : (octets : List ℕ) → Value
+  FileName : (octets : List ℕ) → Value
+  Word : (text : List ℕ) → Value
+  Flags : (registry : Registry) → (bits : ℕ × List ℕ) → Value
+  TicketFlags : (flags : ℕ) → Value
+  Sealed : (etype : ℤ) → (kvno : Option ℤ) → (size : ℕ) → Value
+  Principal : (name_type : ℤ) → (components : List (List ℕ)) → (realm : List ℕ) → Value
+  Address : (addr_type : ℤ) → (octets : List ℕ) → Value
+  Digest : (cksumtype : ℤ) → (size : ℕ) → Value
+  YesNo : (holds : Bool) → Value
+  Offset : (seconds : ℤ) → (microseconds : ℤ) → Value
+  RefusedTicket : (refusal : Refusal) → Value
+
+pub record Field : Type 0 where
+  pub name : List ℕ
+  pub value : Value
+
+pub record Printed : Type 0 where
+  pub kind : List ℕ
+  pub fields : List Field
+
+abbrev pub the : List ℕ → Value → Field
+the name value = record { name = name; value = value }
+
+abbrev pub printed : List ℕ → List Field → Printed
+printed kind fields = record { kind = kind; fields = fields }
+
+-- ---- the values of parts of messages
+-- of an optional part
+abbrev pub if_there : {A : Type 0} → (A → Value) → Option A → Value
+if_there value None = Absent
+if_there value (Some a) = value a
+
+-- how many there are
+abbrev pub count : {A : Type 0} → List A → Value
+count values = Number (pos (length values))
+
+abbrev pub sealed : EncryptedData → Value
+sealed e = Sealed e.etype e.kvno (length e.cipher)
+
+abbrev pub principal : List ℕ → PrincipalName → Value
+principal realm name = Principal name.name_type name.name realm
+
+-- a client, if its name and its realm are both there
+abbrev pub client : Option PrincipalName → Option (List ℕ) → Value
+client (Some name) (Some realm) = principal realm name
+client name realm = Absent
+
+abbrev pub address : HostAddress → Value
+address a = Address a.addr_type a.address
+
+abbrev pub checksum : Checksum → Value
+checksum c = Digest c.cksumtype (length c.checksum)

@@ -1,0 +1,187 @@
+-- A run over a stream, piece by piece, whatever lists it.
+use Rattle.std.proofs.Common.{◌≡◌, ℕ, ◌+◌, ◌^◌, ◌<◌, ◌≤◌, inl, inr, Bool, true, false, List, [], ◌++◌, length, take, Option, Result, Ok, Err, IfErr, refl, sym, ◌∙◌, ap, subst, arith, append-nil, append_assoc}
+use Rattle.std.proofs.lemmas.List.{take_at}
+use Rattle.std.specs.Io.KnownBytes.{Consumes, Appends, Keeps}
+use Rattle.std.proofs.KnownBytes.{Consumes-nil, Consumes-trans, Consumes-kept, Appends-nil, Appends-trans}
+use Rattle.krb_tool.specs.Faults.{IsRead, IsWrite}
+use Rattle.krb_tool.specs.Files.{AddsFront}
+use Rattle.krb_tool.specs.Listing.{WritesFront}
+use Rattle.krb_tool.specs.inner.Streams.{Request, Rules, with_piece, with_lines, Listing, IsNew, MayTake, Feeds, Clears, MayFinish, Finishes, FailsBy, Runs, IsOver, RunsOn, Reads, FailsToRead, ListsBy}
+use Rattle.krb_tool.specs.inner.Transfers.{Gives}
+use Rattle.krb_tool.specs.declared.run.RunEnd.{RunEnd}
+use Rattle.krb_tool.specs.declared.run.RunFault.{RunFault}
+use Rattle.krb_tool.specs.declared.run.RunFault.TheVariants as fault
+
+-- a vector whose slice was written holds what the slice holds
+pub written-slice : (n : ℕ) (slice rest now : List ℕ) → now ≡ take n (slice ++ rest) → length slice ≡ n → slice ≡ now
+written-slice n slice rest now e l = sym (e ∙ take_at slice rest n l)
+
+-- ---- the beginning of a text
+AddsFront-after : (held holds after : Option (List ℕ)) (written text : List ℕ) → Appends held holds written → AddsFront holds after text → AddsFront held after (written ++ text)
+AddsFront-after held holds after written text a f = record {
+  front = written ++ f.front;
+  rest = f.rest;
+  added = Appends-trans held holds after written f.front a f.added;
+  whole = ap (λ t. written ++ t) f.whole ∙ sym (append_assoc written f.front f.rest);
+}
+
+AddsFront-longer : (held holds : Option (List ℕ)) (text more : List ℕ) → AddsFront held holds text → AddsFront held holds (text ++ more)
+AddsFront-longer held holds text more f = record {
+  front = f.front;
+  rest = f.rest ++ more;
+  added = f.added;
+  whole = ap (λ t. t ++ more) f.whole ∙ append_assoc f.front f.rest more;
+}
+
+-- ---- which fault it is
+failed-memory : {T : Type 0} (r : Result T RunFault) (rules : Rules) (had left held holds : Option (List ℕ)) → IfErr r (λ e. e ≡ fault.Memory) → WritesFront rules.AreLines had left held holds → IfErr r (FailsBy rules had left held holds)
+failed-memory (Ok x) rules had left held holds is p = tt
+failed-memory (Err e) rules had left held holds is p = subst (FailsBy rules had left held holds) (sym is) p
+
+failed-write : {T : Type 0} (r : Result T RunFault) (rules : Rules) (had left held holds : Option (List ℕ)) → IfErr r IsWrite → WritesFront rules.IsListing had left held holds → IfErr r (FailsBy rules had left held holds)
+failed-write (Ok x) rules had left held holds is p = tt
+failed-write (Err (fault.Write e)) rules had left held holds is p = p
+failed-write (Err (fault.Read e)) rules had left held holds is p = absurd is
+failed-write (Err fault.Memory) rules had left held holds is p = absurd is
+
+-- ---- lines that are written in part
+lines_front : (rules : Rules) (had left held holds : Option (List ℕ)) (octets written text : List ℕ) → Consumes had left octets → Appends held holds written → rules.AreLines octets (written ++ text) → WritesFront rules.AreLines had left held holds
+lines_front rules had left held holds octets written text taken added lines = record {
+  read = octets;
+  text = written ++ text;
+  taken = taken;
+  is_text = lines;
+  added = record { front = written; rest = text; added = added; whole = refl };
+}
+
+-- ---- a piece is read
+module _ (rules : Request → Rules) (left left' : Option (List ℕ)) (asks asks' room : ℕ) (piece : List ℕ) (old : Listing) (given : Gives left left' piece room) (counted : asks' ≡ asks + 1) where
+  -- the lister took it
+  pub Reads-fed : (new : Listing) (goes_on : Bool) → Feeds rules old piece new goes_on → Reads rules left asks old left' asks' new goes_on
+  Reads-fed new true fed = λ request had held holds r. record {
+    come = with_piece r.come piece;
+    taken = Consumes-trans had left left' r.come.octets piece r.taken given.taken;
+    added = r.added;
+    pieces = ap (λ n. n + 1) r.pieces ∙ sym counted;
+    waits = fed request r.come r.waits.waits;
+  }
+  Reads-fed new false fed = λ request had held holds r.
+      let stops = fed request r.come r.waits.waits in
+      record {
+        come = with_piece r.come piece;
+        taken = Consumes-trans had left left' r.come.octets piece r.taken given.taken;
+        added = r.added;
+        pieces = omega (arith, r.pieces);
+        last = inr stops.stops;
+        lines = stops.lines;
+      }
+
+  -- the reader has ended
+  pub Reads-end : piece ≡ [] → 0 < room → Reads rules left asks old left' asks' old false
+  Reads-end none some = λ request had held holds r. record {
+    come = r.come;
+    taken = subst (Consumes had left') (ap (λ l. r.come.octets ++ l) none ∙ append-nil r.come.octets) (Consumes-trans had left left' r.come.octets piece r.taken given.taken);
+    added = r.added;
+    pieces = omega (arith, r.pieces);
+    last = inl (r.waits.waits, given.ended none some);
+    lines = subst (λ o. (rules request).AreLines o (r.come.written ++ old.text)) (append-nil r.come.octets) (r.waits.begins.lines []);
+  }
+
+  -- memory ran out
+  pub FailsToRead-fed : {T : Type 0} (r : Result T RunFault) → IfErr r (λ e. e ≡ fault.Memory) → IfErr r (FailsToRead rules left asks old left')
+  FailsToRead-fed (Ok x) is = tt
+  FailsToRead-fed (Err e) is = subst (FailsToRead rules left asks old left') (sym is) (λ request had held holds r.
+      lines_front (rules request) had left' held holds (r.come.octets ++ piece) r.come.written old.text (Consumes-trans had left left' r.come.octets piece r.taken given.taken) r.added (r.waits.begins.lines piece))
+
+-- a read failed
+pub FailsToRead-asked : {T : Type 0} (r : Result T RunFault) (rules : Request → Rules) (left left' : Option (List ℕ)) (asks : ℕ) (lister : Listing) → IfErr r IsRead → Keeps left left' → IfErr r (FailsToRead rules left asks lister left')
+FailsToRead-asked (Ok x) rules left left' asks lister is kept = tt
+FailsToRead-asked (Err (fault.Read e)) rules left left' asks lister is kept = λ request had held holds r.
+    lines_front (rules request) had left' held holds (r.come.octets ++ []) r.come.written lister.text (subst (Consumes had left') (sym (append-nil r.come.octets)) (Consumes-kept had left left' r.come.octets r.taken kept)) r.added (r.waits.begins.lines [])
+FailsToRead-asked (Err (fault.Write e)) rules left left' asks lister is kept = absurd is
+FailsToRead-asked (Err fault.Memory) rules left left' asks lister is kept = absurd is
+
+-- ---- the lines of pieces are written
+module _ {rules : Rules} {request : Request} {had left held holds : Option (List ℕ)} {asks : ℕ} {lister : Listing} where
+  pub runs_on : (goes_on : Bool) → goes_on ≡ true → RunsOn goes_on rules request had left held holds asks lister → Runs rules request had left held holds asks lister
+  runs_on true e r = r
+  runs_on false e r = absurd cc
+
+  pub is_over : (goes_on : Bool) → goes_on ≡ false → RunsOn goes_on rules request had left held holds asks lister → IsOver rules request had left held holds asks lister
+  is_over true e r = absurd cc
+  is_over false e r = r
+
+  pub MayTake-runs : Runs rules request had left held holds asks lister → asks ≤ 2 ^ 40 → MayTake lister
+  MayTake-runs r few = record { request = request; taken = r.come; waits = r.waits.waits; few = omega (arith, r.pieces) }
+
+  -- the lines were written
+  pub Runs-written : (holds' : Option (List ℕ)) (new : Listing) → Runs rules request had left held holds asks lister → Appends holds holds' lister.text → Clears lister new → Runs rules request had left held holds' asks new
+  Runs-written holds' new r a o =
+      let same : r.come.written ++ lister.text ≡ (r.come.written ++ lister.text) ++ new.text = sym (append-nil (r.come.written ++ lister.text)) ∙ ap (λ t. (r.come.written ++ lister.text) ++ t) (sym o.none) in
+      record {
+        come = with_lines r.come lister.text;
+        taken = r.taken;
+        added = Appends-trans held holds holds' r.come.written lister.text r.added a;
+        pieces = r.pieces;
+        waits = record {
+          waits = o.waits request r.come r.waits.waits;
+          begins = record {
+            lines = λ more. subst (rules.AreLines (r.come.octets ++ more)) same (r.waits.begins.lines more);
+            rest = r.waits.begins.rest;
+            listing = subst (λ t. rules.IsListing r.come.octets (t ++ r.waits.begins.rest)) same r.waits.begins.listing;
+          };
+        };
+      }
+
+  -- the lines were to be written
+  pub Fails-written : {T : Type 0} (r : Result T RunFault) (holds' : Option (List ℕ)) → Runs rules request had left held holds asks lister → IfErr r IsWrite → AddsFront holds holds' lister.text → IfErr r (FailsBy rules had left held holds')
+  Fails-written r holds' runs is f =
+      failed-write r rules had left held holds' is
+      (record {
+        read = runs.come.octets;
+        text = (runs.come.written ++ lister.text) ++ runs.waits.begins.rest;
+        taken = runs.taken;
+        is_text = runs.waits.begins.listing;
+        added = AddsFront-longer held holds' (runs.come.written ++ lister.text) runs.waits.begins.rest (AddsFront-after held holds holds' runs.come.written lister.text runs.added f);
+      })
+
+  -- ---- the end
+  pub MayFinish-over : IsOver rules request had left held holds asks lister → asks ≤ 2 ^ 40 → MayFinish lister
+  MayFinish-over r few = record { request = request; taken = r.come; left = left; last = r.last; few = omega (arith, r.pieces) }
+
+  -- memory ran out
+  pub Fails-ended : {T : Type 0} (r : Result T RunFault) → IsOver rules request had left held holds asks lister → IfErr r (λ e. e ≡ fault.Memory) → IfErr r (FailsBy rules had left held holds)
+  Fails-ended r over is = failed-memory r rules had left held holds is (lines_front rules had left held holds over.come.octets over.come.written lister.text over.taken over.added over.lines)
+
+-- the lines of the end
+module _ (rules : Request → Rules) {request : Request} {had left held holds : Option (List ℕ)} {asks : ℕ} {lister : Listing} where
+  -- they were written
+  pub Lists-made : (holds' : Option (List ℕ)) (new : Listing) (ended : RunEnd) → IsOver (rules request) request had left held holds asks lister → Finishes rules lister new ended → Appends holds holds' new.text → ListsBy (rules request) had left held holds' ended
+  Lists-made holds' new ended r f a = record {
+    read = r.come.octets;
+    written = r.come.written ++ new.text;
+    taken = r.taken;
+    added = Appends-trans held holds holds' r.come.written new.text r.added a;
+    listing = f request r.come left r.last;
+  }
+
+  -- they were to be written
+  pub Fails-last : {T : Type 0} (r : Result T RunFault) (holds' : Option (List ℕ)) (new : Listing) (ended : RunEnd) → IsOver (rules request) request had left held holds asks lister → Finishes rules lister new ended → IfErr r IsWrite → AddsFront holds holds' new.text → IfErr r (FailsBy (rules request) had left held holds')
+  Fails-last r holds' new ended over f is front =
+      let e = f request over.come left over.last in
+      failed-write r (rules request) had left held holds' is
+      (record { read = over.come.octets; text = over.come.written ++ new.text; taken = over.taken; is_text = e.listing; added = AddsFront-after held holds holds' over.come.written new.text over.added front })
+
+-- ---- nothing was read
+module _ (rules : Rules) (request : Request) (had held : Option (List ℕ)) (lister : Listing) (new : IsNew rules request lister) where
+  pub Runs-start : (asks : ℕ) → asks ≡ 0 → Runs rules request had had held held asks lister
+  Runs-start asks none = record {
+    come = record { pieces = 0; octets = []; written = [] };
+    taken = Consumes-nil had;
+    added = Appends-nil held;
+    pieces = sym none;
+    waits = new.waits;
+  }
+
+  pub Fails-start : {T : Type 0} (r : Result T RunFault) → IfErr r (λ e. e ≡ fault.Memory) → IfErr r (FailsBy rules had had held held)
+  Fails-start r is = failed-memory r rules had had held held is (lines_front rules had had held held [] [] lister.text (Consumes-nil had) (Appends-nil held) (new.waits.begins.lines []))

@@ -1,0 +1,29 @@
+use Rattle.std.proofs.Common.{◌≡◌, [], refl, sym, ◌∙◌, ap, subst, arith}
+use Rattle.krb_msg.specs.Grammar.{messages}
+use Rattle.krb_frame.specs.Decoding.{status_of}
+use Rattle.krb_frame.specs.GoingOn.{GoesOn}
+use Rattle.krb_frame.proofs.Founds.{more-nothing}
+use Rattle.krb_tool.specs.inner.Pieces.{request_of}
+use Rattle.krb_tool.specs.inner.CountingListers.{counting}
+use Rattle.krb_tool.proofs.KnownLengths.{none_unknown}
+use Rattle.krb_tool.proofs.Pieces.{IsNew-made}
+use Rattle.krb_tool.proofs.CountedPieces.{Begins-waits}
+use Rattle.krb_tool.proofs.going_on.CountingListerListStream.new.Goals as goal
+
+pub returns : goal.returns
+returns c =
+    let nothing = c.with_profile-decoder.ensures.nothing in
+    let same : c.new.result.current ≡ c.with_profile-decoder.result = ap (λ s. s.current) c.new.ensures.decoder in
+    IsNew-made counting Begins-waits (ap request_of (same ∙ nothing))
+    (record {
+      listed = record {
+        listed = [];
+        goes_on = subst (λ d. GoesOn (messages d.profile) c.new.result [] []) (sym same) (c.new.ensures.goes_on (ap (λ d. d.octets) nothing));
+        known = none_unknown;
+        lines = c.new-2.ensures.bytes;
+        messages = refl;
+        refused = refl;
+      };
+      waits = ap (λ d. status_of (messages d.profile) d) (same ∙ nothing) ∙ more-nothing (messages c.args.profile) c.args.profile c.args.limit _ _;
+      few = omega arith;
+    })

@@ -1,0 +1,21 @@
+use Rattle.std.proofs.Common.{◌≡◌, [], refl, sym, ◌∙◌, ap, subst, arith}
+use Rattle.krb_msg.specs.Grammar.{messages}
+use Rattle.krb_frame.specs.Decoding.{status_of}
+use Rattle.krb_frame.specs.Stands.{Stands}
+use Rattle.krb_frame.proofs.Founds.{more-nothing}
+use Rattle.krb_tool.specs.inner.Pieces.{request_of}
+use Rattle.krb_tool.specs.inner.Listers.{stopping}
+use Rattle.krb_tool.proofs.Pieces.{IsNew-made}
+use Rattle.krb_tool.proofs.ListedPieces.{Begins-waits}
+use Rattle.krb_tool.proofs.listing.ListerListStream.new.Goals as goal
+
+pub returns : goal.returns
+returns c =
+    let nothing = c.with_profile.ensures.nothing in
+    let profile : c.with_profile.result.profile ≡ c.args.profile = ap (λ d. d.profile) nothing in
+    IsNew-made stopping Begins-waits (ap request_of nothing)
+    (record {
+      listed = record { messages = []; stands = subst (λ p. Stands (messages p) c.with_profile.result [] []) (sym profile) c.with_profile.ensures.stands; lines = c.new.ensures.bytes; counted = refl };
+      waits = ap (λ d. status_of (messages d.profile) d) nothing ∙ more-nothing (messages c.args.profile) c.args.profile c.args.limit _ _;
+      few = omega arith;
+    })

@@ -1,0 +1,68 @@
+use Rattle.std.proofs.Common.{◌∙◌, ◌^◌, ◌≤◌, refl, subst, arith, rules}
+use Rattle.std.specs.Io.KnownBytes.{Appends}
+use Rattle.std.proofs.lemmas.Result.{err_from_is_err_and}
+use Rattle.krb_tool.specs.Files.{AddsFront}
+use Rattle.krb_tool.proofs.StreamRuns.{runs_on, is_over, MayTake-runs, Runs-written, Fails-written, MayFinish-over, Fails-ended, Lists-made, Fails-last, Runs-start, Fails-start}
+use Rattle.krb_tool.proofs.stream_run.list_all.Goals as goal
+
+pub returns-in_err-buffer-clause-fault : goal.returns-in_err-buffer-clause-fault
+returns-in_err-buffer-clause-fault g c = Fails-start _ _ _ _ _ c.new-lister.ensures _ (search rules)
+
+pub pieces-init : goal.pieces-init
+pieces-init g c = record {
+  size = c.in_ok-buffer.ensures.len;
+  opens = c.requires.open;
+  same_reader = refl;
+  runs = Runs-start _ _ _ _ _ c.new-lister.ensures _ c.requires.none;
+}
+
+pub feed_next-requires-clause-waits : goal.feed_next-requires-clause-waits
+feed_next-requires-clause-waits g c = MayTake-runs c.pieces.invariant.runs c.pieces.asked.few
+
+pub returns-in_err-feed_next-clause-fault : goal.returns-in_err-feed_next-clause-fault
+returns-in_err-feed_next-clause-fault g c =
+    let p = err_from_is_err_and c.from_residual-in_err-feed_next.result c.from_residual-in_err-feed_next.ensures.1 in
+    rw (p.1, p.2) (c.in_err-feed_next.ensures.fault _ _ _ _ c.pieces.invariant.runs)
+
+pub returns-in_err-write_all-clause-fault : goal.returns-in_err-write_all-clause-fault
+returns-in_err-write_all-clause-fault g c =
+    let runs = runs_on _ c.if-branch.true (c.in_ok-feed_next.ensures.fed _ _ _ _ c.pieces.invariant.runs) in
+    let front = subst (AddsFront _ _) (c.as_bytes.ensures.value ∙ c.text.ensures) c.in_err-write_all.ensures.front in
+    Fails-written _ _ runs (search rules) front
+
+pub pieces-smaller : goal.pieces-smaller
+pieces-smaller g c =
+    let few : c.feed_next.new.asked.made ≤ 2 ^ 40 = c.feed_next.new.asked.few in
+    omega (arith, c.in_ok-feed_next.ensures.counted)
+
+pub pieces-preserved : goal.pieces-preserved
+pieces-preserved g c =
+    let runs = runs_on _ c.if-branch.true (c.in_ok-feed_next.ensures.fed _ _ _ _ c.pieces.invariant.runs) in
+    let written = subst (Appends _ _) (c.as_bytes.ensures.value ∙ c.text.ensures) c.in_ok-write_all.ensures.all in
+    record {
+      size = c.pieces.invariant.size;
+      opens = c.in_ok-feed_next.ensures.open c.if-branch.true;
+      same_reader = c.feed_next.ensures.same_reader ∙ c.pieces.invariant.same_reader;
+      runs = Runs-written _ _ runs written c.clear_text.ensures;
+    }
+
+-- ---- the end
+pub finish-requires : goal.finish-requires
+finish-requires g c = MayFinish-over (is_over _ c.if-branch.false (c.in_ok-feed_next.ensures.fed _ _ _ _ c.pieces.invariant.runs)) c.feed_next.new.asked.few
+
+pub returns-in_err-ended-clause-fault : goal.returns-in_err-ended-clause-fault
+returns-in_err-ended-clause-fault g c =
+    let over = is_over _ c.if-branch.false (c.in_ok-feed_next.ensures.fed _ _ _ _ c.pieces.invariant.runs) in
+    Fails-ended _ over (search rules)
+
+pub returns-in_err-write_all-2-clause-fault : goal.returns-in_err-write_all-2-clause-fault
+returns-in_err-write_all-2-clause-fault g c =
+    let over = is_over _ c.if-branch.false (c.in_ok-feed_next.ensures.fed _ _ _ _ c.pieces.invariant.runs) in
+    let front = subst (AddsFront _ _) (c.as_bytes-2.ensures.value ∙ c.text-2.ensures) c.in_err-write_all-2.ensures.front in
+    Fails-last g.L.ListStream.rules _ _ (g.L.ListStream.listing c.finish.new.self) _ over c.in_ok-ended.ensures (search rules) front
+
+pub returns-clause-listed : goal.returns-clause-listed
+returns-clause-listed g c =
+    let over = is_over _ c.if-branch.false (c.in_ok-feed_next.ensures.fed _ _ _ _ c.pieces.invariant.runs) in
+    let written = subst (Appends _ _) (c.as_bytes-2.ensures.value ∙ c.text-2.ensures) c.in_ok-write_all-2.ensures.all in
+    Lists-made g.L.ListStream.rules _ (g.L.ListStream.listing c.finish.new.self) _ over c.in_ok-ended.ensures written

@@ -1,0 +1,96 @@
+//! Runs over streams, which are listed as their octets come.
+
+ghost use Rattle.std.specs.Prelude.{◌≡◌, ◌+◌, ◌^◌, ◌≤◌, length, IsTrue, IfErr, IfOk, OnOk};
+ghost use Rattle.krb_tool.specs.declared.transfer.ReaderState.TheVariants as reader;
+ghost use Rattle.krb_tool.specs.inner.Streams.{Request, Rules, Listing, IsNew, MayTake, Feeds, Clears, MayFinish, Finishes, ListsBy, FailsBy, Reads, FailsToRead};
+
+use crate::run::{PIECE_OCTETS, RunEnd, RunFault};
+use crate::transfer::{Asked, write_all};
+use krb_der::Profile;
+use krb_frame::Limit;
+use std::alloc::{AllocError, Global};
+use std::io::{Read, Write};
+
+/// A lister of a stream whose octets come in pieces.
+pub(crate) trait ListStream: Drop {
+    /// What is written of the octets of a stream.
+    ghost rules: { Request → Rules };
+
+    /// What contracts see of it.
+    ghost listing: { Self → Listing };
+
+    /// Returns the lister of a stream of which nothing came yet.
+    fn new(alloc: Global, profile: Profile, limit: Limit) -> Self
+        ensures { let request : Request = record { profile = profile; limit = limit } in IsNew (rules request) request (listing result) };
+
+    /// Takes the next piece of the stream, adds the lines of its frames, and returns whether the
+    /// stream goes on.
+    fn feed(&mut self, piece: &[u8]) -> Result<bool, RunFault>
+        requires waits { MayTake (listing self.old) }
+        requires short { length piece.now ≤ 65536 }
+        ensures fed { IfOk result (Feeds rules (listing self.old) piece.now (listing self.new)) }
+        ensures fault { IfErr result (λ e. e ≡ RunFault.Memory) };
+
+    /// Returns the lines that are not written yet.
+    fn text(&self) -> &str
+        ensures { result.now ≡ (listing self.now).text };
+
+    /// Forgets the lines, which are written.
+    fn clear_text(&mut self)
+        ensures { Clears (listing self.old) (listing self.new) };
+
+    /// Adds the lines of the end, and returns how the run ends.
+    fn finish(&mut self) -> Result<RunEnd, AllocError>
+        requires { MayFinish (listing self.old) }
+        ensures { IfOk result (Finishes rules (listing self.old) (listing self.new)) };
+}
+
+/// Reads the next piece of a stream and feeds it to a lister. Returns whether the stream goes on,
+/// which it does not after its end.
+fn feed_next<L: ListStream, R: Read>(
+    lister: &mut L,
+    asked: &mut Asked<'_, R>,
+    buffer: &mut [u8],
+) -> Result<bool, RunFault>
+    requires waits { MayTake (L.listing lister.old) }
+    requires open { asked.old.state ≡ reader.Open }
+    requires size { length buffer.old ≡ 65536 }
+    ensures same_reader { asked.new.reader.ghost_name ≡ asked.old.reader.ghost_name }
+    ensures counted { OnOk result (asked.new.made ≡ asked.old.made + 1) }
+    ensures open { IfOk result (λ goes_on. IsTrue goes_on → asked.new.state ≡ reader.Open) }
+    ensures fed { IfOk result (Reads L.rules (R.remaining asked.old.reader.now) asked.old.made (L.listing lister.old) (R.remaining asked.new.reader.now) asked.new.made (L.listing lister.new)) }
+    ensures fault { IfErr result (FailsToRead L.rules (R.remaining asked.old.reader.now) asked.old.made (L.listing lister.old) (R.remaining asked.new.reader.now)) }
+{
+    let count = asked.ask(buffer)?;
+    if count == 0 {
+        return Ok(false);
+    }
+    lister.feed(&buffer[..count])
+}
+
+/// Lists a stream of which nothing was read yet. Its lines are written before its reader is asked
+/// again.
+pub(crate) fn list_all<L: ListStream, R: Read, W: Write>(
+    alloc: Global,
+    profile: Profile,
+    asked: &mut Asked<'_, R>,
+    writer: &mut W,
+    limit: Limit,
+) -> Result<RunEnd, RunFault>
+    requires none { asked.old.made ≡ 0 }
+    requires open { asked.old.state ≡ reader.Open }
+    ensures same_reader { asked.new.reader.ghost_name ≡ asked.old.reader.ghost_name }
+    ensures listed { IfOk result (ListsBy (L.rules (record { profile = profile; limit = limit })) (R.remaining asked.old.reader.now) (R.remaining asked.new.reader.now) (W.contents writer.old) (W.contents writer.new)) }
+    ensures fault { IfErr result (FailsBy (L.rules (record { profile = profile; limit = limit })) (R.remaining asked.old.reader.now) (R.remaining asked.new.reader.now) (W.contents writer.old) (W.contents writer.new)) }
+    ensures asks { asked.new.made ≤ 2 ^ 40 }
+{
+    let mut lister = L::new(alloc, profile, limit);
+    let mut buffer = vec![in alloc; 0u8; PIECE_OCTETS]?;
+    'pieces: while feed_next(&mut lister, asked, buffer.as_mut_slice())? {
+        write_all(writer, lister.text().as_bytes())?;
+        lister.clear_text();
+    }
+    let ended = lister.finish()?;
+    write_all(writer, lister.text().as_bytes())?;
+    Ok(ended)
+}

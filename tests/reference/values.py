@@ -1,0 +1,215 @@
+"""The values of a record's fields: each with its text in a line, the same with names, and its members in an object."""
+
+import time
+from typing import NamedTuple
+
+from .judging import REASONS
+from .registries import (
+    ADDRESS_TYPES,
+    CHECKSUM_TYPES,
+    ENCRYPTION_TYPES,
+    ERROR_CODES,
+    NAME_TYPES,
+    TICKET_FLAGS,
+)
+
+# The codes that have their names in every line.
+NAMED_CODES = (6, 7, 14, 24, 25, 37, 52, 60, 61)
+
+# The ticket flags of RFC 4120, which have their names in every line.
+OLDER_TICKET_FLAGS = {bit: name for bit, name in TICKET_FLAGS.items() if bit <= 13}
+
+
+class Value(NamedTuple):
+    text: str
+    text_with_names: str
+    member: object
+    # What the name of a second member has at its end, and that member: the names of numbers.
+    second_member: tuple = None
+
+
+def plain(text, member):
+    """A value without numbers that have names."""
+    return Value(text, text, member)
+
+
+ABSENT = plain("-", None)
+
+
+def optional(show, value):
+    return ABSENT if value is None else show(value)
+
+
+def number(value):
+    return plain(str(value), value)
+
+
+def count(items):
+    return number(len(items))
+
+
+def word(text):
+    return plain(text, text)
+
+
+def yes_or_no(holds):
+    return plain("yes" if holds else "no", holds)
+
+
+def escaped(octets, escapes="/@\\"):
+    """X: an octet is itself, or `\\x` and two digits."""
+    return "".join(
+        chr(octet) if 0x21 <= octet <= 0x7E and chr(octet) not in escapes else f"\\x{octet:02x}" for octet in octets
+    )
+
+
+def in_object(octets):
+    """Y: the same in an object, where a blank, `/` and `@` are themselves."""
+    return " ".join(escaped(part, "\\") for part in octets.split(b" "))
+
+
+def string(octets):
+    return plain(escaped(octets), in_object(octets))
+
+
+def quoted(octets):
+    return plain(f'"{escaped(octets)}"', in_object(octets))
+
+
+def file_name(octets):
+    return plain(escaped(octets, "\\"), in_object(octets))
+
+
+def message_time(octets):
+    return word(octets.decode("ascii"))
+
+
+def file_time(seconds):
+    """T"""
+    return word(time.strftime("%Y-%m-%dT%H:%M:%SZ", time.gmtime(seconds))) if seconds else ABSENT
+
+
+def with_name(value, registry):
+    """A number, and its name or `-`."""
+    return f"{value}:{registry.get(value, '-')}"
+
+
+def named(value, registry):
+    """A number that has a name if its registry has one."""
+    return Value(str(value), with_name(value, registry), value, ("_name", registry.get(value)))
+
+
+def error_code(value):
+    """C"""
+    code = named(value, ERROR_CODES)
+    return code._replace(text=code.text_with_names) if value in NAMED_CODES else code
+
+
+def reason(why, reasons=REASONS):
+    value = reasons.index(why) + 1
+    text = f"{value} {why}"
+    return Value(text, text, value, ("_name", why))
+
+
+def in_brackets(texts):
+    return f"[{','.join(texts)}]"
+
+
+def numbers(values, registry):
+    """LIST"""
+    return Value(
+        in_brackets(map(str, values)),
+        in_brackets(with_name(value, registry) for value in values),
+        values,
+        ("_names", [registry.get(value) for value in values]),
+    )
+
+
+def set_bits(octets):
+    """The numbers of the bits that are set; 0 is the highest of the first octet."""
+    return [8 * place + bit for place, octet in enumerate(octets) for bit in range(8) if octet & 0x80 >> bit]
+
+
+def bit_names(octets, registry):
+    """The names of the bits that are set and have one."""
+    return [registry[bit] for bit in set_bits(octets) if bit in registry]
+
+
+def by_name(octets, registry):
+    """G: the names, or `-`, and the octets of the other bits, if some of these are set."""
+    others = bytearray(len(octets))
+    for bit in set_bits(octets):
+        if bit not in registry:
+            others[bit // 8] |= 0x80 >> bit % 8
+    names = ",".join(bit_names(octets, registry)) or "-"
+    return f"{names}+{others.hex()}" if any(others) else names
+
+
+def flags_member(bits, octets, registry):
+    return {"bits": bits, "hex": octets.hex(), "names": bit_names(octets, registry)}
+
+
+def flags(bits, octets, registry):
+    """F, and with names G after it."""
+    text = f"{bits}:{octets.hex()}"
+    return Value(text, f"{text}:{by_name(octets, registry)}", flags_member(bits, octets, registry))
+
+
+def ticket_flags(value):
+    """G"""
+    octets = value.to_bytes(4, "big")
+    texts = (by_name(octets, registry) for registry in (OLDER_TICKET_FLAGS, TICKET_FLAGS))
+    return Value(*texts, flags_member(32, octets, TICKET_FLAGS))
+
+
+def type_members(value, registry, name="type"):
+    return {name: value, f"{name}_name": registry.get(value)}
+
+
+def sealed(value):
+    """E: what is told of an EncryptedData."""
+    etype, kvno, size = value["etype"], value.get("kvno"), len(value["cipher"])
+    after = f":{'-' if kvno is None else kvno}:{size}"
+    members = {**type_members(etype, ENCRYPTION_TYPES, "etype"), "kvno": kvno, "size": size}
+    return Value(f"{etype}{after}", f"{with_name(etype, ENCRYPTION_TYPES)}{after}", members)
+
+
+def principal(name_type, components, realm):
+    """P"""
+    names = "/".join(map(escaped, components)) if components else "\\-"
+    text = f"{names}@{escaped(realm)}"
+    members = {
+        "text": text,
+        **type_members(name_type, NAME_TYPES),
+        "components": [in_object(component) for component in components],
+        "realm": in_object(realm),
+    }
+    return plain(text, members)
+
+
+def address(value):
+    """H"""
+    addr_type, octets = value["addr-type"], value["address"].hex()
+    members = {**type_members(addr_type, ADDRESS_TYPES), "hex": octets}
+    return Value(f"{addr_type}:{octets}", f"{with_name(addr_type, ADDRESS_TYPES)}:{octets}", members)
+
+
+def checksum(value):
+    cksumtype, size = value["cksumtype"], len(value["checksum"])
+    members = {**type_members(cksumtype, CHECKSUM_TYPES), "size": size}
+    return Value(f"{cksumtype}:{size}", f"{with_name(cksumtype, CHECKSUM_TYPES)}:{size}", members)
+
+
+def offset(seconds, microseconds):
+    return plain(f"{seconds}:{microseconds}", {"seconds": seconds, "microseconds": microseconds})
+
+
+NO_TICKET = plain("absent", None)
+
+
+def refused_ticket(refusal):
+    """K of octets that are no Ticket."""
+    place, why = refusal.place, REASONS.index(refusal.why) + 1
+    text = f"refused:{place}:{why}"
+    members = {"refused": {"place": place, "why": why, "why_name": refusal.why}}
+    return Value(text, f"{text}:{refusal.why}", members)
