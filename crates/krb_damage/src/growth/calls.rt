@@ -143,14 +143,14 @@ pub(super) const CALLS: [(&str, Call); 37] = [
         "keytab_lines",
         Call::Text(
             Text::Keytab,
-            "entry principal=h@A type=1 time=2000-01-01T00:00:00Z kvno=258 enctype=18 key=2 rest=4\nhole size=8 clean=yes\nend records=2 zero=yes\n",
+            "{\"kind\":\"entry\",\"principal\":{\"text\":\"h@A\",\"type\":1,\"type_name\":\"NT-PRINCIPAL\",\"components\":[\"h\"],\"realm\":\"A\"},\"type\":1,\"type_name\":\"NT-PRINCIPAL\",\"time\":\"2000-01-01T00:00:00Z\",\"kvno\":258,\"enctype\":18,\"enctype_name\":\"aes256-cts-hmac-sha1-96\",\"key\":2,\"rest\":4}\n{\"kind\":\"hole\",\"size\":8,\"clean\":true}\n{\"kind\":\"end\",\"records\":2,\"zero\":true}\n",
         ),
     ),
     (
         "record_line",
         Call::Text(
             Text::Record,
-            "entry principal=h@A type=1 time=2000-01-01T00:00:00Z kvno=258 enctype=18 key=2 rest=4",
+            "entry principal=h@A type=1:NT-PRINCIPAL time=2000-01-01T00:00:00Z kvno=258 enctype=18:aes256-cts-hmac-sha1-96 key=2 rest=4",
         ),
     ),
     (
@@ -165,7 +165,7 @@ pub(super) const CALLS: [(&str, Call); 37] = [
         "ccache_lines",
         Call::Text(
             Text::Caches,
-            "cache principal=u@A type=1 offset=0:0 fields=1\nconfig client=u@A server=krb5_ccache_conf_data/pa_type@X-CACHECONF: size=1\ncred client=u@A server=h@A enctype=18 key=2 auth=2000-01-01T00:00:00Z start=2000-01-01T00:00:00Z end=2000-01-01T01:00:00Z renew=- skey=0 flags=forwardable,renewable,initial,pre-authent+00010000 state=- addresses=0 authdata=0 ticket=refused:1:6 tserver=- second=0\nend credentials=2\n",
+            "{\"kind\":\"cache\",\"principal\":{\"text\":\"u@A\",\"type\":1,\"type_name\":\"NT-PRINCIPAL\",\"components\":[\"u\"],\"realm\":\"A\"},\"type\":1,\"type_name\":\"NT-PRINCIPAL\",\"offset\":{\"seconds\":0,\"microseconds\":0},\"fields\":1}\n{\"kind\":\"config\",\"client\":{\"text\":\"u@A\",\"type\":1,\"type_name\":\"NT-PRINCIPAL\",\"components\":[\"u\"],\"realm\":\"A\"},\"server\":{\"text\":\"krb5_ccache_conf_data/pa_type@X-CACHECONF:\",\"type\":0,\"type_name\":\"NT-UNKNOWN\",\"components\":[\"krb5_ccache_conf_data\",\"pa_type\"],\"realm\":\"X-CACHECONF:\"},\"size\":1}\n{\"kind\":\"cred\",\"client\":{\"text\":\"u@A\",\"type\":1,\"type_name\":\"NT-PRINCIPAL\",\"components\":[\"u\"],\"realm\":\"A\"},\"server\":{\"text\":\"h@A\",\"type\":2,\"type_name\":\"NT-SRV-INST\",\"components\":[\"h\"],\"realm\":\"A\"},\"enctype\":18,\"enctype_name\":\"aes256-cts-hmac-sha1-96\",\"key\":2,\"auth\":\"2000-01-01T00:00:00Z\",\"start\":\"2000-01-01T00:00:00Z\",\"end\":\"2000-01-01T01:00:00Z\",\"renew\":null,\"skey\":0,\"flags\":{\"bits\":32,\"hex\":\"40e10000\",\"names\":[\"forwardable\",\"renewable\",\"initial\",\"pre-authent\",\"enc-pa-rep\"]},\"state\":null,\"addresses\":0,\"authdata\":0,\"ticket\":{\"refused\":{\"place\":1,\"why\":6,\"why_name\":\"Indefinite\"}},\"tserver\":null,\"second\":0}\n{\"kind\":\"end\",\"credentials\":2}\n",
         ),
     ),
     (
@@ -183,7 +183,7 @@ pub(super) const CALLS: [(&str, Call); 37] = [
         "credential_line",
         Call::Text(
             Text::Credential,
-            "cred client=u@A server=h@A enctype=18 key=2 auth=2000-01-01T00:00:00Z start=2000-01-01T00:00:00Z end=2000-01-01T01:00:00Z renew=- skey=0 flags=forwardable,renewable,initial,pre-authent+00010000 state=- addresses=0 authdata=0 ticket=refused:1:6 tserver=- second=0",
+            "cred client=u@A server=h@A enctype=18:aes256-cts-hmac-sha1-96 key=2 auth=2000-01-01T00:00:00Z start=2000-01-01T00:00:00Z end=2000-01-01T01:00:00Z renew=- skey=0 flags=forwardable,renewable,initial,pre-authent,enc-pa-rep state=- addresses=0 authdata=0 ticket=refused:1:6:Indefinite tserver=- second=0",
         ),
     ),
     ("ticket_of", Call::Read(Reading::TicketState)),
