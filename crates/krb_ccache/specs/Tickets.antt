@@ -5,10 +5,10 @@ use Rattle.krb_der.specs.Octets.{when}
 use Rattle.krb_der.specs.declared.verdict.Refusal.{Refusal}
 use Rattle.krb_msg.specs.Grammar.{ticket}
 use Rattle.krb_msg.specs.Reading.{value_read}
+use Rattle.krb_msg.specs.Seen.{TicketLists, ticket_seen}
 use Rattle.krb_msg.specs.Views.{ticket_of}
 use Rattle.krb_msg.specs.declared.ticket.Ticket.{Ticket}
 use Rattle.krb_judge.specs.Parses.{ticket_refusal, AreOfTicket}
-use Rattle.krb_judge.specs.Viewed.{ticket_viewed}
 use Rattle.krb_ccache.specs.declared.value.Credential.{Credential}
 use Rattle.krb_ccache.specs.declared.ticket.TicketState.{TicketState}
 use Rattle.krb_ccache.specs.declared.ticket.TicketState.TheVariants as states
@@ -37,8 +37,15 @@ state_of c = when (is_config c) (λ _. states.Config) (λ _. field_state c.ticke
 abbrev pub state_viewed : TicketStateView → TicketState
 state_viewed views.Absent = states.Absent
 state_viewed views.Config = states.Config
-state_viewed (views.Ticket view) = states.Ticket (ticket_viewed view)
+state_viewed (views.Ticket view) = states.Ticket (ticket_seen view)
 state_viewed (views.Refused refusal) = states.Refused refusal
+
+-- what is known of it
+abbrev pub StateLists : TicketStateView → Type 0
+StateLists views.Absent = Unit {0}
+StateLists views.Config = Unit {0}
+StateLists (views.Ticket view) = TicketLists view
+StateLists (views.Refused refusal) = Unit {0}
 
 -- a Ticket is told only of its DER
 abbrev pub IsOfDer : List ℕ → TicketState → Type 0

@@ -1,4 +1,4 @@
-//! Caches, read one credential at a time.
+//! Reading caches credential by credential.
 
 ghost use Rattle.std.specs.Prelude.{◌≡◌, ℕ, List, [], None, Some, Ok, Err, IfOk, IfErr, OnOk};
 ghost use Rattle.krb_ccache.specs.declared.credentials.State.TheVariants as states;
@@ -13,19 +13,19 @@ use krb_file::{FieldLimit, FileFault, StreamReader};
 use std::alloc::Global;
 use std::io::Read;
 
-/// What a reader of credentials came to. Only contracts read it from outside.
+/// The progress of a reader of credentials. It is public for contracts alone.
 #[derive(Clone, Copy)]
 pub enum State {
     /// Any number of credentials was read.
     Open,
     /// The credentials ended.
     Done,
-    /// A fault was met.
+    /// There was a fault.
     Failed(FileFault),
 }
 
-/// A reader of the credentials of a cache, which takes no octet of its reader after the credential
-/// that it gives. It keeps none of the credentials that it gave, and takes memory for the octets
+/// A reader of the credentials of a cache, one after another. It reads no octet after the
+/// credential that it returns. It keeps no credential that it returned, and allocates by the octets
 /// that came.
 #[derive(Drop)]
 pub struct Credentials<R: Read> {
@@ -35,15 +35,15 @@ pub struct Credentials<R: Read> {
 }
 
 impl<R: Read + Drop> Credentials<R> {
-    /// Begins to read the credentials of what a [`Read`] gives. No field of octets may be longer
-    /// than the limit. What stands before them is read: the version, 3 or 4, the header and the
-    /// default principal.
+    /// Reads what is before the credentials of a cache, which are the version, 3 or 4, the header
+    /// and the default principal, and returns a reader of the credentials. A field of octets may
+    /// not be longer than the limit.
     pub fn start(alloc: Global, reader: R, limit: FieldLimit) -> Result<Credentials<R>, FileFault>
         ensures begins { IfOk result (λ made. (file : List ℕ) → R.remaining reader ≡ Some file → Reads (Some limit) made.reader made.start made.state file 0) }
-        // No octet after the default principal was taken.
+        // No octet after the default principal was read.
         ensures reach { IfOk result (λ made. made.reader.ahead ≡ []) }
         ensures fault { IfErr result (λ fault. (file : List ℕ) → R.remaining reader ≡ Some file → FailsStart (Some limit) file fault) }
-        // A refusal stands in the file or at its end.
+        // A refusal is at a place of the file or at its end.
         ensures refused { IfErr result (λ fault. (file : List ℕ) → R.remaining reader ≡ Some file → StandsIn file fault) }
     {
         let mut reader = StreamReader::new(reader, limit);
@@ -76,17 +76,18 @@ impl<R: Read + Drop> Credentials<R> {
         &self.start.principal
     }
 
-    /// Reads the next credential, and none if the file ends. A cache is refused as
-    /// [`read`](crate::read) or [`read3`](crate::read3) refuses it, but that a field of octets is
-    /// TooLong if it is longer than the limit: after Overrun, and before Truncated. After a fault
-    /// of any kind each call answers this fault, and after the end each call answers that none is
-    /// left; neither reads any more.
+    /// Reads the next credential; returns `None` at the end of the file. A cache is refused as
+    /// [`read`](crate::read) or [`read3`](crate::read3) refuses it, except that a field of octets
+    /// is TooLong if it is longer than the limit; this is checked after Overrun and before
+    /// Truncated. After a fault each call returns this fault, and after the end each call returns
+    /// `None`; neither reads any more.
     pub fn next_credential(&mut self, alloc: Global) -> Result<Option<Credential>, FileFault>
-        // The credentials of a file that its reader tells, one after another, and then the end or the fault.
+        // The credentials of the file that is read, one after another, and then the end or the
+        // fault.
         ensures next { (file : List ℕ) (limit : ℕ) (given : ℕ) → Reads (Some limit) self.old.reader self.old.start self.old.state file given → GivesNext (Some limit) file given result self.new.reader self.new.start self.new.state }
-        // A refusal stands in the file or at its end.
+        // A refusal is at a place of the file or at its end.
         ensures refused { (file : List ℕ) (limit : ℕ) (given : ℕ) → Reads (Some limit) self.old.reader self.old.start self.old.state file given → IfErr result (StandsIn file) }
-        // No octet after what is answered was taken, if none was ahead before.
+        // No octet after what is returned was read, if none was read ahead before.
         ensures reach { OnOk result (self.old.reader.ahead ≡ [] → self.new.reader.ahead ≡ []) }
         ensures same_start { self.new.start ≡ self.old.start }
         ensures ends { result ≡ Ok None → self.new.state ≡ states.Done }
@@ -102,7 +103,7 @@ impl<R: Read + Drop> Credentials<R> {
         }
     }
 
-    /// Gives back a credential that was read, whose room the next credentials take.
+    /// Gives back a credential that was read, whose vectors are used for the next credentials.
     pub fn give_back(&mut self, credential: Credential)
         ensures same_reader { self.new.reader ≡ self.old.reader }
         ensures same_start { self.new.start ≡ self.old.start }
@@ -125,7 +126,7 @@ impl<R: Read + Drop> Credentials<R> {
         self.reader.give_back(second_ticket);
     }
 
-    /// Returns the next credential of a reader that met neither the end nor a fault.
+    /// Returns the next credential of a reader that came neither to the end nor to a fault.
     fn next_open(&mut self, alloc: Global) -> Result<Option<Credential>, FileFault>
         ensures next { (file : List ℕ) (limit : ℕ) (given : ℕ) → Reads (Some limit) self.old.reader self.old.start self.old.state file given → GivesNext (Some limit) file given result self.new.reader self.new.start self.new.state }
         ensures refused { (file : List ℕ) (limit : ℕ) (given : ℕ) → Reads (Some limit) self.old.reader self.old.start self.old.state file given → IfErr result (StandsIn file) }

@@ -1,18 +1,18 @@
 //! Laws of caches and their octets. Each is the contract of a function that does nothing.
 ghost use Rattle.krb_ccache.specs.Laws.{Spells3One, SpellsOne, UpgradeHoldsTheSame};
 
-/// The octets settle the cache.
+/// Octets spell at most one cache.
 pub fn spells_one()
     ensures { SpellsOne }
 {}
 
-/// The octets settle the cache of version 3.
+/// Octets spell at most one cache of version 3.
 pub fn spells3_one()
     ensures { Spells3One }
 {}
 
-/// What a file of version 3 holds, read one credential after another, is what the file of its upgrade
-/// holds.
+/// Reading a file of version 3 one credential after another returns what reading the file of its
+/// upgrade returns.
 pub fn upgrade_holds_the_same()
     ensures { UpgradeHoldsTheSame }
 {}

@@ -1,4 +1,4 @@
-//! Caches, read from octets.
+//! Reading caches.
 
 ghost use Rattle.std.specs.Prelude.{◌≡◌, ℕ, None, Ok, IfOk, IfErr, OnOk};
 ghost use Rattle.krb_file.specs.Fields.{Gives, IsFaultIn, Reader, within, times};
@@ -32,7 +32,7 @@ fn principal<F: FieldReader>(alloc: Global, reader: &mut F) -> Result<FilePrinci
     })
 }
 
-/// Octets of a kind.
+/// The field of a [`Typed`]: a kind, and octets after their number.
 struct OctetsOfKind;
 
 impl Field for OctetsOfKind {
@@ -51,7 +51,7 @@ impl Field for OctetsOfKind {
     }
 }
 
-/// Addresses, or authorization data, after their number.
+/// Reads addresses or authorization data, after their number.
 fn typed_list<F: FieldReader>(alloc: Global, reader: &mut F) -> Result<Many<Typed>, FileFault>
     ensures read { Follows (λ list. list) result typed_list_at F.MayFail (F.held reader.old) (F.held reader.new) }
     ensures keeps { Keeps (F.held reader.old) (F.held reader.new) }
@@ -62,10 +62,10 @@ fn typed_list<F: FieldReader>(alloc: Global, reader: &mut F) -> Result<Many<Type
     Ok(Many::new(list))
 }
 
-/// How many octets stand at least in a credential after its key.
+/// The least number of octets of a credential after its key.
 const LEAST_AFTER_KEY: u64 = 37;
 
-/// Reads what stands of a credential from its key on.
+/// Reads what is left of a credential from its key on.
 fn credential_from<F: FieldReader>(
     alloc: Global,
     client: FilePrincipal,
@@ -109,12 +109,12 @@ fn credential_from<F: FieldReader>(
     })
 }
 
-/// What is kept of a credential that is read.
+/// A type of what is kept of a credential that is read.
 pub(crate) trait Kept: Drop {
-    /// What it is, of a credential whose encryption type is written again so.
+    /// What is kept of a credential whose second encryption type is this number.
     ghost kept: { CredentialValue → ℕ → Self };
 
-    /// Keeps it.
+    /// Returns what is kept of a credential, `again` being its second encryption type.
     fn keep(credential: Credential, again: u16) -> Self
         ensures { result ≡ kept credential again };
 }
@@ -135,7 +135,7 @@ impl Kept for Credential3 {
     }
 }
 
-/// Reads the encryption type again, which version 4 does not write.
+/// Reads the second encryption type, which version 4 does not have.
 fn again<F: FieldReader>(version: u8, enctype: u16, reader: &mut F) -> Result<u16, FileFault>
     ensures read { Follows (λ again. again) result (again_at version enctype) F.MayFail (F.held reader.old) (F.held reader.new) }
     ensures keeps { Keeps (F.held reader.old) (F.held reader.new) }
@@ -146,7 +146,7 @@ fn again<F: FieldReader>(version: u8, enctype: u16, reader: &mut F) -> Result<u1
     Ok(enctype)
 }
 
-/// Reads a credential in a version.
+/// Reads a credential of a version.
 #[inline(never)]
 fn credential<K: Kept, F: FieldReader>(
     alloc: Global,
@@ -164,10 +164,10 @@ fn credential<K: Kept, F: FieldReader>(
     Ok(K::keep(credential, again))
 }
 
-/// How many octets a credential has at least, in either version.
+/// The least number of octets of a credential, in either version.
 const LEAST_CREDENTIAL: u64 = 67;
 
-/// Reads the next credential in a version, and none if the file ends.
+/// Reads the next credential of a version; returns `None` at the end of the file.
 pub(crate) fn next<K: Kept, F: FieldReader>(
     alloc: Global,
     version: u8,
@@ -229,7 +229,7 @@ fn header<F: FieldReader>(alloc: Global, reader: &mut F) -> Result<Header, FileF
     Ok(Header { fields })
 }
 
-/// Reads the header, which version 3 does not write.
+/// Reads the header, or returns one with no fields for version 3, which does not have it.
 fn header_in<F: FieldReader>(
     alloc: Global,
     version: u8,
@@ -245,7 +245,7 @@ fn header_in<F: FieldReader>(
     header(alloc, reader)
 }
 
-/// What stands before the credentials. Only contracts read it from outside.
+/// The part of a cache before its credentials. It is public for contracts alone.
 #[derive(Drop)]
 pub struct Start {
     /// The version of the format.
@@ -256,8 +256,8 @@ pub struct Start {
     pub principal: FilePrincipal,
 }
 
-/// Reads what stands before the credentials of a file in one of these versions, from its first
-/// octet on.
+/// Reads what is before the credentials of a file of one of these versions, from its first octet
+/// on.
 pub(crate) fn beginning<F: FieldReader>(
     alloc: Global,
     versions: &[u8],
@@ -292,7 +292,7 @@ fn credentials<K: Kept>(
     Ok(Many::new(credentials))
 }
 
-/// Reads what a file of a version holds: what stands before the credentials, and these.
+/// Reads a file of a version: what is before the credentials, and the credentials.
 fn file<K: Kept>(alloc: Global, version: u8, octets: &[u8]) -> Result<(Start, Many<K>), FileFault>
     ensures { Gives (λ found. found) result (read_in K.kept version octets.now) }
 {
@@ -302,7 +302,7 @@ fn file<K: Kept>(alloc: Global, version: u8, octets: &[u8]) -> Result<(Start, Ma
     Ok((start, credentials))
 }
 
-/// Reads the cache that a file holds.
+/// Reads a cache of version 4.
 fn whole(alloc: Global, octets: &[u8]) -> Result<Ccache, FileFault>
     ensures { Gives (λ ccache. ccache) result (read octets.now) }
 {
@@ -319,7 +319,7 @@ fn whole(alloc: Global, octets: &[u8]) -> Result<Ccache, FileFault>
     })
 }
 
-/// Reads the cache of version 3 that a file holds.
+/// Reads a cache of version 3.
 fn whole3(alloc: Global, octets: &[u8]) -> Result<Cache3, FileFault>
     ensures { Gives (λ cache. cache) result (read3 octets.now) }
 {
@@ -330,14 +330,14 @@ fn whole3(alloc: Global, octets: &[u8]) -> Result<Cache3, FileFault>
     })
 }
 
-/// Reads the cache of version 4 that a file holds. A file that holds none is refused at the first
-/// field at fault: Magic at 0, Version at 1, Overrun for a field that passes the end of the header
-/// that it stands in, else Truncated for one that passes the end of the file. Memory is taken for
-/// octets that are there, and never for a number of addresses that only announces them.
+/// Reads a cache of version 4 from all the octets of a file. A file that is not one is refused at
+/// the first field at fault: Magic at 0, Version at 1, Overrun for a field that passes the end of
+/// the header that it is in, else Truncated for one that passes the end of the file. It allocates
+/// for octets that are there, and never for a number of addresses that only announces them.
 pub fn read(alloc: Global, octets: &[u8]) -> Result<Ccache, FileFault>
-    // What is read is spelled so.
+    // What is read is spelled by the octets.
     ensures found { IfOk result (λ ccache. CcacheSpells ccache octets.now) }
-    // What is spelled so is read, unless memory ran out.
+    // What octets spell is read, unless memory ran out.
     ensures only { (ccache : CcacheValue) → CcacheSpells ccache octets.now → Gives (λ ccache. ccache) result (Ok ccache) }
     // Which fault it is.
     ensures exact { Gives (λ ccache. ccache) result (read octets.now) }
@@ -346,12 +346,12 @@ pub fn read(alloc: Global, octets: &[u8]) -> Result<Ccache, FileFault>
     whole(alloc, octets)
 }
 
-/// Reads the cache of version 3 that a file holds. A file that holds none is refused as [`read`]
-/// refuses it, but that it has no header.
+/// Reads a cache of version 3 from all the octets of a file. A file that is not one is refused as
+/// [`read`] refuses it, except that there is no header.
 pub fn read3(alloc: Global, octets: &[u8]) -> Result<Cache3, FileFault>
-    // What is read is spelled so.
+    // What is read is spelled by the octets.
     ensures found { IfOk result (λ cache. Spells3 cache octets.now) }
-    // What is spelled so is read, unless memory ran out.
+    // What octets spell is read, unless memory ran out.
     ensures only { (cache : Cache3Value) → Spells3 cache octets.now → Gives (λ cache. cache) result (Ok cache) }
     // Which fault it is.
     ensures exact { Gives (λ cache. cache) result (read3 octets.now) }

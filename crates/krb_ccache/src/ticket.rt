@@ -1,30 +1,30 @@
-//! The ticket of a credential.
+//! Ticket fields of credentials.
 
 ghost use Rattle.std.specs.Prelude.{◌≡◌, IfOk, IfErr};
-ghost use Rattle.krb_ccache.specs.Tickets.{IsOfDer, IsTicket, state_of, state_viewed};
+ghost use Rattle.krb_ccache.specs.Tickets.{IsOfDer, IsTicket, StateLists, state_of, state_viewed};
 
 use crate::value::Credential;
 use krb_der::{Memory, Refusal};
-use krb_judge::{ParseFault, TicketView, parse_ticket, read_ticket};
-use krb_msg::Ticket;
+use krb_judge::{ParseFault, parse_ticket, read_ticket};
+use krb_msg::{Ticket, TicketView};
 use std::alloc::Global;
 
-/// What stands in the ticket field of a credential.
+/// The contents of the ticket field of a credential.
 #[derive(Drop)]
 pub enum TicketState {
-    /// Nothing.
+    /// The field is empty.
     Absent,
-    /// What a configuration entry says.
+    /// The credential is a configuration entry, whose value the field holds.
     Config,
     /// A Ticket (RFC 4120, 5.3).
     Ticket(Ticket),
-    /// Octets that are no Ticket: the first place where they cannot be one, counted in the field,
-    /// and why.
+    /// Octets that are not a Ticket: the first octet at fault, counted from 0 in the field, and
+    /// why.
     Refused(Refusal),
 }
 
-/// What stands in the ticket field of a credential, where it stands: a [`TicketState`] whose octets are
-/// borrowed.
+/// The contents of the ticket field of a credential, borrowed: a [`TicketState`] whose octets are
+/// those of the field.
 #[derive(Drop)]
 pub enum TicketStateView<'a> {
     Absent,
@@ -33,11 +33,12 @@ pub enum TicketStateView<'a> {
     Refused(Refusal),
 }
 
-/// Returns what stands in the ticket field of a credential, which is [`ticket_of`]'s. It takes no
-/// memory.
+/// Returns the contents of the ticket field of a credential, as [`ticket_of`] does, but borrowed.
+/// It allocates nothing.
 #[tactic(auto, unfolding(crate::specs::Tickets::state_of))]
 pub fn ticket_view_of(credential: &Credential) -> TicketStateView<'_>
-    ensures { state_viewed result ≡ state_of credential.now }
+    ensures state { state_viewed result ≡ state_of credential.now }
+    ensures lists { StateLists result }
 {
     if credential.is_config() {
         return TicketStateView::Config;
@@ -52,8 +53,9 @@ pub fn ticket_view_of(credential: &Credential) -> TicketStateView<'_>
     }
 }
 
-/// Returns what stands in the ticket field of a credential. A configuration entry is told first,
-/// and an empty field then. Memory is taken for a Ticket alone.
+/// Returns the contents of the ticket field of a credential. A configuration entry is recognized
+/// first, then an empty field, and other octets are judged as a Ticket (RFC 4120, 5.3). It allocates
+/// only for a Ticket.
 #[tactic(auto, unfolding(crate::specs::Tickets::state_of))]
 pub fn ticket_of(alloc: Global, credential: &Credential) -> Result<TicketState, Memory>
     ensures state { IfOk result (λ state. state ≡ state_of credential.now) }

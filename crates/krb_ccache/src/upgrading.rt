@@ -1,4 +1,4 @@
-//! Caches of version 3, as caches of version 4.
+//! Upgrading caches of version 3 to version 4.
 
 ghost use Rattle.std.specs.Prelude.{◌≡◌, ◌≤◌, [], length, map, IfOk, IfErr};
 ghost use Rattle.std.specs.Vec.{vec_capacity};
@@ -8,9 +8,9 @@ use crate::value::{Cache3, Ccache, Credential, Credential3, Header};
 use krb_der::Many;
 use std::alloc::Global;
 
-/// Returns the cache in version 4: a header of no fields, the same principal and the same
-/// credentials in the same order. What is dropped is the encryption type as it is written again. If
-/// memory runs out the cache is handed back.
+/// Returns the cache in version 4: a header with no fields, the same principal, and the same
+/// credentials in the same order without their second encryption types. Returns the cache itself if
+/// memory ran out.
 pub fn upgrade(alloc: Global, cache: Cache3) -> Result<Ccache, Cache3>
     ensures upgraded { IfOk result (λ made. made ≡ upgraded cache) }
     ensures unchanged { IfErr result (λ same. same ≡ cache) }
@@ -29,7 +29,7 @@ pub fn upgrade(alloc: Global, cache: Cache3) -> Result<Ccache, Cache3>
     })
 }
 
-/// Moves credentials into room that is there.
+/// Moves credentials within the capacity of `to`.
 fn move_credentials(from: Vec<Credential3>, to: &mut Vec<Credential>)
     requires none { to.old.items ≡ [] }
     requires room { length from.items ≤ vec_capacity to.old }

@@ -1,12 +1,12 @@
-//! What a credential cache holds.
+//! Credential caches and what they hold.
 
 use krb_der::{KString, Many, Octets};
 
-/// A credential cache of version 4: its header, the principal whose credentials it holds, and these in
-/// order.
+/// A credential cache of version 4: its header, the principal whose credentials it holds, and the
+/// credentials in order.
 #[derive(Drop)]
 pub struct Ccache {
-    /// What is said of the cache as a whole.
+    /// The header, which is about the cache as a whole.
     pub header: Header,
     /// The default principal, whose credentials these are.
     pub principal: FilePrincipal,
@@ -30,19 +30,19 @@ pub struct Header {
     pub fields: Many<HeaderField>,
 }
 
-/// A field of the header. Those with tags that are not known are kept and not looked into.
+/// A field of the header. A field whose tag is not known is kept as it is.
 #[derive(Drop)]
 pub struct HeaderField {
-    /// What the field is: 1 is the offset of the KDC's clock.
+    /// The kind of field: 1 is the offset of the KDC's clock.
     pub tag: u16,
-    /// What it says.
+    /// The octets of the field.
     pub value: Octets,
 }
 
-/// A principal, as a cache spells it.
+/// A principal, as a cache has it.
 #[derive(Drop)]
 pub struct FilePrincipal {
-    /// How the name is meant (RFC 4120, 6.2).
+    /// The type of the name (RFC 4120, 6.2).
     pub name_type: i32,
     /// The realm.
     pub realm: KString,
@@ -59,21 +59,21 @@ pub struct Typed {
     pub octets: Octets,
 }
 
-/// A ticket and its session key, or a configuration entry. None of its texts shows the octets of
-/// the key, and so it has no `Debug`. Times are in seconds since 1970-01-01T00:00:00Z.
+/// A ticket and its session key, or a configuration entry. It has no `Debug`, so that no text shows
+/// an octet of the key. Times are in seconds since 1970-01-01T00:00:00Z.
 #[derive(Drop)]
 pub struct Credential {
-    /// Whose credential it is.
+    /// The principal whose credential it is.
     pub client: FilePrincipal,
-    /// For which service.
+    /// The service that it is for.
     pub server: FilePrincipal,
-    /// The encryption type of the key (RFC 3961), of which none is refused.
+    /// The encryption type of the key (RFC 3961). No number is refused.
     pub enctype: u16,
     /// The session key.
     pub key: Octets,
     /// When the client was authenticated.
     pub authtime: u32,
-    /// From when on the ticket holds.
+    /// When the ticket becomes valid.
     pub starttime: u32,
     /// When it expires.
     pub endtime: u32,
@@ -82,25 +82,25 @@ pub struct Credential {
     /// Whether the ticket is for user-to-user authentication, encrypted in a session key: 0 if it
     /// is not.
     pub is_skey: u8,
-    /// The flags of the ticket (RFC 4120, 5.3), bit 0 the highest.
+    /// The flags of the ticket (RFC 4120, 5.3); bit 0 is the most significant.
     pub flags: u32,
-    /// From where the ticket can be used; none where it can be from everywhere.
+    /// The addresses that the ticket can be used from; if there are none, it can be used from any.
     pub addresses: Many<Typed>,
-    /// The authorization data that were asked for.
+    /// The authorization data that were requested.
     pub authdata: Many<Typed>,
-    /// The ticket as DER, or what a configuration entry says. [`ticket_of`](crate::ticket_of) tells
-    /// which.
+    /// The ticket as DER, or the value of a configuration entry: see
+    /// [`ticket_of`](crate::ticket_of).
     pub ticket: Octets,
-    /// Another ticket, for user-to-user authentication.
+    /// A second ticket, for user-to-user authentication.
     pub second_ticket: Octets,
 }
 
-/// A credential of version 3, which writes the encryption type twice. It has no `Debug` either.
+/// A credential of version 3, which has the encryption type twice. It has no `Debug` either.
 #[derive(Drop)]
 pub struct Credential3 {
-    /// The credential, with the encryption type as it is written first.
+    /// The credential, with the first encryption type.
     pub credential: Credential,
-    /// The encryption type as it is written again, which may differ.
+    /// The second encryption type, which may differ from the first.
     pub again: u16,
 }
 
@@ -114,8 +114,8 @@ const CONFIG_REALM: &[u8] = b"X-CACHECONF:";
 const CONFIG_NAME: &[u8] = b"krb5_ccache_conf_data";
 
 impl Header {
-    /// Returns how far the KDC's clock was ahead: seconds, and microseconds. It stands in the first
-    /// field that has both tag 1 and eight octets.
+    /// Returns by how much the KDC's clock was ahead, in seconds and microseconds. It is in the
+    /// first field that has both tag 1 and eight octets.
     pub fn offset(&self) -> Option<(i32, i32)>
         ensures { result ≡ offset self.now }
     {
@@ -132,7 +132,7 @@ impl Header {
     }
 }
 
-/// Returns whether the first of some strings has these octets.
+/// Returns whether there is a first string and it has these octets.
 fn first_is(strings: &[KString], octets: &[u8]) -> bool
     ensures { result ≡ first_is strings.now octets.now }
 {
@@ -143,8 +143,8 @@ fn first_is(strings: &[KString], octets: &[u8]) -> bool
 }
 
 impl Credential {
-    /// Returns whether this is a configuration entry and no credential: the realm of its server is
-    /// `X-CACHECONF:` and the first component of the server's name is `krb5_ccache_conf_data`.
+    /// Returns whether this is a configuration entry and not a credential: the realm of its server
+    /// is `X-CACHECONF:`, and the first component of the server's name is `krb5_ccache_conf_data`.
     pub fn is_config(&self) -> bool
         ensures { result ≡ is_config self.now }
     {

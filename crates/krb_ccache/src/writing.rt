@@ -1,4 +1,4 @@
-//! Caches, written as octets.
+//! Writing caches.
 
 ghost use Rattle.std.specs.Prelude.{◌≡◌, ◌≤◌, ◌^◌, ◌↔◌, true, false, length, Ok, IfOk, IsErrOf, IsNone, IfSome};
 ghost use Rattle.krb_ccache.specs.declared.writing.CcacheFault.TheVariants.{Memory};
@@ -12,11 +12,11 @@ use krb_file::{Count32, Counted16, Each, GREATEST_FILE, Listed, Measured, Part, 
 use std::alloc::{AllocError, Global};
 use thiserror::Error;
 
-/// Why a cache could not be written.
+/// A fault of writing a cache.
 #[derive(Clone, Copy, PartialEq, Eq, Debug, Error)]
 pub enum CcacheFault {
-    /// A number of 16 or 32 bits cannot say how many octets or items there are, or the file would
-    /// have more than 2^40 octets.
+    /// The number of octets or items is too great for the number of 16 or 32 bits before them, or
+    /// the file would have more than 2^40 octets.
     #[error("too long")]
     TooLong,
     /// Out of memory.
@@ -38,7 +38,7 @@ type PrincipalLayout<'a> = Then<
 >;
 
 impl FilePrincipal {
-    /// Returns what its octets are made of.
+    /// Returns the parts that the principal is made of.
     fn layout(&self) -> PrincipalLayout<'_>
         ensures octets { ⟦<PrincipalLayout<'static> as Part>⟧.octets result ≡ principal self.now }
         ensures is_long { ⟦<PrincipalLayout<'static> as Part>⟧.is_long result ≡ is_long_principal self.now }
@@ -69,7 +69,7 @@ impl Part for FilePrincipal {
 type TypedLayout<'a> = Then<u16, &'a Octets>;
 
 impl Typed {
-    /// Returns what its octets are made of.
+    /// Returns the parts that it is made of.
     fn layout(&self) -> TypedLayout<'_>
         ensures octets { ⟦<TypedLayout<'static> as Part>⟧.octets result ≡ typed self.now }
         ensures is_long { ⟦<TypedLayout<'static> as Part>⟧.is_long result ≡ is_long_typed self.now }
@@ -127,7 +127,7 @@ type CredentialLayout<'a> = Then<
 >;
 
 impl Credential {
-    /// Returns what its octets are made of.
+    /// Returns the parts that the credential is made of.
     fn layout(&self) -> CredentialLayout<'_>
         ensures octets { ⟦<CredentialLayout<'static> as Part>⟧.octets result ≡ credential self.now }
         ensures is_long { ⟦<CredentialLayout<'static> as Part>⟧.is_long result ≡ is_long_credential self.now }
@@ -163,7 +163,7 @@ impl Part for Credential {
 type HeaderFieldLayout<'a> = Then<u16, Counted16<'a>>;
 
 impl HeaderField {
-    /// Returns what its octets are made of.
+    /// Returns the parts that the field is made of.
     fn layout(&self) -> HeaderFieldLayout<'_>
         ensures octets { ⟦<HeaderFieldLayout<'static> as Part>⟧.octets result ≡ header_field self.now }
         ensures is_long { ⟦<HeaderFieldLayout<'static> as Part>⟧.is_long result ≡ is_long_field self.now }
@@ -211,7 +211,7 @@ type CcacheLayout<'a> = Then<
 >;
 
 impl Ccache {
-    /// Returns what its octets are made of.
+    /// Returns the parts that the cache is made of.
     fn layout(&self) -> CcacheLayout<'_>
         ensures octets { ⟦<CcacheLayout<'static> as Part>⟧.octets result ≡ spelled self.now }
         ensures is_long { ⟦<CcacheLayout<'static> as Part>⟧.is_long result ≡ is_long_ccache self.now }
@@ -239,7 +239,7 @@ impl Part for Ccache {
     }
 }
 
-/// Returns the number of octets of a cache that can be written.
+/// Returns the number of octets of a cache, or `None` if it cannot be written.
 fn file_size(ccache: &Ccache) -> Option<u64>
     ensures none { IsNone result ↔ (is_too_long ccache.now ≡ true) }
     ensures size { IfSome result (λ size. size ≡ length (spelled ccache.now)) }
@@ -250,10 +250,11 @@ fn file_size(ccache: &Ccache) -> Option<u64>
     ccache.size().filter(|size| *size <= GREATEST_FILE)
 }
 
-/// Returns the octets of a cache. TooLong is decided first: for a header or a value in it of more
-/// than 65535 octets, for more than 4294967295 components, addresses or elements of authorization
-/// data, for a realm, a component or another field of more than 4294967295 octets, and for a file
-/// of more than 2^40. Memory is taken last and once, for just as many octets as are written.
+/// Returns the octets of a cache. Whether it can be written is decided first: TooLong for a header
+/// or a value in it of more than 65535 octets, for more than 4294967295 components, addresses or
+/// elements of authorization data, for a realm, a component or another field of more than
+/// 4294967295 octets, and for a file of more than 2^40. Then it allocates once, for exactly the
+/// octets that are written.
 pub fn write(alloc: Global, ccache: &Ccache) -> Result<Vec<u8>, CcacheFault>
     // What is written spells the cache, and is read back.
     ensures spells { IfOk result (λ octets. CcacheSpells ccache.now octets.items) }

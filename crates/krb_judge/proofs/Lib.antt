@@ -1,7 +1,5 @@
 pub mod Within
-pub mod Splits
 pub mod Slices
 pub mod Values
-pub mod Opened
-pub mod Viewed
 mod Inside
+mod Descent

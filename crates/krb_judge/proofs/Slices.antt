@@ -1,6 +1,6 @@
 -- Messages that fill a slice.
-use Rattle.std.proofs.Common.{◌≡◌, ◌≢◌, ℕ, ◌^◌, ◌<◌, ◌↔◌, Bool, true, false, List, [], ◌∷◌, ◌++◌, length, Some, None, refl, sym, ap, ◌∙◌, subst, arith}
-use Rattle.std.specs.Prelude.{nat_lt, ◌==◌, if◌then◌else◌}
+use Rattle.std.proofs.Common.{◌≡◌, ◌≢◌, ℕ, ◌^◌, ◌<◌, ◌↔◌, Bool, true, false, List, [], ◌∷◌, ◌++◌, length, Option, Some, None, refl, sym, ap, ◌∙◌, subst, arith}
+use Rattle.std.specs.Prelude.{nat_lt, ◌==◌, if◌then◌else◌, IsSome, MatchOption}
 use Rattle.std.proofs.lemmas.Bool.Decides.{nat_tests}
 use Rattle.krb_der.specs.Octets.{AreOctets}
 use Rattle.krb_der.specs.declared.profile.Profile.{Profile}
@@ -19,7 +19,11 @@ use Rattle.krb_msg.proofs.Grammars.{all_is_decided}
 use Rattle.krb_msg.specs.Grammar.{messages}
 use Rattle.krb_msg.proofs.Laws.{same_value}
 use Rattle.krb_msg.specs.inner.Values.{der_begins}
-use Rattle.krb_msg.specs.Reads.{IsDer}
+use Rattle.krb_msg.specs.Profiles.{profile_term}
+use Rattle.krb_msg.specs.Der.{IsDer}
+use Rattle.krb_msg.specs.Seen.{IsNoMessage}
+use Rattle.krb_msg.specs.Viewed.{IsNotWhole}
+use Rattle.krb_msg.proofs.ProfileValues.{lenient_der}
 use Rattle.krb_judge.specs.Parses.{refused, refusal_by, refusal_of, AreOf, AreOfValue, HasNoMessage}
 
 -- ---- the message
@@ -63,6 +67,18 @@ whole_slice judge octets decided e =
 none_refused : (judge : ℕ → List ℕ → Verdict) (octets : List ℕ) → judge (length octets) octets ≡ verdict.Whole → 0 < length octets → length octets < 2 ^ 31 → refusal_by judge octets ≡ None
 none_refused judge octets whole some short = none_chosen (nat_lt 2147483647 (length octets)) (length octets == 0) _ _ (judge (length octets) octets) (grind (arith, nat_tests, short)) (grind (arith, nat_tests, some)) whole
 
+pub too_long : (judge : ℕ → List ℕ → Verdict) (octets : List ℕ) → 2147483647 < length octets → refusal_by judge octets ≢ None
+too_long judge octets long e = let p = chosen_none (nat_lt 2147483647 (length octets)) (length octets == 0) _ _ (judge (length octets) octets) e in absurd (grind (arith, nat_tests, long, p.0))
+
+-- ---- what is seen
+pub seen_some : {A Q : Type 0} (P : Type 0) (Seen : A → Type 0) (seen : Option A) → ((a : A) → Seen a → Q) → MatchOption seen P Seen → IsSome seen → Q
+seen_some P Seen None g m some = absurd cc
+seen_some P Seen (Some a) g m some = g a m
+
+pub is_seen : {A P : Type 0} (Seen : A → Type 0) (seen : Option A) → MatchOption seen (P → ⊥) Seen → P → IsSome seen
+is_seen Seen None m p = absurd (m p)
+is_seen Seen (Some a) m p = refl
+
 -- ---- messages
 pub whole_message : (profile : Profile) (octets : List ℕ) → refusal_of profile octets ≡ None → IsWholeSlice (judgement profile) octets
 whole_message profile octets = whole_slice (judgement profile) octets (λ some. all_is_decided (messages profile) (length octets) octets some refl)
@@ -74,22 +90,40 @@ some_from_whole : (profile : Profile) (octets : List ℕ) → judgement profile 
 some_from_whole profile [] e = absurd cc
 some_from_whole profile (octet ∷ octets) e = omega arith
 
+pub whole_not_refused : (profile : Profile) (octets : List ℕ) → length octets < 2 ^ 31 → judgement profile (length octets) octets ≡ verdict.Whole → refusal_of profile octets ≡ None
+whole_not_refused profile octets short whole = none_refused (judgement profile) octets whole (some_from_whole profile octets whole) short
+
 pub message_not_refused : {octets : List ℕ} (profile : Profile) (m : Message) → AreOf profile octets m → refusal_of profile octets ≡ None
 message_not_refused {octets = octets} profile m a =
-    let whole : judgement profile (length octets) octets ≡ verdict.Whole = subst (λ l. judgement profile (length l) l ≡ verdict.Whole) a.form (message_is_whole profile m a.in_profile) in
-    none_refused (judgement profile) octets whole (some_from_whole profile octets whole) (omega (arith, ap length a.form, a.in_profile.short))
+    whole_not_refused profile octets (omega (arith, ap length a.form, a.in_profile.short)) (subst (λ l. judgement profile (length l) l ≡ verdict.Whole) a.form (message_is_whole profile m a.in_profile))
 
 pub no_message : (profile : Profile) (octets : List ℕ) → AreOctets octets → HasNoMessage profile octets ↔ (refusal_of profile octets ≢ None)
 no_message profile octets a = (λ no e. let w = message_in profile octets a e in no w.message (record { in_profile = w.in_profile; form = w.form }), λ some m f. some (message_not_refused profile m f))
 
-pub lenient_slice : (profile : Profile) (octets : List ℕ) → AreOctets octets → refusal_of profile octets ≡ None → judgement profiles.Lenient (length octets) octets ≡ verdict.Whole
-lenient_slice profile octets a e = let w = whole_message profile octets e in lenient_whole profile (length octets) octets w.short a (omega arith) w.whole
+-- what some profile does not refuse, the lenient one does not
+pub lenient_message : (profile : Profile) (octets : List ℕ) → AreOctets octets → refusal_of profile octets ≡ None → refusal_of profiles.Lenient octets ≡ None
+lenient_message profile octets a e = let w = whole_message profile octets e in whole_not_refused profiles.Lenient octets w.short (lenient_whole profile (length octets) octets w.short a (omega arith) w.whole)
+
+pub no_message_refused : (octets : List ℕ) → IsNoMessage octets → refusal_of profiles.Lenient octets ≢ None
+no_message_refused octets none e = none (whole_message profiles.Lenient octets e).whole
 
 -- ---- values of a term
 pub whole_value : (term : Term) (octets : List ℕ) → AreOctets octets → refusal_by (term_judgement term) octets ≡ None → IsDer term octets × (length octets < 2 ^ 31)
 whole_value term octets a e =
     let w = whole_slice (term_judgement term) octets (value_is_decided term octets) e in
     (whole_is_value term octets a w.whole, w.short)
+
+pub der_not_refused : (term : Term) (octets : List ℕ) → is_unambiguous term ≡ true → IsDer term octets → length octets < 2 ^ 31 → refusal_by (term_judgement term) octets ≡ None
+der_not_refused term octets unambiguous f short =
+    let whole : term_judgement term (length octets) octets ≡ verdict.Whole = subst (λ l. term_judgement term (length l) l ≡ verdict.Whole) (sym f.form) (value_is_whole term f.value unambiguous f.fits (omega (arith, ap length f.form, short))) in
+    none_refused (term_judgement term) octets whole (omega (arith, ap length f.form, der_begins term f.value)) short
+
+-- an item that some profile does not refuse, the lenient one does not
+pub lenient_item : (profile : Profile) (term : Term) (octets : List ℕ) → is_unambiguous term ≡ true → AreOctets octets → refusal_by (term_judgement (profile_term profile false term)) octets ≡ None → refusal_by (term_judgement term) octets ≡ None
+lenient_item profile term octets unambiguous a e = let w = whole_value (profile_term profile false term) octets a e in der_not_refused term octets unambiguous (lenient_der profile false term w.0) w.1
+
+pub no_item_refused : (term : Term) (octets : List ℕ) → IsNotWhole term octets → refusal_by (term_judgement term) octets ≢ None
+no_item_refused term octets none e = none (whole_slice (term_judgement term) octets (value_is_decided term octets) e).whole
 
 -- of a type whose values are those of a term that fit
 module _ {A : Type 0} (term : Term) (unambiguous : is_unambiguous term ≡ true) (value_of : A → Value term) (of_value : Value term → A) (back : (a : A) → of_value (value_of a) ≡ a) (onto : (value : Value term) → Fits term value → value_of (of_value value) ≡ value) where
@@ -104,9 +138,7 @@ module _ {A : Type 0} (term : Term) (unambiguous : is_unambiguous term ≡ true)
       sym (back a) ∙ ap of_value same ∙ back b
 
   pub value_not_refused : {octets : List ℕ} (a : A) → AreOfValue term value_of octets a → refusal_by (term_judgement term) octets ≡ None
-  value_not_refused {octets = octets} a f =
-      let whole : term_judgement term (length octets) octets ≡ verdict.Whole = subst (λ l. term_judgement term (length l) l ≡ verdict.Whole) f.form (value_is_whole term (value_of a) unambiguous f.fits (omega (arith, ap length f.form, f.short))) in
-      none_refused (term_judgement term) octets whole (omega (arith, ap length f.form, der_begins term (value_of a))) f.short
+  value_not_refused {octets = octets} a f = der_not_refused term octets unambiguous (record { value = value_of a; fits = f.fits; form = sym f.form }) f.short
 
   pub no_value : (octets : List ℕ) → AreOctets octets → ((a : A) → AreOfValue term value_of octets a → ⊥) ↔ (refusal_by (term_judgement term) octets ≢ None)
   no_value octets a = (

@@ -1,10 +1,11 @@
 -- A Ticket and METHOD-DATA that fill a slice.
-use Rattle.std.proofs.Common.{◌≡◌, ◌≢◌, ◌⊎◌, ◌↔◌, ℕ, ◌^◌, ◌<◌, ◌∙◌, true, false, inl, inr, List, map, length, None, Result, Ok, Err, IfOk, IsErrOf, refl, ap}
+use Rattle.std.proofs.Common.{◌≡◌, ◌≢◌, ◌↔◌, ℕ, ◌^◌, ◌<◌, ◌∙◌, true, false, List, map, length, Option, Some, None, Result, Ok, Err, IfOk, IsErrOf, refl, sym, ap}
 use Rattle.krb_der.specs.Octets.{AreOctets}
 use Rattle.krb_der.specs.declared.profile.Profile.{Profile}
 use Rattle.krb_der.specs.declared.profile.Profile.TheVariants as profiles
 use Rattle.krb_der.specs.declared.verdict.Refusal.{Refusal}
 use Rattle.krb_msg.specs.declared.ticket.Ticket.{Ticket}
+use Rattle.krb_msg.specs.declared.ticket.TicketView.{TicketView}
 use Rattle.krb_msg.specs.declared.pa_data.PaData.{PaData}
 use Rattle.krb_msg.specs.Term.{Term, Value, Fits, der}
 use Rattle.krb_msg.specs.Grammar.{ticket, method_data}
@@ -17,11 +18,13 @@ use Rattle.krb_msg.specs.Views.{ticket_value, ticket_of, pa_data_value, pa_data_
 use Rattle.krb_msg.specs.inner.Told.{map-back}
 use Rattle.krb_msg.proofs.Judged.{ticket_value-of}
 use Rattle.krb_msg.specs.Judgement.{term_judgement}
-use Rattle.krb_msg.specs.Reads.{IsDer}
+use Rattle.krb_msg.specs.Der.{IsDer}
+use Rattle.krb_msg.specs.Seen.{ticket_seen, ticket_view_value}
+use Rattle.krb_msg.specs.Viewed.{IsViewOf}
 use Rattle.krb_judge.specs.Parses.{refusal_by, ticket_refusal, method_data_refusal, ticket_value_in, AreOfTicket, AreOfMethodData}
 use Rattle.krb_judge.specs.declared.parsing.ParseFault.{ParseFault}
 use Rattle.krb_judge.specs.declared.parsing.ParseFault.TheVariants as fault
-use Rattle.krb_judge.proofs.Slices.{are_of_value, same_of_value, value_not_refused, no_value}
+use Rattle.krb_judge.proofs.Slices.{whole_value, are_of_value, same_of_value, value_not_refused, no_value}
 
 -- the nodes
 pub ticket_node : term_at TICKET ≡ ticket
@@ -35,12 +38,6 @@ strict_ticket_node = refl
 pub method_data_node : term_at METHOD_DATA ≡ method_data
 unfolding term_in nodes
 method_data_node = refl
-
--- what is not refused is there, but for out of memory
-pub found_or_memory : {A : Type 0} (result : Result A ParseFault) (a : A) → IfOk result (λ b. b ≡ a) → ((r : Refusal) → IsErrOf result (fault.Refused r) → ⊥) → (result ≡ Ok a) ⊎ (result ≡ Err fault.Memory)
-found_or_memory (Ok b) a e h = inl (ap Ok e)
-found_or_memory (Err (fault.Refused r)) a e h = absurd (h r refl)
-found_or_memory (Err fault.Memory) a e h = inr refl
 
 -- ---- a Ticket
 ticket_unambiguous : (profile : Profile) → is_unambiguous (profile_term profile false ticket) ≡ true
@@ -73,6 +70,12 @@ ticket_not_refused profile t f = value_not_refused (profile_term profile false t
 pub no_ticket : (profile : Profile) (octets : List ℕ) → AreOctets octets → ((t : Ticket) → AreOfTicket profile octets t → ⊥) ↔ (ticket_refusal profile octets ≢ None)
 no_ticket profile = no_value (profile_term profile false ticket) (ticket_unambiguous profile) (ticket_value_in profile) (ticket_of_in profile) (ticket_back profile) (ticket_onto profile)
 
+-- what a view of octets that are not refused stands for
+pub ticket_viewed : {t : Ticket} (profile : Profile) (octets : List ℕ) (view : TicketView) → AreOctets octets → ticket_refusal profile octets ≡ None → IsViewOf ticket octets (ticket_view_value view) → t ≡ ticket_seen view → AreOfTicket profile octets t
+ticket_viewed {t = t} profile octets view a none v e =
+    let w = whole_value (profile_term profile false ticket) octets a none in
+    are_of_ticket profile t (w.0, w.1, ap (λ (u : Ticket). der ticket (ticket_value u)) e ∙ ap (der ticket) (ticket_value-of (ticket_view_value view) v.fits) ∙ v.form)
+
 -- ---- METHOD-DATA
 values_back : (items : List PaData) → map pa_data_of (map pa_data_value items) ≡ items
 values_back = map-back pa_data_value pa_data_of (λ p. refl)
@@ -82,6 +85,11 @@ values_onto values f = map-back pa_data_of pa_data_value (λ p. refl) values
 
 pub are_of_method_data : {octets : List ℕ} (items : List PaData) → IsDer method_data octets × (length octets < 2 ^ 31) × (der method_data (map pa_data_value items) ≡ octets) → AreOfMethodData octets items
 are_of_method_data items (f, short, e) = are_of_value method_data refl (map pa_data_value) (map pa_data_of) values_back values_onto items f short e
+
+pub method_data_viewed : {values : Value method_data} {items : List PaData} (octets : List ℕ) → AreOctets octets → method_data_refusal octets ≡ None → IsViewOf method_data octets values → items ≡ map pa_data_of values → AreOfMethodData octets items
+method_data_viewed {values = values} {items = items} octets a none v e =
+    let w = whole_value method_data octets a none in
+    are_of_method_data items (w.0, w.1, ap (λ (l : List PaData). der method_data (map pa_data_value l)) e ∙ ap (der method_data) (values_onto values v.fits) ∙ v.form)
 
 pub same_method_data : {octets : List ℕ} (items others : List PaData) → AreOfMethodData octets items → AreOfMethodData octets others → items ≡ others
 same_method_data items others f g = same_of_value method_data refl (map pa_data_value) (map pa_data_of) values_back values_onto items others f.form g.form
@@ -96,10 +104,26 @@ no_method_data = no_value method_data refl (map pa_data_value) (map pa_data_of) 
 pub refused_as : (term : Term) (octets : List ℕ) (node : ℕ) → term_at node ≡ term → refusal_by (term_judgement (term_at node)) octets ≡ refusal_by (term_judgement term) octets
 refused_as term octets node e = ap (λ term. refusal_by (term_judgement term) octets) e
 
+-- both facts of a value
+pub if_ok_both : {A E : Type 0} (P Q : A → Type 0) (r : Result A E) → IfOk r P → IfOk r Q → IfOk r (λ a. P a × Q a)
+if_ok_both P Q (Ok a) p q = (p, q)
+if_ok_both P Q (Err e) p q = tt
+
 -- an error of a result, as one of another
 error_is : {A E : Type 0} (r : Result A E) {e f : E} → r ≡ Err e → r ≡ Err f → e ≡ f
 error_is (Ok value) p q = absurd cc
 error_is (Err e) p q = cc
 
-pub same_error : {A B E : Type 0} {e f : E} → IsErrOf {T = A} (Err e) f → IsErrOf {T = B} (Err e) f
-same_error {A = A} {e = e} h = let r : Result A _ = Err e in ap Err (error_is r refl h)
+refused_same : {r s : Refusal} → fault.Refused r ≡ fault.Refused s → r ≡ s
+refused_same e = cc
+
+-- a refusal, as a fault
+pub as_fault : {A B : Type 0} {found : Option Refusal} (refusal : Refusal) → ((r : Refusal) → IsErrOf {T = A} (Err refusal) r ↔ (found ≡ Some r)) → (r : Refusal) → IsErrOf {T = B} (Err (fault.Refused refusal)) (fault.Refused r) ↔ (found ≡ Some r)
+as_fault {A = A} {B = B} refusal h r =
+    let seen : Result A Refusal = Err refusal in
+    let faulted : Result B ParseFault = Err (fault.Refused refusal) in
+    (λ e. (h r).0 (ap Err (refused_same (error_is faulted refl e))), λ e. ap Err (ap fault.Refused (error_is seen refl ((h r).1 e))))
+
+-- a refusal is none of octets that are not refused
+pub not_refused_here : {A P : Type 0} {found : Option Refusal} (refusal : Refusal) → ((r : Refusal) → IsErrOf {T = A} (Err refusal) r ↔ (found ≡ Some r)) → found ≡ None → P
+not_refused_here refusal h none = let some = sym none ∙ (h refusal).0 refl in absurd cc

@@ -1,7 +1,10 @@
--- What holds of the refusals of all slices. It is the contract of a function of the module `law`.
-use Rattle.std.specs.Prelude.{ℕ, ◌≡◌, ◌<◌, List, length, Option, Some}
+-- What holds of the refusals of all slices, and of the names of fields. Each is the contract of a function of the module `law`.
+use Rattle.std.specs.Prelude.{ℕ, ◌≡◌, ◌<◌, true, List, length, Option, Some}
 use Rattle.krb_der.specs.declared.profile.Profile.{Profile}
 use Rattle.krb_der.specs.declared.verdict.Refusal.{Refusal}
+use Rattle.krb_msg.specs.Views.{kind_term}
+use Rattle.krb_msg.specs.declared.message.Kind.{Kind}
+use Rattle.krb_judge.specs.FieldNames.{are_named, names_of_kind}
 use Rattle.krb_judge.specs.Parses.{refusal_of, ticket_refusal, method_data_refusal}
 
 -- A refusal of octets, if there are some, stands at one of them.
@@ -12,3 +15,7 @@ pub record RefusalsAreInside : Type 0 where
   pub of_message : (profile : Profile) → IsInside (refusal_of profile)
   pub of_ticket : (profile : Profile) → IsInside (ticket_refusal profile)
   pub of_method_data : IsInside method_data_refusal
+
+-- Each field of each message has a name: the fields are those of the grammar.
+abbrev pub FieldsHaveNames : Type 0
+FieldsHaveNames = (kind : Kind) → are_named (kind_term kind) (names_of_kind kind) ≡ true

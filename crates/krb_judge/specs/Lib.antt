@@ -1,5 +1,7 @@
 pub mod Parses
 pub mod Faults
-pub mod inner
+pub mod FieldNames
+pub mod Paths
+pub mod PathExamples
 pub mod Laws
-pub mod Viewed
+pub mod inner

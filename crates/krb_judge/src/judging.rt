@@ -6,7 +6,7 @@
 
 pub(crate) mod head;
 mod leaf;
-mod outcome;
+pub(crate) mod outcome;
 
 ghost use Rattle.std.specs.Prelude.{◌≡◌, ◌+◌, ◌^◌, ◌<◌, ◌≤◌, length, true, false};
 ghost use Rattle.std.specs.List.{AllByRecursion};
@@ -108,7 +108,7 @@ fn verdict(outcome: Outcome) -> Verdict
 
 /// Judges an item of a node's term, in a room that it fills if it is the sole item there.
 #[cycle(judge)]
-fn item(node: u16, room: u32, sole: bool, octets: &[u8]) -> Outcome
+pub(crate) fn item(node: u16, room: u32, sole: bool, octets: &[u8]) -> Outcome
     requires known { IsNode node }
     requires some { 0 < room }
     requires short { room < 2 ^ 31 }

@@ -1,17 +1,32 @@
-//! Kerberos V5 messages from whole slices: what octets decide ([`judge`]), and the message that
-//! octets are ([`parse`]), also for a Ticket and for METHOD-DATA alone.
+//! Kerberos V5 messages (RFC 4120) from octets that are in memory: what octets decide, and which
+//! message they are.
+//!
+//! The main calls:
+//!
+//! - [`parse`] returns the message that octets are, or a refusal at an exact octet; [`parse_in`]
+//!   does so by a profile. [`parse_ticket`] and [`parse_method_data`] return a Ticket (5.3) or
+//!   METHOD-DATA (5.9.1) alone, and [`read_ticket`] a Ticket whose octets are borrowed.
+//! - [`judge`] returns what the first octets of a message decide: nothing yet, that it is whole, or
+//!   a refusal.
+//! - [`path`] returns the name of the field in which octets were refused, such as
+//!   `AS-REQ.req-body.nonce`.
+//!
+//! Each call looks at its octets from the first one on: `krb_scan` judges octets as they come, and
+//! `krb_frame` the frames of a stream. No cipher is decrypted, and what a field means is not
+//! checked. [`judge`] and [`read_ticket`] allocate nothing.
+//!
+//! `specs/Parses` says what the parsers promise, and [`law`] that each refusal is inside the
+//! octets.
 #![tactic(auto)]
 
 mod judging;
 pub mod law;
-mod opening;
+mod locating;
 mod parsing;
-mod viewing;
 
 pub use judging::{judge, judge_in};
 pub use krb_der::{Profile, Refusal, Verdict, Why};
-pub use opening::Items;
+pub use locating::path;
 pub use parsing::{
     ParseFault, parse, parse_in, parse_method_data, parse_ticket, parse_ticket_in, read_ticket,
 };
-pub use viewing::{NameView, SealedView, TicketView};

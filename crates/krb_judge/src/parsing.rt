@@ -1,29 +1,24 @@
 //! The message that octets are.
 
-mod split;
-
-ghost use Rattle.std.specs.Prelude.{◌≡◌, ◌≢◌, ◌^◌, ◌<◌, ◌↔◌, ◌⊎◌, true, false, List, IfOk, IsErrOf, Ok, Err, Some, None, length};
-ghost use Rattle.krb_der.specs.declared.verdict.Verdict.TheVariants.{Whole};
-ghost use Rattle.krb_msg.specs.Judgement.{judgement, term_judgement};
+ghost use Rattle.std.specs.Prelude.{◌≡◌, ◌≢◌, ◌^◌, ◌<◌, ◌↔◌, ◌⊎◌, true, false, List, IfOk, IsErrOf, IsSome, MatchOption, Ok, Err, Some, None, length};
+ghost use Rattle.krb_msg.specs.Judgement.{term_judgement};
 ghost use Rattle.krb_msg.specs.Grammar.{ticket};
 ghost use Rattle.krb_msg.specs.Nodes.{term_at};
 ghost use Rattle.krb_msg.specs.Profiles.{profile_term};
+ghost use Rattle.krb_msg.specs.Seen.{IsMessageView, TicketLists, ticket_seen};
+ghost use Rattle.krb_msg.specs.Shape.{has_octet_tags, is_unambiguous};
 ghost use Rattle.krb_msg.specs.Table.{IsNode};
-ghost use Rattle.krb_msg.specs.Views.{message_der};
+ghost use Rattle.krb_msg.specs.Viewed.{IsViewOf};
 ghost use Rattle.krb_judge.specs.Faults.{parse_fault_text};
-ghost use Rattle.krb_msg.specs.Reads.{IsDer};
-ghost use Rattle.krb_msg.specs.Shape.{is_unambiguous};
-ghost use Rattle.krb_msg.specs.Term.{der};
 ghost use Rattle.krb_judge.specs.Parses.{refusal_by, refusal_of as refusal_in, ticket_refusal, method_data_refusal, judged_as, IsKnown, AreOf, AreOfTicket, AreOfMethodData, HasNoMessage};
-ghost use Rattle.krb_judge.specs.Viewed.{ticket_viewed};
 ghost use Rattle.krb_judge.specs.declared.parsing.ParseFault.TheVariants as fault;
 
 use crate::judging::{judge_in, judge_node};
-use crate::parsing::split::Slice;
-use crate::viewing::{TicketView, view_ticket};
 use krb_der::{Many, Memory, Profile, Refusal, Verdict, Why};
 use krb_msg::grammar::{ROWS, Row};
-use krb_msg::{Decode, Message, PaData, Ticket, decode, decode_whole, whole_kind};
+use krb_msg::{
+    FromView, Message, MessageView, PaData, Ticket, TicketView, View, view_message, view_whole,
+};
 use std::alloc::{AllocError, Global};
 use std::error::Error;
 use std::fmt;
@@ -76,6 +71,9 @@ enum Expected {
     Node(u16),
 }
 
+/// The greatest number of octets that are judged.
+const MOST: usize = 2147483647;
+
 /// The node of a Ticket (RFC 4120, 5.3).
 const TICKET: u16 = Row::Ticket as u16;
 
@@ -104,9 +102,9 @@ pub fn parse_in(alloc: Global, profile: Profile, octets: &[u8]) -> Result<Messag
     ensures refused { (r : Refusal) → IsErrOf result (fault.Refused r) ↔ (refusal_in profile octets.now ≡ Some r) }
     ensures none { HasNoMessage profile octets.now ↔ (refusal_in profile octets.now ≢ None) }
 {
-    match refusal_of(Expected::Message(profile), octets) {
-        Some(refusal) => Err(ParseFault::Refused(refusal)),
-        None => Ok(parse_whole(alloc, octets)?),
+    match read_in(profile, octets) {
+        Ok(message) => Ok(message.to_message(alloc)?),
+        Err(refusal) => Err(ParseFault::Refused(refusal)),
     }
 }
 
@@ -129,7 +127,10 @@ pub fn parse_ticket_in(alloc: Global, profile: Profile, octets: &[u8]) -> Result
     ensures refused { (r : Refusal) → IsErrOf result (fault.Refused r) ↔ (ticket_refusal profile octets.now ≡ Some r) }
     ensures none { ((t : Ticket) → AreOfTicket profile octets.now t → ⊥) ↔ (ticket_refusal profile octets.now ≢ None) }
 {
-    parse_node(alloc, profile, ticket_node(profile), octets)
+    match read_item::<Ticket>(profile, ticket_node(profile), octets) {
+        Ok(ticket) => Ok(Ticket::from_view(alloc, &ticket)?),
+        Err(refusal) => Err(ParseFault::Refused(refusal)),
+    }
 }
 
 /// Returns the node of a Ticket of a profile.
@@ -146,13 +147,11 @@ fn ticket_node(profile: Profile) -> u16
 /// Returns the Ticket that octets are, where it stands, or why they are none, by the lenient
 /// profile. It takes no memory.
 pub fn read_ticket(octets: &[u8]) -> Result<TicketView<'_>, Refusal>
-    ensures ticket { IfOk result (λ view. AreOfTicket Profile.Lenient octets.now (ticket_viewed view)) }
+    ensures ticket { IfOk result (λ view. AreOfTicket Profile.Lenient octets.now (ticket_seen view)) }
+    ensures lists { IfOk result TicketLists }
     ensures refused { (r : Refusal) → IsErrOf result r ↔ (ticket_refusal Profile.Lenient octets.now ≡ Some r) }
 {
-    match refusal_of(Expected::Node(TICKET), octets) {
-        Some(refusal) => Err(refusal),
-        None => Ok(view_ticket(octets)),
-    }
+    read_item::<Ticket>(Profile::Lenient, TICKET, octets)
 }
 
 /// Returns the METHOD-DATA (RFC 4120, 5.9.1) that octets are, or why they are none, as [`parse`]
@@ -163,29 +162,93 @@ pub fn parse_method_data(alloc: Global, octets: &[u8]) -> Result<Vec<PaData>, Pa
     ensures refused { (r : Refusal) → IsErrOf result (fault.Refused r) ↔ (method_data_refusal octets.now ≡ Some r) }
     ensures none { ((items : List PaData) → AreOfMethodData octets.now items → ⊥) ↔ (method_data_refusal octets.now ≢ None) }
 {
-    match parse_node::<Many<PaData>>(alloc, Profile::Lenient, METHOD_DATA, octets) {
-        Ok(items) => Ok(items.into_vec()),
-        Err(fault) => Err(fault),
+    match read_item::<Many<PaData>>(Profile::Lenient, METHOD_DATA, octets) {
+        Ok(items) => Ok(Many::<PaData>::from_view(alloc, &items)?.into_vec()),
+        Err(refusal) => Err(ParseFault::Refused(refusal)),
     }
 }
 
-/// Returns the value whose octets these are, as an item of a node's term, which is that of a
-/// profile.
-fn parse_node<T: Decode>(
-    alloc: Global,
-    _profile: Profile,
-    node: u16,
-    octets: &[u8],
-) -> Result<T, ParseFault>
-    requires known { IsNode node }
-    requires term { term_at node ≡ profile_term _profile false T.term }
-    requires unambiguous { is_unambiguous T.term ≡ true }
-    ensures value { IfOk result (λ value. IsDer (profile_term _profile false T.term) octets.now × (length octets.now < 2 ^ 31) × (der T.term (T.value value) ≡ octets.now)) }
-    ensures refused { (r : Refusal) → IsErrOf result (fault.Refused r) ↔ (refusal_by (term_judgement (profile_term _profile false T.term)) octets.now ≡ Some r) }
+/// Returns the message of a profile that octets are, where it stands, or why they are none.
+fn read_in(profile: Profile, octets: &[u8]) -> Result<MessageView<'_>, Refusal>
+    ensures message { IfOk result (IsMessageView octets.now) }
+    ensures whole { IfOk result (λ _. refusal_in profile octets.now ≡ None) }
+    ensures refused { (r : Refusal) → IsErrOf result r ↔ (refusal_in profile octets.now ≡ Some r) }
 {
-    match refusal_of(Expected::Node(node), octets) {
-        Some(refusal) => Err(ParseFault::Refused(refusal)),
-        None => Ok(decode_whole(alloc, Slice { octets })?),
+    accepted(
+        profile,
+        Expected::Message(profile),
+        octets,
+        seen_message(octets),
+    )
+}
+
+/// Returns the item of a node's term, which is that of a profile, that octets are, where it stands,
+/// or why they are none.
+fn read_item<'a, T: View<'a>>(
+    profile: Profile,
+    node: u16,
+    octets: &'a [u8],
+) -> Result<T::Of, Refusal>
+    requires known { IsNode node }
+    requires term { term_at node ≡ profile_term profile false T.term }
+    requires tags { has_octet_tags T.term ≡ true }
+    requires unambiguous { is_unambiguous T.term ≡ true }
+    ensures item { IfOk result (λ seen. IsViewOf T.term octets.now (T.value seen) × T.Lists seen) }
+    ensures whole { IfOk result (λ _. refusal_by (term_judgement (profile_term profile false T.term)) octets.now ≡ None) }
+    ensures refused { (r : Refusal) → IsErrOf result r ↔ (refusal_by (term_judgement (profile_term profile false T.term)) octets.now ≡ Some r) }
+{
+    accepted(
+        profile,
+        Expected::Node(node),
+        octets,
+        seen_item::<T>(octets),
+    )
+}
+
+/// Returns a view of the message that octets are, if they are one in the lenient profile.
+fn seen_message(octets: &[u8]) -> Option<MessageView<'_>>
+    ensures { MatchOption result (refusal_in Profile.Lenient octets.now ≢ None) (λ seen. IsMessageView octets.now seen × (refusal_in Profile.Lenient octets.now ≡ None)) }
+{
+    if octets.len() > MOST {
+        return None;
+    }
+    view_message(octets)
+}
+
+/// Returns a view of the item that octets are, if they are one in the lenient profile.
+fn seen_item<'a, T: View<'a>>(octets: &'a [u8]) -> Option<T::Of>
+    requires tags { has_octet_tags T.term ≡ true }
+    requires unambiguous { is_unambiguous T.term ≡ true }
+    ensures { MatchOption result (refusal_by (term_judgement T.term) octets.now ≢ None) (λ seen. IsViewOf T.term octets.now (T.value seen) × T.Lists seen × (refusal_by (term_judgement T.term) octets.now ≡ None)) }
+{
+    if octets.len() > MOST {
+        return None;
+    }
+    view_whole::<T>(octets)
+}
+
+/// Returns what is seen of octets, or why they are not what they are judged as. A view is one of
+/// the lenient profile: if there is one, that profile does not judge again.
+fn accepted<V: Copy>(
+    profile: Profile,
+    expected: Expected,
+    octets: &[u8],
+    seen: Option<V>,
+) -> Result<V, Refusal>
+    requires known { IsKnown expected }
+    requires lenient { profile ≡ Profile.Lenient → IsSome seen → refusal_by (judged_as expected) octets.now ≡ None }
+    requires seen { refusal_by (judged_as expected) octets.now ≡ None → IsSome seen }
+    ensures seen { IfOk result (λ it. seen ≡ Some it) }
+    ensures whole { IfOk result (λ _. refusal_by (judged_as expected) octets.now ≡ None) }
+    ensures refused { (r : Refusal) → IsErrOf result r ↔ (refusal_by (judged_as expected) octets.now ≡ Some r) }
+{
+    if let (Profile::Lenient, Some(seen)) = (profile, seen) {
+        return Ok(seen);
+    }
+    match (refusal_of(expected, octets), seen) {
+        (Some(refusal), _) => Err(refusal),
+        (None, Some(seen)) => Ok(seen),
+        (None, None) => unreachable!(),
     }
 }
 
@@ -194,7 +257,7 @@ fn refusal_of(expected: Expected, octets: &[u8]) -> Option<Refusal>
     requires { IsKnown expected }
     ensures { result ≡ refusal_by (judged_as expected) octets.now }
 {
-    if octets.len() > 2147483647 {
+    if octets.len() > MOST {
         return Some(Refusal {
             place: 0,
             why: Why::TooLong,
@@ -224,13 +287,4 @@ fn verdict_on(expected: Expected, octets: &[u8]) -> Verdict
         Expected::Message(profile) => judge_in(profile, n, octets),
         Expected::Node(node) => judge_node(node, n, octets),
     }
-}
-
-/// Returns the message whose octets these are, which are judged whole.
-fn parse_whole(alloc: Global, octets: &[u8]) -> Result<Message, Memory>
-    requires short { length octets.now < 2 ^ 31 }
-    requires whole { judgement Profile.Lenient (length octets.now) octets.now ≡ Whole }
-    ensures { IfOk result (λ m. message_der m ≡ octets.now) }
-{
-    Ok(decode(alloc, whole_kind(octets), Slice { octets })?)
 }

@@ -8,7 +8,7 @@ use Rattle.krb_der.specs.declared.verdict.Verdict.TheVariants as verdict
 use Rattle.krb_msg.specs.Term.{Term, Value, der, Fits}
 use Rattle.krb_msg.specs.Shape.{is_unambiguous, has_octet_tags, IsOneOf, IsGrammar}
 use Rattle.krb_msg.specs.Judgement.{Outcome, Open, Bad, Done, item_outcome, message_outcome, judgement_by, term_judgement, verdict_of}
-use Rattle.krb_msg.specs.Reads.{IsDer}
+use Rattle.krb_msg.specs.Der.{IsDer}
 use Rattle.krb_msg.specs.Laws.{AreOneOf, IsFinal, AreSame}
 use Rattle.krb_msg.proofs.Encoded.{AreOctets-der}
 use Rattle.krb_msg.proofs.Laws.{IsWhole, IsWhole-done, Settles, item_outcome-der, decided}

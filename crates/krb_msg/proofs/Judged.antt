@@ -18,11 +18,10 @@ use Rattle.krb_msg.specs.Grammar.{messages, sequence_of, ticket, principal_name,
 use Rattle.krb_msg.specs.Profiles.{narrowed, narrowed_value, profile_term, profile_value}
 use Rattle.krb_msg.specs.Shape.{IsOneOf, IsGrammar, greatest_depth}
 use Rattle.krb_msg.specs.Judgement.{judgement}
-use Rattle.krb_msg.specs.Views.{kind_of, kind_term, kind_term_in, message_value_in, kind_of_tag, message_value, message_der, pa_data_value, pa_data_of, principal_name_value, principal_name_of, host_address_value, host_address_of, encrypted_data_value, encrypted_data_of, ticket_value, ticket_of, kdc_req_body_value, kdc_req_body_of, KdcReqValue, kdc_req_value, kdc_req_of, KdcRepValue, kdc_rep_value, kdc_rep_of, micros_of, krb_error_value, krb_error_of, ap_req_value, ap_req_of, ap_rep_value, ap_rep_of, krb_safe_body_value, krb_safe_body_of, krb_safe_value, krb_safe_of, krb_priv_value, krb_priv_of, krb_cred_value, krb_cred_of, IsInProfile, AreOfKind}
+use Rattle.krb_msg.specs.Views.{kind_of, kind_term, kind_term_in, message_value_in, kind_of_tag, message_value, message_der, pa_data_value, pa_data_of, principal_name_value, principal_name_of, host_address_value, host_address_of, encrypted_data_value, encrypted_data_of, ticket_value, ticket_of, kdc_req_body_value, kdc_req_body_of, KdcReqValue, kdc_req_value, kdc_req_of, KdcRepValue, kdc_rep_value, kdc_rep_of, micros_of, krb_error_value, krb_error_of, ap_req_value, ap_req_of, ap_rep_value, ap_rep_of, krb_safe_body_value, krb_safe_body_of, krb_safe_value, krb_safe_of, krb_priv_value, krb_priv_of, krb_cred_value, krb_cred_of, IsInProfile}
 use Rattle.krb_msg.specs.inner.Told.{option-back, list-back}
 use Rattle.krb_msg.specs.Laws.{AreOneOf, AreMessage}
 use Rattle.krb_der.specs.inner.PrefixFree.{same_pair}
-use Rattle.krb_msg.specs.Reads.{IsDer}
 use Rattle.krb_msg.specs.inner.Values.{der_is}
 use Rattle.krb_msg.proofs.Profiles.{der_narrowed, fits_narrowed, widened_value, narrowed_widened}
 use Rattle.krb_msg.proofs.Grammars.{whole_is_one_of, one_of_is_whole, refusal_is_none_of}
@@ -267,6 +266,3 @@ pub kind_of_octets : {octets : List ℕ} (m : Message) → message_der m ≡ oct
 kind_of_octets m e =
     sym (kind_of_tag-tag (kind_of m))
     ∙ ap (λ (l : List ℕ). kind_of_tag (get_or l 0 0)) (sym (der_is (kind_term (kind_of m)) (message_value m)) ∙ e)
-
-pub der_of_kind : {octets : List ℕ} {k : Kind} → AreOfKind profiles.Lenient octets k → IsDer (kind_term k) octets
-der_of_kind {octets = octets} a = subst (λ k. IsDer (kind_term k) octets) a.same_kind (record { value = message_value a.message; fits = a.in_profile.fits; form = sym a.form })

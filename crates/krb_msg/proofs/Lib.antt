@@ -19,9 +19,9 @@ pub mod ProfileValues
 pub mod Judged
 pub mod Fronts
 pub mod Table
-pub mod Layouts
 pub mod Noted
 pub mod Strictness
+pub mod StrictViews
 pub mod Read
 pub mod MessageRead
 pub mod Puts

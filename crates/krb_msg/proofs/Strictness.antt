@@ -8,6 +8,7 @@ use Rattle.krb_msg.specs.Profiles.{is_unsigned, is_negative, option_all, keeps_s
 use Rattle.krb_msg.specs.Notes.{Note, HighOctet, FewFlags, Negative, EmptyList, text_has, flags_have, number_has, list_has, is_list_that_has, option_any, has, any_has, message_has, notes_of, notes_have}
 use Rattle.krb_msg.specs.Views.{kind_of, kind_term, message_value, is_strict, IsInProfile}
 use Rattle.krb_msg.specs.declared.message.Message.{Message}
+use Rattle.krb_msg.specs.declared.notes.Notes.{Notes}
 use Rattle.krb_msg.proofs.Profiles.{fits_narrowed, narrowed_fits}
 
 -- ---- parts
@@ -177,6 +178,9 @@ strict_by_notes m = by (cases_Bool (is_strict m)) (cases_Bool (((message_has Hig
       where
         clash : is_strict m ≡ true → ⊥
         clash t = let e : true ≡ false = sym t ∙ k in cc
+
+pub strict_by : (m : Message) (notes : Notes) → notes ≡ notes_of m → not (((notes.high_octet || notes.few_flags) || notes.negative) || notes.empty_list) ≡ is_strict m
+strict_by m notes e = rw e (strict_by_notes m)
 
 numbered : (m : Message) → ((note : Note) → message_has note m ≡ false) → (number : ℕ) → 1 ≤ number → number ≤ 4 → notes_have (notes_of m) number ≡ false
 numbered m q zero a b = absurd (omega (arith, a))

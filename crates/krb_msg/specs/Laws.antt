@@ -15,7 +15,7 @@ use Rattle.krb_msg.specs.Notes.{notes_of, notes_have}
 use Rattle.krb_msg.specs.Grammar.{messages}
 use Rattle.krb_msg.specs.Judgement.{judgement_by, judgement, term_judgement}
 use Rattle.krb_msg.specs.Reading.{value_read, message_read}
-use Rattle.krb_msg.specs.Reads.{IsDer}
+use Rattle.krb_msg.specs.Der.{IsDer}
 
 -- refused for a reason, at some place
 abbrev pub IsRefusedFor : Why → Verdict → Type 0

@@ -12,7 +12,7 @@ pub mod Laws
 pub mod Nodes
 pub mod Table
 pub mod Examples
-pub mod Reads
+pub mod Der
 pub mod Viewed
 pub mod Seen
 pub mod inner

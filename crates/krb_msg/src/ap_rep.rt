@@ -12,10 +12,8 @@ use crate::encrypted_data::{EncryptedData, EncryptedDataView};
 use crate::fields::{
     Application, Borrowed, Encode, End, Fixed, Held, Owned, Required, Sequence, View,
 };
-use crate::item::{Decode, Item};
-use crate::source::Source;
+use crate::item::Item;
 use krb_der::Der;
-use std::alloc::{AllocError, Global};
 
 /// The reply of an application server (RFC 4120, 5.5.2). Its version and its message type are
 /// fixed, and so not kept.
@@ -45,14 +43,6 @@ impl ApRep {
     {
         Application(Sequence(Fixed(Fixed(Required(&self.enc_part, End)))))
     }
-
-    /// Returns the value of its fields.
-    fn from_layout(layout: Layout<Owned>) -> ApRep
-        ensures { ap_rep_value result ≡ ⟦<Layout<Owned> as Decode>⟧.value layout }
-    {
-        let Application(Sequence(Fixed(Fixed(Required(enc_part, End))))) = layout;
-        ApRep { enc_part }
-    }
 }
 
 impl Der for ApRep {
@@ -73,18 +63,11 @@ impl Der for ApRep {
     ghost prefix_free = { told ap_rep refl ap_rep_value ap_rep_of (λ it. refl) };
 }
 
-impl Decode for ApRep {
+impl Item for ApRep {
     ghost term = { ap_rep };
 
     ghost value = { ap_rep_value };
 
-    fn decode<S: Source>(alloc: Global, front: S) -> Result<(ApRep, S), AllocError> {
-        let (layout, rest) = Layout::<Owned>::decode(alloc, front)?;
-        Ok((ApRep::from_layout(layout), rest))
-    }
-}
-
-impl Item for ApRep {
     ghost form = { λ it. refl };
 
     ghost fits = { λ it fits. fits };

@@ -12,12 +12,10 @@ use crate::encrypted_data::{EncryptedData, EncryptedDataView};
 use crate::fields::{
     Application, Borrowed, Encode, End, Fixed, Held, Owned, Required, Sequence, View,
 };
-use crate::item::{Decode, Item};
-use crate::source::Source;
+use crate::item::Item;
 use crate::ticket::{Ticket, TicketView};
 use crate::view::scalars::FlagsView;
 use krb_der::{Der, Flags};
-use std::alloc::{AllocError, Global};
 
 /// What a client sends an application server (RFC 4120, 5.5.1). Its version and its message type
 /// are fixed, and so not kept.
@@ -72,22 +70,6 @@ impl ApReq {
             Required(&self.ticket, Required(&self.authenticator, End)),
         )))))
     }
-
-    /// Returns the value of its fields.
-    fn from_layout(layout: Layout<Owned>) -> ApReq
-        ensures { ap_req_value result ≡ ⟦<Layout<Owned> as Decode>⟧.value layout }
-    {
-        let Application(
-            Sequence(
-                Fixed(Fixed(Required(ap_options, Required(ticket, Required(authenticator, End))))),
-            ),
-        ) = layout;
-        ApReq {
-            ap_options,
-            ticket,
-            authenticator,
-        }
-    }
 }
 
 impl Der for ApReq {
@@ -108,18 +90,11 @@ impl Der for ApReq {
     ghost prefix_free = { told ap_req refl ap_req_value ap_req_of (λ it. refl) };
 }
 
-impl Decode for ApReq {
+impl Item for ApReq {
     ghost term = { ap_req };
 
     ghost value = { ap_req_value };
 
-    fn decode<S: Source>(alloc: Global, front: S) -> Result<(ApReq, S), AllocError> {
-        let (layout, rest) = Layout::<Owned>::decode(alloc, front)?;
-        Ok((ApReq::from_layout(layout), rest))
-    }
-}
-
-impl Item for ApReq {
     ghost form = { λ it. refl };
 
     ghost fits = { λ it fits. fits };

@@ -9,10 +9,8 @@ ghost use Rattle.krb_msg.specs.Seen.{ChecksumLists, checksum_view_value};
 ghost use Rattle.krb_msg.specs.Viewed.{AreContents, AreNoContents};
 
 use crate::fields::{Borrowed, Encode, End, Held, Owned, Required, Sequence, View};
-use crate::item::{Decode, Item};
-use crate::source::Source;
+use crate::item::Item;
 use krb_der::{Der, Int32, Octets};
-use std::alloc::{AllocError, Global};
 
 /// A checksum (RFC 4120, 5.2.9). It is not verified.
 #[derive(PartialEq, Eq, Debug, Drop)]
@@ -42,17 +40,6 @@ impl Checksum {
     {
         Sequence(Required(&self.cksumtype, Required(&self.checksum, End)))
     }
-
-    /// Returns the value of its fields.
-    fn from_layout(layout: Layout<Owned>) -> Checksum
-        ensures { checksum_value result ≡ ⟦<Layout<Owned> as Decode>⟧.value layout }
-    {
-        let Sequence(Required(cksumtype, Required(checksum, End))) = layout;
-        Checksum {
-            cksumtype,
-            checksum,
-        }
-    }
 }
 
 impl Der for Checksum {
@@ -73,18 +60,11 @@ impl Der for Checksum {
     ghost prefix_free = { told checksum_term refl checksum_value checksum_of (λ it. refl) };
 }
 
-impl Decode for Checksum {
+impl Item for Checksum {
     ghost term = { checksum_term };
 
     ghost value = { checksum_value };
 
-    fn decode<S: Source>(alloc: Global, front: S) -> Result<(Checksum, S), AllocError> {
-        let (layout, rest) = Layout::<Owned>::decode(alloc, front)?;
-        Ok((Checksum::from_layout(layout), rest))
-    }
-}
-
-impl Item for Checksum {
     ghost form = { λ it. refl };
 
     ghost fits = { λ it fits. fits };

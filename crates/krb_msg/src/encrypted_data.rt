@@ -9,10 +9,8 @@ ghost use Rattle.krb_msg.specs.Seen.{EncryptedDataLists, encrypted_data_view_val
 ghost use Rattle.krb_msg.specs.Viewed.{AreContents, AreNoContents};
 
 use crate::fields::{Borrowed, Encode, End, Held, Optional, Owned, Required, Sequence, View};
-use crate::item::{Decode, Item};
-use crate::source::Source;
+use crate::item::Item;
 use krb_der::{Der, Int32, Octets, Wide32};
-use std::alloc::{AllocError, Global};
 
 /// What is sealed (RFC 4120, 5.2.9). Its cipher is never opened.
 #[derive(PartialEq, Eq, Debug, Drop)]
@@ -51,18 +49,6 @@ impl EncryptedData {
             Optional(self.kvno.as_ref(), Required(&self.cipher, End)),
         ))
     }
-
-    /// Returns the value of its fields.
-    fn from_layout(layout: Layout<Owned>) -> EncryptedData
-        ensures { encrypted_data_value result ≡ ⟦<Layout<Owned> as Decode>⟧.value layout }
-    {
-        let Sequence(Required(etype, Optional(kvno, Required(cipher, End)))) = layout;
-        EncryptedData {
-            etype,
-            kvno,
-            cipher,
-        }
-    }
 }
 
 impl Der for EncryptedData {
@@ -83,18 +69,11 @@ impl Der for EncryptedData {
     ghost prefix_free = { told encrypted_data refl encrypted_data_value encrypted_data_of (λ it. refl) };
 }
 
-impl Decode for EncryptedData {
+impl Item for EncryptedData {
     ghost term = { encrypted_data };
 
     ghost value = { encrypted_data_value };
 
-    fn decode<S: Source>(alloc: Global, front: S) -> Result<(EncryptedData, S), AllocError> {
-        let (layout, rest) = Layout::<Owned>::decode(alloc, front)?;
-        Ok((EncryptedData::from_layout(layout), rest))
-    }
-}
-
-impl Item for EncryptedData {
     ghost form = { λ it. refl };
 
     ghost fits = { λ it fits. fits };

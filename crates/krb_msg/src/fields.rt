@@ -1,12 +1,10 @@
 //! The fields of a type, said once as a type like
-//! `Sequence<Required<0, Int32, Optional<1, Wide32, End>>>`, by which its values are encoded, decoded
+//! `Sequence<Required<0, Int32, Optional<1, Wide32, End>>>`, by which its values are encoded
 //! and viewed (X.690, 8.9 and 8.14).
 
-mod decode;
 mod encode;
 mod view;
 
-pub use decode::DecodeFields;
 pub use encode::{Encode, EncodeFields};
 use std::marker::PhantomData;
 pub use view::{View, ViewFields};
@@ -49,7 +47,7 @@ pub trait Hold<T> {
 /// What holds a value of `T` in a list of fields.
 pub type Held<H, T> = <H as Hold<T>>::Of;
 
-/// Each value itself, as a list of fields is decoded.
+/// Each value itself. A list of fields is viewed by the types of its values, and holds none.
 pub struct Owned;
 
 /// Each value borrowed, as a list of fields is encoded.

@@ -9,10 +9,8 @@ ghost use Rattle.krb_msg.specs.Seen.{HostAddressLists, host_address_view_value};
 ghost use Rattle.krb_msg.specs.Viewed.{AreContents, AreNoContents};
 
 use crate::fields::{Borrowed, Encode, End, Held, Owned, Required, Sequence, View};
-use crate::item::{Decode, Item};
-use crate::source::Source;
+use crate::item::Item;
 use krb_der::{Der, Int32, Octets};
-use std::alloc::{AllocError, Global};
 
 /// The address of a host (RFC 4120, 5.2.5). What it means is not looked into.
 #[derive(PartialEq, Eq, Debug, Drop)]
@@ -42,14 +40,6 @@ impl HostAddress {
     {
         Sequence(Required(&self.addr_type, Required(&self.address, End)))
     }
-
-    /// Returns the value of its fields.
-    fn from_layout(layout: Layout<Owned>) -> HostAddress
-        ensures { host_address_value result ≡ ⟦<Layout<Owned> as Decode>⟧.value layout }
-    {
-        let Sequence(Required(addr_type, Required(address, End))) = layout;
-        HostAddress { addr_type, address }
-    }
 }
 
 impl Der for HostAddress {
@@ -70,18 +60,11 @@ impl Der for HostAddress {
     ghost prefix_free = { told host_address refl host_address_value host_address_of (λ it. refl) };
 }
 
-impl Decode for HostAddress {
+impl Item for HostAddress {
     ghost term = { host_address };
 
     ghost value = { host_address_value };
 
-    fn decode<S: Source>(alloc: Global, front: S) -> Result<(HostAddress, S), AllocError> {
-        let (layout, rest) = Layout::<Owned>::decode(alloc, front)?;
-        Ok((HostAddress::from_layout(layout), rest))
-    }
-}
-
-impl Item for HostAddress {
     ghost form = { λ it. refl };
 
     ghost fits = { λ it fits. fits };

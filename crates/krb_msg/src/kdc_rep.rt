@@ -6,26 +6,21 @@ ghost use Rattle.krb_der.specs.Puts.{Puts};
 ghost use Rattle.krb_msg.specs.Shape.{has_octet_tags};
 ghost use Rattle.krb_msg.specs.Term.{Application as ApplicationTerm, der};
 ghost use Rattle.krb_msg.specs.Grammar.{kdc_rep};
-ghost use Rattle.krb_msg.specs.Reads.{IsDer};
 ghost use Rattle.krb_msg.specs.inner.Fitting.{IsSized};
 ghost use Rattle.krb_msg.specs.Views.{kdc_rep_value};
 ghost use Rattle.krb_msg.specs.Seen.{kdc_rep_view_value, KdcRepLists};
 ghost use Rattle.krb_msg.specs.Viewed.{IsNotWhole, IsViewOf};
 
-use crate::decoding::decode_whole;
 use crate::encrypted_data::{EncryptedData, EncryptedDataView};
 use crate::fields::{
     Application, Borrowed, Encode, End, Fixed, Held, Optional, Owned, Required, Sequence, View,
 };
-use crate::item::Decode;
 use crate::pa_data::PaData;
 use crate::principal_name::{PrincipalName, PrincipalNameView};
-use crate::source::Source;
 use crate::ticket::{Ticket, TicketView};
 use crate::view::items::ItemsView;
 use crate::view::view_whole;
 use krb_der::{KString, Many};
-use std::alloc::{AllocError, Global};
 
 /// What a KDC answers (RFC 4120, 5.4.2): the contents of an AS-REP or a TGS-REP. Their version and
 /// their message type are fixed, and so not kept; so a KDC-REP has octets only as one or the other.
@@ -103,34 +98,6 @@ impl KdcRep {
         )))))
     }
 
-    /// Returns the value of its fields.
-    fn from_layout<const N: u8>(layout: Layout<Owned, N>) -> KdcRep
-        ensures { kdc_rep_value N result ≡ ⟦<Layout<Owned, N> as Decode>⟧.value layout.entry }
-    {
-        let Application(
-            Sequence(
-                Fixed(
-                    Fixed(
-                        Optional(
-                            padata,
-                            Required(
-                                crealm,
-                                Required(cname, Required(ticket, Required(enc_part, End))),
-                            ),
-                        ),
-                    ),
-                ),
-            ),
-        ) = layout;
-        KdcRep {
-            padata,
-            crealm,
-            cname,
-            ticket,
-            enc_part,
-        }
-    }
-
     /// Returns the number of DER octets in a message; 2147483648 if there are more. Its value fits
     /// the term.
     pub(crate) fn size<const N: u8>(&self) -> u64
@@ -148,19 +115,6 @@ impl KdcRep {
         ensures { Puts (der (ApplicationTerm N (kdc_rep N)) (kdc_rep_value N self.now)) out.old out.new }
     {
         self.layout::<N>().put(out);
-    }
-
-    /// Returns the value in the message of a number and a message type whose octets these are.
-    pub(crate) fn decode<const N: u8, S: Source>(
-        alloc: Global,
-        octets: S,
-    ) -> Result<KdcRep, AllocError>
-        requires short { length (S.octets octets) < 2 ^ 31 }
-        requires form { IsDer (ApplicationTerm N (kdc_rep N)) (S.octets octets) }
-        ensures { IfOk result (λ value. der (ApplicationTerm N (kdc_rep N)) (kdc_rep_value N value) ≡ S.octets octets) }
-    {
-        let layout = decode_whole::<Layout<Owned, N>, S>(alloc, octets)?;
-        Ok(KdcRep::from_layout(layout))
     }
 
     /// Returns a view of the message of a number and a message type that octets are, if they are one.

@@ -6,24 +6,19 @@ ghost use Rattle.krb_der.specs.Puts.{Puts};
 ghost use Rattle.krb_msg.specs.Shape.{has_octet_tags};
 ghost use Rattle.krb_msg.specs.Term.{Application as ApplicationTerm, der};
 ghost use Rattle.krb_msg.specs.Grammar.{kdc_req};
-ghost use Rattle.krb_msg.specs.Reads.{IsDer};
 ghost use Rattle.krb_msg.specs.inner.Fitting.{IsSized};
 ghost use Rattle.krb_msg.specs.Views.{kdc_req_value};
 ghost use Rattle.krb_msg.specs.Seen.{kdc_req_view_value, KdcReqLists};
 ghost use Rattle.krb_msg.specs.Viewed.{IsNotWhole, IsViewOf};
 
-use crate::decoding::decode_whole;
 use crate::fields::{
     Application, Borrowed, Encode, End, Fixed, Held, Optional, Owned, Required, Sequence, View,
 };
-use crate::item::Decode;
 use crate::kdc_req_body::{KdcReqBody, KdcReqBodyView};
 use crate::pa_data::PaData;
-use crate::source::Source;
 use crate::view::items::ItemsView;
 use crate::view::view_whole;
 use krb_der::Many;
-use std::alloc::{AllocError, Global};
 
 /// What a client sends a KDC (RFC 4120, 5.4.1): the contents of an AS-REQ or a TGS-REQ. Their
 /// version and their message type are fixed, and so not kept; so a KDC-REQ has octets only as one or
@@ -68,14 +63,6 @@ impl KdcReq {
         )))))
     }
 
-    /// Returns the value of its fields.
-    fn from_layout<const N: u8>(layout: Layout<Owned, N>) -> KdcReq
-        ensures { kdc_req_value N result ≡ ⟦<Layout<Owned, N> as Decode>⟧.value layout.entry }
-    {
-        let Application(Sequence(Fixed(Fixed(Optional(padata, Required(body, End)))))) = layout;
-        KdcReq { padata, body }
-    }
-
     /// Returns the number of DER octets in a message; 2147483648 if there are more. Its value fits
     /// the term.
     pub(crate) fn size<const N: u8>(&self) -> u64
@@ -93,19 +80,6 @@ impl KdcReq {
         ensures { Puts (der (ApplicationTerm N (kdc_req N)) (kdc_req_value N self.now)) out.old out.new }
     {
         self.layout::<N>().put(out);
-    }
-
-    /// Returns the value in the message of a number and a message type whose octets these are.
-    pub(crate) fn decode<const N: u8, S: Source>(
-        alloc: Global,
-        octets: S,
-    ) -> Result<KdcReq, AllocError>
-        requires short { length (S.octets octets) < 2 ^ 31 }
-        requires form { IsDer (ApplicationTerm N (kdc_req N)) (S.octets octets) }
-        ensures { IfOk result (λ value. der (ApplicationTerm N (kdc_req N)) (kdc_req_value N value) ≡ S.octets octets) }
-    {
-        let layout = decode_whole::<Layout<Owned, N>, S>(alloc, octets)?;
-        Ok(KdcReq::from_layout(layout))
     }
 
     /// Returns a view of the message of a number and a message type that octets are, if they are one.

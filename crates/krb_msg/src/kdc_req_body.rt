@@ -11,18 +11,16 @@ ghost use Rattle.krb_msg.specs.Viewed.{AreContents, AreNoContents};
 
 use crate::encrypted_data::{EncryptedData, EncryptedDataView};
 use crate::fields::{
-    Borrowed, Cut, DecodeFields, Encode, EncodeFields, End, Held, Optional, Owned, Required,
-    Sequence, View, ViewFields,
+    Borrowed, Cut, Encode, EncodeFields, End, Held, Optional, Owned, Required, Sequence, View,
+    ViewFields,
 };
 use crate::host_address::HostAddress;
-use crate::item::{Decode, Item};
+use crate::item::Item;
 use crate::principal_name::{PrincipalName, PrincipalNameView};
-use crate::source::Source;
 use crate::ticket::Ticket;
 use crate::view::items::ItemsView;
 use crate::view::scalars::FlagsView;
 use krb_der::{Der, Flags, Int32, KString, KerberosTime, Many, Wide32};
-use std::alloc::{AllocError, Global};
 
 /// What a client asks a KDC for (RFC 4120, 5.4.1).
 #[derive(PartialEq, Eq, Debug, Drop)]
@@ -161,48 +159,6 @@ impl KdcReqBody {
             ),
         ))
     }
-
-    /// Returns the value of its fields.
-    fn from_layout(layout: Layout<Owned>) -> KdcReqBody
-        ensures { kdc_req_body_value result ≡ ⟦<Layout<Owned> as Decode>⟧.value layout }
-    {
-        let Sequence(
-            Required(
-                kdc_options,
-                Optional(
-                    cname,
-                    Required(realm, Optional(sname, Optional(from, Required(till, Cut(rest))))),
-                ),
-            ),
-        ) = layout;
-        let Optional(
-            rtime,
-            Required(
-                nonce,
-                Required(
-                    etype,
-                    Optional(
-                        addresses,
-                        Optional(enc_authorization_data, Optional(additional_tickets, End)),
-                    ),
-                ),
-            ),
-        ) = rest;
-        KdcReqBody {
-            kdc_options,
-            cname,
-            realm,
-            sname,
-            from,
-            till,
-            rtime,
-            nonce,
-            etype,
-            addresses,
-            enc_authorization_data,
-            additional_tickets,
-        }
-    }
 }
 
 impl<'a> EncodeFields for Cut<Rest<Borrowed<'a>>> {
@@ -216,21 +172,6 @@ impl<'a> EncodeFields for Cut<Rest<Borrowed<'a>>> {
 
     fn put(&self, out: &mut Vec<u8>) {
         self.0.put(out);
-    }
-}
-
-impl DecodeFields for Cut<Rest<Owned>> {
-    ghost fields = { ⟦<Rest<Owned> as DecodeFields>⟧.fields };
-
-    ghost values = { λ cut. ⟦<Rest<Owned> as DecodeFields>⟧.values cut.0 };
-
-    fn read<S: Source>(
-        alloc: Global,
-        front: S,
-        after: usize,
-    ) -> Result<(Cut<Rest<Owned>>, S), AllocError> {
-        let (fields, rest) = Rest::<Owned>::read(alloc, front, after)?;
-        Ok((Cut(fields), rest))
     }
 }
 
@@ -252,18 +193,11 @@ impl Der for KdcReqBody {
     ghost prefix_free = { told kdc_req_body refl kdc_req_body_value kdc_req_body_of kdc_req_body-back };
 }
 
-impl Decode for KdcReqBody {
+impl Item for KdcReqBody {
     ghost term = { kdc_req_body };
 
     ghost value = { kdc_req_body_value };
 
-    fn decode<S: Source>(alloc: Global, front: S) -> Result<(KdcReqBody, S), AllocError> {
-        let (layout, rest) = Layout::<Owned>::decode(alloc, front)?;
-        Ok((KdcReqBody::from_layout(layout), rest))
-    }
-}
-
-impl Item for KdcReqBody {
     ghost form = { λ it. refl };
 
     ghost fits = { λ it fits. fits };

@@ -13,12 +13,10 @@ use crate::encrypted_data::{EncryptedData, EncryptedDataView};
 use crate::fields::{
     Application, Borrowed, Encode, End, Fixed, Held, Owned, Required, Sequence, View,
 };
-use crate::item::{Decode, Item};
-use crate::source::Source;
+use crate::item::Item;
 use crate::ticket::Ticket;
 use crate::view::items::ItemsView;
 use krb_der::{Der, Many};
-use std::alloc::{AllocError, Global};
 
 /// Tickets, handed on with what is sealed of them (RFC 4120, 5.8.1). Its version and its message type
 /// are fixed, and so not kept.
@@ -62,15 +60,6 @@ impl KrbCred {
     {
         Application(Sequence(Fixed(Fixed(Required(&self.tickets, Required(&self.enc_part, End))))))
     }
-
-    /// Returns the value of its fields.
-    fn from_layout(layout: Layout<Owned>) -> KrbCred
-        ensures { krb_cred_value result ≡ ⟦<Layout<Owned> as Decode>⟧.value layout }
-    {
-        let Application(Sequence(Fixed(Fixed(Required(tickets, Required(enc_part, End)))))) =
-            layout;
-        KrbCred { tickets, enc_part }
-    }
 }
 
 impl Der for KrbCred {
@@ -91,18 +80,11 @@ impl Der for KrbCred {
     ghost prefix_free = { told krb_cred refl krb_cred_value krb_cred_of krb_cred-back };
 }
 
-impl Decode for KrbCred {
+impl Item for KrbCred {
     ghost term = { krb_cred };
 
     ghost value = { krb_cred_value };
 
-    fn decode<S: Source>(alloc: Global, front: S) -> Result<(KrbCred, S), AllocError> {
-        let (layout, rest) = Layout::<Owned>::decode(alloc, front)?;
-        Ok((KrbCred::from_layout(layout), rest))
-    }
-}
-
-impl Item for KrbCred {
     ghost form = { λ it. refl };
 
     ghost fits = { λ it fits. fits };

@@ -10,14 +10,12 @@ ghost use Rattle.krb_msg.specs.Seen.{krb_error_view_value, KrbErrorLists};
 ghost use Rattle.krb_msg.specs.Viewed.{AreContents, AreNoContents};
 
 use crate::fields::{
-    Application, Borrowed, Cut, DecodeFields, Encode, EncodeFields, End, Fixed, Held, Optional,
-    Owned, Required, Sequence, View, ViewFields,
+    Application, Borrowed, Cut, Encode, EncodeFields, End, Fixed, Held, Optional, Owned, Required,
+    Sequence, View, ViewFields,
 };
-use crate::item::{Decode, Item};
+use crate::item::Item;
 use crate::principal_name::{PrincipalName, PrincipalNameView};
-use crate::source::Source;
 use krb_der::{Der, Int32, KString, KerberosTime, Micros, Octets};
-use std::alloc::{AllocError, Global};
 
 /// The message of an error (RFC 4120, 5.9.1). Its version and its message type are fixed, and so not
 /// kept.
@@ -154,47 +152,6 @@ impl KrbError {
             ),
         )))))
     }
-
-    /// Returns the value of its fields.
-    fn from_layout(layout: Layout<Owned>) -> KrbError
-        ensures { krb_error_value result ≡ ⟦<Layout<Owned> as Decode>⟧.value layout }
-    {
-        let Application(
-            Sequence(
-                Fixed(
-                    Fixed(
-                        Optional(
-                            ctime,
-                            Optional(
-                                cusec,
-                                Required(stime, Required(susec, Required(error_code, Cut(rest)))),
-                            ),
-                        ),
-                    ),
-                ),
-            ),
-        ) = layout;
-        let Optional(
-            crealm,
-            Optional(
-                cname,
-                Required(realm, Required(sname, Optional(e_text, Optional(e_data, End)))),
-            ),
-        ) = rest;
-        KrbError {
-            ctime,
-            cusec,
-            stime,
-            susec,
-            error_code,
-            crealm,
-            cname,
-            realm,
-            sname,
-            e_text,
-            e_data,
-        }
-    }
 }
 
 impl<'a> EncodeFields for Cut<Names<Borrowed<'a>>> {
@@ -208,21 +165,6 @@ impl<'a> EncodeFields for Cut<Names<Borrowed<'a>>> {
 
     fn put(&self, out: &mut Vec<u8>) {
         self.0.put(out);
-    }
-}
-
-impl DecodeFields for Cut<Names<Owned>> {
-    ghost fields = { ⟦<Names<Owned> as DecodeFields>⟧.fields };
-
-    ghost values = { λ cut. ⟦<Names<Owned> as DecodeFields>⟧.values cut.0 };
-
-    fn read<S: Source>(
-        alloc: Global,
-        front: S,
-        after: usize,
-    ) -> Result<(Cut<Names<Owned>>, S), AllocError> {
-        let (fields, rest) = Names::<Owned>::read(alloc, front, after)?;
-        Ok((Cut(fields), rest))
     }
 }
 
@@ -244,18 +186,11 @@ impl Der for KrbError {
     ghost prefix_free = { told krb_error refl krb_error_value krb_error_of krb_error-back };
 }
 
-impl Decode for KrbError {
+impl Item for KrbError {
     ghost term = { krb_error };
 
     ghost value = { krb_error_value };
 
-    fn decode<S: Source>(alloc: Global, front: S) -> Result<(KrbError, S), AllocError> {
-        let (layout, rest) = Layout::<Owned>::decode(alloc, front)?;
-        Ok((KrbError::from_layout(layout), rest))
-    }
-}
-
-impl Item for KrbError {
     ghost form = { λ it. refl };
 
     ghost fits = { λ it fits. fits };

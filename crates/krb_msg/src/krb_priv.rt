@@ -12,10 +12,8 @@ use crate::encrypted_data::{EncryptedData, EncryptedDataView};
 use crate::fields::{
     Application, Borrowed, Encode, End, Fixed, Held, Owned, Required, Sequence, View,
 };
-use crate::item::{Decode, Item};
-use crate::source::Source;
+use crate::item::Item;
 use krb_der::Der;
-use std::alloc::{AllocError, Global};
 
 /// A message that is sealed (RFC 4120, 5.7.1). Its version and its message type are fixed, and so not
 /// kept.
@@ -45,14 +43,6 @@ impl KrbPriv {
     {
         Application(Sequence(Fixed(Fixed(Required(&self.enc_part, End)))))
     }
-
-    /// Returns the value of its fields.
-    fn from_layout(layout: Layout<Owned>) -> KrbPriv
-        ensures { krb_priv_value result ≡ ⟦<Layout<Owned> as Decode>⟧.value layout }
-    {
-        let Application(Sequence(Fixed(Fixed(Required(enc_part, End))))) = layout;
-        KrbPriv { enc_part }
-    }
 }
 
 impl Der for KrbPriv {
@@ -73,18 +63,11 @@ impl Der for KrbPriv {
     ghost prefix_free = { told krb_priv refl krb_priv_value krb_priv_of (λ it. refl) };
 }
 
-impl Decode for KrbPriv {
+impl Item for KrbPriv {
     ghost term = { krb_priv };
 
     ghost value = { krb_priv_value };
 
-    fn decode<S: Source>(alloc: Global, front: S) -> Result<(KrbPriv, S), AllocError> {
-        let (layout, rest) = Layout::<Owned>::decode(alloc, front)?;
-        Ok((KrbPriv::from_layout(layout), rest))
-    }
-}
-
-impl Item for KrbPriv {
     ghost form = { λ it. refl };
 
     ghost fits = { λ it fits. fits };

@@ -13,11 +13,9 @@ use crate::checksum::{Checksum, ChecksumView};
 use crate::fields::{
     Application, Borrowed, Encode, End, Fixed, Held, Owned, Required, Sequence, View,
 };
-use crate::item::{Decode, Item};
+use crate::item::Item;
 use crate::krb_safe_body::{KrbSafeBody, KrbSafeBodyView};
-use crate::source::Source;
 use krb_der::Der;
-use std::alloc::{AllocError, Global};
 
 /// A message that is protected against changes (RFC 4120, 5.6.1). Its version and its message type are
 /// fixed, and so not kept.
@@ -57,14 +55,6 @@ impl KrbSafe {
     {
         Application(Sequence(Fixed(Fixed(Required(&self.body, Required(&self.cksum, End))))))
     }
-
-    /// Returns the value of its fields.
-    fn from_layout(layout: Layout<Owned>) -> KrbSafe
-        ensures { krb_safe_value result ≡ ⟦<Layout<Owned> as Decode>⟧.value layout }
-    {
-        let Application(Sequence(Fixed(Fixed(Required(body, Required(cksum, End)))))) = layout;
-        KrbSafe { body, cksum }
-    }
 }
 
 impl Der for KrbSafe {
@@ -85,18 +75,11 @@ impl Der for KrbSafe {
     ghost prefix_free = { told krb_safe refl krb_safe_value krb_safe_of krb_safe-back };
 }
 
-impl Decode for KrbSafe {
+impl Item for KrbSafe {
     ghost term = { krb_safe };
 
     ghost value = { krb_safe_value };
 
-    fn decode<S: Source>(alloc: Global, front: S) -> Result<(KrbSafe, S), AllocError> {
-        let (layout, rest) = Layout::<Owned>::decode(alloc, front)?;
-        Ok((KrbSafe::from_layout(layout), rest))
-    }
-}
-
-impl Item for KrbSafe {
     ghost form = { λ it. refl };
 
     ghost fits = { λ it fits. fits };

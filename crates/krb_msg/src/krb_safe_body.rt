@@ -11,10 +11,8 @@ ghost use Rattle.krb_msg.specs.Viewed.{AreContents, AreNoContents};
 
 use crate::fields::{Borrowed, Encode, End, Held, Optional, Owned, Required, Sequence, View};
 use crate::host_address::{HostAddress, HostAddressView};
-use crate::item::{Decode, Item};
-use crate::source::Source;
+use crate::item::Item;
 use krb_der::{Der, KerberosTime, Micros, Octets, Wide32};
-use std::alloc::{AllocError, Global};
 
 /// What a KRB-SAFE protects (RFC 4120, 5.6.1).
 #[derive(PartialEq, Eq, Debug, Drop)]
@@ -90,32 +88,6 @@ impl KrbSafeBody {
             ),
         ))
     }
-
-    /// Returns the value of its fields.
-    fn from_layout(layout: Layout<Owned>) -> KrbSafeBody
-        ensures { krb_safe_body_value result ≡ ⟦<Layout<Owned> as Decode>⟧.value layout }
-    {
-        let Sequence(
-            Required(
-                user_data,
-                Optional(
-                    timestamp,
-                    Optional(
-                        usec,
-                        Optional(seq_number, Required(s_address, Optional(r_address, End))),
-                    ),
-                ),
-            ),
-        ) = layout;
-        KrbSafeBody {
-            user_data,
-            timestamp,
-            usec,
-            seq_number,
-            s_address,
-            r_address,
-        }
-    }
 }
 
 impl Der for KrbSafeBody {
@@ -136,18 +108,11 @@ impl Der for KrbSafeBody {
     ghost prefix_free = { told krb_safe_body refl krb_safe_body_value krb_safe_body_of krb_safe_body-back };
 }
 
-impl Decode for KrbSafeBody {
+impl Item for KrbSafeBody {
     ghost term = { krb_safe_body };
 
     ghost value = { krb_safe_body_value };
 
-    fn decode<S: Source>(alloc: Global, front: S) -> Result<(KrbSafeBody, S), AllocError> {
-        let (layout, rest) = Layout::<Owned>::decode(alloc, front)?;
-        Ok((KrbSafeBody::from_layout(layout), rest))
-    }
-}
-
-impl Item for KrbSafeBody {
     ghost form = { λ it. refl };
 
     ghost fits = { λ it fits. fits };

@@ -6,21 +6,20 @@
 //! and its message type are fixed by its kind, and so not kept. [`encode`] returns its DER octets,
 //! [`put`] appends them into room that is there, and [`size`] is their number.
 //!
-//! Octets are read in two ways. [`view_message`] judges and views a message where it stands, in one
-//! pass and with no memory: a [`MessageView`] has the same fields as plain numbers, borrowed octets
-//! and lists ([`ItemsView`], walked by [`next_item`]). [`MessageView::to_message`] copies it out as a
-//! `Message`. [`view_whole`] views an item of any type alone (the trait [`View`]), such as a
-//! [`Ticket`], and [`FromView`] copies it. [`decode`] makes the message of octets that are known to be
-//! one, from any [`Source`].
+//! [`view_message`] judges and views a message where it stands, in one pass and with no memory
+//! ([`view_message_in`] by a profile): a [`MessageView`] has the same fields as plain numbers, borrowed octets and lists ([`ItemsView`],
+//! walked by [`next_item`]). [`MessageView::to_message`] copies it out as a `Message`. [`view_whole`]
+//! views an item of any type alone (the trait [`View`]), such as a [`Ticket`], and [`FromView`] copies
+//! it.
 //!
 //! [`notes_of`], and [`notes_of_view`] of a view, tell what of a message is unusual, and [`is_strict`]
 //! whether it is in the strict profile, too. [`grammar`] is the table by which octets are judged, and
 //! [`law`] has the laws about all this.
 //!
 //! Nothing here says why octets are no message, nor where that shows: `krb_judge` does, and `krb_scan`
-//! of octets that come one after another. Views are of the lenient profile. No cipher is opened, and
+//! of octets that come one after another. No cipher is opened, and
 //! what a field means is not looked into: not whether a time exists, nor whom a name names. Only what
-//! encodes, decodes or copies takes memory, and it says if there was none.
+//! encodes or copies takes memory, and it says if there was none.
 //!
 //! `specs/` reads from the bottom: `Term` (terms, their values and the DER of a value), `Profiles`
 //! (what the strict profile narrows), `Grammar` (appendix A as terms), `Judgement` (what the octets
@@ -36,7 +35,6 @@ mod ap_req;
 mod checksum;
 mod contents;
 mod copying;
-mod decoding;
 mod encoding;
 mod encrypted_data;
 mod fields;
@@ -47,6 +45,7 @@ mod item;
 mod kdc_rep;
 mod kdc_req;
 mod kdc_req_body;
+mod kinds;
 mod krb_cred;
 mod krb_error;
 mod krb_priv;
@@ -59,7 +58,6 @@ mod notes;
 mod pa_data;
 mod principal_name;
 mod scalars;
-mod source;
 mod ticket;
 mod view;
 
@@ -68,26 +66,25 @@ pub use ap_req::{ApReq, ApReqView};
 pub use checksum::{Checksum, ChecksumView};
 pub use contents::{has_bits, is_padded, is_time_octet};
 pub use copying::FromView;
-pub use decoding::{decode, decode_whole, whole_kind};
 pub use encoding::{EncodeFault, encode, put, size};
 pub use encrypted_data::{EncryptedData, EncryptedDataView};
 pub use fields::View;
 pub use host_address::{HostAddress, HostAddressView};
-pub use item::{Decode, Item};
+pub use item::Item;
 pub use kdc_rep::{KdcRep, KdcRepView};
 pub use kdc_req::{KdcReq, KdcReqView};
 pub use kdc_req_body::{KdcReqBody, KdcReqBodyView};
+pub use kinds::whole_kind;
 pub use krb_cred::{KrbCred, KrbCredView};
 pub use krb_error::{KrbError, KrbErrorView};
 pub use krb_priv::{KrbPriv, KrbPrivView};
 pub use krb_safe::{KrbSafe, KrbSafeView};
 pub use krb_safe_body::{KrbSafeBody, KrbSafeBodyView};
 pub use message::{Kind, Message};
-pub use message_view::{MessageView, view_message};
-pub use notes::{Notes, is_strict, notes_of, notes_of_view};
+pub use message_view::{MessageView, view_message, view_message_in};
+pub use notes::{Notes, is_strict, is_strict_view, notes_of, notes_of_view};
 pub use pa_data::{PaData, PaDataView};
 pub use principal_name::{PrincipalName, PrincipalNameView};
-pub use source::Source;
 pub use ticket::{Ticket, TicketView};
 pub use view::items::{ItemsView, next_item};
 pub use view::scalars::FlagsView;

@@ -2,6 +2,9 @@
 
 ghost use Rattle.std.specs.Prelude.{◌≡◌, ◌^◌, ◌<◌, length, MatchOption};
 ghost use Rattle.std.specs.Option.{option_map};
+ghost use Rattle.krb_der.specs.declared.profile.Profile.TheVariants.{Strict};
+ghost use Rattle.krb_der.specs.declared.verdict.Verdict.TheVariants.{Whole};
+ghost use Rattle.krb_msg.specs.Judgement.{judgement};
 ghost use Rattle.krb_msg.specs.Realm.{realm_of};
 ghost use Rattle.krb_msg.specs.Seen.{BeginAs, IsMessageView, IsNoMessage, message_seen};
 ghost use Rattle.krb_msg.specs.Views.{kind_of};
@@ -16,7 +19,9 @@ use crate::krb_error::{KrbError, KrbErrorView};
 use crate::krb_priv::{KrbPriv, KrbPrivView};
 use crate::krb_safe::{KrbSafe, KrbSafeView};
 use crate::message::Kind;
+use crate::notes::is_strict_view;
 use crate::view::view_whole;
+use krb_der::Profile;
 
 /// A view of a message of any kind (RFC 4120, section 5), whose strings and lists stay where they
 /// stand.
@@ -93,6 +98,33 @@ pub fn view_message(octets: &[u8]) -> Option<MessageView<'_>>
         return None;
     };
     view_of_kind(kind, octets)
+}
+
+/// Returns a view of the message of a profile that octets are, if they are one, as
+/// [`view_message`] has it.
+#[inline(always)]
+pub fn view_message_in(profile: Profile, octets: &[u8]) -> Option<MessageView<'_>>
+    requires short { length octets.now < 2 ^ 31 }
+    ensures { MatchOption result (judgement profile (length octets.now) octets.now ≡ Whole → ⊥) (λ m. IsMessageView octets.now m × (judgement profile (length octets.now) octets.now ≡ Whole)) }
+{
+    match profile {
+        Profile::Lenient => view_message(octets),
+        Profile::Strict => view_strict(octets),
+    }
+}
+
+/// Returns a view of the message of the strict profile that octets are, if they are one: a message
+/// of the lenient one in which no note holds.
+fn view_strict(octets: &[u8]) -> Option<MessageView<'_>>
+    requires short { length octets.now < 2 ^ 31 }
+    ensures { MatchOption result (judgement Strict (length octets.now) octets.now ≡ Whole → ⊥) (λ m. IsMessageView octets.now m × (judgement Strict (length octets.now) octets.now ≡ Whole)) }
+{
+    let message = view_message(octets)?;
+    if is_strict_view(&message) {
+        Some(message)
+    } else {
+        None
+    }
 }
 
 /// Returns a view of the message of a kind that octets are, if they are one.

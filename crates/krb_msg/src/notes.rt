@@ -1,6 +1,6 @@
 //! What of a message deserves a note.
 
-ghost use Rattle.std.specs.Prelude.{◌≡◌, Bool, false, nat_lt};
+ghost use Rattle.std.specs.Prelude.{◌≡◌, ◌||◌, Bool, false, nat_lt, not};
 ghost use Rattle.std.specs.List.{list_any};
 ghost use Rattle.krb_msg.specs.Grammar.{principal_name, encrypted_data, ticket, kdc_req_body, as_req, as_rep, ap_req, ap_rep, krb_safe_body, krb_safe, krb_priv, krb_cred, krb_error};
 ghost use Rattle.krb_msg.specs.Views.{principal_name_value, encrypted_data_value, ticket_value, kdc_req_body_value, kdc_req_value, kdc_rep_value, ap_req_value, ap_rep_value, krb_safe_body_value, krb_safe_value, krb_priv_value, krb_cred_value, krb_error_value, is_strict};
@@ -23,7 +23,7 @@ use crate::message::Message;
 use crate::principal_name::PrincipalName;
 use crate::ticket::Ticket;
 use krb_der::{Flags, KString, Many, Wide32};
-pub use view::notes_of_view;
+pub use view::{is_strict_view, notes_of_view};
 
 /// The notes that hold in a message or in a part of it, Tickets inside included: not faults, but
 /// what a reader of messages may stumble over. They have numbers:
@@ -64,6 +64,13 @@ impl Notes {
             negative: false,
             empty_list: false,
         }
+    }
+
+    /// Returns whether none of them holds.
+    fn are_none(&self) -> bool
+        ensures { result ≡ not (((self.now.high_octet || self.now.few_flags) || self.now.negative) || self.now.empty_list) }
+    {
+        !(self.high_octet | self.few_flags | self.negative | self.empty_list)
     }
 
     /// Returns the notes that hold in one or the other.
@@ -319,6 +326,5 @@ pub fn notes_of(message: &Message) -> Notes
 pub fn is_strict(message: &Message) -> bool
     ensures { result ≡ is_strict message.now }
 {
-    let notes = notes_of(message);
-    !(notes.high_octet | notes.few_flags | notes.negative | notes.empty_list)
+    notes_of(message).are_none()
 }

@@ -9,10 +9,8 @@ ghost use Rattle.krb_msg.specs.Seen.{PaDataLists, pa_data_view_value};
 ghost use Rattle.krb_msg.specs.Viewed.{AreContents, AreNoContents};
 
 use crate::fields::{Borrowed, Encode, End, Held, Owned, Required, Sequence, View};
-use crate::item::{Decode, Item};
-use crate::source::Source;
+use crate::item::Item;
 use krb_der::{Der, Int32, Octets};
-use std::alloc::{AllocError, Global};
 
 /// Pre-authentication data (RFC 4120, 5.2.7). What it means is not looked into.
 #[derive(PartialEq, Eq, Debug, Drop)]
@@ -42,17 +40,6 @@ impl PaData {
     {
         Sequence(Required(&self.padata_type, Required(&self.padata_value, End)))
     }
-
-    /// Returns the value of its fields.
-    fn from_layout(layout: Layout<Owned>) -> PaData
-        ensures { pa_data_value result ≡ ⟦<Layout<Owned> as Decode>⟧.value layout }
-    {
-        let Sequence(Required(padata_type, Required(padata_value, End))) = layout;
-        PaData {
-            padata_type,
-            padata_value,
-        }
-    }
 }
 
 impl Der for PaData {
@@ -73,18 +60,11 @@ impl Der for PaData {
     ghost prefix_free = { told pa_data refl pa_data_value pa_data_of (λ it. refl) };
 }
 
-impl Decode for PaData {
+impl Item for PaData {
     ghost term = { pa_data };
 
     ghost value = { pa_data_value };
 
-    fn decode<S: Source>(alloc: Global, front: S) -> Result<(PaData, S), AllocError> {
-        let (layout, rest) = Layout::<Owned>::decode(alloc, front)?;
-        Ok((PaData::from_layout(layout), rest))
-    }
-}
-
-impl Item for PaData {
     ghost form = { λ it. refl };
 
     ghost fits = { λ it fits. fits };

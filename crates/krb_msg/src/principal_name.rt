@@ -9,11 +9,9 @@ ghost use Rattle.krb_msg.specs.Seen.{principal_name_view_value, PrincipalNameLis
 ghost use Rattle.krb_msg.specs.Viewed.{AreContents, AreNoContents};
 
 use crate::fields::{Borrowed, Encode, End, Held, Owned, Required, Sequence, View};
-use crate::item::{Decode, Item};
-use crate::source::Source;
+use crate::item::Item;
 use crate::view::items::ItemsView;
 use krb_der::{Der, Int32, KString, Many};
-use std::alloc::{AllocError, Global};
 
 /// The name of a principal within a realm (RFC 4120, 5.2.2).
 #[derive(PartialEq, Eq, Debug, Drop)]
@@ -43,14 +41,6 @@ impl PrincipalName {
     {
         Sequence(Required(&self.name_type, Required(&self.name, End)))
     }
-
-    /// Returns the value of its fields.
-    fn from_layout(layout: Layout<Owned>) -> PrincipalName
-        ensures { principal_name_value result ≡ ⟦<Layout<Owned> as Decode>⟧.value layout }
-    {
-        let Sequence(Required(name_type, Required(name, End))) = layout;
-        PrincipalName { name_type, name }
-    }
 }
 
 impl Der for PrincipalName {
@@ -71,18 +61,11 @@ impl Der for PrincipalName {
     ghost prefix_free = { told principal_name refl principal_name_value principal_name_of (λ it. refl) };
 }
 
-impl Decode for PrincipalName {
+impl Item for PrincipalName {
     ghost term = { principal_name };
 
     ghost value = { principal_name_value };
 
-    fn decode<S: Source>(alloc: Global, front: S) -> Result<(PrincipalName, S), AllocError> {
-        let (layout, rest) = Layout::<Owned>::decode(alloc, front)?;
-        Ok((PrincipalName::from_layout(layout), rest))
-    }
-}
-
-impl Item for PrincipalName {
     ghost form = { λ it. refl };
 
     ghost fits = { λ it fits. fits };

@@ -12,11 +12,9 @@ use crate::encrypted_data::{EncryptedData, EncryptedDataView};
 use crate::fields::{
     Application, Borrowed, Encode, End, Fixed, Held, Owned, Required, Sequence, View,
 };
-use crate::item::{Decode, Item};
+use crate::item::Item;
 use crate::principal_name::{PrincipalName, PrincipalNameView};
-use crate::source::Source;
 use krb_der::{Der, KString};
-use std::alloc::{AllocError, Global};
 
 /// A ticket (RFC 4120, 5.3). Its version is fixed, and so not kept.
 #[derive(PartialEq, Eq, Debug, Drop)]
@@ -66,20 +64,6 @@ impl Ticket {
             Required(&self.sname, Required(&self.enc_part, End)),
         ))))
     }
-
-    /// Returns the value of its fields.
-    fn from_layout(layout: Layout<Owned>) -> Ticket
-        ensures { ticket_value result ≡ ⟦<Layout<Owned> as Decode>⟧.value layout }
-    {
-        let Application(
-            Sequence(Fixed(Required(realm, Required(sname, Required(enc_part, End))))),
-        ) = layout;
-        Ticket {
-            realm,
-            sname,
-            enc_part,
-        }
-    }
 }
 
 impl Der for Ticket {
@@ -100,18 +84,11 @@ impl Der for Ticket {
     ghost prefix_free = { told ticket_term refl ticket_value ticket_of (λ it. refl) };
 }
 
-impl Decode for Ticket {
+impl Item for Ticket {
     ghost term = { ticket_term };
 
     ghost value = { ticket_value };
 
-    fn decode<S: Source>(alloc: Global, front: S) -> Result<(Ticket, S), AllocError> {
-        let (layout, rest) = Layout::<Owned>::decode(alloc, front)?;
-        Ok((Ticket::from_layout(layout), rest))
-    }
-}
-
-impl Item for Ticket {
     ghost form = { λ it. refl };
 
     ghost fits = { λ it fits. fits };

@@ -1,4 +1,4 @@
-//! Three ways to see whether octets are a message.
+//! Three ways of judging whether octets are a message.
 
 use krb_judge::judge;
 use krb_scan::{Scanner, Verdict};
@@ -8,17 +8,17 @@ use krb_scan::{Scanner, Verdict};
 pub(crate) enum Judging {
     /// By `judge`.
     AtOnce,
-    /// By a scanner that takes them one after another, but those inside a string.
+    /// By a scanner, octet by octet except inside strings.
     Step,
-    /// By a scanner that takes them at once.
+    /// By a scanner, all octets at once.
     Take,
 }
 
-/// What octets come to that a scanner takes one after another, but those inside a string, which it
-/// passes by `run`; what it decided before where there is no memory.
+/// Scans octets one at a time, except those inside a string, which it scans by `run`, and returns
+/// the verdict. If memory runs out it is the verdict before that.
 fn step_all(scanner: &mut Scanner, octets: &[u8]) -> Verdict {
     let mut rest = octets;
-    // each turn takes one octet or more
+    // each turn scans at least one octet
     for _ in octets {
         let run = scanner.run(rest);
         let Some([octet, after @ ..]) = rest.get(run..) else {
@@ -35,7 +35,7 @@ fn step_all(scanner: &mut Scanner, octets: &[u8]) -> Verdict {
     scanner.verdict()
 }
 
-/// Whether octets are a message. The scanner forgets what it took before, but keeps its memory.
+/// Returns whether octets are a message. The scanner is cleared first, and its memory used again.
 pub(crate) fn is_whole(scanner: &mut Scanner, octets: &[u8], judging: Judging) -> bool {
     if octets.is_empty() || octets.len() > 2147483647 {
         return false;

@@ -1,10 +1,13 @@
 //! Reads framed messages from the standard input, parses each, encodes it again, and compares the
-//! octets. It is a test of `krb_judge` and `krb_msg` on real octets, and what the benchmark measures:
-//! with the word `parse` it only parses, and with `frames` it only cuts the frames; `encode` is what it
-//! does without a word. With `judge` it judges each message, with `step` a scanner takes its octets one
-//! after another but those inside a string, and with `take` at once. A number after the word is how many
-//! times more it does all this with the same octets, which then are in the processor's cache, as those
-//! of a pipe are. Other words are refused.
+//! octets. It tests `krb_judge` and `krb_msg` on real messages, and `make bench` measures it: with
+//! the word `frames` it only finds the frames, and with `parse` it only parses; `encode` is what it
+//! does without a word. With `judge` it judges each message, with `step` a scanner scans it octet
+//! by octet except inside strings, and with `take` all octets at once. A number after the word is
+//! how many more times it does all this with the same octets, which then are in the processor's
+//! cache, as those of a pipe are. Other words are refused.
+//!
+//! It uses a message no further than that: `krb_tests` tests what calls return, and `krb_damage`
+//! octets that are cut or changed.
 #![tactic(auto)]
 
 mod judging;
@@ -19,10 +22,10 @@ use std::io::Read;
 use std::process::ExitCode;
 use std::{env, io};
 
-/// How much is done with each frame.
+/// What is done with each frame.
 #[derive(Clone, Copy)]
 enum Work {
-    /// It is cut from the stream.
+    /// It is found in the stream.
     Frames,
     /// Its message is judged, too.
     Judge(Judging),
@@ -33,7 +36,8 @@ enum Work {
 }
 
 impl Work {
-    /// What the first word of the command line asks for, if there is one; `None` for a wrong word.
+    /// Returns the work that the first word of the command line asks for, if there is one, or
+    /// `None` for a wrong word.
     fn of(word: Option<&str>) -> Option<Work> {
         match word {
             Some("frames") => Some(Work::Frames),
@@ -47,8 +51,9 @@ impl Work {
     }
 }
 
-/// Whether octets are parsed as a message and that, if it is to be encoded, as these octets. The message
-/// leaves its room. This stands apart so that none of its values take room where octets are judged.
+/// Returns whether octets are parsed as a message which, with `encodes`, is encoded as the same
+/// octets. The message gives its vectors to `room`, so that no drop of a message has to be proved.
+/// This is a function of its own so that its values need no stack when octets are only judged.
 #[inline(never)]
 fn is_parsed(alloc: Global, room: &mut Room, octets: &[u8], encodes: bool) -> bool {
     match parse(alloc, octets) {
@@ -61,7 +66,7 @@ fn is_parsed(alloc: Global, room: &mut Room, octets: &[u8], encodes: bool) -> bo
     }
 }
 
-/// Whether octets are those of a message.
+/// Returns whether octets are those of a message.
 fn is_encoded(alloc: Global, message: &Message, octets: &[u8]) -> bool {
     match encode(alloc, message) {
         Ok(same) => same.as_slice() == octets,
@@ -69,7 +74,7 @@ fn is_encoded(alloc: Global, message: &Message, octets: &[u8]) -> bool {
     }
 }
 
-/// The contents of the first frame, and what stands after it; `None` where there is no whole one.
+/// Returns the contents of the first frame and the octets after it, or `None` if no frame is whole.
 fn first_frame(octets: &[u8]) -> Option<(&[u8], &[u8])> {
     let (length, rest) = octets.split_first_chunk::<4>()?;
     let size = u32::from_be_bytes(*length) as usize;
@@ -79,7 +84,7 @@ fn first_frame(octets: &[u8]) -> Option<(&[u8], &[u8])> {
     Some(rest.split_at(size))
 }
 
-/// What is used again from message to message.
+/// What is used again for each message.
 #[derive(Drop)]
 struct Kept {
     scanner: Scanner,
@@ -87,8 +92,8 @@ struct Kept {
 }
 
 impl Kept {
-    /// Does the work with the contents of a frame, and whether they are a message, which comes again if
-    /// that is asked for.
+    /// Does the work with the contents of a frame; returns whether they are a message, and are
+    /// encoded as the same octets if that is asked for.
     fn is_done(&mut self, alloc: Global, octets: &[u8], work: Work) -> bool {
         match work {
             Work::Frames => true,
@@ -99,18 +104,18 @@ impl Kept {
     }
 }
 
-/// What a stream came to.
+/// How a stream ended.
 #[derive(Clone, Copy)]
 struct Outcome {
-    /// How many messages it has, up to the first that does not come again.
+    /// The number of messages before the first frame that fails.
     messages: u64,
-    /// How many octets follow these.
+    /// The number of octets after these messages.
     left: usize,
-    /// Whether the next frame does not come again.
+    /// Whether the next frame fails.
     is_other: bool,
 }
 
-/// Does the work with each frame of a stream, up to the first that does not come again.
+/// Does the work with each frame of a stream up to the first that fails.
 fn work_on(alloc: Global, kept: &mut Kept, stream: &[u8], work: Work) -> Outcome {
     let mut rest = stream;
     let mut messages = 0u64;
@@ -133,8 +138,8 @@ fn work_on(alloc: Global, kept: &mut Kept, stream: &[u8], work: Work) -> Outcome
     }
 }
 
-/// The number that the second word of the command line is, and 0 where there is none; `None` for a
-/// word that is no number.
+/// Returns the number that the second word of the command line is, 0 if there is none, or `None` if
+/// it is not a number.
 fn times_of(word: Option<&str>) -> Option<u32> {
     match word {
         Some(number) => number.parse::<u32>().ok(),

@@ -1,4 +1,4 @@
-pub mod Accepting
+pub mod Sooner
 pub mod Basics
 pub mod Progress
 pub mod Stable
@@ -23,11 +23,4 @@ pub mod Standing
 pub mod Taking
 pub mod Reaching
 pub mod Running
-pub mod WholeItems
-pub mod Leaves
-pub mod AtOnce
 pub mod ValueMarks
-pub mod MarksLeft
-pub mod MarkedItems
-pub mod MarksCounted
-pub mod RealmMarks

@@ -3,8 +3,3 @@ pub mod Places
 pub mod Numbers
 pub mod Stands
 pub mod Paths
-pub mod Wholes
-pub mod MarksLeft
-pub mod MarksCounted
-pub mod Marked
-pub mod RealmMarks

@@ -8,8 +8,7 @@
 ghost use Rattle.std.specs.Prelude.{◌≡◌, None, IfSome, IfNone};
 ghost use Rattle.krb_msg.specs.Grammar.{messages};
 ghost use Rattle.krb_scan.specs.Reading.{OneOf};
-ghost use Rattle.krb_scan.specs.inner.Machine.{pick};
-ghost use Rattle.krb_scan.specs.inner.Places.{IsPlace, IsPlaceOf, IsPicked, ArePlaces, IsChoice, dues, due_at};
+ghost use Rattle.krb_scan.specs.inner.Places.{IsPlace, IsPlaceOf, ArePlaces, IsChoice, dues, due_at};
 
 use krb_der::Profile;
 use krb_msg::grammar::{ROWS, Row};
@@ -569,34 +568,21 @@ pub(crate) fn place_at(place: u16) -> &'static Place
     place_in(&TABLE, place)
 }
 
-/// Returns the place of the item that a tag octet begins, if something is due at a place, and its
-/// row.
-#[inline(always)]
-pub(crate) fn pick_row(octet: u8, due: u16) -> Option<(u16, &'static Place)>
-    requires { IsPlace due }
-    ensures some { IfSome result (λ it. IsPicked octet (due_at due) it.0) }
-    ensures row { IfSome result (λ it. IsPlaceOf it.1.now (due_at it.0)) }
-    ensures none { IfNone result (pick octet (due_at due) ≡ None) }
-{
-    let mut place = due;
-    'places: loop {
-        let row = place_at(place);
-        if row.tag == u16::from(octet) {
-            return Some((place, row));
-        }
-        if !row.optional {
-            return None;
-        }
-        place = row.otherwise;
-    }
-}
-
 /// Returns the place of the item that a tag octet begins, if something is due at a place.
 #[inline(always)]
 pub(crate) fn pick(octet: u8, due: u16) -> Option<u16>
     requires { IsPlace due }
     ensures { IsChoice octet (due_at due) result }
 {
-    let (place, _) = pick_row(octet, due)?;
-    Some(place)
+    let mut place = due;
+    'places: loop {
+        let row = place_at(place);
+        if row.tag == u16::from(octet) {
+            return Some(place);
+        }
+        if !row.optional {
+            return None;
+        }
+        place = row.otherwise;
+    }
 }

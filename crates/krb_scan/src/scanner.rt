@@ -4,7 +4,6 @@ ghost use Rattle.std.specs.Prelude.{ℕ, List};
 ghost use Rattle.krb_der.specs.declared.profile.Profile.{Profile};
 ghost use Rattle.krb_scan.specs.At.{IsAt};
 
-use crate::at_once::Accepted;
 use crate::ledger::Ledger;
 use crate::mark::Mark;
 use crate::path::{Path, message};
@@ -138,8 +137,7 @@ impl Scanner {
         }
     }
 
-    /// Takes some octets at once, of which there is one at least: items that are there whole, and
-    /// containers' tags and lengths; or what `run` takes; or else an octet.
+    /// Takes some octets at once, of which there is one at least: what `run` takes, or else an octet.
     fn take_some(&mut self, octets: &[u8]) -> Taken
         requires open { verdict_of self.old ≡ Verdict.Open }
         requires some { 0 < length octets.now }
@@ -155,12 +153,6 @@ impl Scanner {
         ensures room { room_of self.old ≤ room_of self.new }
         ensures profile { profile_of self.new ≡ profile_of self.old }
     {
-        if let Some(items) = self.take_items(octets) {
-            return Taken {
-                used: items.count as usize,
-                verdict: Ok(items.verdict),
-            };
-        }
         let count = self.run(octets);
         if count > 0 {
             return Taken {
@@ -178,27 +170,6 @@ impl Scanner {
                 verdict: Err(memory),
             },
         }
-    }
-
-    /// Takes items and containers' tags and lengths from the front of octets, as long as they are
-    /// there whole and nothing is odd.
-    #[inline(always)]
-    fn take_items(&mut self, octets: &[u8]) -> Option<Accepted>
-        requires { verdict_of self.old ≡ Verdict.Open }
-        ensures at { IfSome result (λ it. (profile : Profile) (n : ℕ) (before : List ℕ) → At profile self.old n before → At profile self.new n (before ++ take it.count octets.now)) }
-        ensures within { IfSome result (λ it. it.count ≤ length octets.now) }
-        ensures some { IfSome result (λ it. 0 < it.count) }
-        ensures answer { IfSome result (λ it. it.verdict ≡ verdict_of self.new) }
-        ensures sooner { IfSome result (λ it. (profile : Profile) (n : ℕ) (before : List ℕ) (k : ℕ) → At profile self.old n before → k < it.count → judgement profile n (before ++ take k octets.now) ≡ Verdict.Open) }
-        ensures ledger { IfSome result (λ it. ledger_of self.new ≡ ledger_of self.old + it.count) }
-        ensures none { result ≡ None → self.new ≡ self.old }
-        ensures room { room_of self.new ≡ room_of self.old }
-        ensures profile { profile_of self.new ≡ profile_of self.old }
-    {
-        let items = self.path.take_items(octets)?;
-        self.verdict = items.verdict;
-        self.ledger = self.ledger.raised(&items.count);
-        Some(items)
     }
 
     /// Returns the number of octets taken.

@@ -1,5 +1,9 @@
 //! The parts of messages copied out of views of them.
 
+ghost use Rattle.std.specs.Prelude.{map};
+ghost use Rattle.krb_msg.specs.Grammar.{pa_data};
+ghost use Rattle.krb_msg.specs.Viewed.{items_of};
+ghost use Rattle.krb_msg.specs.Views.{pa_data_of};
 ghost use Rattle.krb_msg.specs.Seen.{checksum_seen, encrypted_data_seen, host_address_seen, kdc_req_body_seen, krb_safe_body_seen, pa_data_seen, principal_name_seen, ticket_seen};
 
 use crate::checksum::{Checksum, ChecksumView};
@@ -11,7 +15,8 @@ use crate::krb_safe_body::{KrbSafeBody, KrbSafeBodyView};
 use crate::pa_data::{PaData, PaDataView};
 use crate::principal_name::{PrincipalName, PrincipalNameView};
 use crate::ticket::{Ticket, TicketView};
-use krb_der::{Flags, Int32, KString, KerberosTime, Memory, Micros, Octets, Wide32};
+use crate::view::items::ItemsView;
+use krb_der::{Flags, Int32, KString, KerberosTime, Many, Memory, Micros, Octets, Wide32};
 use std::alloc::Global;
 
 impl<'a> FromView<'a> for EncryptedData {
@@ -45,6 +50,15 @@ impl<'a> FromView<'a> for PaData {
             padata_type: Int32::from_view(alloc, &seen.padata_type)?,
             padata_value: Octets::from_view(alloc, &seen.padata_value)?,
         })
+    }
+}
+
+/// METHOD-DATA (RFC 4120, 5.9.1).
+impl<'a> FromView<'a> for Many<PaData> {
+    ghost copied = { λ seen. map pa_data_of (items_of pa_data seen.octets.now) };
+
+    fn from_view(alloc: Global, seen: &ItemsView<'a>) -> Result<Many<PaData>, Memory> {
+        copy_items(alloc, *seen)
     }
 }
 

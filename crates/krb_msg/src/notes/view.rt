@@ -4,7 +4,7 @@ ghost use Rattle.std.specs.Prelude.{◌≡◌, ⊤, Bool, true};
 ghost use Rattle.std.specs.List.{list_any};
 ghost use Rattle.krb_msg.specs.Grammar.{principal_name, encrypted_data, ticket, kdc_req_body, as_req, as_rep, ap_req, ap_rep, krb_safe_body, krb_safe, krb_priv, krb_cred, krb_error};
 ghost use Rattle.krb_msg.specs.Shape.{has_octet_tags, is_unambiguous};
-ghost use Rattle.krb_msg.specs.Views.{principal_name_value, encrypted_data_value, ticket_value, kdc_req_body_value, kdc_req_value, kdc_rep_value, ap_req_value, ap_rep_value, krb_safe_body_value, krb_safe_value, krb_priv_value, krb_cred_value, krb_error_value};
+ghost use Rattle.krb_msg.specs.Views.{principal_name_value, encrypted_data_value, ticket_value, kdc_req_body_value, kdc_req_value, kdc_rep_value, ap_req_value, ap_rep_value, krb_safe_body_value, krb_safe_value, krb_priv_value, krb_cred_value, krb_error_value, is_strict};
 ghost use Rattle.krb_msg.specs.Viewed.{AreViewed, OfSome, items_of};
 ghost use Rattle.krb_msg.specs.Seen.{ApReqLists, KdcRepLists, KdcReqBodyLists, KdcReqLists, KrbCredLists, KrbErrorLists, MessageLists, PrincipalNameLists, TicketLists, ap_rep_seen, ap_req_seen, encrypted_data_seen, flags_seen, kdc_rep_seen, kdc_req_body_seen, kdc_req_seen, krb_cred_seen, krb_error_seen, krb_priv_seen, krb_safe_body_seen, krb_safe_seen, message_seen, principal_name_seen, ticket_seen};
 ghost use Rattle.krb_msg.specs.Notes.{text_has, flags_have, number_has, list_has, option_any, has, notes_by, notes_of};
@@ -339,4 +339,13 @@ pub fn notes_of_view(view: &MessageView<'_>) -> Notes
         MessageView::KrbCred(cred) => cred.notes(),
         MessageView::KrbError(error) => error.notes(),
     }
+}
+
+/// Returns whether a message that is viewed where it stands keeps the strict rules
+/// ([`is_strict`](crate::is_strict)). It takes no memory.
+pub fn is_strict_view(view: &MessageView<'_>) -> bool
+    requires { MessageLists view.now }
+    ensures { result ≡ is_strict (message_seen view.now) }
+{
+    notes_of_view(view).are_none()
 }

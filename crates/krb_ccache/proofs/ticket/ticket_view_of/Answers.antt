@@ -1,17 +1,17 @@
 use Rattle.std.proofs.Common.{◌≡◌, ◌≢◌, false, [], refl, rules}
-use Rattle.krb_judge.specs.Viewed.{ticket_viewed}
+use Rattle.krb_msg.specs.Seen.{ticket_seen}
 use Rattle.krb_ccache.specs.Spelling.{is_config}
 use Rattle.krb_ccache.proofs.Tickets.{state-ticket, state-refused}
 use Rattle.krb_ccache.proofs.ticket.ticket_view_of.Goals as goal
 
-pub returns-in-Ok : goal.returns-in-Ok
-returns-in-Ok c =
+pub returns-in-Ok-clause-state : goal.returns-in-Ok-clause-state
+returns-in-Ok-clause-state c =
     let no_config : is_config c.args.credential.now ≡ false = search rules in
     let some : c.args.credential.now.ticket ≢ [] = search rules in
-    state-ticket c.args.credential.now (ticket_viewed c.in-Ok.ticket) no_config some (rw c.as_slice-octets.ensures at c.in-Ok.ensures.ticket)
+    state-ticket c.args.credential.now (ticket_seen c.in-Ok.ticket) no_config some (rw c.as_slice-octets.ensures at c.in-Ok.ensures.ticket)
 
-pub returns-in-Err : goal.returns-in-Err
-returns-in-Err c =
+pub returns-in-Err-clause-state : goal.returns-in-Err-clause-state
+returns-in-Err-clause-state c =
     let no_config : is_config c.args.credential.now ≡ false = search rules in
     let some : c.args.credential.now.ticket ≢ [] = search rules in
     state-refused c.args.credential.now c.in-Err.refusal no_config some ((rw c.as_slice-octets.ensures at c.in-Err.ensures.refused c.in-Err.refusal).0 refl)

@@ -1,21 +1,30 @@
-use Rattle.std.proofs.Common.{◌≡◌, ◌∙◌, sym, IfOk}
-use Rattle.krb_msg.specs.declared.ticket.Ticket.{Ticket}
-use Rattle.krb_judge.specs.Parses.{AreOfTicket}
-use Rattle.std.proofs.lemmas.Result.{IfOk-weaker}
+use Rattle.std.proofs.Common.{ap, inl, Ok}
 use Rattle.krb_der.specs.inner.Numbers.{AreOctets-slice}
-use Rattle.krb_judge.proofs.Values.{found_or_memory, are_of_ticket, same_ticket, ticket_not_refused, no_ticket}
+use Rattle.krb_judge.proofs.Values.{as_fault, not_refused_here, ticket_viewed, same_ticket, ticket_not_refused, no_ticket}
 use Rattle.krb_judge.proofs.parsing.parse_ticket_in.Goals as goal
 
-pub returns-clause-ticket : goal.returns-clause-ticket
-returns-clause-ticket c = IfOk-weaker c.parse_node.result _ _ (are_of_ticket c.args.profile) c.parse_node.ensures.value
+pub returns-in_err-from_view-in-Ok-clause-none : goal.returns-in_err-from_view-in-Ok-clause-none
+returns-in_err-from_view-in-Ok-clause-none c = no_ticket c.args.profile c.args.octets.now (AreOctets-slice c.args.octets.now c.type_inv.octets)
 
-pub returns-clause-found : goal.returns-clause-found
-returns-clause-found c = λ t f.
+pub returns-in_ok-from_view-in-Ok-clause-ticket : goal.returns-in_ok-from_view-in-Ok-clause-ticket
+returns-in_ok-from_view-in-Ok-clause-ticket c =
     let octets = c.args.octets.now in
-    let all : IfOk c.parse_node.result (AreOfTicket c.args.profile octets) = IfOk-weaker c.parse_node.result _ _ (are_of_ticket c.args.profile) c.parse_node.ensures.value in
-    found_or_memory c.parse_node.result t
-    (IfOk-weaker c.parse_node.result (AreOfTicket c.args.profile octets) (λ (u : Ticket). u ≡ t) (λ u a. same_ticket c.args.profile u t a f) all)
-    (λ r e. let some = sym (ticket_not_refused c.args.profile t f) ∙ (c.parse_node.ensures.refused r).0 e in absurd cc)
+    ticket_viewed c.args.profile octets c.in-Ok.ticket (AreOctets-slice octets c.type_inv.octets) c.in-Ok.ensures.whole c.in-Ok.ensures.item.0 c.in_ok-from_view-in-Ok.ensures
 
-pub returns-clause-none : goal.returns-clause-none
-returns-clause-none c = no_ticket c.args.profile c.args.octets.now (AreOctets-slice c.args.octets.now c.type_inv.octets)
+pub returns-in_ok-from_view-in-Ok-clause-found : goal.returns-in_ok-from_view-in-Ok-clause-found
+returns-in_ok-from_view-in-Ok-clause-found c =
+    let octets = c.args.octets.now in
+    let are = ticket_viewed c.args.profile octets c.in-Ok.ticket (AreOctets-slice octets c.type_inv.octets) c.in-Ok.ensures.whole c.in-Ok.ensures.item.0 c.in_ok-from_view-in-Ok.ensures in
+    λ t a. inl (ap Ok (same_ticket c.args.profile c.in_ok-from_view-in-Ok.field-0 t are a))
+
+pub returns-in_ok-from_view-in-Ok-clause-none : goal.returns-in_ok-from_view-in-Ok-clause-none
+returns-in_ok-from_view-in-Ok-clause-none c = no_ticket c.args.profile c.args.octets.now (AreOctets-slice c.args.octets.now c.type_inv.octets)
+
+pub returns-in-Err-clause-found : goal.returns-in-Err-clause-found
+returns-in-Err-clause-found c = λ t a. not_refused_here c.in-Err.refusal c.in-Err.ensures.refused (ticket_not_refused c.args.profile t a)
+
+pub returns-in-Err-clause-refused : goal.returns-in-Err-clause-refused
+returns-in-Err-clause-refused c = as_fault c.in-Err.refusal c.in-Err.ensures.refused
+
+pub returns-in-Err-clause-none : goal.returns-in-Err-clause-none
+returns-in-Err-clause-none c = no_ticket c.args.profile c.args.octets.now (AreOctets-slice c.args.octets.now c.type_inv.octets)

@@ -1,5 +1,6 @@
-use Rattle.krb_msg.proofs.Strictness.{strict_by_notes}
+use Rattle.std.proofs.Common.{◌∙◌}
+use Rattle.krb_msg.proofs.Strictness.{strict_by}
 use Rattle.krb_msg.proofs.notes.is_strict.Goals as goal
 
 pub returns : goal.returns
-returns c = rw c.notes_of-notes.ensures (strict_by_notes c.args.message.now)
+returns c = c.are_none.ensures ∙ strict_by c.args.message.now _ c.notes_of.ensures

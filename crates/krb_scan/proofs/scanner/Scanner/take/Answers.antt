@@ -1,7 +1,7 @@
 use Rattle.std.proofs.Common.{◌+◌, ◌-◌, ◌++◌, length, take, drop, arith, rules, ◌∙◌}
 use Rattle.krb_scan.specs.Scanner.{room_of}
 use Rattle.std.proofs.lemmas.List.{take_rest, length-append, length-take, length-drop}
-use Rattle.krb_scan.proofs.Accepting.{then_at, then_sooner, then_ends}
+use Rattle.krb_scan.proofs.Sooner.{then_at, then_sooner, then_ends}
 use Rattle.krb_scan.proofs.Reaching.{enough}
 use Rattle.krb_scan.proofs.scanner.Scanner.take.Goals as goal
 

@@ -8,7 +8,7 @@ use Rattle.krb_msg.proofs.fields.encode.OptionalRefEncodeFields.size.Goals as go
 pub returns-in-Some-clause-octets : goal.returns-in-Some-clause-octets
 returns-in-Some-clause-octets g c =
     let list = c.args.self.now in
-    let octets = der g.T.Decode.term (g.T.Decode.value c.in-Some.value.now) in
+    let octets = der g.T.Item.term (g.T.Item.value c.in-Some.value.now) in
     rw c.in-Some.is
     (saturated-append c.add_sizes.result c.item_size.result c.size-in-Some.result (item (0xA0 + g.row.INDEX) octets) (der_of_fields g.F.EncodeFields.fields (g.F.EncodeFields.values list.1)) c.add_sizes.ensures
     (saturated-item (0xA0 + g.row.INDEX) c.size.result c.item_size.result octets (c.size.ensures.octets ∙ ap (λ l. saturated (length l)) (g.met.T.Item.form c.in-Some.value.now)) c.item_size.ensures)

@@ -8,7 +8,7 @@ use Rattle.krb_msg.proofs.fields.encode.RequiredRefEncodeFields.size.Goals as go
 pub returns-clause-octets : goal.returns-clause-octets
 returns-clause-octets g c =
     let list = c.args.self.now in
-    let octets = der g.T.Decode.term (g.T.Decode.value list.0.now) in
+    let octets = der g.T.Item.term (g.T.Item.value list.0.now) in
     saturated-append c.add_sizes.result c.item_size.result c.size-2.result (item (0xA0 + g.row.INDEX) octets) (der_of_fields g.F.EncodeFields.fields (g.F.EncodeFields.values list.1)) c.add_sizes.ensures
     (saturated-item (0xA0 + g.row.INDEX) c.size.result c.item_size.result octets (c.size.ensures.octets ∙ ap (λ l. saturated (length l)) (g.met.T.Item.form list.0.now)) c.item_size.ensures)
     c.size-2.ensures.octets

@@ -1,0 +1,134 @@
+-- The field at fault: what the functions that go to it need.
+use Rattle.std.proofs.Common.{◌≡◌, ℕ, zero, suc, ◌+◌, ◌-◌, ◌<◌, ◌≤◌, Bool, true, false, List, [], ◌∷◌, length, drop, get_or, refl, ap, ◌∙◌, arith}
+use Rattle.krb_der.specs.declared.profile.Profile.TheVariants.{Lenient, Strict}
+use Rattle.krb_msg.specs.Views.{kind_term_in}
+use Rattle.krb_msg.specs.Nodes.{nodes, term_in, term_at}
+use Rattle.krb_msg.specs.declared.grammar.TheConstants.{LENIENT, STRICT}
+use Rattle.krb_msg.specs.declared.message.Kind.{Kind}
+use Rattle.krb_msg.specs.declared.message.Kind.TheVariants as kind
+use Rattle.krb_msg.specs.Shape.{depth_of_fields}
+use Rattle.krb_msg.specs.Table.{IsFormOf, with_slot, fields_from}
+use Rattle.krb_msg.specs.Term.{Term, Fields, SequenceOf, tag_of}
+use Rattle.krb_msg.specs.declared.grammar.Form.TheVariants as form
+use Rattle.krb_msg.specs.declared.grammar.Slot.{Slot}
+use Rattle.krb_msg.specs.declared.grammar.Slot.TheVariants as slot
+use Rattle.krb_judge.specs.FieldNames.{field_at}
+use Rattle.krb_judge.specs.Laws.{FieldsHaveNames}
+use Rattle.krb_judge.specs.Paths.{begin_with, within, first_item, contents_path, fields_path, field_path, elements_path, element_path}
+use Rattle.krb_judge.specs.inner.Descent.{kind_index, due_path}
+use Rattle.krb_judge.specs.declared.locating.Due.{Due}
+use Rattle.krb_judge.specs.declared.locating.Due.TheVariants as due
+use Rattle.krb_judge.specs.declared.locating.Rest.{Rest}
+use Rattle.krb_judge.specs.declared.locating.names.Names.{Names}
+use Rattle.krb_judge.proofs.Within.{slot_next, slot_shallow}
+
+-- ---- the node of a kind's messages
+pub lenient_node : (k : Kind) → term_at (get_or LENIENT (kind_index k) 0) ≡ kind_term_in Lenient k
+unfolding term_in nodes
+lenient_node kind.AsReq = refl
+lenient_node kind.AsRep = refl
+lenient_node kind.TgsReq = refl
+lenient_node kind.TgsRep = refl
+lenient_node kind.ApReq = refl
+lenient_node kind.ApRep = refl
+lenient_node kind.KrbSafe = refl
+lenient_node kind.KrbPriv = refl
+lenient_node kind.KrbCred = refl
+lenient_node kind.KrbError = refl
+
+pub strict_node : (k : Kind) → term_at (get_or STRICT (kind_index k) 0) ≡ kind_term_in Strict k
+unfolding term_in nodes
+strict_node kind.AsReq = refl
+strict_node kind.AsRep = refl
+strict_node kind.TgsReq = refl
+strict_node kind.TgsRep = refl
+strict_node kind.ApReq = refl
+strict_node kind.ApRep = refl
+strict_node kind.KrbSafe = refl
+strict_node kind.KrbPriv = refl
+strict_node kind.KrbCred = refl
+strict_node kind.KrbError = refl
+
+-- ---- fields
+-- what is due for the field at an index
+pub field_due :
+    (slots : List Slot) (index : ℕ) (none : Slot) (rest : Rest) (due : Due) (names : Names) (path : List ℕ)
+    → index < length slots
+    → ((fields : Fields) (names : Names) (path : List ℕ) (k : ℕ) → fields_path (with_slot nodes (get_or slots index none) fields) names path k rest.room rest.octets.now ≡ due_path due rest fields names path k)
+    → fields_path (fields_from nodes (drop index slots)) names path index rest.room rest.octets.now ≡ due_path due rest (fields_from nodes (drop (index + 1) slots)) names path index
+field_due slots index none rest due names path h d =
+    ap (λ fields. fields_path fields names path index rest.room rest.octets.now) (slot_next slots index none h) ∙ d (fields_from nodes (drop (index + 1) slots)) names path index
+
+-- after a field whose item is done
+pub field_done :
+    (slots : List Slot) (index : ℕ) (none : Slot) (rest next : Rest) (node : ℕ) (names : Names) (path : List ℕ)
+    → index < length slots
+    → ((fields : Fields) (names : Names) (path : List ℕ) (k : ℕ) → fields_path (with_slot nodes (get_or slots index none) fields) names path k rest.room rest.octets.now ≡ due_path (due.Item node) rest fields names path k)
+    → ((path : List ℕ) (inside after : ℕ → List ℕ → List ℕ) → first_item (term_at node) path rest.room rest.octets.now inside after ≡ after next.room next.octets.now)
+    → fields_path (fields_from nodes (drop index slots)) names path index rest.room rest.octets.now ≡ fields_path (fields_from nodes (drop (index + 1) slots)) names path (index + 1) next.room next.octets.now
+field_done slots index none rest next node names path h d first =
+    let fields : Fields = fields_from nodes (drop (index + 1) slots) in
+    let here : List ℕ = field_path path (field_at names index).name in
+    field_due slots index none rest (due.Item node) names path h d
+    ∙ first here (contents_path (term_at node) (field_at names index).inside here) (fields_path fields names path (index + 1))
+
+pub rest_shallow : (slots : List Slot) (index : ℕ) → index < length slots → depth_of_fields (fields_from nodes (drop (index + 1) slots)) ≤ depth_of_fields (fields_from nodes (drop index slots))
+rest_shallow slots index h =
+    let none : Slot = slot.Required 0 in
+    rw (slot_next slots index none h) (slot_shallow (get_or slots index none) (fields_from nodes (drop (index + 1) slots)))
+
+-- ---- the items of a SEQUENCE OF
+pub begins_some : (tag : ℕ) (octets : List ℕ) → begin_with tag octets ≡ true → 0 < length octets
+begins_some tag [] e = absurd cc
+begins_some tag (octet ∷ octets) e = omega arith
+
+abbrev Inside : Type 0
+Inside = ℕ → List ℕ → List ℕ
+
+elements_first : (inside : List ℕ → Inside) (term : Term) (path : List ℕ) (bound index : ℕ) (rest : Rest) → begin_with (tag_of term) rest.octets.now ≡ true → elements_path inside term path (suc bound) index rest.room rest.octets.now ≡ first_item term (element_path path index) rest.room rest.octets.now (inside (element_path path index)) (elements_path inside term path bound (index + 1))
+elements_first inside term path bound index rest e = rw e refl
+
+elements_some : (inside : List ℕ → Inside) (term : Term) (path : List ℕ) (size index : ℕ) (rest : Rest) → begin_with (tag_of term) rest.octets.now ≡ true → index + length rest.octets.now ≤ size → elements_path inside term path (size - index) index rest.room rest.octets.now ≡ first_item term (element_path path index) rest.room rest.octets.now (inside (element_path path index)) (elements_path inside term path (size - (index + 1)) (index + 1))
+elements_some inside term path size index rest e h =
+    let more : size - index ≡ suc (size - (index + 1)) = omega (arith, h, begins_some (tag_of term) rest.octets.now e) in
+    ap (λ bound. elements_path inside term path bound index rest.room rest.octets.now) more ∙ elements_first inside term path (size - (index + 1)) index rest e
+
+-- an item that is done, one that is not, and none
+pub element_next :
+    (inside : List ℕ → Inside) (term : Term) (path : List ℕ) (size index : ℕ) (rest next : Rest)
+    → begin_with (tag_of term) rest.octets.now ≡ true
+    → index + length rest.octets.now ≤ size
+    → ((path : List ℕ) (inside after : Inside) → first_item term path rest.room rest.octets.now inside after ≡ after next.room next.octets.now)
+    → elements_path inside term path (size - index) index rest.room rest.octets.now ≡ elements_path inside term path (size - (index + 1)) (index + 1) next.room next.octets.now
+element_next inside term path size index rest next e h first =
+    elements_some inside term path size index rest e h ∙ first (element_path path index) (inside (element_path path index)) (elements_path inside term path (size - (index + 1)) (index + 1))
+
+pub element_here :
+    (inside : List ℕ → Inside) (term : Term) (path : List ℕ) (size index : ℕ) (rest : Rest)
+    → begin_with (tag_of term) rest.octets.now ≡ true
+    → index + length rest.octets.now ≤ size
+    → ((path : List ℕ) (inside after : Inside) → first_item term path rest.room rest.octets.now inside after ≡ within term path rest.room false rest.octets.now inside)
+    → elements_path inside term path (size - index) index rest.room rest.octets.now ≡ within term (element_path path index) rest.room false rest.octets.now (inside (element_path path index))
+element_here inside term path size index rest e h first =
+    elements_some inside term path size index rest e h ∙ first (element_path path index) (inside (element_path path index)) (elements_path inside term path (size - (index + 1)) (index + 1))
+
+pub no_element : (inside : List ℕ → Inside) (term : Term) (path : List ℕ) (bound index room : ℕ) (octets : List ℕ) → begin_with (tag_of term) octets ≡ false → elements_path inside term path bound index room octets ≡ path
+no_element inside term path zero index room octets e = refl
+no_element inside term path (suc bound) index room octets e = rw e refl
+
+pub elements_of : (node : ℕ) (none : Bool) (term : Term) → IsFormOf nodes (form.Items node none) term → (names : Names) (path : List ℕ) (room : ℕ) (octets : List ℕ) → contents_path term names path room octets ≡ elements_path (contents_path (term_at node) names) (term_at node) path (length octets) 0 room octets
+elements_of node none (SequenceOf empty term) h names path room octets = rw h.2 refl
+elements_of node none term h names path room octets = absurd h
+
+-- ---- the names and the grammar
+pub fields_have_names : FieldsHaveNames
+fields_have_names kind.AsReq = refl
+fields_have_names kind.AsRep = refl
+fields_have_names kind.TgsReq = refl
+fields_have_names kind.TgsRep = refl
+fields_have_names kind.ApReq = refl
+fields_have_names kind.ApRep = refl
+fields_have_names kind.KrbSafe = refl
+fields_have_names kind.KrbPriv = refl
+fields_have_names kind.KrbCred = refl
+fields_have_names kind.KrbError = refl

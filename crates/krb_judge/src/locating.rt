@@ -1,0 +1,370 @@
+//! The field at fault of a message that is refused or cut.
+//!
+//! Each item that is whole is passed over, and then the first that is not is entered; so an octet is
+//! judged once for each SEQUENCE and SEQUENCE OF round it.
+
+mod names;
+
+ghost use Rattle.std.specs.Prelude.{◌≡◌, ◌^◌, ◌<◌, ◌≤◌, ℕ, List, length, IfOk, IfSome, OnOk, string_bytes};
+ghost use Rattle.std.specs.List.{AllByRecursion};
+ghost use Rattle.std.specs.Option.{option_map};
+ghost use Rattle.krb_msg.specs.Nodes.{nodes, term_at};
+ghost use Rattle.krb_msg.specs.Shape.{depth, depth_of_fields};
+ghost use Rattle.krb_msg.specs.Table.{IsNode, IsSlot, fields_from, with_slot};
+ghost use Rattle.krb_msg.specs.Term.{Fields};
+ghost use Rattle.krb_msg.specs.Views.{kind_term_in};
+ghost use Rattle.krb_judge.specs.Paths.{begin_with, contents_path, element_path, elements_path, field_path, fields_path, first_item, message_path, within};
+ghost use Rattle.krb_judge.specs.inner.Descent.{IsItem, IsInside, IsPresent, IsDueFor, IsFaultOf, path_in, path_on, in_contents, in_first, due_path, fault_path, in_element, kind_index};
+
+use crate::judging::head::{Head, part, read_head};
+use crate::judging::item;
+use crate::judging::outcome::Outcome;
+use crate::locating::names::Names;
+use itoa::Buffer;
+use krb_der::{Memory, Profile};
+use krb_msg::Kind;
+use krb_msg::grammar::{Form, LENIENT, STRICT, Slot, form_of, tag_of};
+use std::alloc::{AllocError, Global};
+
+/// An item that has a path, in a room that it fills if it is the sole item there.
+#[derive(Clone, Copy)]
+struct Item<'a> {
+    node: u16,
+    names: Names,
+    room: u32,
+    sole: bool,
+    octets: &'a [u8],
+}
+
+/// What is left of a container.
+#[derive(Clone, Copy)]
+struct Rest<'a> {
+    /// The room for it.
+    room: u32,
+    /// Its octets that are present.
+    octets: &'a [u8],
+}
+
+/// What is due for a field.
+#[derive(Clone, Copy)]
+enum Due {
+    /// Nothing: the field is missing.
+    Missing,
+    /// Nothing: the SEQUENCE itself is at fault.
+    Sequence,
+    /// Nothing: the field is left out.
+    LeftOut,
+    /// The item of a node's term.
+    Item { node: u16 },
+}
+
+/// What is at fault in a SEQUENCE.
+#[derive(Clone, Copy)]
+enum Fault<'a> {
+    /// The SEQUENCE itself.
+    Sequence,
+    /// The field at an index, which is missing.
+    Missing {
+        index: usize,
+    },
+    /// The item of the field at an index, with which the rest begins.
+    Inside {
+        index: usize,
+        node: u16,
+        rest: Rest<'a>,
+    },
+}
+
+/// The item at fault of a SEQUENCE OF: how many are before it, and the rest that begins with it.
+#[derive(Clone, Copy)]
+struct Element<'a> {
+    index: usize,
+    rest: Rest<'a>,
+}
+
+/// Returns the path of the field at fault in a message of `n` octets, by a profile, such as
+/// `TGS-REQ.req-body.additional-tickets[0].sname`. The octets are those up to and with the refused one,
+/// or all that are present of a message that is cut. There is no path if the first octet is not there,
+/// or is the tag of no message.
+///
+/// A field has its path from its tag on. At Missing it is that of the first required field that is not
+/// there, and of a message that is cut that of the innermost item that is open.
+pub fn path(alloc: Global, profile: Profile, n: u32, front: &[u8]) -> Result<Option<String>, Memory>
+    requires short { n < 2 ^ 31 }
+    requires present { length front.now ≤ n }
+    ensures { IfOk result (λ path. option_map string_bytes path ≡ message_path profile n front.now) }
+{
+    let Some(tag) = front.first() else {
+        return Ok(None);
+    };
+    let Some(kind) = Kind::of_tag(*tag) else {
+        return Ok(None);
+    };
+    let mut text = String::new(alloc);
+    text.push_str(kind.name())?;
+    let message = Item {
+        node: message_node(profile, kind),
+        names: Names::of_kind(kind),
+        room: n,
+        sole: true,
+        octets: front,
+    };
+    put_path(&mut text, message)?;
+    Ok(Some(text))
+}
+
+/// Returns the node of the messages of a kind in a profile.
+fn message_node(profile: Profile, kind: Kind) -> u16
+    ensures known { IsNode result }
+    ensures term { term_at result ≡ kind_term_in profile kind }
+{
+    match profile {
+        Profile::Lenient => LENIENT[index_of(kind)],
+        Profile::Strict => STRICT[index_of(kind)],
+    }
+}
+
+/// Returns the index of a kind, in the order of the messages of a profile.
+fn index_of(kind: Kind) -> usize
+    ensures { result ≡ kind_index kind }
+{
+    match kind {
+        Kind::AsReq => 0,
+        Kind::AsRep => 1,
+        Kind::TgsReq => 2,
+        Kind::TgsRep => 3,
+        Kind::ApReq => 4,
+        Kind::ApRep => 5,
+        Kind::KrbSafe => 6,
+        Kind::KrbPriv => 7,
+        Kind::KrbCred => 8,
+        Kind::KrbError => 9,
+    }
+}
+
+/// Appends what the path of what is at fault in an item has after that of the item.
+fn put_path(text: &mut String, item: Item) -> Result<(), AllocError>
+    requires { IsItem item }
+    ensures { OnOk result (string_bytes text.new ≡ path_in item.entry (string_bytes text.old)) }
+{
+    match put_inside(text, item)? {
+        None => Ok(()),
+        Some(inside) => put_path(text, inside),
+    }
+}
+
+/// Returns the item at fault in an item, and appends what its path has after that of the item. If
+/// there is none, the path is that of the item, or of a field that is missing in it.
+fn put_inside<'a>(text: &mut String, item: Item<'a>) -> Result<Option<Item<'a>>, AllocError>
+    requires { IsItem item }
+    ensures path { IfOk result (λ inside. path_in item.entry (string_bytes text.old) ≡ path_on inside (string_bytes text.new)) }
+    ensures inside { IfOk result (λ inside. IfSome inside (IsInside item.entry)) }
+{
+    let Some(contents) = contents_of(item) else {
+        return Ok(None);
+    };
+    match form_of(item.node) {
+        Form::Fields { fields } => put_field(text, fields, item.names, contents),
+        Form::Items { node, .. } => put_element(text, node, item.names, contents),
+        Form::Item { node } => Ok(Some(Item {
+            node,
+            names: item.names,
+            room: contents.room,
+            sole: true,
+            octets: contents.octets,
+        })),
+        Form::Integer { .. } | Form::Text { .. } | Form::Octets | Form::Time | Form::Bits { .. } =>
+            Ok(None),
+    }
+}
+
+/// Returns whether octets begin with a tag.
+fn begins(octets: &[u8], tag: u8) -> bool
+    ensures { result ≡ begin_with tag octets.now }
+{
+    match octets.first() {
+        None => false,
+        Some(octet) => *octet == tag,
+    }
+}
+
+/// Returns the contents of an item, if its tag and length octets are right.
+fn contents_of(item: Item) -> Option<Rest>
+    requires { IsItem item }
+    ensures contents { (inside : ℕ → List ℕ → List ℕ) (path : List ℕ) → within (term_at item.entry.node) path item.entry.room item.entry.sole item.entry.octets.now inside ≡ in_contents result path inside }
+    ensures present { IfSome result IsPresent }
+{
+    if !begins(item.octets, tag_of(item.node)) {
+        return None;
+    }
+    match read_head(item.room, item.octets) {
+        Head::Partial | Head::Refused { .. } => None,
+        Head::Got { header, size } => if item.sole && header + size < item.room {
+            None
+        } else {
+            Some(Rest {
+                room: size,
+                octets: part(item.octets, header, size),
+            })
+        },
+    }
+}
+
+/// Returns what is left after the first item, if it is done.
+fn after_first(node: u16, rest: Rest) -> Option<Rest>
+    requires known { IsNode node }
+    requires some { 0 < length rest.octets.now }
+    requires present { IsPresent rest }
+    ensures first { (path : List ℕ) (inside after : ℕ → List ℕ → List ℕ) → first_item (term_at node) path rest.entry.room rest.entry.octets.now inside after ≡ in_first (term_at node) path rest.entry result inside after }
+    ensures present { IfSome result IsPresent }
+    ensures shorter { IfSome result (λ after. length after.octets.now < length rest.entry.octets.now) }
+{
+    match item(node, rest.room, false, rest.octets) {
+        Outcome::Open | Outcome::Bad { .. } => None,
+        Outcome::Done { count } => Some(Rest {
+            room: rest.room - count,
+            octets: &rest.octets[count as usize..],
+        }),
+    }
+}
+
+/// Appends the name of the field at fault, and returns its item.
+fn put_field<'a>(
+    text: &mut String,
+    slots: &[Slot],
+    names: Names,
+    contents: Rest<'a>,
+) -> Result<Option<Item<'a>>, AllocError>
+    requires known { AllByRecursion IsSlot slots.now }
+    requires present { IsPresent contents }
+    ensures path { IfOk result (λ inside. fields_path (fields_from nodes slots.now) names (string_bytes text.old) 0 contents.entry.room contents.entry.octets.now ≡ path_on inside (string_bytes text.new)) }
+    ensures inside { IfOk result (λ result. IfSome result (λ inside. IsItem inside × (depth (term_at inside.node) ≤ depth_of_fields (fields_from nodes slots.now)))) }
+{
+    match field_at_fault(slots, contents) {
+        Fault::Sequence => Ok(None),
+        Fault::Missing { index } => {
+            put_name(text, names.field(index).name)?;
+            Ok(None)
+        }
+        Fault::Inside { index, node, rest } => {
+            let field = names.field(index);
+            put_name(text, field.name)?;
+            Ok(Some(Item {
+                node,
+                names: field.inside,
+                room: rest.room,
+                sole: false,
+                octets: rest.octets,
+            }))
+        }
+    }
+}
+
+/// Appends the name of a field.
+fn put_name(text: &mut String, name: &str) -> Result<(), AllocError>
+    ensures { OnOk result (string_bytes text.new ≡ field_path (string_bytes text.old) name.now) }
+{
+    text.push('.')?;
+    text.push_str(name)
+}
+
+/// Returns what is at fault in the contents of a SEQUENCE.
+fn field_at_fault<'a>(slots: &[Slot], contents: Rest<'a>) -> Fault<'a>
+    requires known { AllByRecursion IsSlot slots.now }
+    requires present { IsPresent contents }
+    ensures path { (names : Names) (path : List ℕ) → fields_path (fields_from nodes slots.now) names path 0 contents.entry.room contents.entry.octets.now ≡ fault_path result names path }
+    ensures inside { IsFaultOf (fields_from nodes slots.now) result }
+{
+    let mut rest = contents;
+    for (index, slot) in slots.iter().enumerate() {
+        let node = match due_at(*slot, rest) {
+            Due::Missing => return Fault::Missing { index },
+            Due::Sequence => return Fault::Sequence,
+            Due::LeftOut => continue,
+            Due::Item { node } => node,
+        };
+        match after_first(node, rest) {
+            Some(after) => rest = after,
+            None => return Fault::Inside { index, node, rest },
+        }
+    }
+    Fault::Sequence
+}
+
+/// Returns what is due for a field.
+fn due_at(slot: Slot, rest: Rest) -> Due
+    requires known { IsSlot slot }
+    requires present { IsPresent rest }
+    ensures path { (fields : Fields) (names : Names) (path : List ℕ) (index : ℕ) → fields_path (with_slot nodes slot fields) names path index rest.entry.room rest.entry.octets.now ≡ due_path result rest.entry fields names path index }
+    ensures item { IsDueFor slot rest.entry result }
+{
+    match slot {
+        Slot::Required { node } => if rest.room == 0 {
+            Due::Missing
+        } else if begins(rest.octets, tag_of(node)) {
+            Due::Item { node }
+        } else {
+            Due::Sequence
+        },
+        Slot::Optional { node } => if begins(rest.octets, tag_of(node)) {
+            Due::Item { node }
+        } else {
+            Due::LeftOut
+        },
+    }
+}
+
+/// Appends the number of the item at fault, and returns the item.
+fn put_element<'a>(
+    text: &mut String,
+    node: u16,
+    names: Names,
+    contents: Rest<'a>,
+) -> Result<Option<Item<'a>>, AllocError>
+    requires known { IsNode node }
+    requires present { IsPresent contents }
+    ensures path { IfOk result (λ inside. elements_path (contents_path (term_at node) names) (term_at node) (string_bytes text.old) (length contents.entry.octets.now) 0 contents.entry.room contents.entry.octets.now ≡ path_on inside (string_bytes text.new)) }
+    ensures inside { IfOk result (λ result. IfSome result (λ inside. IsItem inside × (inside.node ≡ node))) }
+{
+    let Some(element) = element_at_fault(node, contents) else {
+        return Ok(None);
+    };
+    put_index(text, element.index)?;
+    Ok(Some(Item {
+        node,
+        names,
+        room: element.rest.room,
+        sole: false,
+        octets: element.rest.octets,
+    }))
+}
+
+/// Appends the number of an item.
+fn put_index(text: &mut String, index: usize) -> Result<(), AllocError>
+    ensures { OnOk result (string_bytes text.new ≡ element_path (string_bytes text.old) index) }
+{
+    let mut buffer = Buffer::new();
+    text.push('[')?;
+    text.push_str(buffer.format(index))?;
+    text.push(']')
+}
+
+/// Returns the item at fault in the contents of a SEQUENCE OF.
+fn element_at_fault<'a>(node: u16, contents: Rest<'a>) -> Option<Element<'a>>
+    requires known { IsNode node }
+    requires present { IsPresent contents }
+    ensures path { (path : List ℕ) (inside : List ℕ → ℕ → List ℕ → List ℕ) → elements_path inside (term_at node) path (length contents.entry.octets.now) 0 contents.entry.room contents.entry.octets.now ≡ in_element (term_at node) result path inside }
+    ensures present { IfSome result (λ element. IsPresent element.rest) }
+{
+    let tag = tag_of(node);
+    let mut rest = contents;
+    let mut index = 0;
+    while begins(rest.octets, tag) {
+        match after_first(node, rest) {
+            Some(next) => rest = next,
+            None => return Some(Element { index, rest }),
+        }
+        index += 1;
+    }
+    None
+}

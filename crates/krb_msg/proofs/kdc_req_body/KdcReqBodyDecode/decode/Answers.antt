@@ -1,9 +1,0 @@
-use Rattle.std.proofs.Common.{sym, subst}
-use Rattle.krb_msg.specs.Term.{Value}
-use Rattle.krb_msg.specs.Grammar.{kdc_req_body}
-use Rattle.krb_msg.specs.Reads.{IsTaken}
-use Rattle.krb_msg.proofs.kdc_req_body.KdcReqBodyDecode.decode.Goals as goal
-
-pub returns : goal.returns
-returns g c =
-    subst (λ (value : Value kdc_req_body). IsTaken kdc_req_body (g.S.Source.octets c.args.front) value (g.S.Source.octets c.in_ok-layout.rest)) (sym c.from_layout.ensures) c.in_ok-layout.ensures

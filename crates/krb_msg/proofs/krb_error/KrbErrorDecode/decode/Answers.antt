@@ -1,9 +1,0 @@
-use Rattle.std.proofs.Common.{sym, subst}
-use Rattle.krb_msg.specs.Term.{Value}
-use Rattle.krb_msg.specs.Grammar.{krb_error}
-use Rattle.krb_msg.specs.Reads.{IsTaken}
-use Rattle.krb_msg.proofs.krb_error.KrbErrorDecode.decode.Goals as goal
-
-pub returns : goal.returns
-returns g c =
-    subst (λ (value : Value krb_error). IsTaken krb_error (g.S.Source.octets c.args.front) value (g.S.Source.octets c.in_ok-layout.rest)) (sym c.from_layout.ensures) c.in_ok-layout.ensures
