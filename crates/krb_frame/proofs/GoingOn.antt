@@ -19,7 +19,8 @@ use Rattle.krb_frame.specs.inner.Phases.{IsAt, HasRefused, phase_status}
 use Rattle.krb_frame.specs.declared.decoder.Phase.{Phase}
 use Rattle.krb_frame.specs.declared.decoder.Phase.TheVariants as phase
 use Rattle.krb_frame.proofs.Founds.{comes, four_octets}
-use Rattle.krb_frame.specs.GoingOn.{rest_of, rest_at, rest_to_come, GivesUp, Entry, Contents, Fault, last_entry, frames_size, next_entries, entries_after, entries_of, entries_within, entries}
+use Rattle.krb_frame.specs.GoingOn.{rest_of, rest_at, rest_to_come, GivesUp, Entry, Contents, Fault, last_entry, after_contents, next_entries, entries_after, entries_of, entries_within, entries}
+use Rattle.krb_frame.specs.Stands.{frames_size}
 use Rattle.krb_frame.specs.Laws.{GoingOnBegins}
 use Rattle.krb_frame.proofs.Ends.{no_within, no_first, refused_more}
 
@@ -35,7 +36,7 @@ module _ (messages : List Term) (limit : ℕ) where
   after-same (Refused place reason) f g octets e = next-same f g octets e
 
   of-same : (found : Frames) (f g : List ℕ → List Entry) (stream : List ℕ) → f (drop (4 + number (take 4 (drop (frames_size found.contents) stream))) (drop (frames_size found.contents) stream)) ≡ g (drop (4 + number (take 4 (drop (frames_size found.contents) stream))) (drop (frames_size found.contents) stream)) → entries_of found f stream ≡ entries_of found g stream
-  of-same found f g stream e = ap (λ l. map Contents found.contents ++ (last_entry found.end ++ l)) (after-same found.end f g (drop (frames_size found.contents) stream) e)
+  of-same found f g stream e = ap (λ l. map Contents found.contents ++ (last_entry found.end (after_contents found stream) ++ l)) (after-same found.end f g (drop (frames_size found.contents) stream) e)
 
   -- fewer octets are left after a frame
   fewer : (n k b : ℕ) (octets : List ℕ) → length octets ≤ suc b → length (drop (4 + n) (drop k octets)) ≤ b
@@ -81,11 +82,11 @@ module _ (messages : List Term) (limit : ℕ) where
       let found : Frames = frames messages limit stream in
       let rest : List Entry = entries_after found.end (entries messages limit) (drop (frames_size found.contents) stream) in
       record {
-        first = (rest, entries-step stream ∙ sym (append_assoc (map Contents found.contents) (last_entry found.end) rest));
+        first = (rest, entries-step stream ∙ sym (append_assoc (map Contents found.contents) (last_entry found.end (after_contents found stream)) rest));
         alone = λ n.
             entries-step stream
-            ∙ ap (λ l. map Contents found.contents ++ (last_entry found.end ++ l)) (none_after found.end (entries messages limit) (drop (frames_size found.contents) stream) n)
-            ∙ ap (λ l. map Contents found.contents ++ l) (append-nil (last_entry found.end));
+            ∙ ap (λ l. map Contents found.contents ++ (last_entry found.end (after_contents found stream) ++ l)) (none_after found.end (entries messages limit) (drop (frames_size found.contents) stream) n)
+            ∙ ap (λ l. map Contents found.contents ++ l) (append-nil (last_entry found.end (after_contents found stream)));
       }
 
   -- ---- a frame at the front
@@ -93,7 +94,7 @@ module _ (messages : List Term) (limit : ℕ) where
   entries-frame octets contents more l e =
       entries-step (octets ++ more)
       ∙ ap (λ f. entries_of f (entries messages limit) (octets ++ more)) e
-      ∙ ap (λ r. Contents contents ∷ (map Contents found.contents ++ (last_entry found.end ++ entries_after found.end (entries messages limit) r))) after
+      ∙ ap (λ r. Contents contents ∷ (map Contents found.contents ++ (last_entry found.end r ++ entries_after found.end (entries messages limit) r))) after
       ∙ ap (λ r. Contents contents ∷ r) (sym (entries-step more))
     where
       found : Frames
@@ -106,7 +107,7 @@ module _ (messages : List Term) (limit : ℕ) where
           ∙ drop-append-add octets more (frames_size found.contents)
 
   -- ---- a frame that is refused
-  pub entries-refused : (octets : List ℕ) (place : ℕ) (reason : Why) → frames messages limit octets ≡ ends (Refused place reason) → entries messages limit octets ≡ Fault place reason ∷ next_entries (entries messages limit) octets
+  pub entries-refused : (octets : List ℕ) (place : ℕ) (reason : Why) → frames messages limit octets ≡ ends (Refused place reason) → entries messages limit octets ≡ Fault place reason (take (place + 1) octets) ∷ next_entries (entries messages limit) octets
   entries-refused octets place reason e = entries-step octets ∙ ap (λ f. entries_of f (entries messages limit) octets) e
 
   -- the frame has the octet that is refused
@@ -143,22 +144,24 @@ module _ (messages : List Term) (limit : ℕ) where
     front : (more : List ℕ) → number (take 4 (octets ++ more)) ≡ number (take 4 octets)
     front more = ap number (take-append-le 4 octets more four)
 
-    first : (more : List ℕ) → entries messages limit (octets ++ more) ≡ Fault place reason ∷ next_entries (entries messages limit) (octets ++ more)
-    first more = entries-refused (octets ++ more) place reason (refused_more messages limit octets more place reason e)
+    first : (more : List ℕ) → entries messages limit (octets ++ more) ≡ Fault place reason octets ∷ next_entries (entries messages limit) (octets ++ more)
+    first more =
+        entries-refused (octets ++ more) place reason (refused_more messages limit octets more place reason e)
+        ∙ ap (λ l. Fault place reason l ∷ next_entries (entries messages limit) (octets ++ more)) (take_at octets more (place + 1) last)
 
     -- its length is not known
-    pub entries-unknown : 2 ^ 31 ≤ number (take 4 octets) → (more : List ℕ) → entries messages limit (octets ++ more) ≡ Fault place reason ∷ []
+    pub entries-unknown : 2 ^ 31 ≤ number (take 4 octets) → (more : List ℕ) → entries messages limit (octets ++ more) ≡ Fault place reason octets ∷ []
     entries-unknown h more = first more ∙ rw (front more, le-leb (2 ^ 31) (number (take 4 octets)) h) refl
 
     -- it is known
     pub used-few : number (take 4 octets) < 2 ^ 31 → length octets ≤ 4 + number (take 4 octets)
     used-few h = omega (arith, last, refused_inside octets place reason four h e)
 
-    pub entries-skipped : number (take 4 octets) < 2 ^ 31 → (more : List ℕ) → entries messages limit (octets ++ more) ≡ Fault place reason ∷ entries messages limit (drop (4 + number (take 4 octets) - length octets) more)
+    pub entries-skipped : number (take 4 octets) < 2 ^ 31 → (more : List ℕ) → entries messages limit (octets ++ more) ≡ Fault place reason octets ∷ entries messages limit (drop (4 + number (take 4 octets) - length octets) more)
     entries-skipped h more =
         first more
         ∙ rw (front more, lt-leb (2 ^ 31) (number (take 4 octets)) h) refl
-        ∙ ap (λ l. Fault place reason ∷ entries messages limit l) after
+        ∙ ap (λ l. Fault place reason octets ∷ entries messages limit l) after
       where
         rest : ℕ
         rest = 4 + number (take 4 octets) - length octets

@@ -7,3 +7,4 @@ pub mod GoingOn
 pub mod Skips
 pub mod Passing
 pub mod Mixed
+pub mod Partials

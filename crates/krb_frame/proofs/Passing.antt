@@ -24,6 +24,7 @@ use Rattle.krb_frame.specs.inner.Phases.{IsAccepted, HasFrame, IsRefusedLength}
 use Rattle.krb_frame.specs.inner.Passing.{BeginWithFrame, IsPassedOf}
 use Rattle.krb_frame.proofs.Founds.{Announces, announces, number_of, room, found-frame}
 use Rattle.krb_frame.proofs.Ends.{refused_more}
+use Rattle.krb_frame.proofs.Standing.{counted-more}
 
 -- the four octets of a number spell it
 frame_length-number : (announced : List ℕ) → AreOctets announced → length announced ≡ 4 → frame_length (number announced) ≡ announced
@@ -135,6 +136,10 @@ module _ (messages : List Term) (limit : ℕ) where
   }
 
   -- ---- what a decoder between two frames stands for, after a frame
+  -- nothing of a frame is there
+  alone : {d : Decoding} {stream : List ℕ} {cleared : List (List ℕ)} (s : Stands messages d stream cleared) → d.octets ≡ [] → length stream ≡ length s.last.before
+  alone s e = ap length (s.last.parts ∙ ap (λ l. s.last.before ++ l) e ∙ append-nil s.last.before)
+
   Stands-frame : (d : Decoding) (octets contents rest : List ℕ) → d.limit ≡ limit → d.octets ≡ [] → BeginWithFrame messages limit octets contents rest → (stream : List ℕ) (cleared : List (List ℕ)) → Stands messages d stream cleared → Stands messages d (stream ++ framed contents) (cleared ++ contents ∷ [])
   Stands-frame d octets contents rest n e b stream cleared s = record {
     goes_on = λ more.
@@ -145,6 +150,9 @@ module _ (messages : List Term) (limit : ℕ) where
         ∙ ap (λ l. record { contents = l; end = (frames messages d.limit more).end }) (sym (append_assoc cleared (contents ∷ []) (frames messages d.limit more).contents))
         ∙ ap (λ l. after_frames (cleared ++ contents ∷ []) (frames messages d.limit (l ++ more))) (sym e);
     last = record { before = stream ++ framed contents; parts = sym (append-nil (stream ++ framed contents)) ∙ ap (λ l. (stream ++ framed contents) ++ l) (sym e) };
+    counted =
+        let size : length (stream ++ framed contents) ≡ length s.last.before + (4 + length contents) = omega (arith, alone s e, length-append stream (framed contents), length-append (frame_length (length contents)) contents) in
+        size ∙ counted-more messages d.profile contents cleared (length s.last.before) s.counted;
     one = s.one;
   }
 

@@ -12,7 +12,7 @@ use Rattle.krb_der.specs.declared.verdict.Refusal.{Refusal}
 use Rattle.krb_msg.specs.Term.{Term}
 use Rattle.krb_msg.specs.Stream.{Frames, End, Boundary, Within, Refused, ends, with_first, frames}
 use Rattle.krb_frame.specs.Decoding.{Decoding, Room, found, status_at, status_of, borrowed, first_of, after_next, AreOfOne, IsOfOneFrame}
-use Rattle.krb_frame.specs.Stands.{Stands, after_frames}
+use Rattle.krb_frame.specs.Stands.{Stands, after_frames, frames_size}
 use Rattle.krb_frame.specs.Feeds.{Feeds, Clears}
 use Rattle.krb_frame.specs.GoingOn.{Entry, Contents, Fault, last_entry, entries, rest_of, rest_at, rest_to_come, GivesUp, Skipping, GoesOn, without, FeedsAfter, ClearsEntry, Skips}
 use Rattle.krb_frame.specs.inner.Phases.{end_after}
@@ -84,7 +84,7 @@ module _ (messages : List Term) where
 
   -- a decoder stands for the octets that it holds
   stands-self : (d : Decoding) → IsOfOneFrame messages d → Stands messages d d.octets []
-  stands-self d one = record { goes_on = λ more. refl; last = record { before = []; parts = refl }; one = one }
+  stands-self d one = record { goes_on = λ more. refl; last = record { before = []; parts = refl }; counted = refl; one = one }
 
   -- ---- feeds
   feeds-after : (old new : Skipping) (piece : List ℕ) (fed : Fed) → new.skipped ≡ old.skipped - min (length piece) old.skipped → Feeds messages old.current (drop (min (length piece) old.skipped) piece) new.current fed → FeedsAfter messages old piece new (record { used = min (length piece) old.skipped + fed.used; status = fed.status })
@@ -240,7 +240,7 @@ module _ (messages : List Term) where
   nothing_skipped old (inl e) h = e
   nothing_skipped old (inr e) h = absurd (omega (arith, h, ap length e))
 
-  goes_on-skipped : (old new : Skipping) (rest place : ℕ) (reason : Why) (stream : List ℕ) (before : List Entry) → HoldsRefused old.current rest place reason → new.current.limit ≡ old.current.limit → new.current.octets ≡ [] → new.skipped ≡ rest → GoesOn messages old stream before → GoesOn messages new stream (before ++ Fault place reason ∷ [])
+  goes_on-skipped : (old new : Skipping) (rest place : ℕ) (reason : Why) (stream : List ℕ) (before : List Entry) → HoldsRefused old.current rest place reason → new.current.limit ≡ old.current.limit → new.current.octets ≡ [] → new.skipped ≡ rest → GoesOn messages old stream before → GoesOn messages new stream (before ++ Fault place reason old.current.octets ∷ [])
   goes_on-skipped old new rest place reason stream before h limit none s g =
       let d : Decoding = old.current in
       let z : old.skipped ≡ 0 = nothing_skipped old g.alone h.four in
@@ -250,9 +250,9 @@ module _ (messages : List Term) where
             ∙ g.goes_on more
             ∙ ap (λ n. before ++ entries messages d.limit (d.octets ++ drop n more)) z
             ∙ ap (λ l. before ++ l) (entries-skipped messages d.limit d.octets place reason h.four h.last h.found h.short more)
-            ∙ sym (append_assoc before (Fault place reason ∷ []) (entries messages d.limit (drop (4 + number (take 4 d.octets) - length d.octets) more)))
-            ∙ ap (λ n. (before ++ Fault place reason ∷ []) ++ entries messages d.limit (drop n more)) (sym (s ∙ h.rest_is))
-            ∙ ap₂ (λ n l. (before ++ Fault place reason ∷ []) ++ entries messages n (l ++ drop new.skipped more)) (sym limit) (sym none);
+            ∙ sym (append_assoc before (Fault place reason d.octets ∷ []) (entries messages d.limit (drop (4 + number (take 4 d.octets) - length d.octets) more)))
+            ∙ ap (λ n. (before ++ Fault place reason d.octets ∷ []) ++ entries messages d.limit (drop n more)) (sym (s ∙ h.rest_is))
+            ∙ ap₂ (λ n l. (before ++ Fault place reason d.octets ∷ []) ++ entries messages n (l ++ drop new.skipped more)) (sym limit) (sym none);
         one = one-empty new.current none;
         alone = inr none;
       }
@@ -278,7 +278,7 @@ waiting_none : status.More ≡ status.Ready → ⊥
 waiting_none e = cc
 
 -- a decoder that waits has at most a frame that is cut
-pub entries-waiting : (messages : List Term) (s : Skipping) (stream : List ℕ) (before : List Entry) → GoesOn messages s stream before → status_of messages s.current ≡ status.More → entries messages s.current.limit stream ≡ before ++ last_entry (found messages s.current).end
+pub entries-waiting : (messages : List Term) (s : Skipping) (stream : List ℕ) (before : List Entry) → GoesOn messages s stream before → status_of messages s.current ≡ status.More → entries messages s.current.limit stream ≡ before ++ last_entry (found messages s.current).end s.current.octets
 unfolding found
 entries-waiting messages s stream before g w =
     let d : Decoding = s.current in
@@ -288,12 +288,12 @@ entries-waiting messages s stream before g w =
     ∙ ap (λ l. before ++ entries messages d.limit (d.octets ++ l)) (drop_all s.skipped [] (omega arith))
     ∙ ap (λ l. before ++ entries messages d.limit l) (append-nil d.octets)
     ∙ ap (λ l. before ++ l) ((begins messages d.limit d.octets).alone (waiting_end f.contents f.end w))
-    ∙ ap (λ c. before ++ (map Contents c ++ last_entry f.end)) (none_found f.contents f.end (λ e. waiting_none (sym w ∙ e)))
+    ∙ ap (λ c. before ++ (map Contents c ++ last_entry f.end (drop (frames_size c) d.octets))) (none_found f.contents f.end (λ e. waiting_none (sym w ∙ e)))
 
 -- A frame is refused whose length is not known: whatever comes, it is the last one.
 pub record IsLast (messages : List Term) (s : Skipping) (stream : List ℕ) (before : List Entry) : Type 0 where
   pub end : (found messages s.current).end ≡ Refused 3 why.HighBit
-  pub last : (more : List ℕ) → entries messages s.current.limit (stream ++ more) ≡ before ++ last_entry (found messages s.current).end
+  pub last : (more : List ℕ) → entries messages s.current.limit (stream ++ more) ≡ before ++ Fault 3 why.HighBit s.current.octets ∷ []
 
 unknown_length : (size used : ℕ) → rest_of size used ≡ None → 2 ^ 31 ≤ size
 unknown_length size used e = elim (cases_lt size (2 ^ 31)) [
@@ -311,8 +311,7 @@ entries-last messages s stream before refusal g st none = record {
   last = λ more.
       g.goes_on more
       ∙ ap (λ n. before ++ entries messages d.limit (d.octets ++ drop n more)) (nothing_skipped messages s g.alone four)
-      ∙ ap (λ l. before ++ l) (entries-unknown messages d.limit d.octets 3 why.HighBit four last high big more)
-      ∙ ap (λ e. before ++ last_entry e) (sym (ap (λ x. x.end) high));
+      ∙ ap (λ l. before ++ l) (entries-unknown messages d.limit d.octets 3 why.HighBit four last high big more);
 }
   where
     d : Decoding

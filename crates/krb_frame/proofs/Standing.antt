@@ -1,13 +1,14 @@
 -- What a decoder stands for when it is fed, and when a frame is cleared.
 use Rattle.std.proofs.Common.{◌≡◌, ◌≢◌, ℕ, ◌+◌, ◌-◌, ◌/◌, ◌<◌, ◌≤◌, ◌⊎◌, inl, inr, List, [], ◌∷◌, ◌++◌, length, take, drop, true, false, Some, None, refl, sym, ◌∙◌, ap, subst, arith, append_assoc, append-nil, length-append, length-take, length-drop}
 use Rattle.std.proofs.lemmas.Bool.{cases_lt}
+use Rattle.std.proofs.lemmas.List.Sums.{sum_by-append, sum_by-cons}
 use Rattle.std.proofs.Math.Seq.{take-add}
 use Rattle.std.specs.Prelude.{is_some}
 use Rattle.krb_der.specs.declared.profile.Profile.{Profile}
 use Rattle.krb_msg.specs.Term.{Term}
 use Rattle.krb_msg.specs.Stream.{with_first, frames}
 use Rattle.krb_frame.specs.Decoding.{Decoding, Room, IsAmple, status_of, borrowed, kept_contents, IsOfOneFrame, octets_of, decoding_of, length_present}
-use Rattle.krb_frame.specs.Stands.{Stands, after_frames}
+use Rattle.krb_frame.specs.Stands.{Stands, after_frames, frames_size}
 use Rattle.krb_frame.specs.Feeds.{IsAnswer, Feeds, Clears}
 use Rattle.krb_frame.specs.inner.Phases.{IsDecided, IsTaken, phase_of, HasPartOfLength, HasPart, HasFrame, IsAt, IsPut, KeepsRoom, FeedsLength, phase_status}
 use Rattle.krb_frame.specs.declared.decoder.Phase.{Phase}
@@ -41,7 +42,7 @@ room-same room = record { octets = omega arith; marks = omega arith }
 -- ---- by any messages
 module _ (messages : List Term) (profile : Profile) where
   pub Stands-new : (limit looks : ℕ) (space : Room) → Stands messages (record { profile = profile; limit = limit; octets = []; looks = looks; room = space }) [] []
-  Stands-new limit looks space = record { goes_on = λ more. refl; last = record { before = []; parts = refl }; one = one-nothing messages profile limit looks space }
+  Stands-new limit looks space = record { goes_on = λ more. refl; last = record { before = []; parts = refl }; counted = refl; one = one-nothing messages profile limit looks space }
 
   -- octets more
   pub Stands-fed : (old new : Decoding) (used : List ℕ) → new.limit ≡ old.limit → new.octets ≡ old.octets ++ used → IsOfOneFrame messages new → (stream : List ℕ) (cleared : List (List ℕ)) → Stands messages old stream cleared → Stands messages new (stream ++ used) cleared
@@ -53,17 +54,23 @@ module _ (messages : List Term) (profile : Profile) where
         ∙ ap (λ n. after_frames cleared (frames messages n (old.octets ++ (used ++ more)))) (sym l)
         ∙ ap (λ r. after_frames cleared (frames messages new.limit r)) (sym (append_assoc old.octets used more) ∙ ap (λ r. r ++ more) (sym o));
     last = record { before = s.last.before; parts = ap (λ r. r ++ used) s.last.parts ∙ append_assoc s.last.before old.octets used ∙ ap (λ r. s.last.before ++ r) (sym o) };
+    counted = s.counted;
     one = one;
   }
 
+  -- one frame more is before what follows it
+  pub counted-more : (contents : List ℕ) (cleared : List (List ℕ)) (before : ℕ) → before ≡ frames_size cleared → before + (4 + length contents) ≡ frames_size (cleared ++ contents ∷ [])
+  counted-more contents cleared before e = omega (arith, e, sum_by-append (λ (c : List ℕ). 4 + length c) cleared (contents ∷ []), sum_by-cons (λ (c : List ℕ). 4 + length c) contents [])
+
   -- one frame less
-  pub Stands-cleared : (limit looks : ℕ) (space made : Room) (octets contents : List ℕ) → ((more : List ℕ) → frames messages limit (octets ++ more) ≡ with_first contents (frames messages limit more)) → (stream : List ℕ) (cleared : List (List ℕ)) → Stands messages (record { profile = profile; limit = limit; octets = octets; looks = looks; room = space }) stream cleared → Stands messages (record { profile = profile; limit = limit; octets = []; looks = looks; room = made }) stream (cleared ++ contents ∷ [])
-  Stands-cleared limit looks space made octets contents first stream cleared s = record {
+  pub Stands-cleared : (limit looks : ℕ) (space made : Room) (octets contents : List ℕ) → length octets ≡ 4 + length contents → ((more : List ℕ) → frames messages limit (octets ++ more) ≡ with_first contents (frames messages limit more)) → (stream : List ℕ) (cleared : List (List ℕ)) → Stands messages (record { profile = profile; limit = limit; octets = octets; looks = looks; room = space }) stream cleared → Stands messages (record { profile = profile; limit = limit; octets = []; looks = looks; room = made }) stream (cleared ++ contents ∷ [])
+  Stands-cleared limit looks space made octets contents size first stream cleared s = record {
     goes_on = λ more.
         s.goes_on more
         ∙ ap (after_frames cleared) (first more)
         ∙ ap (λ l. record { contents = l; end = (frames messages limit more).end }) (sym (append_assoc cleared (contents ∷ []) (frames messages limit more).contents));
     last = record { before = stream; parts = sym (append-nil stream) };
+    counted = ap length s.last.parts ∙ length-append s.last.before octets ∙ ap (λ n. length s.last.before + n) size ∙ counted-more contents cleared (length s.last.before) s.counted;
     one = one-nothing messages profile limit looks made;
   }
 
@@ -271,6 +278,7 @@ module _ (messages : List Term) (profile : Profile) where
   Clears-frame limit looks space announced contents new h left ample =
       let d : Decoding = decoding_of profile limit looks space announced contents phase.Ready in
       let there : borrowed messages d ≡ Some contents = borrowed-ready messages profile limit looks space announced contents phase.Ready h refl in
+      let size : length (take 4 announced ++ contents) ≡ 4 + length contents = omega (arith, h.accepted.four, length-append (take 4 announced) contents, length-take 4 announced) in
       let first : (more : List ℕ) → frames messages limit ((take 4 announced ++ contents) ++ more) ≡ with_first contents (frames messages limit more) =
       λ more. ap (λ l. frames messages limit (l ++ more)) (four_octets announced contents h.accepted.four) ∙ found-frame messages profile limit announced contents more h in
       record {
@@ -281,5 +289,5 @@ module _ (messages : List Term) (profile : Profile) where
             let same : contents ≡ other = same_contents contents other (sym there ∙ m) in
             subst (λ n. Stands messages n stream (cleared ++ other ∷ [])) (sym left)
             (subst (λ o. Stands messages (record { profile = profile; limit = limit; octets = []; looks = looks; room = new.room }) stream (cleared ++ o ∷ [])) same
-            (Stands-cleared limit looks space new.room (take 4 announced ++ contents) contents first stream cleared s));
+            (Stands-cleared limit looks space new.room (take 4 announced ++ contents) contents size first stream cleared s));
       }

@@ -1,5 +1,5 @@
 -- What a decoder by any messages stands for, and what it answers.
-use Rattle.std.specs.Prelude.{ℕ, ◌+◌, ◌++◌, ◌/◌, ◌≡◌, ◌≤◌, if◌then◌else◌, List, [], ◌∷◌, length, take, drop, Option, Some, None, is_some, Result, Ok, Err}
+use Rattle.std.specs.Prelude.{ℕ, ◌+◌, ◌++◌, ◌/◌, ◌≡◌, ◌<◌, ◌≤◌, ◌^◌, if◌then◌else◌, List, [], ◌∷◌, length, take, drop, Option, Some, None, is_some, Result, Ok, Err}
 use Rattle.krb_der.specs.Octets.{number}
 use Rattle.krb_der.specs.declared.profile.Profile.{Profile}
 use Rattle.krb_der.specs.declared.verdict.Refusal.{Refusal}
@@ -88,6 +88,13 @@ finish_of messages d = finish_at (found messages d).end
 -- the contents of the current frame that are kept
 abbrev pub kept_contents : Decoding → List ℕ
 kept_contents d = drop 4 d.octets
+
+-- The message of the current frame, as far as it came: the length that is announced, and the contents that are kept, which may be that many.
+pub record IsPartial (d : Decoding) (size : ℕ) (octets : List ℕ) : Type 0 where
+  pub announced : size ≡ number (take 4 d.octets)
+  pub kept : octets ≡ kept_contents d
+  pub short : size < 2 ^ 31
+  pub present : length octets ≤ size
 
 -- how many lengths in the current frame are whole whose contents are not complete
 abbrev pub open_lengths_of : Decoding → ℕ

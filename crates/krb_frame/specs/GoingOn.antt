@@ -1,6 +1,5 @@
 -- The frames of a stream in which one goes on after a refusal, and the decoder that does. The length of a frame says where the next one begins (RFC 4120, 7.2.2), also of a frame whose contents are refused.
 use Rattle.std.specs.Prelude.{ℕ, zero, suc, ◌+◌, ◌-◌, ◌^◌, ◌≡◌, ◌≤◌, ◌⊎◌, nat_le, min, if◌then◌else◌, Bool, true, List, [], ◌∷◌, ◌++◌, length, map, take, drop, Option, Some, None, is_some}
-use Rattle.std.specs.List.{sum_by}
 use Rattle.krb_der.specs.Octets.{number}
 use Rattle.krb_der.specs.declared.why.Why.{Why}
 use Rattle.krb_der.specs.declared.why.Why.TheVariants as why
@@ -8,25 +7,26 @@ use Rattle.krb_msg.specs.Term.{Term}
 use Rattle.krb_msg.specs.Stream.{Frames, End, Boundary, Within, Refused, frames}
 use Rattle.krb_frame.specs.Decoding.{Decoding, IsAmple, status_of, borrowed, IsOfOneFrame}
 use Rattle.krb_frame.specs.Feeds.{Feeds, Clears}
+use Rattle.krb_frame.specs.Stands.{frames_size}
 use Rattle.krb_frame.specs.declared.decoder.Fed.{Fed}
 use Rattle.krb_frame.specs.declared.decoder.Status.{Status}
 use Rattle.krb_frame.specs.declared.decoder.Status.TheVariants as status
 
 -- ---- the frames
--- what a frame comes to: the contents, which are a message, or what it is refused for, at a place in it
+-- what a frame comes to: the contents, which are a message, or what it is refused for, at a place in it, with its octets up to that place, or those that are there of one that is cut
 pub data Entry : Type 0 where
   Contents : (contents : List ℕ) → Entry
-  Fault : (place : ℕ) → (reason : Why) → Entry
+  Fault : (place : ℕ) → (reason : Why) → (front : List ℕ) → Entry
 
--- the frame at the end, if it is refused or cut
-abbrev pub last_entry : End → List Entry
-last_entry Boundary = []
-last_entry (Within present) = Fault present why.Truncated ∷ []
-last_entry (Refused place reason) = Fault place reason ∷ []
+-- the frame at the end, if it is refused or cut, with which these octets begin
+abbrev pub last_entry : End → List ℕ → List Entry
+last_entry Boundary octets = []
+last_entry (Within present) octets = Fault present why.Truncated octets ∷ []
+last_entry (Refused place reason) octets = Fault place reason (take (place + 1) octets) ∷ []
 
--- how many octets frames with these contents have
-abbrev pub frames_size : List (List ℕ) → ℕ
-frames_size contents = sum_by (λ c. 4 + length c) contents
+-- what follows the whole frames of a stream
+abbrev pub after_contents : Frames → List ℕ → List ℕ
+after_contents found stream = drop (frames_size found.contents) stream
 
 -- what follows the frame that these octets begin with: none if the high bit of its length is set, since its length is not known
 abbrev pub next_entries : (List ℕ → List Entry) → List ℕ → List Entry
@@ -41,7 +41,7 @@ entries_after (Refused place reason) entries octets = next_entries entries octet
 -- the frames up to the first refusal, and then those after it
 abbrev pub entries_of : Frames → (List ℕ → List Entry) → List ℕ → List Entry
 entries_of found entries stream =
-    map Contents found.contents ++ (last_entry found.end ++ entries_after found.end entries (drop (frames_size found.contents) stream))
+    map Contents found.contents ++ (last_entry found.end (after_contents found stream) ++ entries_after found.end entries (after_contents found stream))
 
 -- the first number bounds how many frames are refused
 abbrev pub entries_within : ℕ → List Term → ℕ → List ℕ → List Entry
@@ -109,4 +109,4 @@ pub record Skips (messages : List Term) (old new : Skipping) (answer : Bool) : T
   pub gives_up : GivesUp messages old.current new.current (rest_to_come messages old.current)
   pub rest : (count : ℕ) → rest_to_come messages old.current ≡ Some count → new.skipped ≡ count
   pub none : rest_to_come messages old.current ≡ None → new ≡ old
-  pub goes_on : (stream : List ℕ) (before : List Entry) (place : ℕ) (reason : Why) → GoesOn messages old stream before → status_of messages old.current ≡ status.Refused (record { place = place; why = reason }) → answer ≡ true → GoesOn messages new stream (before ++ Fault place reason ∷ [])
+  pub goes_on : (stream : List ℕ) (before : List Entry) (place : ℕ) (reason : Why) → GoesOn messages old stream before → status_of messages old.current ≡ status.Refused (record { place = place; why = reason }) → answer ≡ true → GoesOn messages new stream (before ++ Fault place reason old.current.octets ∷ [])

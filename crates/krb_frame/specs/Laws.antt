@@ -9,7 +9,7 @@ use Rattle.krb_msg.specs.Term.{Term}
 use Rattle.krb_msg.specs.Stream.{Boundary, Within, Refused, ends, with_first, frames}
 use Rattle.krb_frame.specs.Decoding.{Decoding, found, status_of, borrowed, kept_contents, finish_of}
 use Rattle.krb_frame.specs.Feeds.{Feeds}
-use Rattle.krb_frame.specs.GoingOn.{Entry, Contents, last_entry, entries}
+use Rattle.krb_frame.specs.GoingOn.{Entry, Contents, last_entry, after_contents, entries}
 use Rattle.krb_frame.specs.Stands.{EndsWith, after_frames, Stands}
 use Rattle.krb_frame.specs.declared.decoder.Fed.{Fed}
 use Rattle.krb_frame.specs.declared.decoder.Status.TheVariants as status
@@ -62,9 +62,9 @@ pub record LenientHasNoCharset : Type 0 where
 -- Going on changes nothing up to the first refusal.
 pub record GoingOnBegins (messages : List Term) (limit : ℕ) (stream : List ℕ) : Type 0 where
   -- the whole frames of the stream come first, and then the one that is refused or cut
-  pub first : (rest : List Entry) × (entries messages limit stream ≡ (map Contents (frames messages limit stream).contents ++ last_entry (frames messages limit stream).end) ++ rest)
+  pub first : (rest : List Entry) × (entries messages limit stream ≡ (map Contents (frames messages limit stream).contents ++ last_entry (frames messages limit stream).end (after_contents (frames messages limit stream) stream)) ++ rest)
   -- after a stream that is not refused nothing comes
-  pub alone : ((place : ℕ) (reason : Why) → (frames messages limit stream).end ≡ Refused place reason → ⊥) → entries messages limit stream ≡ map Contents (frames messages limit stream).contents ++ last_entry (frames messages limit stream).end
+  pub alone : ((place : ℕ) (reason : Why) → (frames messages limit stream).end ≡ Refused place reason → ⊥) → entries messages limit stream ≡ map Contents (frames messages limit stream).contents ++ last_entry (frames messages limit stream).end (after_contents (frames messages limit stream) stream)
 
 abbrev pub GoingOnChangesNothingBefore : Type 0
 GoingOnChangesNothingBefore = (messages : List Term) (limit : ℕ) (stream : List ℕ) → GoingOnBegins messages limit stream

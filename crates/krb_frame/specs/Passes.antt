@@ -1,7 +1,5 @@
 -- A frame that lies whole at the front of a piece of a stream.
 use Rattle.std.specs.Prelude.{ℕ, ◌≡◌, List, [], ◌∷◌, ◌++◌, Option, None}
-use Rattle.krb_der.specs.declared.profile.Profile.{Profile}
-use Rattle.krb_der.specs.declared.profile.Profile.TheVariants.{Lenient}
 use Rattle.krb_msg.specs.Grammar.{messages as grammar}
 use Rattle.krb_msg.specs.Stream.{frames}
 use Rattle.krb_msg.specs.Term.{Term}
@@ -20,14 +18,14 @@ contents_of passed = message_der (message_seen passed.message)
 abbrev pub first_frame : List Term → ℕ → List ℕ → Option (List ℕ)
 first_frame messages limit octets = first_of (frames messages limit octets).contents
 
--- a frame is passed between two frames alone, and by the lenient profile alone
-abbrev pub passed_by : Profile → List ℕ → Option (List ℕ) → Option (List ℕ)
-passed_by Lenient [] first = first
-passed_by profile octets first = None
+-- a frame is passed between two frames alone
+abbrev pub passed_after : List ℕ → Option (List ℕ) → Option (List ℕ)
+passed_after [] first = first
+passed_after (octet ∷ octets) first = None
 
 -- the contents of the frame that a decoder passes of a piece
 abbrev pub passed : Decoding → List ℕ → Option (List ℕ)
-passed d piece = passed_by d.profile d.octets (first_frame (grammar d.profile) d.limit piece)
+passed d piece = passed_after d.octets (first_frame (grammar d.profile) d.limit piece)
 
 -- A decoder by any messages passed the frame at the front of a piece.
 pub record Passes (messages : List Term) (d : Decoding) (piece : List ℕ) (passed : Passed) : Type 0 where

@@ -48,6 +48,15 @@ pub enum Status {
     Memory,
 }
 
+/// The message of a frame as far as it came.
+#[derive(Clone, Copy)]
+pub struct Partial<'a> {
+    /// The number of octets of the message, as the frame announces it.
+    pub size: u32,
+    /// Its octets that are there.
+    pub octets: &'a [u8],
+}
+
 /// Decodes a stream of framed messages (RFC 4120, 7.2.2) that comes in pieces: four octets of
 /// length, the highest first, and then a message of that length. It looks at each octet once, and
 /// what is refused is so with the octet that shows it.
@@ -77,11 +86,11 @@ impl Model for Decoder {
     ghost invariant = { λ d. IsAt (messages (profile_of d.scanner)) d.limit d.length d.contents.items d.phase × IsScanned (profile_of d.scanner) d.scanner d.length d.contents.items d.phase };
 }
 
-ghost use Rattle.std.specs.Prelude.{◌≡◌, ◌≤◌, ◌<◌, ◌⊎◌, ◌^◌, ◌↔◌, true, [], length, vec_capacity, IfOk, IfSome};
+ghost use Rattle.std.specs.Prelude.{◌≡◌, ◌≤◌, ◌<◌, ◌⊎◌, ◌^◌, ◌↔◌, true, [], length, vec_capacity, IfOk, IfSome, MatchOption};
 ghost use Rattle.std.specs.Option.{option_map};
 ghost use Rattle.krb_msg.specs.Grammar.{messages};
 ghost use Rattle.krb_scan.specs.Scanner.{ledger_of, profile_of, room_of};
-ghost use Rattle.krb_frame.specs.Decoding.{IsAmple, borrowed, finish_at, finish_of, kept_contents, open_lengths_of, decoding_of, room_for};
+ghost use Rattle.krb_frame.specs.Decoding.{IsAmple, borrowed, finish_at, finish_of, kept_contents, IsPartial, open_lengths_of, decoding_of, room_for};
 ghost use Rattle.krb_frame.specs.Stands.{Stands};
 ghost use Rattle.krb_frame.specs.Feeds.{Feeds, Clears};
 ghost use Rattle.krb_frame.specs.GoingOn.{GivesUp};
@@ -181,8 +190,8 @@ impl Decoder {
     /// Passes the frame with which a piece begins, if it is all there and its contents are a message,
     /// and returns that message as it stands in the piece, and what follows the frame. It is as if the
     /// frame had been fed and cleared, but nothing is kept of it and the scanner looks at none of its
-    /// octets. Returns `None` of any other piece, if a part of a frame was fed before or one is ready or
-    /// refused, and always by the strict profile: then the piece is to be fed. It takes no memory.
+    /// octets. Returns `None` of any other piece, and if a part of a frame was fed before or one is ready
+    /// or refused: then the piece is to be fed. It takes no memory.
     pub fn pass<'p>(&self, piece: &'p [u8]) -> Option<Passed<'p>>
         ensures frame { option_map contents_of result ≡ passed self.now piece.now }
         ensures passes { IfSome result (Passes (messages self.now.profile) self.now piece.now) }
@@ -190,10 +199,7 @@ impl Decoder {
         let Phase::Length(0) = self.phase else {
             return None;
         };
-        match self.scanner.profile() {
-            Profile::Lenient => first_frame(self.limit, piece),
-            Profile::Strict => None,
-        }
+        first_frame(self.scanner.profile(), self.limit, piece)
     }
 
     /// Uses octets of the length, as many as are missing and come, and judges it with its last one.
@@ -233,10 +239,7 @@ impl Decoder {
         ensures { result ≡ borrowed (messages self.now.profile) self.now }
     {
         match self.phase {
-            Phase::Ready => {
-                let contents = self.contents.as_slice();
-                Some(Framed::new(contents, self.scanner.marks()))
-            }
+            Phase::Ready => Some(Framed::new(self.contents.as_slice())),
             _ => None,
         }
     }
@@ -321,6 +324,27 @@ impl Decoder {
         } else {
             self.scanner.open_lengths()
         }
+    }
+
+    /// Returns the profile of its messages.
+    pub fn profile(&self) -> Profile
+        ensures { result ≡ self.now.profile }
+    {
+        self.scanner.profile()
+    }
+
+    /// Returns the message of the current frame as far as it came, borrowed: of one that is refused
+    /// the octets up to and with the one that is. There is none before its first octet.
+    pub fn partial(&self) -> Option<Partial<'_>>
+        ensures { MatchOption result (kept_contents self.now ≡ []) (λ partial. IsPartial self.now partial.size partial.octets.now) }
+    {
+        if self.contents.is_empty() {
+            return None;
+        }
+        Some(Partial {
+            size: u32::from_be_bytes(self.length),
+            octets: self.contents.as_slice(),
+        })
     }
 
     /// Returns the number of octets of the current frame's message that are kept, at most the

@@ -1,8 +1,7 @@
 //! A frame that is ready, borrowed from its decoder.
 
-use krb_der::{Memory, Profile, Room};
+use krb_der::{Memory, Profile};
 use krb_msg::{Kind, Message, MessageView, view_message, whole_kind};
-use krb_scan::{Mark, build, build_in, realm};
 use std::alloc::Global;
 use std::marker::Model;
 
@@ -10,20 +9,19 @@ use std::marker::Model;
 #[derive(Drop)]
 pub struct Framed<'a> {
     octets: &'a [u8],
-    marks: &'a [Mark],
 }
 
 impl<'a> Model for Framed<'a> {
-    ghost use Rattle.std.specs.Prelude.{ℕ, List, length};
-    ghost use Rattle.std.specs.Prelude.{◌<◌, ◌^◌};
-    ghost use Rattle.krb_der.specs.Octets.{AreOctets};
-    ghost use Rattle.krb_scan.specs.At.{AreWhole};
+    ghost use Rattle.std.specs.Prelude.{ℕ, ◌≡◌, ◌<◌, ◌^◌, List, length};
+    ghost use Rattle.krb_der.specs.declared.profile.Profile.TheVariants.{Lenient};
+    ghost use Rattle.krb_der.specs.declared.verdict.Verdict.TheVariants.{Whole};
+    ghost use Rattle.krb_msg.specs.Judgement.{judgement};
 
     ghost Value = { List ℕ };
 
     ghost view = { λ framed. framed.octets.now };
 
-    ghost invariant = { λ framed. (length framed.octets.now < 2 ^ 31) × AreOctets framed.octets.now × AreWhole framed.marks.now framed.octets.now };
+    ghost invariant = { λ framed. (length framed.octets.now < 2 ^ 31) × (judgement Lenient (length framed.octets.now) framed.octets.now ≡ Whole) };
 }
 
 ghost use Rattle.std.specs.Prelude.{◌≡◌, ◌<◌, ◌^◌, IfOk, length};
@@ -31,16 +29,17 @@ ghost use Rattle.std.specs.Option.{option_map};
 ghost use Rattle.krb_msg.specs.Realm.{AreOfRealm};
 ghost use Rattle.krb_msg.specs.Seen.{IsMessageView};
 ghost use Rattle.krb_msg.specs.Views.{AreOfKind, message_der};
-ghost use Rattle.krb_scan.specs.At.{AreWhole};
+ghost use Rattle.krb_der.specs.declared.verdict.Verdict.TheVariants.{Whole};
+ghost use Rattle.krb_msg.specs.Judgement.{judgement};
 
 impl<'a> Framed<'a> {
-    /// Creates a frame of the octets of one message, with its marks.
-    pub(crate) fn new(octets: &'a [u8], marks: &'a [Mark]) -> Framed<'a>
+    /// Creates a frame of the octets of one message.
+    pub(crate) fn new(octets: &'a [u8]) -> Framed<'a>
         requires short { length octets.now < 2 ^ 31 }
-        requires whole { AreWhole marks.now octets.now }
+        requires whole { judgement Profile.Lenient (length octets.now) octets.now ≡ Whole }
         ensures { result ≡ octets.now }
     {
-        Framed { octets, marks }
+        Framed { octets }
     }
 
     /// Returns the octets of the message, those of the frame's length not with them.
@@ -73,21 +72,13 @@ impl<'a> Framed<'a> {
     pub fn realm(&self) -> Option<&[u8]>
         ensures { AreOfRealm Profile.Lenient self.now (option_map (λ realm. realm.now) result) }
     {
-        realm(self.marks, self.octets)
+        self.view().realm()
     }
 
-    /// Returns the message, by the marks of its octets, which are not judged again.
+    /// Returns the message, copied out of the view.
     pub fn message(&self, alloc: Global) -> Result<Message, Memory>
         ensures { IfOk result (λ m. message_der m ≡ self.now) }
     {
-        build(alloc, self.marks, self.octets)
-    }
-
-    /// Returns the message that [`message`](Framed::message) gives. Its strings of octets take room
-    /// that others left if there is some.
-    pub fn message_in(&self, alloc: Global, room: &mut Room) -> Result<Message, Memory>
-        ensures { IfOk result (λ m. message_der m ≡ self.now) }
-    {
-        build_in(alloc, room, self.marks, self.octets)
+        self.view().to_message(alloc)
     }
 }

@@ -1,10 +1,21 @@
-//! Streams of framed Kerberos V5 messages (RFC 4120, 7.2.2), in any pieces: a [`Decoder`] is fed
-//! octets as they come, and gives each frame whose contents are one message, borrowed. A
-//! [`SkippingDecoder`] can go on after a frame that is refused. [`frame`] is the way back.
+//! Streams of framed Kerberos V5 messages (RFC 4120, 7.2.2), in pieces of any sizes.
+//!
+//! The main calls:
+//!
+//! - [`Decoder::feed`] uses the octets of a piece, up to the last one of a frame or a refused one.
+//! - [`Decoder::ready`] returns the frame that is ready, borrowed ([`Framed`]), and
+//!   [`Decoder::next`] goes on to the next one. [`Decoder::pass`] returns a frame that lies whole
+//!   in a piece without copying it.
+//! - [`SkippingDecoder::skip`] goes on with the next frame after one that is refused.
+//! - [`frame`] returns a message as a frame.
+//!
+//! Nothing here reads or writes: pieces are given. A decoder keeps at most the octets of one frame,
+//! and no frame may be longer than its [`Limit`]. Why octets of a message are refused is the
+//! judgement of `krb_msg`, found by `krb_scan`.
 //!
 //! In contracts a decoder is what it stands for: its limit, the octets of the current frame that it
-//! used, and how many octets of contents it looked at in all (`specs/Decoding`). What that has to do
-//! with the stream is `specs/Stands`.
+//! used, and how many octets of contents it looked at in all (`specs/Decoding`). What that has to
+//! do with the stream is `specs/Stands`.
 #![tactic(auto)]
 
 mod contents;
@@ -17,7 +28,7 @@ mod limit;
 mod pass;
 mod skipping;
 
-pub use decoder::{Decoder, Fed, Status};
+pub use decoder::{Decoder, Fed, Partial, Status};
 pub use framed::Framed;
 pub use framing::frame;
 pub use limit::Limit;

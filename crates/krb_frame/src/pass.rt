@@ -2,7 +2,6 @@
 
 ghost use Rattle.std.specs.Prelude.{◌≡◌, IfSome};
 ghost use Rattle.std.specs.Option.{option_map};
-ghost use Rattle.krb_der.specs.declared.profile.Profile.TheVariants.{Lenient};
 ghost use Rattle.krb_msg.specs.Grammar.{messages};
 ghost use Rattle.krb_frame.specs.Passes.{contents_of, first_frame as first_of_frames};
 ghost use Rattle.krb_frame.specs.inner.Passing.{IsPassedOf};
@@ -10,7 +9,8 @@ ghost use Rattle.krb_frame.specs.inner.Passing.{IsPassedOf};
 use crate::decoder::LENGTH_OCTETS;
 use crate::length::accepted_size;
 use crate::limit::Limit;
-use krb_msg::{MessageView, view_message};
+use krb_der::Profile;
+use krb_msg::{MessageView, view_message_in};
 
 /// A frame that lies whole at the front of a piece of a stream, and what follows it there.
 #[derive(Clone, Copy)]
@@ -21,15 +21,15 @@ pub struct Passed<'p> {
     pub rest: &'p [u8],
 }
 
-/// Returns the first frame of octets and what follows it, if it is all there and of a message, by the
-/// lenient profile.
-pub(crate) fn first_frame(limit: Limit, octets: &[u8]) -> Option<Passed<'_>>
-    ensures first { option_map contents_of result ≡ first_of_frames (messages Lenient) limit octets.now }
-    ensures parts { IfSome result (IsPassedOf (messages Lenient) limit octets.now) }
+/// Returns the first frame of octets and what follows it, if it is all there and of a message of a
+/// profile.
+pub(crate) fn first_frame(profile: Profile, limit: Limit, octets: &[u8]) -> Option<Passed<'_>>
+    ensures first { option_map contents_of result ≡ first_of_frames (messages profile) limit octets.now }
+    ensures parts { IfSome result (IsPassedOf (messages profile) limit octets.now) }
 {
     let (announced, after) = octets.split_first_chunk::<LENGTH_OCTETS>()?;
     let size = accepted_size(limit, *announced).ok()?;
     let (contents, rest) = after.split_at_checked(size as usize)?;
-    let message = view_message(contents)?;
+    let message = view_message_in(profile, contents)?;
     Some(Passed { message, rest })
 }

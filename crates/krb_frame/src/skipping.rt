@@ -81,6 +81,13 @@ impl SkippingDecoder {
         true
     }
 
+    /// Returns the decoder of the frames that are not skipped, borrowed.
+    pub fn decoder(&self) -> &Decoder
+        ensures { result.now ≡ self.now.current }
+    {
+        &self.decoder
+    }
+
     /// Returns what is refused of a stream that ends here, as [`Decoder::finish`] says: nothing of
     /// a frame that was skipped.
     pub fn finish(&self) -> Result<(), Refusal>

@@ -9,11 +9,11 @@ use Rattle.krb_frame.specs.declared.decoder.Phase.TheVariants as phase
 use Rattle.krb_frame.proofs.Passing.{passes_some}
 use Rattle.krb_frame.proofs.decoder.Decoder.pass.Goals as goal
 
-pub returns-in-Lenient-clause-passes : goal.returns-in-Lenient-clause-passes
-returns-in-Lenient-clause-passes c =
+pub returns-clause-passes : goal.returns-clause-passes
+returns-clause-passes c =
     let d = c.self.inside in
     let is : d.phase ≡ phase.Length 0 = c.in-Length-eq0.is ∙ ap phase.Length (sym c.in-Length-eq0.field-0-is ∙ c.in-Length-eq0.field-0-test) in
     let h : HasPartOfLength d.length d.contents.items 0 = subst (IsAt (messages (profile_of d.scanner)) d.limit d.length d.contents.items) is c.self.invariant.0 in
     let none : octets_of d.phase d.length d.contents.items ≡ [] = ap (λ p. octets_of p d.length d.contents.items) is ∙ h.none in
-    let begins = subst (λ p. IfSome c.first_frame.result (IsPassedOf (messages p) d.limit c.args.piece.now)) c.in-Lenient.ensures c.first_frame.ensures.parts in
+    let begins = subst (λ p. IfSome c.first_frame.result (IsPassedOf (messages p) d.limit c.args.piece.now)) c.profile.ensures c.first_frame.ensures.parts in
     rw (← c.self.view_is) (passes_some (messages (profile_of d.scanner)) d.limit (decoding_of (profile_of d.scanner) d.limit (ledger_of d.scanner) (room_for (vec_capacity d.contents) (room_of d.scanner)) d.length d.contents.items d.phase) c.args.piece.now c.first_frame.result refl none begins)
