@@ -1,6 +1,7 @@
--- What is printed of files, and its parts, computed.
-use Rattle.std.specs.Prelude.{pos, true, Some, ◌≡◌, [], ◌∷◌, refl, codes}
+-- What is printed of files and of refused frames, and its parts, computed.
+use Rattle.std.specs.Prelude.{pos, true, Some, None, ◌≡◌, [], ◌∷◌, refl, codes}
 use Rattle.std.specs.Fmt.{digits}
+use Rattle.krb_der.specs.declared.why.Why.TheVariants.{Range, HighBit}
 use Rattle.krb_file.specs.declared.fault.FileWhy.TheVariants as why
 use Rattle.krb_keytab.specs.declared.value.Entry.{Entry}
 use Rattle.krb_keytab.specs.declared.value.Keytab.{Keytab}
@@ -15,6 +16,7 @@ use Rattle.krb_list.specs.Ccaches.{cache_end, cache_record, config_record, crede
 use Rattle.krb_list.specs.Forms.{closing, json_value, labelled, members, named_flags_text, names_member, opening, record_text, set_names, unnamed, value_text}
 use Rattle.krb_list.specs.Keytabs.{keytab_end, keytab_lines, printed_record}
 use Rattle.krb_list.specs.Refusals.{file_refused_line}
+use Rattle.krb_list.specs.Streams.{refused_line as frame_refused_line}
 use Rattle.krb_list.specs.TicketFlags.{ticket_flags_text, names_text, flag_name, eight_hex}
 use Rattle.krb_list.specs.Text.{principal_text}
 use Rattle.krb_list.specs.Time.{civil_date, date_from, date_in_year, the_date, time_text, two_digits, date_text, clock_text}
@@ -114,13 +116,30 @@ no_record : keytab_lines Lines (record { records = []; stop = stops.File }) ≡ 
 unfolding digits principal_text civil_date date_from date_in_year two_digits date_text clock_text printed_record keytab_end opening closing labelled record_text value_text
 no_record = refl
 
-refused : file_refused_line Lines 37 why.Truncated ≡ codes "refused place=37 why=3 Truncated\n"
+refused : file_refused_line Lines 37 why.Truncated None ≡ codes "refused place=37 why=3 Truncated\n"
 unfolding digits opening closing labelled record_text value_text
 refused = refl
 
-refused_object : file_refused_line Json 37 why.Truncated ≡ codes "{\"kind\":\"refused\",\"place\":37,\"why\":3,\"why_name\":\"Truncated\"}\n"
+refused_object : file_refused_line Json 37 why.Truncated None ≡ codes "{\"kind\":\"refused\",\"place\":37,\"why\":3,\"why_name\":\"Truncated\",\"in\":null}\n"
 unfolding digits opening closing labelled record_text members json_value names_member
 refused_object = refl
+
+-- the path of the field at fault
+frame_refused : frame_refused_line Lines 0 12 Range (Some (codes "AP-REP.pvno")) ≡ codes "refused messages=0 place=12 why=12 Range\n"
+unfolding digits opening closing labelled record_text value_text
+frame_refused = refl
+
+named_frame_refused : frame_refused_line NamedLines 0 12 Range (Some (codes "AP-REP.pvno")) ≡ codes "refused messages=0 place=12 why=12 Range in=AP-REP.pvno\n"
+unfolding digits opening closing labelled record_text value_text
+named_frame_refused = refl
+
+refused_without_a_path : frame_refused_line NamedLines 0 3 HighBit None ≡ codes "refused messages=0 place=3 why=1 HighBit in=-\n"
+unfolding digits opening closing labelled record_text value_text
+refused_without_a_path = refl
+
+frame_refused_object : frame_refused_line Json 0 12 Range (Some (codes "AP-REP.pvno")) ≡ codes "{\"kind\":\"refused\",\"messages\":0,\"place\":12,\"why\":12,\"why_name\":\"Range\",\"in\":\"AP-REP.pvno\"}\n"
+unfolding digits opening closing labelled record_text members json_value names_member
+frame_refused_object = refl
 
 -- ---- ticket flags
 flags : ticket_flags_text 0x40E1_0000 ≡ codes "forwardable,renewable,initial,pre-authent+00010000"

@@ -2,25 +2,25 @@
 
 ghost use Rattle.std.specs.Prelude.{◌≡◌, ◌++◌, [], ◌∷◌, false, IfOk, OnOk, codes, decimal, length, pos, string_bytes};
 ghost use Rattle.krb_der.specs.Reasons.{reason_name, reason_number};
-ghost use Rattle.krb_judge.specs.Viewed.{sealed_viewed, ticket_viewed};
-ghost use Rattle.krb_ccache.specs.Tickets.{state_viewed};
+ghost use Rattle.krb_msg.specs.Seen.{TicketLists, ticket_seen};
+ghost use Rattle.krb_ccache.specs.Tickets.{StateLists, state_viewed};
 ghost use Rattle.krb_registry.specs.declared.registry.Registry.TheVariants.{EncryptionTypes};
 ghost use Rattle.krb_list.specs.Ccaches.{config_record, counts_fields, credential_record, flags_fields, key_fields, state, state_record, ticket_server, ticketed_record, tickets_fields, times_fields, who_fields};
 ghost use Rattle.krb_list.specs.Forms.{fields_text, json_string, record_line, record_text, refused_object, refused_ticket_text};
-ghost use Rattle.krb_list.specs.Values.{Absent, Named, NoTicket, Principal as IsPrincipal, RefusedTicket, Sealed as IsSealed, Word, if_there, sealed};
+ghost use Rattle.krb_list.specs.Values.{Absent, Named, NoTicket, Principal as IsPrincipal, RefusedTicket, Word, if_there};
 
 use crate::ccache::principal_of;
 use crate::field::{put_closing, put_field, put_opening};
 use crate::form::Form;
 use crate::json::put_string;
 use crate::number::{Numbered, Sealed};
-use crate::principal::{Principal, TicketNames};
+use crate::principal::{Principal, ViewedStrings};
 use crate::shown::{Plain, Shown, put_begin, put_number};
 use crate::ticket_flags::TicketFlags;
 use crate::time::FileTime;
 use krb_ccache::{Credential, TicketStateView, ticket_view_of};
 use krb_der::{Memory, Refusal, Why, why_number, why_text};
-use krb_judge::{SealedView, TicketView};
+use krb_msg::TicketView;
 use krb_registry::Registry;
 use std::alloc::{AllocError, Global};
 
@@ -315,24 +315,14 @@ impl Shown for Refusal {
     }
 }
 
-/// Returns what is shown of a sealed part of a ticket.
-fn sealed_of(view: &SealedView<'_>) -> Sealed
-    ensures { IsSealed result.etype result.kvno result.size ≡ sealed (sealed_viewed view.now) }
-{
-    Sealed {
-        etype: view.etype,
-        kvno: view.kvno,
-        size: view.cipher.len() as u64,
-    }
-}
-
 /// Returns the server of a ticket.
-fn server_of<'b, 'a>(view: &'b TicketView<'a>) -> Principal<'b, TicketNames<'b, 'a>>
-    ensures { IsPrincipal result.name_type result.components.0.now result.realm.now ≡ ticket_server (ticket_viewed view.now) }
+fn server_of<'a>(view: &TicketView<'a>) -> Principal<'a, ViewedStrings<'a>>
+    requires { TicketLists view.now }
+    ensures { IsPrincipal result.name_type result.components result.realm.now ≡ ticket_server (ticket_seen view.now) }
 {
     Principal {
         name_type: view.sname.name_type,
-        components: TicketNames(&view.sname.name),
+        components: ViewedStrings::new(view.sname.name),
         realm: view.realm,
     }
 }
@@ -348,6 +338,7 @@ fn put_with_state(
     credential: &Credential,
     state: &TicketStateView<'_>,
 ) -> Result<(), AllocError>
+    requires { StateLists state.now }
     ensures { OnOk result (string_bytes text.new ≡ string_bytes text.old ++ record_text form (state_record now credential.now (state_viewed state.now))) }
 {
     match state {
@@ -356,7 +347,7 @@ fn put_with_state(
             put_ticketed(text, form, now, credential, &WithoutTicket, &NONE)
         }
         TicketStateView::Ticket(ticket) => {
-            let sealed = sealed_of(&ticket.enc_part);
+            let sealed = Sealed::of(&ticket.enc_part);
             put_ticketed(text, form, now, credential, &sealed, &server_of(ticket))
         }
         TicketStateView::Refused(refusal) => {

@@ -50,7 +50,7 @@ pub use law::{
 };
 pub use message::{message_line, put_message, put_message_view};
 pub use principal::{principal_text, put_principal};
-pub use refusal::{put_file_refusal, put_input_refusal, put_message_refusal};
+pub use refusal::{InputFault, put_file_refusal, put_input_refusal, put_message_refusal};
 pub use shown::Shown;
 pub use stream::{put_counted_stream_end, put_stream_end, put_stream_refusal};
 pub use ticket_flags::TicketFlags;

@@ -18,7 +18,6 @@ use crate::json::put_octets_string;
 use crate::number::put_number_and_name;
 use crate::shown::{Shown, put_begin};
 use krb_der::{KString, Memory};
-use krb_judge::Items;
 use krb_msg::{ItemsView, next_item};
 use krb_registry::Registry;
 use std::alloc::{AllocError, Global};
@@ -74,48 +73,6 @@ impl<'a> Components for Strings<'a> {
             Some((first, others)) => {
                 put_octets_item(text, form, first.octets())?;
                 put_others(text, form, separator, others)
-            }
-        }
-    }
-}
-
-/// Appends the separator and a component, for each of the components that stand in octets.
-fn put_other_items(
-    text: &mut String,
-    form: ItemForm,
-    separator: &str,
-    components: Items<'_>,
-) -> Result<(), AllocError>
-    ensures { OnOk result (string_bytes text.new ≡ string_bytes text.old ++ flat_map (λ c. separator.now ++ octets_item form c) components.entry) }
-{
-    let mut others = components;
-    'others: while let Some((component, rest)) = others.split_first() {
-        text.push_str(separator)?;
-        put_octets_item(text, form, component)?;
-        others = rest;
-    }
-    Ok(())
-}
-
-/// The components of the server of a ticket that is judged where it stands.
-#[derive(Clone, Copy)]
-pub(crate) struct TicketNames<'b, 'a>(pub(crate) &'b Items<'a>);
-
-impl<'b, 'a> Components for TicketNames<'b, 'a> {
-    ghost components = { λ names. names.0.now };
-
-    fn put_components(
-        &self,
-        text: &mut String,
-        form: ItemForm,
-        none: &str,
-        separator: &str,
-    ) -> Result<(), AllocError> {
-        match self.0.split_first() {
-            None => text.push_str(none),
-            Some((first, others)) => {
-                put_octets_item(text, form, first)?;
-                put_other_items(text, form, separator, others)
             }
         }
     }

@@ -1,16 +1,17 @@
 //! Records of what is refused.
 
 ghost use Rattle.std.specs.Prelude.{◌≡◌, ◌++◌, OnOk, string_bytes};
+ghost use Rattle.std.specs.Option.{option_copied};
 ghost use Rattle.krb_der.specs.Reasons.{reason_name, reason_number};
 ghost use Rattle.krb_file.specs.Faults.{file_reason_name, file_reason_number};
-ghost use Rattle.krb_list.specs.Forms.{record_line};
-ghost use Rattle.krb_list.specs.Refusals.{fault_record, file_refused_line, input_refused_line, message_refused_line};
+ghost use Rattle.krb_list.specs.Forms.{fields_text, record_line};
+ghost use Rattle.krb_list.specs.Refusals.{path_in, fault_record, file_refused_line, input_refused_line, message_refused_line};
 ghost use Rattle.krb_list.specs.Values.{Reason as IsReason};
 
 use crate::field::{put_end, put_field, put_opening};
 use crate::form::Form;
 use crate::json::put_string;
-use crate::shown::{Shown, put_begin, put_number};
+use crate::shown::{Shown, Text, put_begin, put_number};
 use krb_der::{Refusal, Why, why_number, why_text};
 use krb_file::{FileWhy, file_why_number, file_why_text};
 use std::alloc::AllocError;
@@ -79,52 +80,95 @@ impl Shown for Reason {
     }
 }
 
+/// Appends the path of the field at fault, if there is one; to a line only if numbers have their names.
+pub(crate) fn put_path(text: &mut String, form: Form, path: Option<&str>) -> Result<(), AllocError>
+    ensures { OnOk result (string_bytes text.new ≡ string_bytes text.old ++ fields_text form (path_in form (option_copied path.entry))) }
+{
+    let shown = match path {
+        None => None,
+        Some(path) => Some(Text(path.as_bytes())),
+    };
+    match form {
+        Form::Lines => Ok(()),
+        Form::NamedLines | Form::Json => put_field(text, form, " in=", ",\"in", &shown),
+    }
+}
+
 /// Appends the line of what is refused at a place.
 #[tactic(auto, unfolding(crate::specs::Forms::record_text))]
-fn put_fault(text: &mut String, form: Form, place: u64, reason: &Reason) -> Result<(), AllocError>
-    ensures { OnOk result (string_bytes text.new ≡ string_bytes text.old ++ record_line form (fault_record place reason.now.0 reason.now.1)) }
+fn put_fault(
+    text: &mut String,
+    form: Form,
+    place: u64,
+    reason: &Reason,
+    path: Option<&str>,
+) -> Result<(), AllocError>
+    ensures { OnOk result (string_bytes text.new ≡ string_bytes text.old ++ record_line form (fault_record form place reason.now.0 reason.now.1 (option_copied path.entry))) }
 {
     put_opening(text, form, "refused")?;
     put_field(text, form, " place=", ",\"place", &place)?;
     put_field(text, form, " why=", ",\"why", reason)?;
+    put_path(text, form, path)?;
     put_end(text, form)
 }
 
-/// Appends the line of a refused file: the place of the field at fault, and what is wrong with it.
+/// Appends the line of a refused file: the place of the field at fault, what is wrong with it, and its
+/// path, which a line has only if numbers have their names.
 pub fn put_file_refusal(
     text: &mut String,
     form: Form,
     place: u64,
     why: FileWhy,
+    path: Option<&str>,
 ) -> Result<(), AllocError>
-    ensures { OnOk result (string_bytes text.new ≡ string_bytes text.old ++ file_refused_line form place why) }
+    ensures { OnOk result (string_bytes text.new ≡ string_bytes text.old ++ file_refused_line form place why (option_copied path.entry)) }
 {
-    put_fault(text, form, place, &Reason::of_file(why))
+    put_fault(text, form, place, &Reason::of_file(why), path)
 }
 
-/// Appends the line of octets that are no message: the place of the octet at fault, and what is wrong
-/// with it.
+/// Appends the line of octets that are no message: the place of the octet at fault, what is wrong with
+/// it, and the path of the field at fault, which a line has only if numbers have their names.
 pub fn put_message_refusal(
     text: &mut String,
     form: Form,
     refusal: Refusal,
+    path: Option<&str>,
 ) -> Result<(), AllocError>
-    ensures { OnOk result (string_bytes text.new ≡ string_bytes text.old ++ message_refused_line form refusal) }
+    ensures { OnOk result (string_bytes text.new ≡ string_bytes text.old ++ message_refused_line form refusal (option_copied path.entry)) }
 {
     put_fault(
         text,
         form,
         u64::from(refusal.place),
         &Reason::of(refusal.why),
+        path,
     )
 }
 
-/// Appends the line of input that is no hexadecimal.
-pub fn put_input_refusal(text: &mut String, form: Form) -> Result<(), AllocError>
-    ensures { OnOk result (string_bytes text.new ≡ string_bytes text.old ++ input_refused_line form) }
+/// Why input is not looked at as a message.
+#[derive(Clone, Copy, PartialEq, Eq, Debug)]
+pub enum InputFault {
+    /// It is no hexadecimal.
+    Hex,
+    /// It is too long.
+    Length,
+}
+
+/// Returns the line of input that is not looked at as a message.
+fn input_line(form: Form, fault: InputFault) -> &'static str
+    ensures { result.now ≡ input_refused_line form fault }
 {
-    match form {
-        Form::Lines | Form::NamedLines => text.push_str("refused hex\n"),
-        Form::Json => text.push_str("{\"kind\":\"refused\",\"input\":\"hex\"}\n"),
+    match (form, fault) {
+        (Form::Lines | Form::NamedLines, InputFault::Hex) => "refused hex\n",
+        (Form::Lines | Form::NamedLines, InputFault::Length) => "refused length\n",
+        (Form::Json, InputFault::Hex) => "{\"kind\":\"refused\",\"input\":\"hex\"}\n",
+        (Form::Json, InputFault::Length) => "{\"kind\":\"refused\",\"input\":\"length\"}\n",
     }
+}
+
+/// Appends the line of input that is not looked at as a message.
+pub fn put_input_refusal(text: &mut String, form: Form, fault: InputFault) -> Result<(), AllocError>
+    ensures { OnOk result (string_bytes text.new ≡ string_bytes text.old ++ input_refused_line form fault) }
+{
+    text.push_str(input_line(form, fault))
 }

@@ -1,5 +1,5 @@
 -- Frames listed one after another, also after refusals.
-use Rattle.std.proofs.Common.{◌≡◌, ℕ, ◌+◌, ◌-◌, ◌<◌, ◌≤◌, min, true, false, Bool, List, [], ◌∷◌, ◌++◌, length, take, drop, map, Option, Some, None, string_bytes, refl, sym, ◌∙◌, ap, subst, arith, append_assoc, append-nil, length-drop}
+use Rattle.std.proofs.Common.{◌≡◌, ℕ, ◌+◌, ◌-◌, ◌<◌, ◌≤◌, min, true, false, Bool, List, [], ◌∷◌, ◌++◌, length, take, drop, map, Option, Some, None, string_bytes, refl, sym, ◌∙◌, ap, ap₂, subst, arith, append_assoc, append-nil, length-drop}
 use Rattle.std.specs.Prelude.{IsSome, is_some}
 use Rattle.std.proofs.lemmas.List.{map-append}
 use Rattle.krb_der.specs.declared.why.Why.TheVariants.{HighBit}
@@ -12,8 +12,11 @@ use Rattle.krb_frame.specs.declared.decoder.Fed.{Fed}
 use Rattle.krb_frame.specs.declared.decoder.Status.{Status}
 use Rattle.krb_frame.specs.declared.decoder.Status.TheVariants as status
 use Rattle.krb_frame.proofs.Founds.{more-nothing}
+use Rattle.krb_list.specs.declared.form.Form.{Form}
 use Rattle.krb_tool.specs.Lines.{message_line}
 use Rattle.krb_tool.specs.Lines.{refused_line}
+use Rattle.krb_der.specs.declared.profile.Profile.{Profile}
+use Rattle.krb_tool.specs.Paths.{frame_path}
 use Rattle.krb_tool.specs.GoingOn.{Listed, Whole, Faulty, entry_of, messages_in, refused_in, lines_after, EndsUnknown}
 use Rattle.krb_tool.specs.inner.Pieces.{IsWaiting, IsFed, Goes, TakesPiece}
 use Rattle.krb_tool.specs.inner.CountingListers.{HasCounted, CountsReady, CountsRefused, SkipsRefused, counting}
@@ -29,27 +32,27 @@ more_refused refusal e = cc
 pub messages_in-append : (xs ys : List Listed) → messages_in (xs ++ ys) ≡ messages_in xs + messages_in ys
 messages_in-append [] ys = omega arith
 messages_in-append (Whole message ∷ xs) ys = omega (arith, messages_in-append xs ys)
-messages_in-append (Faulty place reason ∷ xs) ys = messages_in-append xs ys
+messages_in-append (Faulty place reason front ∷ xs) ys = messages_in-append xs ys
 
 pub refused_in-append : (xs ys : List Listed) → refused_in (xs ++ ys) ≡ refused_in xs + refused_in ys
 refused_in-append [] ys = omega arith
 refused_in-append (Whole message ∷ xs) ys = refused_in-append xs ys
-refused_in-append (Faulty place reason ∷ xs) ys = omega (arith, refused_in-append xs ys)
+refused_in-append (Faulty place reason front ∷ xs) ys = omega (arith, refused_in-append xs ys)
 
-pub lines_after-append : (n : ℕ) (xs ys : List Listed) → lines_after n (xs ++ ys) ≡ lines_after n xs ++ lines_after (n + messages_in xs) ys
-lines_after-append n [] ys = let e : n ≡ n + 0 = omega arith in ap (λ k. lines_after k ys) e
-lines_after-append n (Whole message ∷ xs) ys =
+pub lines_after-append : (form : Form) (profile : Profile) (n : ℕ) (xs ys : List Listed) → lines_after form profile n (xs ++ ys) ≡ lines_after form profile n xs ++ lines_after form profile (n + messages_in xs) ys
+lines_after-append form profile n [] ys = let e : n ≡ n + 0 = omega arith in ap (λ k. lines_after form profile k ys) e
+lines_after-append form profile n (Whole message ∷ xs) ys =
     let e : n + 1 + messages_in xs ≡ n + (1 + messages_in xs) = omega arith in
-    ap (λ l. message_line message ++ l) (lines_after-append (n + 1) xs ys)
-    ∙ sym (append_assoc (message_line message) (lines_after (n + 1) xs) (lines_after (n + 1 + messages_in xs) ys))
-    ∙ ap (λ k. (message_line message ++ lines_after (n + 1) xs) ++ lines_after k ys) e
-lines_after-append n (Faulty place reason ∷ xs) ys =
-    ap (λ l. refused_line n place reason ++ l) (lines_after-append n xs ys)
-    ∙ sym (append_assoc (refused_line n place reason) (lines_after n xs) (lines_after (n + messages_in xs) ys))
+    ap (λ l. message_line form message ++ l) (lines_after-append form profile (n + 1) xs ys)
+    ∙ sym (append_assoc (message_line form message) (lines_after form profile (n + 1) xs) (lines_after form profile (n + 1 + messages_in xs) ys))
+    ∙ ap (λ k. (message_line form message ++ lines_after form profile (n + 1) xs) ++ lines_after form profile k ys) e
+lines_after-append form profile n (Faulty place reason front ∷ xs) ys =
+    ap (λ l. refused_line form n place reason (frame_path profile front) ++ l) (lines_after-append form profile n xs ys)
+    ∙ sym (append_assoc (refused_line form n place reason (frame_path profile front)) (lines_after form profile n xs) (lines_after form profile (n + messages_in xs) ys))
 
 -- one frame more
-HasCounted-more : (old new : CountingLister) (x : Listed) (stream written : List ℕ) (h : HasCounted old stream written) → (entry_of x ≡ Fault 3 HighBit → ⊥) → new.decoder.current.profile ≡ old.decoder.current.profile → string_bytes new.text ≡ string_bytes old.text ++ lines_after old.messages (x ∷ []) → new.messages ≡ old.messages + messages_in (x ∷ []) → new.refused ≡ old.refused + refused_in (x ∷ []) → GoesOn (messages old.decoder.current.profile) new.decoder stream (map entry_of h.listed ++ entry_of x ∷ []) → HasCounted new stream written
-HasCounted-more old new x stream written h known p t m r g =
+HasCounted-more : (old new : CountingLister) (x : Listed) (stream written : List ℕ) (h : HasCounted old stream written) → ((front : List ℕ) → entry_of x ≡ Fault 3 HighBit front → ⊥) → new.decoder.current.profile ≡ old.decoder.current.profile → new.form ≡ old.form → string_bytes new.text ≡ string_bytes old.text ++ lines_after old.form old.decoder.current.profile old.messages (x ∷ []) → new.messages ≡ old.messages + messages_in (x ∷ []) → new.refused ≡ old.refused + refused_in (x ∷ []) → GoesOn (messages old.decoder.current.profile) new.decoder stream (map entry_of h.listed ++ entry_of x ∷ []) → HasCounted new stream written
+HasCounted-more old new x stream written h known p o t m r g =
     let all : List Listed = h.listed ++ x ∷ [] in
     record {
       listed = all;
@@ -57,10 +60,11 @@ HasCounted-more old new x stream written h known p t m r g =
       known = subst (λ l. EndsUnknown l → ⊥) (sym (map-append entry_of h.listed (x ∷ []))) (known_last (map entry_of h.listed) (entry_of x) known);
       lines =
           ap (λ l. written ++ l) t
-          ∙ sym (append_assoc written (string_bytes old.text) (lines_after old.messages (x ∷ [])))
-          ∙ ap (λ l. l ++ lines_after old.messages (x ∷ [])) h.lines
-          ∙ ap (λ n. lines_after 0 h.listed ++ lines_after n (x ∷ [])) (let e : old.messages ≡ 0 + messages_in h.listed = omega (arith, h.messages) in e)
-          ∙ sym (lines_after-append 0 h.listed (x ∷ []));
+          ∙ sym (append_assoc written (string_bytes old.text) (lines_after old.form old.decoder.current.profile old.messages (x ∷ [])))
+          ∙ ap (λ l. l ++ lines_after old.form old.decoder.current.profile old.messages (x ∷ [])) h.lines
+          ∙ ap (λ n. lines_after old.form old.decoder.current.profile 0 h.listed ++ lines_after old.form old.decoder.current.profile n (x ∷ [])) (let e : old.messages ≡ 0 + messages_in h.listed = omega (arith, h.messages) in e)
+          ∙ sym (lines_after-append old.form old.decoder.current.profile 0 h.listed (x ∷ []))
+          ∙ ap₂ (λ form profile. lines_after form profile 0 all) (sym o) (sym p);
       messages = omega (arith, m, h.messages, messages_in-append h.listed (x ∷ []));
       refused = omega (arith, r, h.refused, refused_in-append h.listed (x ∷ []));
     }
@@ -106,19 +110,19 @@ module _ (old new : CountingLister) (piece : List ℕ) (fed : Fed) (f : FeedsAft
       subst (λ p. IsSome (borrowed (messages p) new.decoder.current)) (sym f.others.same_profile)
       (is_borrowed old.decoder.current.profile old.decoder.current new.decoder.current (drop old.decoder.skipped piece) (without (min old.decoder.skipped (length piece)) fed) f.others e)
 
-  module _ (t : new.text ≡ old.text) (m : new.messages ≡ old.messages) (r : new.refused ≡ old.refused) where
+  module _ (o : new.form ≡ old.form) (t : new.text ≡ old.text) (m : new.messages ≡ old.messages) (r : new.refused ≡ old.refused) where
     HasCounted-used : (stream written : List ℕ) → HasCounted old stream written → HasCounted new (stream ++ take fed.used piece) written
     HasCounted-used stream written h = record {
       listed = h.listed;
       goes_on = subst (λ p. GoesOn (messages p) new.decoder (stream ++ take fed.used piece) (map entry_of h.listed)) (sym f.others.same_profile) (f.goes_on stream (map entry_of h.listed) h.goes_on);
       known = h.known;
-      lines = ap (λ x. written ++ string_bytes x) t ∙ h.lines;
+      lines = ap (λ x. written ++ string_bytes x) t ∙ h.lines ∙ ap₂ (λ form profile. lines_after form profile 0 h.listed) (sym o) (sym f.others.same_profile);
       messages = m ∙ h.messages;
       refused = r ∙ h.refused;
     }
 
     same : counting.request new ≡ counting.request old
-    same = same_request old.decoder.current new.decoder.current f.others.same_profile f.others.same_limit
+    same = same_request old.form new.form old.decoder.current new.decoder.current o f.others.same_profile f.others.same_limit
 
     taken : (goes_on : Bool) → Goes counting new (length piece) fed.used goes_on → TakesPiece counting old piece new goes_on
     taken goes_on g = record { used = fed.used; within = fed_within; same = same; listed = HasCounted-used; few = omega (arith, m, r); goes = g }
@@ -137,12 +141,12 @@ module _ (old new : CountingLister) (piece : List ℕ) (fed : Fed) (f : FeedsAft
         let cleared = cleared_is new.decoder.current.profile new.decoder.current next.decoder.current l.contents l.cleared.clears l.is_ready in
         let profile : next.decoder.current.profile ≡ new.decoder.current.profile = ap (λ d. d.profile) cleared in
         IsFed-used counting old next piece fed.used fed_within
-        (same_request new.decoder.current next.decoder.current profile (ap (λ d. d.limit) cleared) ∙ same)
+        (same_request new.form next.form new.decoder.current next.decoder.current l.same_form profile (ap (λ d. d.limit) cleared) ∙ same)
         (cleared_waits new.decoder.current.profile new.decoder.current next.decoder.current l.contents l.cleared.clears l.is_ready)
         (omega (arith, fed_some status.Ready w e more_ready memory_ready, m, r, l.messages, l.refused))
         (λ stream written h.
         let u = HasCounted-used stream written h in
-        HasCounted-more new next (Whole l.message) (stream ++ take fed.used piece) written u (whole_known (message_der l.message)) profile (l.line ∙ ap (λ t. string_bytes new.text ++ t) (sym (append-nil (message_line l.message)))) (omega (arith, l.messages)) (omega (arith, l.refused))
+        HasCounted-more new next (Whole l.message) (stream ++ take fed.used piece) written u (whole_known (message_der l.message)) profile l.same_form (l.line ∙ ap (λ t. string_bytes new.text ++ t) (sym (append-nil (message_line new.form l.message)))) (omega (arith, l.messages)) (omega (arith, l.refused))
         (subst (λ o. GoesOn (messages new.decoder.current.profile) next.decoder (stream ++ take fed.used piece) (map entry_of u.listed ++ Contents o ∷ [])) (sym l.form) (l.cleared.goes_on (stream ++ take fed.used piece) l.contents (map entry_of u.listed) u.goes_on l.is_ready)))
 
     -- a frame is refused, and is skipped
@@ -153,10 +157,10 @@ module _ (old new : CountingLister) (piece : List ℕ) (fed : Fed) (f : FeedsAft
         let refused : status_of (messages new.decoder.current.profile) new.decoder.current ≡ status.Refused refusal = status_is (status.Refused refusal) e (memory_refused refusal) in
         let profile : next.decoder.current.profile ≡ new.decoder.current.profile = ap (λ d. d.profile) left in
         IsFed-used counting old next piece fed.used fed_within
-        (same_request new.decoder.current next.decoder.current profile (ap (λ d. d.limit) left) ∙ same)
+        (same_request new.form next.form new.decoder.current next.decoder.current l.same_form profile (ap (λ d. d.limit) left) ∙ same)
         (ap (λ d. status_of (messages d.profile) d) left ∙ more-nothing (messages new.decoder.current.profile) new.decoder.current.profile new.decoder.current.limit new.decoder.current.looks next.decoder.current.room)
         (omega (arith, fed_some (status.Refused refusal) w e (more_refused refusal) (memory_refused refusal), m, r, l.messages, l.refused))
         (λ stream written h.
         let u = HasCounted-used stream written h in
-        HasCounted-more new next (Faulty refusal.place refusal.why) (stream ++ take fed.used piece) written u (refused_known (messages new.decoder.current.profile) new.decoder.current refusal rest.0 refused rest.1) profile (l.line ∙ ap (λ t. string_bytes new.text ++ t) (sym (append-nil (refused_line new.messages refusal.place refusal.why)))) (omega (arith, l.messages)) (omega (arith, l.refused))
+        HasCounted-more new next (Faulty refusal.place refusal.why new.decoder.current.octets) (stream ++ take fed.used piece) written u (refused_known (messages new.decoder.current.profile) new.decoder.current refusal rest.0 refused rest.1) profile l.same_form (l.line ∙ ap (λ t. string_bytes new.text ++ t) (sym (append-nil (refused_line new.form new.messages refusal.place refusal.why (frame_path new.decoder.current.profile new.decoder.current.octets))))) (omega (arith, l.messages)) (omega (arith, l.refused))
         (l.skipped.goes_on (stream ++ take fed.used piece) (map entry_of u.listed) refusal.place refusal.why u.goes_on refused refl))

@@ -12,11 +12,13 @@ use Rattle.krb_frame.specs.Decoding.{Decoding, found, status_at, finish_at, fini
 use Rattle.krb_frame.specs.GoingOn.{Entry, Fault, last_entry, entries}
 use Rattle.krb_frame.specs.declared.decoder.Status.TheVariants as status
 use Rattle.krb_frame.proofs.Skips.{entries-waiting, entries-last}
+use Rattle.krb_list.specs.declared.form.Form.{Form}
 use Rattle.krb_tool.specs.Lines.{refused_line, counted_end_line}
+use Rattle.krb_tool.specs.Paths.{frame_path}
 use Rattle.krb_tool.specs.GoingOn.{Listed, Faulty, entry_of, messages_in, refused_in, lines_after, IsCountedListing, counted_run_end, EndsUnknown, StopsInPiece, ListsAll, AreCountedLines}
 use Rattle.krb_tool.specs.inner.Streams.{Request, Taken, with_piece, Begins, IsLast, MayFinish, EndsListing, ListsBy}
 use Rattle.krb_tool.specs.inner.Pieces.{TakesPiece, WaitsAfter, IsLastOf, listing_of}
-use Rattle.krb_tool.specs.inner.CountingListers.{HasCounted, last_listed, PutsCount, PutsLast, CountsEnd, IsUnknownAfter, counting, counting_rules}
+use Rattle.krb_tool.specs.inner.CountingListers.{HasCounted, last_listed, last_of, PutsCount, PutsLast, CountsEnd, IsUnknownAfter, counting, counting_rules}
 use Rattle.krb_tool.specs.declared.going_on.CountingLister.{CountingLister}
 use Rattle.krb_tool.specs.declared.run.RunEnd.{RunEnd}
 use Rattle.krb_tool.specs.Listing.{IsNotRefused}
@@ -24,32 +26,27 @@ use Rattle.krb_tool.proofs.KnownLengths.{known_last}
 use Rattle.krb_tool.proofs.CountedListings.{messages_in-append, refused_in-append, lines_after-append}
 
 -- ---- frames, and the one at the end
-last_messages : (end : End) → messages_in (last_listed end) ≡ 0
-last_messages Boundary = refl
-last_messages (Within present) = refl
-last_messages (Refused place reason) = refl
-
-last_entries : (end : End) → map entry_of (last_listed end) ≡ last_entry end
-last_entries Boundary = refl
-last_entries (Within present) = refl
-last_entries (Refused place reason) = refl
+last_messages : (end : End) (octets : List ℕ) → messages_in (last_listed end octets) ≡ 0
+last_messages Boundary octets = refl
+last_messages (Within present) octets = refl
+last_messages (Refused place reason) octets = refl
 
 -- what is put at the end
-finished-ok : (messages : List Term) (d : Decoding) (done : Unit {0}) → finish_of messages d ≡ Ok done → last_listed (found messages d).end ≡ []
+finished-ok : (messages : List Term) (d : Decoding) (done : Unit {0}) → finish_of messages d ≡ Ok done → last_listed (found messages d).end d.octets ≡ []
 finished-ok messages d done e = by (found messages d).end e
   where
-    by : (end : End) → finish_at end ≡ Ok done → last_listed end ≡ []
+    by : (end : End) → finish_at end ≡ Ok done → last_listed end d.octets ≡ []
     by Boundary e = refl
     by (Within present) e = absurd cc
     by (Refused place reason) e = absurd cc
 
-finished-err : (messages : List Term) (d : Decoding) (refusal : Refusal) → finish_of messages d ≡ Err refusal → last_listed (found messages d).end ≡ Faulty refusal.place refusal.why ∷ []
+finished-err : (messages : List Term) (d : Decoding) (refusal : Refusal) → finish_of messages d ≡ Err refusal → last_listed (found messages d).end d.octets ≡ Faulty refusal.place refusal.why d.octets ∷ []
 finished-err messages d refusal e = by (found messages d).end e
   where
-    same : (r s : Refusal) → ◌≡◌ {A = Result (Unit {0}) Refusal} (Err r) (Err s) → Faulty r.place r.why ∷ [] ≡ Faulty s.place s.why ∷ []
-    same r s e = let f : r ≡ s = cc in ap (λ t. Faulty t.place t.why ∷ []) f
+    same : (r s : Refusal) → ◌≡◌ {A = Result (Unit {0}) Refusal} (Err r) (Err s) → Faulty r.place r.why d.octets ∷ [] ≡ Faulty s.place s.why d.octets ∷ []
+    same r s e = let f : r ≡ s = cc in ap (λ t. Faulty t.place t.why d.octets ∷ []) f
 
-    by : (end : End) → finish_at end ≡ Err refusal → last_listed end ≡ Faulty refusal.place refusal.why ∷ []
+    by : (end : End) → finish_at end ≡ Err refusal → last_listed end d.octets ≡ Faulty refusal.place refusal.why d.octets ∷ []
     by Boundary e = absurd cc
     by (Within present) e = same (record { place = present; why = Truncated }) refusal e
     by (Refused place reason) e = same (record { place = place; why = reason }) refusal e
@@ -61,8 +58,8 @@ CountsEnd-count old new ended done e p =
     record {
       lines =
           p.line
-          ∙ ap (λ k. string_bytes old.text ++ counted_end_line old.messages k) z
-          ∙ ap (λ l. string_bytes old.text ++ (lines_after old.messages l ++ counted_end_line old.messages (old.refused + refused_in l))) (sym none);
+          ∙ ap (λ k. string_bytes old.text ++ counted_end_line old.form old.messages k) z
+          ∙ ap (λ l. string_bytes old.text ++ (lines_after old.form old.decoder.current.profile old.messages l ++ counted_end_line old.form old.messages (old.refused + refused_in l))) (sym none);
       ended_so = p.ended_so ∙ ap counted_run_end z ∙ ap (λ l. counted_run_end (old.refused + refused_in l)) (sym none);
     }
 
@@ -73,30 +70,33 @@ CountsEnd-last old new ended refusal e p =
     record {
       lines =
           p.lines
-          ∙ ap (λ l. string_bytes old.text ++ (l ++ counted_end_line old.messages (old.refused + 1))) (sym (append-nil (refused_line old.messages refusal.place refusal.why)))
-          ∙ ap (λ k. string_bytes old.text ++ ((refused_line old.messages refusal.place refusal.why ++ []) ++ counted_end_line old.messages k)) z
-          ∙ ap (λ l. string_bytes old.text ++ (lines_after old.messages l ++ counted_end_line old.messages (old.refused + refused_in l))) (sym one);
+          ∙ ap (λ l. string_bytes old.text ++ (l ++ counted_end_line old.form old.messages (old.refused + 1))) (sym (append-nil (refused_line old.form old.messages refusal.place refusal.why (frame_path old.decoder.current.profile old.decoder.current.octets))))
+          ∙ ap (λ k. string_bytes old.text ++ ((refused_line old.form old.messages refusal.place refusal.why (frame_path old.decoder.current.profile old.decoder.current.octets) ++ []) ++ counted_end_line old.form old.messages k)) z
+          ∙ ap (λ l. string_bytes old.text ++ (lines_after old.form old.decoder.current.profile old.messages l ++ counted_end_line old.form old.messages (old.refused + refused_in l))) (sym one);
       ended_so = p.ended_so ∙ ap counted_run_end z ∙ ap (λ l. counted_run_end (old.refused + refused_in l)) (sym one);
     }
 
--- frames, and the one at the end
-module _ (profile : Profile) (limit : ℕ) (read : List ℕ) (listed : List Listed) (end : End) (all : entries (messages profile) limit read ≡ map entry_of listed ++ last_entry end) where
+-- frames, and those at the end
+module _ (form : Form) (profile : Profile) (limit : ℕ) (read : List ℕ) (listed : List Listed) (end : End) (octets : List ℕ) (all : entries (messages profile) limit read ≡ map entry_of listed ++ map entry_of (last_listed end octets)) where
+  abbrev last : List Listed
+  last = last_listed end octets
+
   abbrev both : List Listed
-  both = listed ++ last_listed end
+  both = listed ++ last
 
   abbrev both_lines : List ℕ
-  both_lines = lines_after 0 both ++ counted_end_line (messages_in both) (refused_in both)
+  both_lines = lines_after form profile 0 both ++ counted_end_line form (messages_in both) (refused_in both)
 
-  counted-listing : (text : List ℕ) → text ≡ both_lines → IsCountedListing profile limit read text
-  counted-listing text e = record { found = both; in_frames = map-append entry_of listed (last_listed end) ∙ ap (λ l. map entry_of listed ++ l) (last_entries end) ∙ sym all; lines = e }
+  counted-listing : (text : List ℕ) → text ≡ both_lines → IsCountedListing form profile limit read text
+  counted-listing text e = record { found = both; in_frames = map-append entry_of listed last ∙ sym all; lines = e }
 
-  both-lines : both_lines ≡ lines_after 0 listed ++ (lines_after (messages_in listed) (last_listed end) ++ counted_end_line (messages_in listed) (refused_in listed + refused_in (last_listed end)))
+  both-lines : both_lines ≡ lines_after form profile 0 listed ++ (lines_after form profile (messages_in listed) last ++ counted_end_line form (messages_in listed) (refused_in listed + refused_in last))
   both-lines =
-      let m : messages_in both ≡ messages_in listed = omega (arith, messages_in-append listed (last_listed end), last_messages end) in
+      let m : messages_in both ≡ messages_in listed = omega (arith, messages_in-append listed last, last_messages end octets) in
       let z : 0 + messages_in listed ≡ messages_in listed = omega arith in
-      ap₂ (λ n k. lines_after 0 both ++ counted_end_line n k) m (refused_in-append listed (last_listed end))
-      ∙ ap (λ l. l ++ counted_end_line (messages_in listed) (refused_in listed + refused_in (last_listed end))) (lines_after-append 0 listed (last_listed end) ∙ ap (λ n. lines_after 0 listed ++ lines_after n (last_listed end)) z)
-      ∙ append_assoc (lines_after 0 listed) (lines_after (messages_in listed) (last_listed end)) (counted_end_line (messages_in listed) (refused_in listed + refused_in (last_listed end)))
+      ap₂ (λ n k. lines_after form profile 0 both ++ counted_end_line form n k) m (refused_in-append listed last)
+      ∙ ap (λ l. l ++ counted_end_line form (messages_in listed) (refused_in listed + refused_in last)) (lines_after-append form profile 0 listed last ∙ ap (λ n. lines_after form profile 0 listed ++ lines_after form profile n last) z)
+      ∙ append_assoc (lines_after form profile 0 listed) (lines_after form profile (messages_in listed) last) (counted_end_line form (messages_in listed) (refused_in listed + refused_in last))
 
 -- the frames of octets by what a lister was asked for
 abbrev entries_of : CountingLister → List ℕ → List Entry
@@ -113,26 +113,37 @@ waiting_end contents (Within present) e = tt
 waiting_end [] (Refused place reason) e = absurd cc
 waiting_end (first ∷ others) (Refused place reason) e = absurd cc
 
-waiting_known : (before : List Entry) → (EndsUnknown before → ⊥) → (end : End) → IsNotRefused end → EndsUnknown (before ++ last_entry end) → ⊥
-waiting_known before known Boundary e u = known (subst EndsUnknown (append-nil before) u)
-waiting_known before known (Within present) e u = known_last before (Fault present Truncated) cut u
+-- then the frame at the end is cut, if there is one
+waiting_last : (end : End) (octets : List ℕ) → IsNotRefused end → last_entry end octets ≡ map entry_of (last_listed end octets)
+waiting_last Boundary octets e = refl
+waiting_last (Within present) octets e = refl
+waiting_last (Refused place reason) octets e = absurd e
+
+waiting_known : (before : List Entry) → (EndsUnknown before → ⊥) → (end : End) (octets : List ℕ) → IsNotRefused end → EndsUnknown (before ++ map entry_of (last_listed end octets)) → ⊥
+waiting_known before known Boundary octets e u = known (subst EndsUnknown (append-nil before) u)
+waiting_known before known (Within present) octets e u = known_last before (Fault present Truncated octets) cut u
   where
-    cut : Fault present Truncated ≡ Fault 3 HighBit → ⊥
-    cut e = cc
-waiting_known before known (Refused place reason) e u = e
+    cut : (front : List ℕ) → Fault present Truncated octets ≡ Fault 3 HighBit front → ⊥
+    cut front e = cc
+waiting_known before known (Refused place reason) octets e u = e
 
 module _ (lister : CountingLister) (taken : Taken) (w : WaitsAfter counting lister taken) where
-  entries_read : entries_of lister taken.octets ≡ map entry_of w.listed.listed ++ last_entry (end_of lister)
-  entries_read = entries-waiting (messages lister.decoder.current.profile) lister.decoder taken.octets (map entry_of w.listed.listed) w.listed.goes_on w.waits
+  not_refused : IsNotRefused (end_of lister)
+  not_refused = waiting_end (found (messages lister.decoder.current.profile) lister.decoder.current).contents (end_of lister) w.waits
+
+  entries_read : entries_of lister taken.octets ≡ map entry_of w.listed.listed ++ map entry_of (last_of lister)
+  entries_read =
+      entries-waiting (messages lister.decoder.current.profile) lister.decoder taken.octets (map entry_of w.listed.listed) w.listed.goes_on w.waits
+      ∙ ap (λ l. map entry_of w.listed.listed ++ l) (waiting_last (end_of lister) lister.decoder.current.octets not_refused)
 
   -- so far the length of each frame is known
   known : EndsUnknown (entries_of lister taken.octets) → ⊥
-  known = subst (λ l. EndsUnknown l → ⊥) (sym entries_read) (waiting_known (map entry_of w.listed.listed) w.listed.known (end_of lister) (waiting_end (found (messages lister.decoder.current.profile) lister.decoder.current).contents (end_of lister) w.waits))
+  known = subst (λ l. EndsUnknown l → ⊥) (sym entries_read) (waiting_known (map entry_of w.listed.listed) w.listed.known (end_of lister) lister.decoder.current.octets not_refused)
 
   -- the lines so far begin the listing
   pub Begins-waits : Begins (counting_rules (counting.request lister)) taken (string_bytes lister.text)
   Begins-waits =
-      let last : List ℕ = lines_after (messages_in w.listed.listed) (last_listed (end_of lister)) ++ counted_end_line (messages_in w.listed.listed) (refused_in w.listed.listed + refused_in (last_listed (end_of lister))) in
+      let last : List ℕ = lines_after lister.form lister.decoder.current.profile (messages_in w.listed.listed) (last_of lister) ++ counted_end_line lister.form (messages_in w.listed.listed) (refused_in w.listed.listed + refused_in (last_of lister)) in
       record {
         lines = λ more. record {
           found = w.listed.listed;
@@ -142,18 +153,18 @@ module _ (lister : CountingLister) (taken : Taken) (w : WaitsAfter counting list
         };
         rest = last;
         listing =
-            counted-listing lister.decoder.current.profile lister.decoder.current.limit taken.octets w.listed.listed (end_of lister) entries_read ((taken.written ++ string_bytes lister.text) ++ last)
-            (ap (λ l. l ++ last) w.listed.lines ∙ sym (both-lines lister.decoder.current.profile lister.decoder.current.limit taken.octets w.listed.listed (end_of lister) entries_read));
+            counted-listing lister.form lister.decoder.current.profile lister.decoder.current.limit taken.octets w.listed.listed (end_of lister) lister.decoder.current.octets entries_read ((taken.written ++ string_bytes lister.text) ++ last)
+            (ap (λ l. l ++ last) w.listed.lines ∙ sym (both-lines lister.form lister.decoder.current.profile lister.decoder.current.limit taken.octets w.listed.listed (end_of lister) lister.decoder.current.octets entries_read));
       }
 
 -- ---- the end
 -- No piece follows: the octets have ended, or there is a frame whose length is not known. Then the end is the last frame, if it is one.
 record IsDone (lister : CountingLister) (taken : Taken) (left : Option (List ℕ)) : Type 0 where
   listed : List Listed
-  lines : taken.written ++ string_bytes lister.text ≡ lines_after 0 listed
+  lines : taken.written ++ string_bytes lister.text ≡ lines_after lister.form lister.decoder.current.profile 0 listed
   counted : lister.messages ≡ messages_in listed
   refused : lister.refused ≡ refused_in listed
-  all : entries_of lister taken.octets ≡ map entry_of listed ++ last_entry (end_of lister)
+  all : entries_of lister taken.octets ≡ map entry_of listed ++ map entry_of (last_of lister)
   few : lister.refused ≤ 65536 * taken.pieces
   ended : IsAtEnd left ⊎ (end_of lister ≡ Refused 3 HighBit)
   stops : StopsInPiece lister.decoder.current.profile lister.decoder.current.limit taken.octets
@@ -190,7 +201,7 @@ refused_few lister m = by m.last
 
 all_is_read : (lister : CountingLister) (taken : Taken) (left : Option (List ℕ)) (d : IsDone lister taken left) → IsAtEnd left ⊎ (end_of lister ≡ Refused 3 HighBit) → IsAtEnd left ⊎ EndsUnknown (entries_of lister taken.octets)
 all_is_read lister taken left d (inl e) = inl e
-all_is_read lister taken left d (inr e) = inr (map entry_of d.listed, d.all ∙ ap (λ x. map entry_of d.listed ++ last_entry x) e)
+all_is_read lister taken left d (inr e) = inr (record { before = map entry_of d.listed; length_octets = lister.decoder.current.octets; parts = d.all ∙ ap (λ x. map entry_of d.listed ++ map entry_of (last_listed x lister.decoder.current.octets)) e })
 
 -- the lines of the end were added
 pub EndsListing-made : (lister new : CountingLister) (ended : RunEnd) → CountsEnd lister new ended → (taken : Taken) (left : Option (List ℕ)) → IsLastOf counting lister taken left → EndsListing (counting_rules (counting.request lister)) taken.octets (taken.written ++ string_bytes new.text) left ended
@@ -199,27 +210,28 @@ EndsListing-made lister new ended f taken left last =
     let d : IsDone lister taken left = done lister taken left last in
     record {
       listing =
-          counted-listing lister.decoder.current.profile lister.decoder.current.limit taken.octets d.listed (end_of lister) d.all (taken.written ++ string_bytes new.text)
+          counted-listing lister.form lister.decoder.current.profile lister.decoder.current.limit taken.octets d.listed (end_of lister) lister.decoder.current.octets d.all (taken.written ++ string_bytes new.text)
           (ap (λ l. taken.written ++ l) f.lines
           ∙ sym (append_assoc taken.written (string_bytes lister.text) _)
-          ∙ ap (λ l. l ++ (lines_after lister.messages (last_listed (end_of lister)) ++ counted_end_line lister.messages (lister.refused + refused_in (last_listed (end_of lister))))) d.lines
-          ∙ ap₂ (λ n k. lines_after 0 d.listed ++ (lines_after n (last_listed (end_of lister)) ++ counted_end_line n (k + refused_in (last_listed (end_of lister))))) d.counted d.refused
-          ∙ sym (both-lines lister.decoder.current.profile lister.decoder.current.limit taken.octets d.listed (end_of lister) d.all));
+          ∙ ap (λ l. l ++ (lines_after lister.form lister.decoder.current.profile lister.messages (last_of lister) ++ counted_end_line lister.form lister.messages (lister.refused + refused_in (last_of lister)))) d.lines
+          ∙ ap₂ (λ n k. lines_after lister.form lister.decoder.current.profile 0 d.listed ++ (lines_after lister.form lister.decoder.current.profile n (last_of lister) ++ counted_end_line lister.form n (k + refused_in (last_of lister)))) d.counted d.refused
+          ∙ sym (both-lines lister.form lister.decoder.current.profile lister.decoder.current.limit taken.octets d.listed (end_of lister) lister.decoder.current.octets d.all));
       ends = record {
-        ended_so = f.ended_so ∙ ap counted_run_end (ap (λ k. k + refused_in (last_listed (end_of lister))) d.refused ∙ sym (refused_in-append d.listed (last_listed (end_of lister))));
+        ended_so = f.ended_so ∙ ap counted_run_end (ap (λ k. k + refused_in (last_of lister)) d.refused ∙ sym (refused_in-append d.listed (last_of lister)));
         all_read = all_is_read lister taken left d d.ended;
         stops = d.stops;
       };
     }
 
 -- ---- the length of a frame in a piece is not known
-pub stops-unknown : (old new : CountingLister) (piece : List ℕ) (taken : Taken) → length piece ≤ 65536 → WaitsAfter counting old taken → TakesPiece counting old piece new false → IsUnknownAfter new (with_piece taken piece) × AreCountedLines new.decoder.current.profile new.decoder.current.limit (taken.octets ++ piece) (taken.written ++ string_bytes new.text)
+pub stops-unknown : (old new : CountingLister) (piece : List ℕ) (taken : Taken) → length piece ≤ 65536 → WaitsAfter counting old taken → TakesPiece counting old piece new false → IsUnknownAfter new (with_piece taken piece) × AreCountedLines new.form new.decoder.current.profile new.decoder.current.limit (taken.octets ++ piece) (taken.written ++ string_bytes new.text)
 stops-unknown old new piece taken short w f =
     let used : List ℕ = take f.used piece in
     let h : HasCounted new (taken.octets ++ used) taken.written = f.listed taken.octets taken.written w.listed in
     let l = entries-last (messages new.decoder.current.profile) new.decoder (taken.octets ++ used) (map entry_of h.listed) f.goes.0 h.goes_on f.goes.1 f.goes.2 in
     let parts : (taken.octets ++ used) ++ drop f.used piece ≡ taken.octets ++ piece = append_assoc taken.octets used (drop f.used piece) ∙ ap (λ l. taken.octets ++ l) (take-append-drop f.used piece) in
-    let all : entries_of new (taken.octets ++ piece) ≡ map entry_of h.listed ++ last_entry (end_of new) = ap (entries_of new) (sym parts) ∙ l.last (drop f.used piece) in (
+    let last : Fault 3 HighBit new.decoder.current.octets ∷ [] ≡ map entry_of (last_of new) = ap (λ e. map entry_of (last_listed e new.decoder.current.octets)) (sym l.end) in
+    let all : entries_of new (taken.octets ++ piece) ≡ map entry_of h.listed ++ map entry_of (last_of new) = ap (entries_of new) (sym parts) ∙ l.last (drop f.used piece) ∙ ap (λ e. map entry_of h.listed ++ e) last in (
       record {
         listed = h.listed;
         lines = h.lines;
@@ -230,11 +242,11 @@ stops-unknown old new piece taken short w f =
         few = omega (arith, w.few, f.few);
         stops = record { front = taken.octets; piece = piece; parts = refl; goes_on = subst (λ q. EndsUnknown (entries (messages q.profile) q.limit taken.octets) → ⊥) (sym f.same) (known old taken w); short = short };
       },
-      record { found = h.listed; others = last_entry (end_of new); in_frames = all; lines = h.lines },
+      record { found = h.listed; others = map entry_of (last_of new); in_frames = all; lines = h.lines },
     )
 
 -- ---- what a run did
-pub ListsAll-listed : (request : Request) (had left held holds : Option (List ℕ)) (ended : RunEnd) → ListsBy (counting_rules request) had left held holds ended → ListsAll request.profile request.limit had left held holds ended
+pub ListsAll-listed : (request : Request) (had left held holds : Option (List ℕ)) (ended : RunEnd) → ListsBy (counting_rules request) had left held holds ended → ListsAll request.form request.profile request.limit had left held holds ended
 ListsAll-listed request had left held holds ended l = record {
   read = l.read;
   written = l.written;

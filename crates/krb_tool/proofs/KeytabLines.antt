@@ -1,5 +1,5 @@
 -- The lines of a keytab, one record after another.
-use Rattle.std.proofs.Common.{ℕ, suc, ◌++◌, List, length, Option, Some, None, Result, Ok, Err, IfOk, refl, ap, ap₂}
+use Rattle.std.proofs.Common.{ℕ, suc, List, length, Option, Some, None, Result, Ok, Err, IfOk, refl, ap, ap₂}
 use Rattle.krb_file.specs.FieldReaders.{Held}
 use Rattle.krb_file.specs.declared.fault.FileFault.{FileFault}
 use Rattle.krb_file.specs.declared.fault.FileFault.TheVariants as faults
@@ -10,8 +10,8 @@ use Rattle.krb_keytab.specs.declared.reading.Next.TheVariants as nexts
 use Rattle.krb_keytab.specs.declared.records.State.{State}
 use Rattle.krb_keytab.specs.Reading.{Items, items}
 use Rattle.krb_keytab.specs.Streaming.{Reads, GivesNext}
-use Rattle.krb_list.specs.Text.{line_feed}
-use Rattle.krb_tool.specs.Lines.{record_text, keytab_end_text}
+use Rattle.krb_list.specs.declared.form.Form.{Form}
+use Rattle.krb_tool.specs.Lines.{record_line, keytab_end_line}
 use Rattle.krb_tool.specs.declared.run.RunEnd.{RunEnd}
 use Rattle.krb_tool.specs.declared.run.RunEnd.TheVariants as run
 use Rattle.krb_tool.specs.declared.run.RunFault.{RunFault}
@@ -23,37 +23,37 @@ use Rattle.krb_tool.proofs.Records.{item_added, last_added}
 abbrev pub Promises : Held → State → Result Next FileFault → Held → State → Type 0
 Promises old from given new to = (file : List ℕ) (limit : ℕ) (count : ℕ) → Reads (Some limit) old from file count → GivesNext (Some limit) file count given new to
 
-module _ (old new : Held) (from to : State) (count : ℕ) (left : RecordListing) (before after : List ℕ) (is_left : AreRecordsLeft old from count left) where
+module _ (form : Form) (old new : Held) (from to : State) (count : ℕ) (left : RecordListing) (before after : List ℕ) (is_left : AreRecordsLeft form old from count left) where
   abbrev found : Items
   found = items field_limit is_left.file
 
   abbrev IsLeft : RecordListing → Type 0
-  IsLeft = AreRecordsLeft new to (suc count)
+  IsLeft = AreRecordsLeft form new to (suc count)
 
-  pub record_added : (item : Record) (r : Result (Option RunEnd) RunFault) → Promises old from (Ok (nexts.Item item)) new to → IfOk r (Adds (record_text item ++ line_feed) None before after) → AddsLine (AreRecordsLeft new to (suc count)) left before after r
+  pub record_added : (item : Record) (r : Result (Option RunEnd) RunFault) → Promises old from (Ok (nexts.Item item)) new to → IfOk r (Adds (record_line form item) None before after) → AddsLine (AreRecordsLeft form new to (suc count)) left before after r
   record_added item (Err e) promises adds = tt
   record_added item (Ok ended) promises adds =
       let given = promises is_left.file 16777216 count is_left.reads in
-      item_added (λ (r : Record). record_text r ++ line_feed) found.records count (keytab_last (length found.records) found.end) (end_of found.end) IsLeft left is_left.is before after ended
+      item_added (record_line form) found.records count (keytab_last form (length found.records) found.end) (end_of found.end) IsLeft left is_left.is before after ended
       given.0.front given.0.back item given.0.counted given.0.parts (record { file = is_left.file; reads = given.1; is = refl }) adds
 
-  pub stop_added : (stop : Stop) (r : Result (Option RunEnd) RunFault) → Promises old from (Ok (nexts.Done stop)) new to → IfOk r (Adds (keytab_end_text count stop ++ line_feed) (Some run.Clean) before after) → AddsLine (AreRecordsLeft new to (suc count)) left before after r
+  pub stop_added : (stop : Stop) (r : Result (Option RunEnd) RunFault) → Promises old from (Ok (nexts.Done stop)) new to → IfOk r (Adds (keytab_end_line form count stop) (Some run.Clean) before after) → AddsLine (AreRecordsLeft form new to (suc count)) left before after r
   stop_added stop (Err e) promises adds = tt
   stop_added stop (Ok ended) promises adds =
       let given = promises is_left.file 16777216 count is_left.reads in
-      last_added (λ (r : Record). record_text r ++ line_feed) found.records count (keytab_last (length found.records) found.end) (end_of found.end) IsLeft left is_left.is before after ended
-      (keytab_end_text count stop ++ line_feed) run.Clean given.counted (ap₂ keytab_last given.counted given.is) (ap end_of given.is) adds
+      last_added (record_line form) found.records count (keytab_last form (length found.records) found.end) (end_of found.end) IsLeft left is_left.is before after ended
+      (keytab_end_line form count stop) run.Clean given.counted (ap₂ (keytab_last form) given.counted given.is) (ap end_of given.is) adds
 
-  pub refusal_added : (e : FileFault) (r : Result (Option RunEnd) RunFault) → Promises old from (Err e) new to → IfOk r (AddsRefusal e before after) → AddsLine (AreRecordsLeft new to (suc count)) left before after r
+  pub refusal_added : (e : FileFault) (r : Result (Option RunEnd) RunFault) → Promises old from (Err e) new to → IfOk r (AddsRefusal form e before after) → AddsLine (AreRecordsLeft form new to (suc count)) left before after r
   refusal_added e (Err f) promises adds = tt
   refusal_added faults.Read (Ok ended) promises adds = absurd adds
   refusal_added faults.Memory (Ok ended) promises adds = absurd adds
   refusal_added (faults.Refused place why) (Ok ended) promises adds =
       let given = promises is_left.file 16777216 count is_left.reads in
-      last_added (λ (r : Record). record_text r ++ line_feed) found.records count (keytab_last (length found.records) found.end) (end_of found.end) IsLeft left is_left.is before after ended
-      _ run.Refused given.counted (ap₂ keytab_last given.counted given.is) (ap end_of given.is) adds
+      last_added (record_line form) found.records count (keytab_last form (length found.records) found.end) (end_of found.end) IsLeft left is_left.is before after ended
+      _ run.Refused given.counted (ap₂ (keytab_last form) given.counted given.is) (ap end_of given.is) adds
 
 -- before the first record
-pub all_left : (file : List ℕ) (held : Held) (state : State) → Reads field_limit held state file 0 → AreRecordsLeft held state 0 (keytab_listing file)
+pub all_left : (form : Form) (file : List ℕ) (held : Held) (state : State) → Reads field_limit held state file 0 → AreRecordsLeft form held state 0 (keytab_listing form file)
 unfolding keytab_listing
-all_left file held state reads = record { file = file; reads = reads; is = refl }
+all_left form file held state reads = record { file = file; reads = reads; is = refl }

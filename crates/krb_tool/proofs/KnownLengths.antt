@@ -27,18 +27,18 @@ same_last (a ∷ c ∷ xs) [] x y e = absurd cc
 same_last (a ∷ xs) (b ∷ ys) x y e = same_last xs ys x y cc
 
 pub none_unknown : EndsUnknown [] → ⊥
-none_unknown u = no u.0 u.1
+none_unknown u = no u.before u.length_octets u.parts
   where
-    no : (before : List Entry) → [] ≡ before ++ Fault 3 HighBit ∷ [] → ⊥
-    no [] e = cc
-    no (first ∷ others) e = cc
+    no : (before : List Entry) (front : List ℕ) → [] ≡ before ++ Fault 3 HighBit front ∷ [] → ⊥
+    no [] front e = cc
+    no (first ∷ others) front e = cc
 
 -- a list whose last frame has a known length
-pub known_last : (before : List Entry) (x : Entry) → (x ≡ Fault 3 HighBit → ⊥) → EndsUnknown (before ++ x ∷ []) → ⊥
-known_last before x differs u = differs (same_last before u.0 x (Fault 3 HighBit) u.1)
+pub known_last : (before : List Entry) (x : Entry) → ((front : List ℕ) → x ≡ Fault 3 HighBit front → ⊥) → EndsUnknown (before ++ x ∷ []) → ⊥
+known_last before x differs u = differs u.length_octets (same_last before u.before x (Fault 3 HighBit u.length_octets) u.parts)
 
-pub whole_known : (contents : List ℕ) → Contents contents ≡ Fault 3 HighBit → ⊥
-whole_known contents e = cc
+pub whole_known : (contents front : List ℕ) → Contents contents ≡ Fault 3 HighBit front → ⊥
+whole_known contents front e = cc
 
 -- contents are refused after the octets of the length
 contents_known : (outcome : Outcome) (present : List ℕ) (rest : Frames) → frame_and outcome present rest ≡ ends (Refused 3 HighBit) → ⊥
@@ -83,9 +83,9 @@ not_cut (suc size) e = differs (ap (λ f. f.end) e)
     differs e = cc
 
 -- a refused frame of which a known number of octets is to come
-pub refused_known : (grammar : List Term) (d : Decoding) (refusal : Refusal) (count : ℕ) → status_of grammar d ≡ status.Refused refusal → rest_to_come grammar d ≡ Some count → Fault refusal.place refusal.why ≡ Fault 3 HighBit → ⊥
+pub refused_known : (grammar : List Term) (d : Decoding) (refusal : Refusal) (count : ℕ) → status_of grammar d ≡ status.Refused refusal → rest_to_come grammar d ≡ Some count → (front : List ℕ) → Fault refusal.place refusal.why d.octets ≡ Fault 3 HighBit front → ⊥
 unfolding found
-refused_known grammar d refusal count st rest e = not_high grammar d.limit d.octets four short high
+refused_known grammar d refusal count st rest front e = not_high grammar d.limit d.octets four short high
   where
     n : ℕ
     n = number (take 4 d.octets)

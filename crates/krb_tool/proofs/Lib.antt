@@ -13,3 +13,4 @@ pub mod KnownLengths
 pub mod CountedListings
 pub mod CountedPieces
 pub mod SourceRuns
+mod FaultPaths

@@ -1,16 +1,20 @@
 -- A stream that is listed piece by piece, up to its end or the first refusal.
-use Rattle.std.proofs.Common.{◌≡◌, ℕ, ◌≤◌, inl, inr, false, List, [], ◌∷◌, ◌++◌, length, map, take, drop, Option, string_bytes, refl, sym, ◌∙◌, ap, subst, arith, append-nil, append_assoc, take-append-drop}
+use Rattle.std.proofs.Common.{◌≡◌, ℕ, ◌≤◌, inl, inr, false, List, [], ◌∷◌, ◌++◌, length, map, take, drop, Option, string_bytes, refl, sym, ◌∙◌, ap, subst, arith, append-nil, append_assoc, take-append-drop, drop_at, ap₂, ◌+◌}
+use Rattle.std.proofs.lemmas.List.{take_at}
 use Rattle.std.specs.List.{flat_map}
 use Rattle.std.specs.Io.KnownBytes.{IsAtEnd}
 use Rattle.krb_msg.specs.Grammar.{messages}
 use Rattle.krb_msg.specs.Stream.{End, Boundary, Within, Refused, Frames, frames}
 use Rattle.krb_msg.specs.Views.{message_der}
-use Rattle.krb_frame.specs.Decoding.{found, status_at}
-use Rattle.krb_frame.specs.Stands.{after_frames}
+use Rattle.krb_der.specs.declared.profile.Profile.{Profile}
+use Rattle.krb_frame.specs.Decoding.{AreOfOne, found, status_at}
+use Rattle.krb_frame.specs.GoingOn.{after_contents}
+use Rattle.krb_frame.specs.Stands.{after_frames, frames_size}
 use Rattle.krb_frame.specs.declared.decoder.Status.TheVariants as status
 use Rattle.krb_frame.proofs.Ends.{none_found, refused_end, found_of, refusal_ends}
 use Rattle.krb_tool.specs.Lines.{message_line}
 use Rattle.krb_tool.specs.Lines.{end_line}
+use Rattle.krb_tool.specs.Paths.{frame_path, last_octets, end_path}
 use Rattle.krb_tool.specs.Listing.{end_of, run_end, AllIsRead, IsNotRefused, StopsInPiece, Lists, AreLines}
 use Rattle.krb_tool.specs.inner.Streams.{Request, Taken, with_piece, Begins, EndsListing, ListsBy}
 use Rattle.krb_tool.specs.inner.Pieces.{TakesPiece, WaitsAfter, IsLastOf}
@@ -55,7 +59,7 @@ module _ (lister : Lister) (taken : Taken) (w : WaitsAfter stopping lister taken
   -- the lines so far begin the listing
   pub Begins-waits : Begins (stopping_rules (stopping.request lister)) taken (string_bytes lister.text)
   Begins-waits =
-      let last : List ℕ = end_line (length w.listed.messages) (frames_of lister taken.octets).end in
+      let last : List ℕ = end_line lister.form (length w.listed.messages) (frames_of lister taken.octets).end (end_path lister.decoder.profile lister.decoder.limit taken.octets) in
       record {
         lines = λ more. record {
           found = w.listed.messages;
@@ -71,6 +75,30 @@ module _ (lister : Lister) (taken : Taken) (w : WaitsAfter stopping lister taken
         };
       }
 
+-- ---- the field at fault
+-- the octets of the last frame are those that its decoder holds, of which octets that were not used may come after
+last-octets : (octets more : List ℕ) (end : End) → AreOfOne octets [] end → (IsNotRefused end → more ≡ []) → last_octets end (octets ++ more) ≡ octets
+last-octets octets more Boundary one none = sym one
+last-octets octets more (Within present) one none = ap (λ l. octets ++ l) (none tt) ∙ append-nil octets
+last-octets octets more (Refused place reason) one none = take_at octets more (place + 1) one
+
+-- after the frames that were cleared come the octets that a decoder holds, and then those that were not used
+path-is : (lister : Lister) (stream written more : List ℕ) (h : HasListed lister stream written) → frames_of lister (stream ++ more) ≡ frames_of lister stream → (current_of lister).contents ≡ [] → (IsNotRefused (current_of lister).end → more ≡ []) → end_path lister.decoder.profile lister.decoder.limit (stream ++ more) ≡ frame_path lister.decoder.profile lister.decoder.octets
+path-is lister stream written more h same none rest =
+    let profile : Profile = lister.decoder.profile in
+    let octets : List ℕ = lister.decoder.octets in
+    let cleared : List (List ℕ) = map message_der h.messages in
+    let before : List ℕ = h.stands.last.before in
+    let read : frames_of lister (stream ++ more) ≡ after_frames cleared (current_of lister) = same ∙ frames-listed lister stream written h in
+    let contents : (frames_of lister (stream ++ more)).contents ≡ cleared = ap (λ f. f.contents) read ∙ ap (λ c. cleared ++ c) none ∙ append-nil cleared in
+    let after : after_contents (frames_of lister (stream ++ more)) (stream ++ more) ≡ octets ++ more =
+    ap (λ c. drop (frames_size c) (stream ++ more)) contents
+    ∙ ap (λ s. drop (frames_size cleared) (s ++ more)) h.stands.last.parts
+    ∙ ap (drop (frames_size cleared)) (append_assoc before octets more)
+    ∙ drop_at before (octets ++ more) (frames_size cleared) h.stands.counted in
+    ap₂ (λ e l. frame_path profile (last_octets e l)) (ap (λ f. f.end) read) after
+    ∙ ap (frame_path profile) (last-octets octets more (current_of lister).end (subst (λ c. AreOfOne octets c (current_of lister).end) none h.stands.one) rest)
+
 -- ---- the end
 -- No piece follows. What was read has the frames of a stream that is listed, of which the lister has none.
 record IsDone (lister : Lister) (taken : Taken) (left : Option (List ℕ)) : Type 0 where
@@ -78,6 +106,7 @@ record IsDone (lister : Lister) (taken : Taken) (left : Option (List ℕ)) : Typ
   listed : HasListed lister stream taken.written
   same_frames : frames_of lister taken.octets ≡ frames_of lister stream
   none : (current_of lister).contents ≡ []
+  path : end_path lister.decoder.profile lister.decoder.limit taken.octets ≡ frame_path lister.decoder.profile lister.decoder.octets
   all_read : AllIsRead (current_of lister).end left
   stops : StopsInPiece lister.decoder.profile lister.decoder.limit taken.octets
 
@@ -92,6 +121,9 @@ done lister taken left (inl (w, a)) = record {
   listed = w.listed;
   same_frames = refl;
   none = none_ready lister taken w;
+  path =
+      ap (end_path lister.decoder.profile lister.decoder.limit) (sym (append-nil taken.octets))
+      ∙ path-is lister taken.octets taken.written [] w.listed (ap (frames_of lister) (append-nil taken.octets)) (none_ready lister taken w) (λ n. refl);
   all_read = all_is_read (current_of lister).end left (not_refused lister taken w) a;
   stops = record { front = taken.octets; piece = []; parts = sym (append-nil taken.octets); goes_on = goes_on lister taken w; short = omega arith };
 }
@@ -100,6 +132,9 @@ done lister taken left (inr r) = record {
   listed = r.listed;
   same_frames = r.same_frames;
   none = r.none;
+  path =
+      ap (end_path lister.decoder.profile lister.decoder.limit) r.parts
+      ∙ path-is lister r.stream taken.written r.rest r.listed (ap (frames_of lister) (sym r.parts) ∙ r.same_frames) r.none (λ n. absurd (subst IsNotRefused r.end n));
   all_read = subst (λ x. AllIsRead x left) (sym r.end) tt;
   stops = r.stops;
 }
@@ -109,6 +144,7 @@ pub EndsListing-made : (lister new : Lister) (ended : RunEnd) → AddsEnd lister
 EndsListing-made lister new ended f taken left last =
     let d : IsDone lister taken left = done lister taken left last in
     let read : frames_of lister taken.octets ≡ after_frames (map message_der d.listed.messages) (current_of lister) = d.same_frames ∙ frames-listed lister d.stream taken.written d.listed in
+    let path : Option (List ℕ) = frame_path lister.decoder.profile lister.decoder.octets in
     let end_is : (frames_of lister taken.octets).end ≡ (current_of lister).end = ap (λ f. f.end) read in
     record {
       listing = record {
@@ -116,10 +152,10 @@ EndsListing-made lister new ended f taken left last =
         in_frames = sym (ap (λ f. f.contents) read ∙ ap (λ c. map message_der d.listed.messages ++ c) d.none ∙ append-nil (map message_der d.listed.messages));
         lines =
             ap (λ l. taken.written ++ l) f.line
-            ∙ sym (append_assoc taken.written (string_bytes lister.text) (end_line lister.messages (current_of lister).end))
-            ∙ ap (λ l. l ++ end_line lister.messages (current_of lister).end) d.listed.lines
-            ∙ ap (λ n. flat_map message_line d.listed.messages ++ end_line n (current_of lister).end) d.listed.counted
-            ∙ ap (λ e. flat_map message_line d.listed.messages ++ end_line (length d.listed.messages) e) (sym end_is);
+            ∙ sym (append_assoc taken.written (string_bytes lister.text) (end_line lister.form lister.messages (current_of lister).end path))
+            ∙ ap (λ l. l ++ end_line lister.form lister.messages (current_of lister).end path) d.listed.lines
+            ∙ ap (λ n. flat_map (message_line lister.form) d.listed.messages ++ end_line lister.form n (current_of lister).end path) d.listed.counted
+            ∙ ap₂ (λ e p. flat_map (message_line lister.form) d.listed.messages ++ end_line lister.form (length d.listed.messages) e p) (sym end_is) (sym d.path);
       };
       ends = record {
         ended_so = f.ended_so ∙ ap run_end (sym end_is);
@@ -129,7 +165,7 @@ EndsListing-made lister new ended f taken left last =
     }
 
 -- ---- an octet of a piece is refused
-pub stops-refused : (old new : Lister) (piece : List ℕ) (taken : Taken) → length piece ≤ 65536 → WaitsAfter stopping old taken → TakesPiece stopping old piece new false → IsRefusedAfter new (with_piece taken piece) × AreLines new.decoder.profile new.decoder.limit (taken.octets ++ piece) (taken.written ++ string_bytes new.text)
+pub stops-refused : (old new : Lister) (piece : List ℕ) (taken : Taken) → length piece ≤ 65536 → WaitsAfter stopping old taken → TakesPiece stopping old piece new false → IsRefusedAfter new (with_piece taken piece) × AreLines new.form new.decoder.profile new.decoder.limit (taken.octets ++ piece) (taken.written ++ string_bytes new.text)
 stops-refused old new piece taken short w f =
     let stream : List ℕ = taken.octets ++ take f.used piece in
     let h : HasListed new (taken.octets ++ take f.used piece) taken.written = f.listed taken.octets taken.written w.listed in
@@ -141,6 +177,8 @@ stops-refused old new piece taken short w f =
       record {
         stream = taken.octets ++ take f.used piece;
         listed = h;
+        rest = drop f.used piece;
+        parts = sym parts;
         same_frames = same;
         none = r.0;
         refusal = f.goes.0;
@@ -151,7 +189,7 @@ stops-refused old new piece taken short w f =
     )
 
 -- ---- what a run did
-pub Lists-listed : (request : Request) (had left held holds : Option (List ℕ)) (ended : RunEnd) → ListsBy (stopping_rules request) had left held holds ended → Lists request.profile request.limit had left held holds ended
+pub Lists-listed : (request : Request) (had left held holds : Option (List ℕ)) (ended : RunEnd) → ListsBy (stopping_rules request) had left held holds ended → Lists request.form request.profile request.limit had left held holds ended
 Lists-listed request had left held holds ended l = record {
   read = l.read;
   written = l.written;

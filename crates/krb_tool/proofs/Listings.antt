@@ -22,6 +22,7 @@ use Rattle.krb_frame.specs.declared.pass.Passed.{Passed}
 use Rattle.krb_frame.specs.declared.decoder.Status.{Status}
 use Rattle.krb_frame.specs.declared.decoder.Status.TheVariants as status
 use Rattle.krb_frame.proofs.Founds.{more-nothing, same-status}
+use Rattle.krb_list.specs.declared.form.Form.{Form}
 use Rattle.krb_tool.specs.Lines.{message_line}
 use Rattle.krb_tool.specs.inner.Pieces.{request_of, IsWaiting, IsFed, Goes, TakesPiece}
 use Rattle.krb_tool.specs.inner.Listers.{HasListed, ListsReady, AddsLine, stopping}
@@ -84,12 +85,13 @@ cleared_waits profile old new contents c e =
     ap (λ d. status_of (messages d.profile) d) (cleared_is profile old new contents c e) ∙ more-nothing (messages old.profile) old.profile old.limit old.looks new.room
 
 -- ---- a frame that is listed
-line_added : (old new : Lister) (message : Message) (listed : List Message) (written : List ℕ) → string_bytes new.text ≡ string_bytes old.text ++ message_line message → written ++ string_bytes old.text ≡ flat_map message_line listed → written ++ string_bytes new.text ≡ flat_map message_line (listed ++ message ∷ [])
-line_added old new message listed written line lines =
+line_added : (old new : Lister) (message : Message) (listed : List Message) (written : List ℕ) → string_bytes new.text ≡ string_bytes old.text ++ message_line old.form message → new.form ≡ old.form → written ++ string_bytes old.text ≡ flat_map (message_line old.form) listed → written ++ string_bytes new.text ≡ flat_map (message_line new.form) (listed ++ message ∷ [])
+line_added old new message listed written line same lines =
     ap (λ t. written ++ t) line
-    ∙ sym (append_assoc written (string_bytes old.text) (message_line message))
-    ∙ ap (λ t. t ++ message_line message) lines
-    ∙ sym (flat_map-append message_line listed (message ∷ []) ∙ ap (λ t. flat_map message_line listed ++ t) (append-nil (message_line message)))
+    ∙ sym (append_assoc written (string_bytes old.text) (message_line old.form message))
+    ∙ ap (λ t. t ++ message_line old.form message) lines
+    ∙ sym (flat_map-append (message_line old.form) listed (message ∷ []) ∙ ap (λ t. flat_map (message_line old.form) listed ++ t) (append-nil (message_line old.form message)))
+    ∙ ap (λ form. flat_map (message_line form) (listed ++ message ∷ [])) (sym same)
 
 HasListed-ready : (old new : Lister) → ListsReady old new → (stream written : List ℕ) → HasListed old stream written → HasListed new stream written
 HasListed-ready old new l stream written h =
@@ -102,25 +104,25 @@ HasListed-ready old new l stream written h =
           (subst (Stands (messages old.decoder.profile) new.decoder stream)
           (ap (λ o. map message_der h.messages ++ o ∷ []) (sym l.form) ∙ sym (map-append message_der h.messages (l.message ∷ [])))
           (l.cleared.stands stream l.contents (map message_der h.messages) h.stands l.is_ready));
-      lines = line_added old new l.message h.messages written l.line h.lines;
+      lines = line_added old new l.message h.messages written l.line l.same_form h.lines;
       counted = omega (arith, l.counted, h.counted, length-append h.messages (l.message ∷ []));
     }
 
-pub same_request : (old new : Decoding) → new.profile ≡ old.profile → new.limit ≡ old.limit → request_of new ≡ request_of old
-same_request old new p l = λ i. record { profile = p i; limit = l i }
+pub same_request : (form form' : Form) (old new : Decoding) → form' ≡ form → new.profile ≡ old.profile → new.limit ≡ old.limit → request_of form' new ≡ request_of form old
+same_request form form' old new f p l = λ i. record { form = f i; profile = p i; limit = l i }
 
 -- ---- the decoder used octets of a piece
-module _ (old new : Lister) (piece : List ℕ) (fed : Fed) (f : Uses (messages old.decoder.profile) old.decoder piece new.decoder fed) (t : new.text ≡ old.text) (n : new.messages ≡ old.messages) where
+module _ (old new : Lister) (piece : List ℕ) (fed : Fed) (f : Uses (messages old.decoder.profile) old.decoder piece new.decoder fed) (o : new.form ≡ old.form) (t : new.text ≡ old.text) (n : new.messages ≡ old.messages) where
   HasListed-used : (stream written : List ℕ) → HasListed old stream written → HasListed new (stream ++ take fed.used piece) written
   HasListed-used stream written h = record {
     messages = h.messages;
     stands = subst (λ p. Stands (messages p) new.decoder (stream ++ take fed.used piece) (map message_der h.messages)) (sym f.same_profile) (f.stands stream (map message_der h.messages) h.stands);
-    lines = ap (λ x. written ++ string_bytes x) t ∙ h.lines;
+    lines = ap (λ x. written ++ string_bytes x) t ∙ h.lines ∙ ap (λ form. flat_map (message_line form) h.messages) (sym o);
     counted = n ∙ h.counted;
   }
 
   same : stopping.request new ≡ stopping.request old
-  same = same_request old.decoder new.decoder f.same_profile f.same_limit
+  same = same_request old.form new.form old.decoder new.decoder o f.same_profile f.same_limit
 
   status_is : (answer : Status) → fed.status ≡ answer → (status.Memory ≡ answer → ⊥) → status_of (messages new.decoder.profile) new.decoder ≡ answer
   status_is answer e never = subst (λ p. status_of (messages p) new.decoder ≡ answer) (sym f.same_profile) (is_status old.decoder.profile old.decoder new.decoder piece fed answer f e never)
@@ -141,7 +143,7 @@ module _ (old new : Lister) (piece : List ℕ) (fed : Fed) (f : Uses (messages o
   IsFed-ready next w e l =
       let cleared = cleared_is new.decoder.profile new.decoder next.decoder l.contents l.cleared l.is_ready in
       IsFed-used stopping old next piece fed.used f.within
-      (same_request new.decoder next.decoder (ap (λ d. d.profile) cleared) (ap (λ d. d.limit) cleared) ∙ same)
+      (same_request new.form next.form new.decoder next.decoder l.same_form (ap (λ d. d.profile) cleared) (ap (λ d. d.limit) cleared) ∙ same)
       (cleared_waits new.decoder.profile new.decoder next.decoder l.contents l.cleared l.is_ready)
       (omega (arith, some_used old.decoder.profile old.decoder new.decoder piece fed f w e, n, l.counted))
       (λ stream written h. HasListed-ready new next l (stream ++ take fed.used piece) written (HasListed-used stream written h))
@@ -169,7 +171,7 @@ module _ (old new : Lister) (message : Message) (octets contents rest : List ℕ
               subst (λ d. Stands (messages d.profile) d (stream ++ framed contents) (map message_der all)) (sym l.same_decoder)
               (subst (Stands (messages old.decoder.profile) old.decoder (stream ++ framed contents)) (ap (λ o. map message_der h.messages ++ o ∷ []) form ∙ sym (map-append message_der h.messages (message ∷ [])))
               (stands stream (map message_der h.messages) h.stands));
-          lines = line_added old new message h.messages written l.line h.lines;
+          lines = line_added old new message h.messages written l.line l.same_form h.lines;
           counted = omega (arith, l.counted, h.counted, length-append h.messages (message ∷ []));
         }
 
@@ -179,7 +181,7 @@ module _ (old new : Lister) (message : Message) (octets contents rest : List ℕ
         let back : drop (length (framed contents)) octets ≡ rest = ap (drop (length (framed contents))) parts ∙ drop_at (framed contents) rest (length (framed contents)) refl in
         subst (λ r. IsFed stopping old octets r new) back
         (IsFed-used stopping old new octets (length (framed contents)) (omega (arith, some_octets))
-        (ap request_of l.same_decoder)
+        (λ i. request_of (l.same_form i) (l.same_decoder i))
         (ap (λ d. status_of (messages d.profile) d) l.same_decoder ∙ w)
         (omega (arith, l.counted))
         (λ stream written h. subst (λ f. HasListed new (stream ++ f) written) (sym front) (HasListed-frame stream written h)))

@@ -1,6 +1,7 @@
 -- Sources that are listed one after another.
 use Rattle.std.proofs.Common.{◌≡◌, ℕ, max, true, false, List, [], ◌∷◌, Option, Result, Ok, Err, IfErr, refl, sym, ◌∙◌, subst, arith}
 use Rattle.std.specs.Ordering.{ord_max, nat_cmp}
+use Rattle.krb_list.specs.declared.form.Form.{Form}
 use Rattle.krb_tool.specs.Lines.{file_line}
 use Rattle.krb_tool.specs.declared.run.RunFault.{RunFault}
 use Rattle.krb_tool.specs.declared.run.RunFault.TheVariants as fault
@@ -10,11 +11,11 @@ use Rattle.krb_tool.specs.Listing.{status_of}
 use Rattle.krb_tool.specs.Sources.{Outcome, Run, FailsName, ListsEach, ends_run}
 
 -- the line of a name was written in part
-pub FailsName-write : {T : Type 0} (r : Result T RunFault) (name : List ℕ) (held holds : Option (List ℕ)) → IfErr r IsWrite → AddsFront held holds (file_line name) → IfErr r (FailsName name held holds)
-FailsName-write (Ok x) name held holds is front = tt
-FailsName-write (Err (fault.Write e)) name held holds is front = front
-FailsName-write (Err (fault.Read e)) name held holds is front = absurd is
-FailsName-write (Err fault.Memory) name held holds is front = absurd is
+pub FailsName-write : {T : Type 0} (form : Form) (r : Result T RunFault) (name : List ℕ) (held holds : Option (List ℕ)) → IfErr r IsWrite → AddsFront held holds (file_line form name) → IfErr r (FailsName form name held holds)
+FailsName-write form (Ok x) name held holds is front = tt
+FailsName-write form (Err (fault.Write e)) name held holds is front = front
+FailsName-write form (Err (fault.Read e)) name held holds is front = absurd is
+FailsName-write form (Err fault.Memory) name held holds is front = absurd is
 
 -- the greater of two statuses, as `max` compares them
 greater-is : (a b : ℕ) → ord_max nat_cmp a b ≡ max a b

@@ -1,5 +1,5 @@
 -- The listing of a cache of version 3 is that of its upgrade.
-use Rattle.std.proofs.Common.{◌≡◌, ℕ, Option, Result, Ok, Err, List, ◌++◌, refl, sym, ◌∙◌, ap, ap₂}
+use Rattle.std.proofs.Common.{◌≡◌, ℕ, Option, Result, Ok, Err, List, refl, sym, ◌∙◌, ap, ap₂}
 use Rattle.krb_der.specs.Octets.{AreOctets}
 use Rattle.krb_file.specs.Fields.{Source, Fault}
 use Rattle.krb_ccache.specs.declared.reading.Start.{Start}
@@ -12,8 +12,8 @@ use Rattle.krb_ccache.specs.Laws.{UpgradeHoldsTheSame}
 use Rattle.krb_ccache.specs.Reading.{Items}
 use Rattle.krb_ccache.specs.Spelling.{ccache, CcacheSpells, Spells3, upgraded}
 use Rattle.krb_ccache.specs.Streaming.{begun, credentials, Holds}
-use Rattle.krb_tool.specs.Lines.{cache_text}
-use Rattle.krb_list.specs.Text.{line_feed}
+use Rattle.krb_list.specs.declared.form.Form.{Form}
+use Rattle.krb_tool.specs.Lines.{cache_line}
 use Rattle.krb_tool.specs.declared.run.RunEnd.TheVariants as run
 use Rattle.krb_tool.specs.Files.{RecordListing, field_limit, after_line, end_of, cache_listing, credentials_listing, ccache_listing}
 
@@ -22,27 +22,27 @@ ended : (e : Result ℕ Fault) → end_of e ≡ run.Clean → (size : ℕ) × (e
 ended (Ok size) clean = (size, refl)
 ended (Err f) clean = absurd cc
 
-clean-ends : (now : Option ℕ) (r : Result (Start × Source) Fault) (found : Items Credential) → (cache_listing now r found).end ≡ run.Clean → (size : ℕ) × (found.end ≡ Ok size)
-clean-ends now (Err f) found clean = absurd cc
-clean-ends now (Ok start) found clean = ended found.end clean
+clean-ends : (form : Form) (now : Option ℕ) (r : Result (Start × Source) Fault) (found : Items Credential) → (cache_listing form now r found).end ≡ run.Clean → (size : ℕ) × (found.end ≡ Ok size)
+clean-ends form now (Err f) found clean = absurd cc
+clean-ends form now (Ok start) found clean = ended found.end clean
 
-file-ends : (now : Option ℕ) (file : List ℕ) → (ccache_listing now file).end ≡ run.Clean → (size : ℕ) × ((credentials field_limit file).end ≡ Ok size)
+file-ends : (form : Form) (now : Option ℕ) (file : List ℕ) → (ccache_listing form now file).end ≡ run.Clean → (size : ℕ) × ((credentials field_limit file).end ≡ Ok size)
 unfolding ccache_listing
-file-ends now file clean = clean-ends now (begun field_limit file) (credentials field_limit file) clean
+file-ends form now file clean = clean-ends form now (begun field_limit file) (credentials field_limit file) clean
 
 -- what holds a cache is listed by the cache alone
-abbrev listed : Option ℕ → Ccache → RecordListing
-listed now cache = after_line (cache_text cache.header cache.principal ++ line_feed) (credentials_listing now (record { items = cache.credentials; end = Ok 0 }))
+abbrev listed : Form → Option ℕ → Ccache → RecordListing
+listed form now cache = after_line (cache_line form cache.header cache.principal) (credentials_listing form now (record { items = cache.credentials; end = Ok 0 }))
 
-holds-listed : (now : Option ℕ) (file : List ℕ) (cache : Ccache) → Holds field_limit file cache → ccache_listing now file ≡ listed now cache
+holds-listed : (form : Form) (now : Option ℕ) (file : List ℕ) (cache : Ccache) → Holds field_limit file cache → ccache_listing form now file ≡ listed form now cache
 unfolding ccache_listing
-holds-listed now file cache h =
-    ap (λ (r : Result (Start × Source) Fault). cache_listing now r (credentials field_limit file)) h.begins
-    ∙ ap (λ (found : Items Credential). cache_listing now (Ok (h.start, h.after)) found) h.all
-    ∙ ap₂ (λ (header : Header) (principal : FilePrincipal). after_line (cache_text header principal ++ line_feed) (credentials_listing now (record { items = cache.credentials; end = Ok 0 }))) h.header h.principal
+holds-listed form now file cache h =
+    ap (λ (r : Result (Start × Source) Fault). cache_listing form now r (credentials field_limit file)) h.begins
+    ∙ ap (λ (found : Items Credential). cache_listing form now (Ok (h.start, h.after)) found) h.all
+    ∙ ap₂ (λ (header : Header) (principal : FilePrincipal). after_line (cache_line form header principal) (credentials_listing form now (record { items = cache.credentials; end = Ok 0 }))) h.header h.principal
 
-pub listed-alike : UpgradeHoldsTheSame → (now : Option ℕ) (v : Cache3) (file other : List ℕ) → AreOctets file → Spells3 v file → CcacheSpells (upgraded v) other → (ccache_listing now file).end ≡ run.Clean → ccache_listing now other ≡ ccache_listing now file
-listed-alike same now v file other fits spelled written clean =
-    let e = file-ends now file clean in
+pub listed-alike : UpgradeHoldsTheSame → (form : Form) (now : Option ℕ) (v : Cache3) (file other : List ℕ) → AreOctets file → Spells3 v file → CcacheSpells (upgraded v) other → (ccache_listing form now file).end ≡ run.Clean → ccache_listing form now other ≡ ccache_listing form now file
+listed-alike same form now v file other fits spelled written clean =
+    let e = file-ends form now file clean in
     let h = same field_limit v file e.0 fits spelled e.1 in
-    ap (ccache_listing now) written.octets ∙ holds-listed now (ccache (upgraded v)) (upgraded v) h.1 ∙ sym (holds-listed now file (upgraded v) h.0)
+    ap (ccache_listing form now) written.octets ∙ holds-listed form now (ccache (upgraded v)) (upgraded v) h.1 ∙ sym (holds-listed form now file (upgraded v) h.0)

@@ -1,5 +1,5 @@
 -- The listings of files, and what a run on one does to its reader and its writer.
-use Rattle.std.specs.Prelude.{ℕ, ◌≡◌, List, [], ◌++◌, length, Option, Some, Result, Ok, Err}
+use Rattle.std.specs.Prelude.{ℕ, ◌≡◌, List, [], ◌++◌, length, Option, Some, None, Result, Ok, Err}
 use Rattle.std.specs.List.{flat_map}
 use Rattle.std.specs.Io.KnownBytes.{Consumes, Appends, Keeps, IsAtEnd}
 use Rattle.krb_file.specs.Fields.{Source, Fault}
@@ -9,9 +9,9 @@ use Rattle.krb_ccache.specs.declared.value.Credential.{Credential}
 use Rattle.krb_ccache.specs.declared.reading.Start.{Start}
 use Rattle.krb_ccache.specs.Reading.{Items}
 use Rattle.krb_ccache.specs.Streaming.{begun, credentials}
-use Rattle.krb_list.specs.Text.{line_feed}
-use Rattle.krb_tool.specs.Lines.{record_text, keytab_end_text}
-use Rattle.krb_tool.specs.Lines.{cache_text, credential_line, cache_end_text}
+use Rattle.krb_list.specs.declared.form.Form.{Form}
+use Rattle.krb_tool.specs.Lines.{record_line, keytab_end_line}
+use Rattle.krb_tool.specs.Lines.{cache_line, credential_line, cache_end_line}
 use Rattle.krb_tool.specs.Lines.{file_refused_line}
 use Rattle.krb_tool.specs.declared.run.RunEnd.{RunEnd}
 use Rattle.krb_tool.specs.declared.run.RunEnd.TheVariants as run
@@ -47,39 +47,39 @@ end_of (Ok end) = run.Clean
 end_of (Err fault) = run.Refused
 
 -- the one line of what is refused before any record
-abbrev pub refused_listing : Fault → RecordListing
-refused_listing refusal = record { lines = []; last = file_refused_line refusal.place refusal.why; end = run.Refused }
+abbrev pub refused_listing : Form → Fault → RecordListing
+refused_listing form refusal = record { lines = []; last = file_refused_line form refusal.place refusal.why None; end = run.Refused }
 
 -- how many octets a field of a file may have
 abbrev pub field_limit : Option ℕ
 field_limit = Some 16777216
 
-abbrev pub keytab_last : ℕ → Result (Stop × ℕ) Fault → List ℕ
-keytab_last count (Ok end) = keytab_end_text count end.0 ++ line_feed
-keytab_last count (Err fault) = file_refused_line fault.place fault.why
+abbrev pub keytab_last : Form → ℕ → Result (Stop × ℕ) Fault → List ℕ
+keytab_last form count (Ok end) = keytab_end_line form count end.0
+keytab_last form count (Err fault) = file_refused_line form fault.place fault.why None
 
 -- the lines of records, and the line of the end or of a refusal
-abbrev pub records_listing : Records → RecordListing
-records_listing found = record { lines = flat_map (λ r. record_text r ++ line_feed) found.records; last = keytab_last (length found.records) found.end; end = end_of found.end }
+abbrev pub records_listing : Form → Records → RecordListing
+records_listing form found = record { lines = flat_map (λ r. record_line form r) found.records; last = keytab_last form (length found.records) found.end; end = end_of found.end }
 
-unfoldable pub keytab_listing : List ℕ → RecordListing
-keytab_listing file = records_listing (keytab_records field_limit file)
+unfoldable pub keytab_listing : Form → List ℕ → RecordListing
+keytab_listing form file = records_listing form (keytab_records field_limit file)
 
-abbrev pub ccache_last : ℕ → Result ℕ Fault → List ℕ
-ccache_last count (Ok size) = cache_end_text count ++ line_feed
-ccache_last count (Err fault) = file_refused_line fault.place fault.why
+abbrev pub ccache_last : Form → ℕ → Result ℕ Fault → List ℕ
+ccache_last form count (Ok size) = cache_end_line form count
+ccache_last form count (Err fault) = file_refused_line form fault.place fault.why None
 
 -- the lines of credentials, and the line of the end or of a refusal
-abbrev pub credentials_listing : Option ℕ → Items Credential → RecordListing
-credentials_listing now found = record { lines = flat_map (λ c. credential_line now c ++ line_feed) found.items; last = ccache_last (length found.items) found.end; end = end_of found.end }
+abbrev pub credentials_listing : Form → Option ℕ → Items Credential → RecordListing
+credentials_listing form now found = record { lines = flat_map (λ c. credential_line form now c) found.items; last = ccache_last form (length found.items) found.end; end = end_of found.end }
 
 -- the line of a cache before them, or the refusal of what stands there
-abbrev pub cache_listing : Option ℕ → Result (Start × Source) Fault → Items Credential → RecordListing
-cache_listing now (Err fault) found = refused_listing fault
-cache_listing now (Ok start) found = after_line (cache_text start.0.header start.0.principal ++ line_feed) (credentials_listing now found)
+abbrev pub cache_listing : Form → Option ℕ → Result (Start × Source) Fault → Items Credential → RecordListing
+cache_listing form now (Err fault) found = refused_listing form fault
+cache_listing form now (Ok start) found = after_line (cache_line form start.0.header start.0.principal) (credentials_listing form now found)
 
-unfoldable pub ccache_listing : Option ℕ → List ℕ → RecordListing
-ccache_listing now file = cache_listing now (begun field_limit file) (credentials field_limit file)
+unfoldable pub ccache_listing : Form → Option ℕ → List ℕ → RecordListing
+ccache_listing form now file = cache_listing form now (begun field_limit file) (credentials field_limit file)
 
 -- ---- what a run does
 

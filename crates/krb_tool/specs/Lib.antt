@@ -1,4 +1,5 @@
 pub mod Lines
+pub mod Paths
 pub mod Faults
 pub mod Listing
 pub mod GoingOn

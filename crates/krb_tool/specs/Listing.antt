@@ -7,8 +7,10 @@ use Rattle.krb_msg.specs.declared.message.Message.{Message}
 use Rattle.krb_msg.specs.Grammar.{messages}
 use Rattle.krb_msg.specs.Views.{message_der}
 use Rattle.krb_msg.specs.Stream.{End, Boundary, Within, Refused, frames}
+use Rattle.krb_list.specs.declared.form.Form.{Form}
 use Rattle.krb_tool.specs.Lines.{message_line}
 use Rattle.krb_tool.specs.Lines.{end_line}
+use Rattle.krb_tool.specs.Paths.{end_path}
 use Rattle.krb_tool.specs.declared.run.RunEnd.{RunEnd}
 use Rattle.krb_tool.specs.declared.run.RunEnd.TheVariants as run
 use Rattle.krb_tool.specs.declared.run.RunFault.{RunFault}
@@ -20,10 +22,10 @@ abbrev pub end_of : Profile → ℕ → List ℕ → End
 end_of profile limit stream = (frames (messages profile) limit stream).end
 
 -- The text is the listing of the stream: the line of each message whose DER fills a frame, in order, and then the line of the end.
-pub record IsListing (profile : Profile) (limit : ℕ) (stream text : List ℕ) : Type 0 where
+pub record IsListing (form : Form) (profile : Profile) (limit : ℕ) (stream text : List ℕ) : Type 0 where
   pub found : List Message
   pub in_frames : map message_der found ≡ (frames (messages profile) limit stream).contents
-  pub lines : text ≡ flat_map message_line found ++ end_line (length found) (end_of profile limit stream)
+  pub lines : text ≡ flat_map (message_line form) found ++ end_line form (length found) (end_of profile limit stream) (end_path profile limit stream)
 
 -- a run is clean if the stream ends between frames
 abbrev pub run_end : End → RunEnd
@@ -51,22 +53,22 @@ pub record StopsInPiece (profile : Profile) (limit : ℕ) (read : List ℕ) : Ty
   pub short : length piece ≤ 65536
 
 -- A run took octets from what its reader had and left the rest, and added their listing to what its writer held.
-pub record Lists (profile : Profile) (limit : ℕ) (had left held holds : Option (List ℕ)) (ended : RunEnd) : Type 0 where
+pub record Lists (form : Form) (profile : Profile) (limit : ℕ) (had left held holds : Option (List ℕ)) (ended : RunEnd) : Type 0 where
   pub read : List ℕ
   pub written : List ℕ
   pub taken : Consumes had left read
   pub added : Appends held holds written
-  pub listed : IsListing profile limit read written
+  pub listed : IsListing form profile limit read written
   pub ended_so : ended ≡ run_end (end_of profile limit read)
   pub all_read : AllIsRead (end_of profile limit read) left
   pub stops : StopsInPiece profile limit read
 
 -- The text is the lines of messages whose DER fill the first frames of the stream, in order.
-pub record AreLines (profile : Profile) (limit : ℕ) (stream text : List ℕ) : Type 0 where
+pub record AreLines (form : Form) (profile : Profile) (limit : ℕ) (stream text : List ℕ) : Type 0 where
   pub found : List Message
   pub others : List (List ℕ)
   pub in_frames : (frames (messages profile) limit stream).contents ≡ map message_der found ++ others
-  pub lines : text ≡ flat_map message_line found
+  pub lines : text ≡ flat_map (message_line form) found
 
 -- A run took octets from what its reader had, and added the beginning of a text of theirs to what its writer held.
 pub record WritesFront (IsText : List ℕ → List ℕ → Type 0) (had left held holds : Option (List ℕ)) : Type 0 where
@@ -77,10 +79,10 @@ pub record WritesFront (IsText : List ℕ → List ℕ → Type 0) (had left hel
   pub added : AddsFront held holds text
 
 -- If a run fails by a write, the beginning of the listing of what was read is written. If a read fails or memory runs out, it is the beginning of the lines of messages, and no last line.
-abbrev pub Fails : Profile → ℕ → Option (List ℕ) → Option (List ℕ) → Option (List ℕ) → Option (List ℕ) → RunFault → Type 0
-Fails profile limit had left held holds (fault.Write error) = WritesFront (IsListing profile limit) had left held holds
-Fails profile limit had left held holds (fault.Read error) = WritesFront (AreLines profile limit) had left held holds
-Fails profile limit had left held holds fault.Memory = WritesFront (AreLines profile limit) had left held holds
+abbrev pub Fails : Form → Profile → ℕ → Option (List ℕ) → Option (List ℕ) → Option (List ℕ) → Option (List ℕ) → RunFault → Type 0
+Fails form profile limit had left held holds (fault.Write error) = WritesFront (IsListing form profile limit) had left held holds
+Fails form profile limit had left held holds (fault.Read error) = WritesFront (AreLines form profile limit) had left held holds
+Fails form profile limit had left held holds fault.Memory = WritesFront (AreLines form profile limit) had left held holds
 
 -- the status of a process whose run gave this
 abbrev pub status_of : Result RunEnd RunFault → ℕ

@@ -1,6 +1,7 @@
 -- What a run over several sources does to its writer, and the status that it gives.
 use Rattle.std.specs.Prelude.{ℕ, ◌≡◌, ◌⊎◌, max, Bool, true, false, List, [], ◌∷◌, Option, Result, Ok, Err, IfErr}
 use Rattle.std.specs.Io.KnownBytes.{Appends}
+use Rattle.krb_list.specs.declared.form.Form.{Form}
 use Rattle.krb_tool.specs.Lines.{file_line}
 use Rattle.krb_tool.specs.declared.run.RunEnd.{RunEnd}
 use Rattle.krb_tool.specs.declared.run.RunFault.{RunFault}
@@ -19,25 +20,25 @@ Run = Option (List ℕ) → Option (List ℕ) → Outcome → Type 0
 -- ---- one source among several
 
 -- The line of a name was not written whole, since a write failed or memory ran out.
-abbrev pub FailsName : List ℕ → Option (List ℕ) → Option (List ℕ) → RunFault → Type 0
-FailsName name held holds (fault.Read error) = ⊥
-FailsName name held holds (fault.Write error) = AddsFront held holds (file_line name)
-FailsName name held holds fault.Memory = holds ≡ held
+abbrev pub FailsName : Form → List ℕ → Option (List ℕ) → Option (List ℕ) → RunFault → Type 0
+FailsName form name held holds (fault.Read error) = ⊥
+FailsName form name held holds (fault.Write error) = AddsFront held holds (file_line form name)
+FailsName form name held holds fault.Memory = holds ≡ held
 
 -- The line of the name was written, and then the source was listed.
-pub record ListsNamed (Lists : Run) (name : List ℕ) (held holds : Option (List ℕ)) (outcome : Outcome) : Type 0 where
+pub record ListsNamed (form : Form) (Lists : Run) (name : List ℕ) (held holds : Option (List ℕ)) (outcome : Outcome) : Type 0 where
   pub between : Option (List ℕ)
-  pub named : Appends held between (file_line name)
+  pub named : Appends held between (file_line form name)
   pub listed : Lists between holds outcome
 
-abbrev pub FailsFirst : List ℕ → Run
-FailsFirst name held holds (Ok ended) = ⊥
-FailsFirst name held holds (Err fault) = FailsName name held holds fault
+abbrev pub FailsFirst : Form → List ℕ → Run
+FailsFirst form name held holds (Ok ended) = ⊥
+FailsFirst form name held holds (Err fault) = FailsName form name held holds fault
 
 -- a source is listed after the line of its name, if it has one
-abbrev pub ListsOne : Bool → List ℕ → Run → Run
-ListsOne false name Lists held holds outcome = Lists held holds outcome
-ListsOne true name Lists held holds outcome = ListsNamed Lists name held holds outcome ⊎ FailsFirst name held holds outcome
+abbrev pub ListsOne : Form → Bool → List ℕ → Run → Run
+ListsOne form false name Lists held holds outcome = Lists held holds outcome
+ListsOne form true name Lists held holds outcome = ListsNamed form Lists name held holds outcome ⊎ FailsFirst form name held holds outcome
 
 -- a source is listed, and a fault by which its listing ends is reported
 abbrev pub Reports : (RunFault → Type 0) → Run → Run

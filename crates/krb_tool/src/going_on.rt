@@ -9,13 +9,14 @@ ghost use Rattle.krb_tool.specs.declared.run.RunFault.TheVariants as fault;
 ghost use Rattle.krb_tool.specs.inner.Pieces.{listing_of};
 ghost use Rattle.krb_tool.specs.inner.CountingListers.{CountsReady, SkipsRefused, PutsCount, PutsLast, counting};
 
+use crate::fault_path::{frame_path, put_refused_frame};
 use crate::run::{RunEnd, RunFault};
 use crate::stream_run::{ListStream, list_all};
 use crate::transfer::Asked;
 use krb_der::{Profile, Refusal};
 use krb_frame::{Decoder, Limit, SkippingDecoder, Status};
-use krb_list::{Form, put_counted_stream_end, put_message_view, put_stream_refusal};
-use std::alloc::{AllocError, Global};
+use krb_list::{Form, put_counted_stream_end, put_message_view};
+use std::alloc::Global;
 use std::io::{Read, Write};
 
 /// Lists a stream of framed messages (RFC 4120, 7.2.2) of a profile, and goes on after refusals:
@@ -25,23 +26,26 @@ use std::io::{Read, Write};
 /// [`run_stream_in`](crate::run_stream_in) does.
 pub fn run_stream_going_on<R: Read, W: Write>(
     alloc: Global,
+    form: Form,
     profile: Profile,
     reader: &mut R,
     writer: &mut W,
     limit: Limit,
 ) -> Result<RunEnd, RunFault>
-    ensures listed { IfOk result (ListsAll profile limit (R.remaining reader.old) (R.remaining reader.new) (W.contents writer.old) (W.contents writer.new)) }
-    ensures fault { IfErr result (FailsAll profile limit (R.remaining reader.old) (R.remaining reader.new) (W.contents writer.old) (W.contents writer.new)) }
+    ensures listed { IfOk result (ListsAll form profile limit (R.remaining reader.old) (R.remaining reader.new) (W.contents writer.old) (W.contents writer.new)) }
+    ensures fault { IfErr result (FailsAll form profile limit (R.remaining reader.old) (R.remaining reader.new) (W.contents writer.old) (W.contents writer.new)) }
 {
     let mut asked = Asked::new(reader);
-    list_all::<CountingLister, _, _>(alloc, profile, &mut asked, writer, limit)
+    list_all::<CountingLister, _, _>(alloc, form, profile, &mut asked, writer, limit)
 }
 
-/// A lister of a stream that goes on after refusals: its decoder, the lines that are not written
-/// yet, and the numbers of messages and of refused frames so far.
+/// A lister of a stream that goes on after refusals: what allocates for it, its decoder, the form of its lines, those that
+/// are not written yet, and the numbers of messages and of refused frames so far.
 #[derive(Drop)]
 pub(crate) struct CountingLister {
+    alloc: Global,
     decoder: SkippingDecoder,
+    form: Form,
     text: String,
     messages: u64,
     refused: u64,
@@ -58,7 +62,7 @@ impl CountingLister {
         let Some(framed) = self.decoder.ready() else {
             return Ok(());
         };
-        put_message_view(&mut self.text, Form::Lines, &framed.view())?;
+        put_message_view(&mut self.text, self.form, &framed.view())?;
         self.messages += 1;
         self.decoder.next();
         Ok(())
@@ -71,30 +75,34 @@ impl CountingLister {
         ensures skipped { IfOk result (SkipsRefused self.old refusal self.new) }
         ensures fault { IfErr result (λ e. e ≡ fault.Memory) }
     {
+        let path = frame_path(self.alloc, self.form, self.decoder.decoder())?;
         if !self.decoder.skip() {
             return Ok(false);
         }
-        put_stream_refusal(&mut self.text, Form::Lines, self.messages, refusal)?;
+        put_refused_frame(&mut self.text, self.form, self.messages, refusal, &path)?;
         self.refused += 1;
         Ok(true)
     }
 
     /// Adds the line of the last frame, which is refused, and the line that counts, and returns how
     /// the run ends.
-    fn put_last(&mut self, refusal: Refusal) -> Result<RunEnd, AllocError>
+    fn put_last(&mut self, refusal: Refusal) -> Result<RunEnd, RunFault>
         requires few { self.old.refused + 1 < 2 ^ 64 }
-        ensures { IfOk result (PutsLast self.old refusal self.new) }
+        ensures put { IfOk result (PutsLast self.old refusal self.new) }
+        ensures fault { IfErr result (λ e. e ≡ fault.Memory) }
     {
-        put_stream_refusal(&mut self.text, Form::Lines, self.messages, refusal)?;
+        let path = frame_path(self.alloc, self.form, self.decoder.decoder())?;
+        put_refused_frame(&mut self.text, self.form, self.messages, refusal, &path)?;
         self.refused += 1;
         self.put_count()
     }
 
     /// Adds the line that counts messages and refused frames, and returns how the run ends.
-    fn put_count(&mut self) -> Result<RunEnd, AllocError>
-        ensures { IfOk result (PutsCount self.old self.new) }
+    fn put_count(&mut self) -> Result<RunEnd, RunFault>
+        ensures put { IfOk result (PutsCount self.old self.new) }
+        ensures fault { IfErr result (λ e. e ≡ fault.Memory) }
     {
-        put_counted_stream_end(&mut self.text, Form::Lines, self.messages, self.refused)?;
+        put_counted_stream_end(&mut self.text, self.form, self.messages, self.refused)?;
         Ok(counted_end(self.refused))
     }
 }
@@ -104,10 +112,12 @@ impl ListStream for CountingLister {
 
     ghost listing = { listing_of counting };
 
-    fn new(alloc: Global, profile: Profile, limit: Limit) -> CountingLister {
+    fn new(alloc: Global, form: Form, profile: Profile, limit: Limit) -> CountingLister {
         let decoder = Decoder::with_profile(alloc, limit, profile);
         CountingLister {
+            alloc,
             decoder: SkippingDecoder::new(decoder),
+            form,
             text: String::new(alloc),
             messages: 0,
             refused: 0,
@@ -140,7 +150,7 @@ impl ListStream for CountingLister {
         self.text.clear();
     }
 
-    fn finish(&mut self) -> Result<RunEnd, AllocError> {
+    fn finish(&mut self) -> Result<RunEnd, RunFault> {
         match self.decoder.finish() {
             Ok(()) => self.put_count(),
             Err(refusal) => self.put_last(refusal),

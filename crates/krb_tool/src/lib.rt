@@ -1,11 +1,20 @@
-//! The runs of `krbls` over a reader and a writer: framed messages ([`run_stream`]), one message in
-//! hexadecimal ([`run_message`]), keytabs ([`run_keytab`]) and credential caches ([`run_ccache`]).
-//! Each writes a line for each message, record or credential, and then the line of the end, or of
-//! what is refused and at which place. [`run_sources`] lists several sources one after another.
+//! What `krbls` does, over any reader and writer: it lists octets, a record for each message,
+//! record or credential, and then the record of the end, or of what is refused and at which place.
 //!
-//! The command line is `krb_words`, and the program itself `krbls`.
+//! The main calls:
+//!
+//! - [`run_stream`] lists framed messages, [`run_message`] one message in hexadecimal,
+//!   [`run_keytab`] a keytab and [`run_ccache`] a credential cache. [`run_stream_in`] and its like
+//!   take the form of the records ([`Form`]) and the profile of messages ([`Profile`]);
+//!   [`run_stream_going_on`] goes on after refusals.
+//! - [`run_sources`] lists several sources one after another, each by what a [`ListSource`] does.
+//! - [`status`] returns the exit status for what a run returned.
+//!
+//! Nothing here opens a file or reads a command line: `krbls` and `krb_words` do. What stands in a
+//! record is said by `krb_list`.
 #![tactic(auto)]
 
+mod fault_path;
 mod file_run;
 mod going_on;
 pub mod law;
@@ -20,7 +29,8 @@ mod transfer;
 pub use going_on::run_stream_going_on;
 pub use krb_der::Profile;
 pub use krb_frame::Limit;
+pub use krb_list::Form;
 pub use message_run::{run_message, run_message_in};
-pub use record_run::{run_ccache, run_keytab};
+pub use record_run::{run_ccache, run_ccache_in, run_keytab, run_keytab_in};
 pub use run::{RunEnd, RunFault, run_stream, run_stream_in, status};
 pub use sources::{ListSource, run_sources};

@@ -9,19 +9,22 @@ ghost use Rattle.krb_tool.specs.declared.run.RunFault.TheVariants as fault;
 ghost use Rattle.krb_tool.specs.inner.Pieces.{IsFed, listing_of};
 ghost use Rattle.krb_tool.specs.inner.Listers.{ListsReady, AddsLine, AddsEnd, stopping};
 
+use crate::fault_path::{frame_path, put_refused_frame};
 use crate::run::{RunEnd, RunFault};
 use crate::stream_run::ListStream;
 use krb_der::Profile;
 use krb_frame::{Decoder, Limit, Status};
-use krb_list::{Form, put_message_view, put_stream_end, put_stream_refusal};
+use krb_list::{Form, put_message_view, put_stream_end};
 use krb_msg::MessageView;
-use std::alloc::{AllocError, Global};
+use std::alloc::Global;
 
-/// A lister of a stream, up to its end or its first refusal: its decoder, the lines that are not
-/// written yet, and the number of messages so far.
+/// A lister of a stream, up to its end or its first refusal: what allocates for it, its decoder, the form of its lines,
+/// those that are not written yet, and the number of messages so far.
 #[derive(Drop)]
 pub(crate) struct Lister {
+    alloc: Global,
     decoder: Decoder,
+    form: Form,
     text: String,
     messages: u64,
 }
@@ -50,7 +53,7 @@ impl Lister {
         ensures added { OnOk result (AddsLine (message_seen message.now) self.old self.new) }
         ensures fault { IfErr result (λ e. e ≡ fault.Memory) }
     {
-        put_message_view(&mut self.text, Form::Lines, message)?;
+        put_message_view(&mut self.text, self.form, message)?;
         self.messages += 1;
         Ok(())
     }
@@ -65,23 +68,25 @@ impl Lister {
         let Some(framed) = self.decoder.ready() else {
             return Ok(());
         };
-        put_message_view(&mut self.text, Form::Lines, &framed.view())?;
+        put_message_view(&mut self.text, self.form, &framed.view())?;
         self.messages += 1;
         self.decoder.next();
         Ok(())
     }
 
     /// Adds the last line, that of the end or of the refusal, and returns how the run ends.
-    fn put_end(&mut self) -> Result<RunEnd, AllocError>
-        ensures { IfOk result (AddsEnd self.old self.new) }
+    fn put_end(&mut self) -> Result<RunEnd, RunFault>
+        ensures added { IfOk result (AddsEnd self.old self.new) }
+        ensures fault { IfErr result (λ e. e ≡ fault.Memory) }
     {
         match self.decoder.finish() {
             Ok(()) => {
-                put_stream_end(&mut self.text, Form::Lines, self.messages)?;
+                put_stream_end(&mut self.text, self.form, self.messages)?;
                 Ok(RunEnd::Clean)
             }
             Err(refusal) => {
-                put_stream_refusal(&mut self.text, Form::Lines, self.messages, refusal)?;
+                let path = frame_path(self.alloc, self.form, &self.decoder)?;
+                put_refused_frame(&mut self.text, self.form, self.messages, refusal, &path)?;
                 Ok(RunEnd::Refused)
             }
         }
@@ -93,9 +98,11 @@ impl ListStream for Lister {
 
     ghost listing = { listing_of stopping };
 
-    fn new(alloc: Global, profile: Profile, limit: Limit) -> Lister {
+    fn new(alloc: Global, form: Form, profile: Profile, limit: Limit) -> Lister {
         Lister {
+            alloc,
             decoder: Decoder::with_profile(alloc, limit, profile),
+            form,
             text: String::new(alloc),
             messages: 0,
         }
@@ -124,7 +131,7 @@ impl ListStream for Lister {
         self.text.clear();
     }
 
-    fn finish(&mut self) -> Result<RunEnd, AllocError> {
+    fn finish(&mut self) -> Result<RunEnd, RunFault> {
         self.put_end()
     }
 }

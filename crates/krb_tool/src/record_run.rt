@@ -2,9 +2,7 @@
 
 ghost use Rattle.std.specs.Prelude.{◌≡◌, ◌≢◌, ◌++◌, ℕ, suc, List, None, Some, IfErr, IfOk, OnErr, OnOk, string_bytes};
 ghost use Rattle.std.specs.Io.Buffered.{reader_remaining};
-ghost use Rattle.krb_list.specs.Text.{line_feed};
-ghost use Rattle.krb_tool.specs.Lines.{record_text, keytab_end_text};
-ghost use Rattle.krb_tool.specs.Lines.{cache_text, credential_line, cache_end_text};
+ghost use Rattle.krb_tool.specs.Lines.{record_line, keytab_end_line, cache_line, credential_line, cache_end_line};
 ghost use Rattle.krb_tool.specs.declared.run.RunEnd.TheVariants as run;
 ghost use Rattle.krb_tool.specs.Faults.{IsWrite};
 ghost use Rattle.krb_tool.specs.Files.{RecordListing, after_line, keytab_listing, ccache_listing, AddsFront, ListsRecords};
@@ -114,20 +112,25 @@ trait RecordLines {
 }
 
 /// Appends the line of a record.
-fn add_record(text: &mut String, item: &Record) -> Result<(), RunFault>
-    ensures line { OnOk result (string_bytes text.new ≡ string_bytes text.old ++ (record_text item.now ++ line_feed)) }
+fn add_record(text: &mut String, form: Form, item: &Record) -> Result<(), RunFault>
+    ensures line { OnOk result (string_bytes text.new ≡ string_bytes text.old ++ record_line form item.now) }
     ensures fault { IfErr result (λ e. e ≡ RunFault.Memory) }
 {
-    put_record(text, Form::Lines, item)?;
+    put_record(text, form, item)?;
     Ok(())
 }
 
 /// Appends the line of the end of a keytab.
-fn put_stop(text: &mut String, count: u64, stop: &Stop) -> Result<Option<RunEnd>, RunFault>
-    ensures line { IfOk result (Adds (keytab_end_text count stop.now ++ line_feed) (Some run.Clean) (string_bytes text.old) (string_bytes text.new)) }
+fn put_stop(
+    text: &mut String,
+    form: Form,
+    count: u64,
+    stop: &Stop,
+) -> Result<Option<RunEnd>, RunFault>
+    ensures line { IfOk result (Adds (keytab_end_line form count stop.now) (Some run.Clean) (string_bytes text.old) (string_bytes text.new)) }
     ensures fault { IfErr result (λ e. e ≡ RunFault.Memory) }
 {
-    put_keytab_end(text, Form::Lines, count, stop)?;
+    put_keytab_end(text, form, count, stop)?;
     Ok(Some(RunEnd::Clean))
 }
 
@@ -135,11 +138,12 @@ fn put_stop(text: &mut String, count: u64, stop: &Stop) -> Result<Option<RunEnd>
 #[derive(Drop)]
 struct KeytabLines<'a, R: Read> {
     records: Records<R>,
+    form: Form,
     watch: &'a Watch,
 }
 
 impl<R: Read> RecordLines for KeytabLines<'_, R> {
-    ghost IsLeft = { λ lines. AreRecordsLeft lines.records.reader lines.records.state };
+    ghost IsLeft = { λ lines. AreRecordsLeft lines.form lines.records.reader lines.records.state };
 
     fn put_next(
         &mut self,
@@ -149,24 +153,29 @@ impl<R: Read> RecordLines for KeytabLines<'_, R> {
     ) -> Result<Option<RunEnd>, RunFault> {
         match self.records.next_record(alloc) {
             Ok(Next::Item(record)) => {
-                add_record(text, &record)?;
+                add_record(text, self.form, &record)?;
                 self.records.give_back(record);
                 Ok(None)
             }
-            Ok(Next::Done(stop)) => put_stop(text, count, &stop),
-            Err(fault) => put_fault(text, fault, self.watch),
+            Ok(Next::Done(stop)) => put_stop(text, self.form, count, &stop),
+            Err(fault) => put_fault(text, self.form, fault, self.watch),
         }
     }
 }
 
 /// Appends the line of a refusal, which ends the run. Other faults have no line.
-fn put_fault(text: &mut String, fault: FileFault, watch: &Watch) -> Result<Option<RunEnd>, RunFault>
-    ensures refused { IfOk result (AddsRefusal fault (string_bytes text.old) (string_bytes text.new)) }
+fn put_fault(
+    text: &mut String,
+    form: Form,
+    fault: FileFault,
+    watch: &Watch,
+) -> Result<Option<RunEnd>, RunFault>
+    ensures refused { IfOk result (AddsRefusal form fault (string_bytes text.old) (string_bytes text.new)) }
     ensures fault { IfErr result (λ e. IsWrite e → ⊥) }
 {
     match fault {
         FileFault::Refused { place, why } => {
-            put_file_refusal(text, Form::Lines, place, why)?;
+            put_file_refusal(text, form, place, why, None)?;
             Ok(Some(RunEnd::Refused))
         }
         FileFault::Read => Err(RunFault::Read(watch.error())),
@@ -177,12 +186,13 @@ fn put_fault(text: &mut String, fault: FileFault, watch: &Watch) -> Result<Optio
 /// A file that is at fault before its records.
 #[derive(Clone, Copy)]
 struct NoLines<'a> {
+    form: Form,
     fault: FileFault,
     watch: &'a Watch,
 }
 
 impl RecordLines for NoLines<'_> {
-    ghost IsLeft = { λ lines _ left. IsRefusal lines.fault left };
+    ghost IsLeft = { λ lines _ left. IsRefusal lines.form lines.fault left };
 
     fn put_next(
         &mut self,
@@ -190,34 +200,44 @@ impl RecordLines for NoLines<'_> {
         _count: u64,
         text: &mut String,
     ) -> Result<Option<RunEnd>, RunFault> {
-        put_fault(text, self.fault, self.watch)
+        put_fault(text, self.form, self.fault, self.watch)
     }
 }
 
 /// Appends the line of a cache.
-fn put_first(text: &mut String, header: &Header, principal: &FilePrincipal) -> Result<(), RunFault>
-    ensures line { OnOk result (string_bytes text.new ≡ string_bytes text.old ++ (cache_text header.now principal.now ++ line_feed)) }
+fn put_first(
+    text: &mut String,
+    form: Form,
+    header: &Header,
+    principal: &FilePrincipal,
+) -> Result<(), RunFault>
+    ensures line { OnOk result (string_bytes text.new ≡ string_bytes text.old ++ cache_line form header.now principal.now) }
     ensures fault { IfErr result (λ e. e ≡ RunFault.Memory) }
 {
-    put_cache(text, Form::Lines, header, principal)?;
+    put_cache(text, form, header, principal)?;
     Ok(())
 }
 
 /// Appends the line of a credential.
-fn put_one(text: &mut String, credential: &Credential, now: Option<u32>) -> Result<(), RunFault>
-    ensures line { OnOk result (string_bytes text.new ≡ string_bytes text.old ++ (credential_line now credential.now ++ line_feed)) }
+fn put_one(
+    text: &mut String,
+    form: Form,
+    credential: &Credential,
+    now: Option<u32>,
+) -> Result<(), RunFault>
+    ensures line { OnOk result (string_bytes text.new ≡ string_bytes text.old ++ credential_line form now credential.now) }
     ensures fault { IfErr result (λ e. e ≡ RunFault.Memory) }
 {
-    put_credential(text, Form::Lines, credential, now)?;
+    put_credential(text, form, credential, now)?;
     Ok(())
 }
 
 /// Appends the line of the end of a cache.
-fn put_end(text: &mut String, count: u64) -> Result<Option<RunEnd>, RunFault>
-    ensures line { IfOk result (Adds (cache_end_text count ++ line_feed) (Some run.Clean) (string_bytes text.old) (string_bytes text.new)) }
+fn put_end(text: &mut String, form: Form, count: u64) -> Result<Option<RunEnd>, RunFault>
+    ensures line { IfOk result (Adds (cache_end_line form count) (Some run.Clean) (string_bytes text.old) (string_bytes text.new)) }
     ensures fault { IfErr result (λ e. e ≡ RunFault.Memory) }
 {
-    put_cache_end(text, Form::Lines, count)?;
+    put_cache_end(text, form, count)?;
     Ok(Some(RunEnd::Clean))
 }
 
@@ -225,12 +245,13 @@ fn put_end(text: &mut String, count: u64) -> Result<Option<RunEnd>, RunFault>
 #[derive(Drop)]
 struct CredentialLines<'a, R: Read> {
     credentials: Credentials<R>,
+    form: Form,
     now: Option<u32>,
     watch: &'a Watch,
 }
 
 impl<R: Read + Drop> RecordLines for CredentialLines<'_, R> {
-    ghost IsLeft = { λ lines. AreCredentialsLeft lines.credentials.reader lines.credentials.start lines.credentials.state lines.now };
+    ghost IsLeft = { λ lines. AreCredentialsLeft lines.form lines.credentials.reader lines.credentials.start lines.credentials.state lines.now };
 
     fn put_next(
         &mut self,
@@ -240,12 +261,12 @@ impl<R: Read + Drop> RecordLines for CredentialLines<'_, R> {
     ) -> Result<Option<RunEnd>, RunFault> {
         match self.credentials.next_credential(alloc) {
             Ok(Some(credential)) => {
-                put_one(text, &credential, self.now)?;
+                put_one(text, self.form, &credential, self.now)?;
                 self.credentials.give_back(credential);
                 Ok(None)
             }
-            Ok(None) => put_end(text, count),
-            Err(fault) => put_fault(text, fault, self.watch),
+            Ok(None) => put_end(text, self.form, count),
+            Err(fault) => put_fault(text, self.form, fault, self.watch),
         }
     }
 }
@@ -285,17 +306,29 @@ fn list_records<L: RecordLines, W: Write>(
     Err(RunFault::Read(too_many_reads()))
 }
 
-/// Lists a keytab of format 0x0502: writes a line for each record, and then the line of the end or
-/// of the refusal. A field of more than 16777216 octets is refused. The reader is asked at most
-/// 2^40 times, for 64 KiB or the octets of a field, and not again after its end or an error. Each
-/// line is written as its record ends, but the lines of a reader that gives all that it is asked
-/// for are written together.
+/// Lists a keytab of format 0x0502 in lines, as [`run_keytab_in`] does.
 pub fn run_keytab<R: Read, W: Write>(
     alloc: Global,
     reader: &mut R,
     writer: &mut W,
 ) -> Result<RunEnd, RunFault>
-    ensures listed { (file : List ℕ) → R.remaining reader.old ≡ Some file → ListsRecords (keytab_listing file) (W.contents writer.old) (W.contents writer.new) result }
+    ensures listed { (file : List ℕ) → R.remaining reader.old ≡ Some file → ListsRecords (keytab_listing Form.Lines file) (W.contents writer.old) (W.contents writer.new) result }
+{
+    run_keytab_in(alloc, Form::Lines, reader, writer)
+}
+
+/// Lists a keytab of format 0x0502 in a form: writes a line for each record, and then the line of the end or
+/// of the refusal. A field of more than 16777216 octets is refused. The reader is asked at most
+/// 2^40 times, for 64 KiB or the octets of a field, and not again after its end or an error. Each
+/// line is written as its record ends, but the lines of a reader that gives all that it is asked
+/// for are written together.
+pub fn run_keytab_in<R: Read, W: Write>(
+    alloc: Global,
+    form: Form,
+    reader: &mut R,
+    writer: &mut W,
+) -> Result<RunEnd, RunFault>
+    ensures listed { (file : List ℕ) → R.remaining reader.old ≡ Some file → ListsRecords (keytab_listing form file) (W.contents writer.old) (W.contents writer.new) result }
 {
     let watch = Watch::new();
     let watch = &watch;
@@ -304,24 +337,41 @@ pub fn run_keytab<R: Read, W: Write>(
     let mut text = String::new(alloc);
     list_records(
         alloc,
-        &mut KeytabLines { records, watch },
+        &mut KeytabLines {
+            records,
+            form,
+            watch,
+        },
         &mut text,
         watch,
         writer,
     )
 }
 
-/// Lists a credential cache of version 3 or 4: writes a line for the cache, one for each
-/// credential, and then the line of the end or of the refusal. If `now` is given, in seconds since
-/// 1970, each line of a credential says whether it has expired by then. Reads and writes as
-/// [`run_keytab`] does.
+/// Lists a credential cache of version 3 or 4 in lines, as [`run_ccache_in`] does.
 pub fn run_ccache<R: Read, W: Write>(
     alloc: Global,
     reader: &mut R,
     writer: &mut W,
     now: Option<u32>,
 ) -> Result<RunEnd, RunFault>
-    ensures listed { (file : List ℕ) → R.remaining reader.old ≡ Some file → ListsRecords (ccache_listing now file) (W.contents writer.old) (W.contents writer.new) result }
+    ensures listed { (file : List ℕ) → R.remaining reader.old ≡ Some file → ListsRecords (ccache_listing Form.Lines now file) (W.contents writer.old) (W.contents writer.new) result }
+{
+    run_ccache_in(alloc, Form::Lines, reader, writer, now)
+}
+
+/// Lists a credential cache of version 3 or 4 in a form: writes a line for the cache, one for each
+/// credential, and then the line of the end or of the refusal. If `now` is given, in seconds since
+/// 1970, each line of a credential says whether it has expired by then. Reads and writes as
+/// [`run_keytab_in`] does.
+pub fn run_ccache_in<R: Read, W: Write>(
+    alloc: Global,
+    form: Form,
+    reader: &mut R,
+    writer: &mut W,
+    now: Option<u32>,
+) -> Result<RunEnd, RunFault>
+    ensures listed { (file : List ℕ) → R.remaining reader.old ≡ Some file → ListsRecords (ccache_listing form now file) (W.contents writer.old) (W.contents writer.new) result }
 {
     let watch = Watch::new();
     let watch = &watch;
@@ -329,9 +379,15 @@ pub fn run_ccache<R: Read, W: Write>(
     let mut text = String::new(alloc);
     match Credentials::start(alloc, reader, field_limit()) {
         Ok(credentials) => {
-            put_first(&mut text, credentials.header(), credentials.principal())?;
+            put_first(
+                &mut text,
+                form,
+                credentials.header(),
+                credentials.principal(),
+            )?;
             let mut lines = CredentialLines {
                 credentials,
+                form,
                 now,
                 watch,
             };
@@ -339,7 +395,7 @@ pub fn run_ccache<R: Read, W: Write>(
         }
         Err(fault) => list_records(
             alloc,
-            &mut NoLines { fault, watch },
+            &mut NoLines { form, fault, watch },
             &mut text,
             watch,
             writer,

@@ -9,6 +9,7 @@ use crate::stream_run::list_all;
 use crate::transfer::Asked;
 use krb_der::{Memory, Profile};
 use krb_frame::Limit;
+use krb_list::Form;
 use std::alloc::{AllocError, AllocFailed, Global};
 use std::io;
 use std::io::{Read, Write};
@@ -76,36 +77,37 @@ impl<T: Drop> From<AllocFailed<T>> for RunFault {
     }
 }
 
-/// Lists a stream of framed messages (RFC 4120, 7.2.2) by the lenient profile, as [`run_stream_in`]
-/// does.
+/// Lists a stream of framed messages (RFC 4120, 7.2.2) by the lenient profile and in lines, as
+/// [`run_stream_in`] does.
 pub fn run_stream<R: Read, W: Write>(
     alloc: Global,
     reader: &mut R,
     writer: &mut W,
     limit: Limit,
 ) -> Result<RunEnd, RunFault>
-    ensures listed { IfOk result (Lists Profile.Lenient limit (R.remaining reader.old) (R.remaining reader.new) (W.contents writer.old) (W.contents writer.new)) }
-    ensures fault { IfErr result (Fails Profile.Lenient limit (R.remaining reader.old) (R.remaining reader.new) (W.contents writer.old) (W.contents writer.new)) }
+    ensures listed { IfOk result (Lists Form.Lines Profile.Lenient limit (R.remaining reader.old) (R.remaining reader.new) (W.contents writer.old) (W.contents writer.new)) }
+    ensures fault { IfErr result (Fails Form.Lines Profile.Lenient limit (R.remaining reader.old) (R.remaining reader.new) (W.contents writer.old) (W.contents writer.new)) }
 {
-    run_stream_in(alloc, Profile::Lenient, reader, writer, limit)
+    run_stream_in(alloc, Form::Lines, Profile::Lenient, reader, writer, limit)
 }
 
-/// Lists a stream of framed messages (RFC 4120, 7.2.2) of a profile: writes a line for each
-/// message, and then the line of the end, or of the first refusal, after which nothing is looked
+/// Lists a stream of framed messages (RFC 4120, 7.2.2) of a profile in a form: writes a line for
+/// each message, and then the line of the end, or of the first refusal, after which nothing is looked
 /// at. Frames of more than `limit` octets are refused. The reader is asked at most 2^40 times, for
 /// 64 KiB each, and the lines of what came are written before it is asked again. It is not asked
 /// again after an error, its end or a refusal. If a read fails or memory runs out, the lines of the
 /// messages before that are written, all or the first of them, and no last line.
 pub fn run_stream_in<R: Read, W: Write>(
     alloc: Global,
+    form: Form,
     profile: Profile,
     reader: &mut R,
     writer: &mut W,
     limit: Limit,
 ) -> Result<RunEnd, RunFault>
-    ensures listed { IfOk result (Lists profile limit (R.remaining reader.old) (R.remaining reader.new) (W.contents writer.old) (W.contents writer.new)) }
-    ensures fault { IfErr result (Fails profile limit (R.remaining reader.old) (R.remaining reader.new) (W.contents writer.old) (W.contents writer.new)) }
+    ensures listed { IfOk result (Lists form profile limit (R.remaining reader.old) (R.remaining reader.new) (W.contents writer.old) (W.contents writer.new)) }
+    ensures fault { IfErr result (Fails form profile limit (R.remaining reader.old) (R.remaining reader.new) (W.contents writer.old) (W.contents writer.new)) }
 {
     let mut asked = Asked::new(reader);
-    list_all::<Lister, _, _>(alloc, profile, &mut asked, writer, limit)
+    list_all::<Lister, _, _>(alloc, form, profile, &mut asked, writer, limit)
 }

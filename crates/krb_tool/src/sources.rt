@@ -38,27 +38,33 @@ pub trait ListSource<S> {
 }
 
 /// Writes the line with the name of a source.
-fn write_name<W: Write>(alloc: Global, name: &str, writer: &mut W) -> Result<(), RunFault>
-    ensures written { OnOk result (Appends (W.contents writer.old) (W.contents writer.new) (file_line name.now)) }
-    ensures fault { IfErr result (FailsName name.now (W.contents writer.old) (W.contents writer.new)) }
+fn write_name<W: Write>(
+    alloc: Global,
+    form: Form,
+    name: &str,
+    writer: &mut W,
+) -> Result<(), RunFault>
+    ensures written { OnOk result (Appends (W.contents writer.old) (W.contents writer.new) (file_line form name.now)) }
+    ensures fault { IfErr result (FailsName form name.now (W.contents writer.old) (W.contents writer.new)) }
 {
     let mut line = String::new(alloc);
-    put_file(&mut line, Form::Lines, name)?;
+    put_file(&mut line, form, name)?;
     write_all(writer, line.as_bytes())
 }
 
 /// Lists a source, after a line with its name if it is one of several.
 fn list_named<S, L: ListSource<S>, W: Write>(
     alloc: Global,
+    form: Form,
     lister: &L,
     source: &S,
     is_named: bool,
     writer: &mut W,
 ) -> Result<RunEnd, RunFault>
-    ensures { ListsOne is_named (L.called source.now) (L.Lists lister.now source.now) (W.contents writer.old) (W.contents writer.new) result }
+    ensures { ListsOne form is_named (L.called source.now) (L.Lists lister.now source.now) (W.contents writer.old) (W.contents writer.new) result }
 {
     if is_named {
-        write_name(alloc, lister.name(source), writer)?;
+        write_name(alloc, form, lister.name(source), writer)?;
     }
     lister.list(source, writer)
 }
@@ -66,14 +72,15 @@ fn list_named<S, L: ListSource<S>, W: Write>(
 /// Lists a source, and reports the fault by which its listing ends, if there is one.
 fn list_one<S, L: ListSource<S>, W: Write>(
     alloc: Global,
+    form: Form,
     lister: &L,
     source: &S,
     is_named: bool,
     writer: &mut W,
 ) -> Result<RunEnd, RunFault>
-    ensures { Reports (L.IsReported lister.now source.now) (ListsOne is_named (L.called source.now) (L.Lists lister.now source.now)) (W.contents writer.old) (W.contents writer.new) result }
+    ensures { Reports (L.IsReported lister.now source.now) (ListsOne form is_named (L.called source.now) (L.Lists lister.now source.now)) (W.contents writer.old) (W.contents writer.new) result }
 {
-    let outcome = list_named(alloc, lister, source, is_named, writer);
+    let outcome = list_named(alloc, form, lister, source, is_named, writer);
     if let Err(fault) = &outcome {
         lister.report(source, fault);
     }
@@ -87,23 +94,24 @@ fn ends_run(outcome: &Result<RunEnd, RunFault>) -> bool
     matches!(outcome, Err(RunFault::Write(_) | RunFault::Memory))
 }
 
-/// Lists sources one after another, and returns the greatest of their statuses, which is that of
+/// Lists sources one after another in a form, and returns the greatest of their statuses, which is that of
 /// the process. If there are several, a line with its name is written before the listing of each. A
 /// source that is refused, or that cannot be opened or read, does not end the run: the next one
 /// follows. A write that fails ends the run, and so does running out of memory. Each fault is reported.
 pub fn run_sources<S, L: ListSource<S>, W: Write>(
     alloc: Global,
+    form: Form,
     lister: &L,
     sources: &[S],
     writer: &mut W,
 ) -> u8
-    ensures { ListsEach (λ source. Reports (L.IsReported lister.now source) (ListsOne (nat_lt 1 (length sources.now)) (L.called source) (L.Lists lister.now source))) sources.now (W.contents writer.old) (W.contents writer.new) result }
+    ensures { ListsEach (λ source. Reports (L.IsReported lister.now source) (ListsOne form (nat_lt 1 (length sources.now)) (L.called source) (L.Lists lister.now source))) sources.now (W.contents writer.old) (W.contents writer.new) result }
 {
     let is_named = sources.len() > 1;
     let mut greatest = 0;
     let mut rest = sources;
     'sources: while let Some((source, others)) = rest.split_first() {
-        let outcome = list_one(alloc, lister, source, is_named, writer);
+        let outcome = list_one(alloc, form, lister, source, is_named, writer);
         greatest = greatest.max(status(&outcome));
         if ends_run(&outcome) {
             return greatest;

@@ -8,7 +8,8 @@ use crate::run::{PIECE_OCTETS, RunEnd, RunFault};
 use crate::transfer::{Asked, write_all};
 use krb_der::Profile;
 use krb_frame::Limit;
-use std::alloc::{AllocError, Global};
+use krb_list::Form;
+use std::alloc::Global;
 use std::io::{Read, Write};
 
 /// A lister of a stream whose octets come in pieces.
@@ -20,8 +21,8 @@ pub(crate) trait ListStream: Drop {
     ghost listing: { Self → Listing };
 
     /// Returns the lister of a stream of which nothing came yet.
-    fn new(alloc: Global, profile: Profile, limit: Limit) -> Self
-        ensures { let request : Request = record { profile = profile; limit = limit } in IsNew (rules request) request (listing result) };
+    fn new(alloc: Global, form: Form, profile: Profile, limit: Limit) -> Self
+        ensures { let request : Request = record { form = form; profile = profile; limit = limit } in IsNew (rules request) request (listing result) };
 
     /// Takes the next piece of the stream, adds the lines of its frames, and returns whether the
     /// stream goes on.
@@ -40,9 +41,10 @@ pub(crate) trait ListStream: Drop {
         ensures { Clears (listing self.old) (listing self.new) };
 
     /// Adds the lines of the end, and returns how the run ends.
-    fn finish(&mut self) -> Result<RunEnd, AllocError>
+    fn finish(&mut self) -> Result<RunEnd, RunFault>
         requires { MayFinish (listing self.old) }
-        ensures { IfOk result (Finishes rules (listing self.old) (listing self.new)) };
+        ensures finished { IfOk result (Finishes rules (listing self.old) (listing self.new)) }
+        ensures fault { IfErr result (λ e. e ≡ RunFault.Memory) };
 }
 
 /// Reads the next piece of a stream and feeds it to a lister. Returns whether the stream goes on,
@@ -72,6 +74,7 @@ fn feed_next<L: ListStream, R: Read>(
 /// again.
 pub(crate) fn list_all<L: ListStream, R: Read, W: Write>(
     alloc: Global,
+    form: Form,
     profile: Profile,
     asked: &mut Asked<'_, R>,
     writer: &mut W,
@@ -80,11 +83,11 @@ pub(crate) fn list_all<L: ListStream, R: Read, W: Write>(
     requires none { asked.old.made ≡ 0 }
     requires open { asked.old.state ≡ reader.Open }
     ensures same_reader { asked.new.reader.ghost_name ≡ asked.old.reader.ghost_name }
-    ensures listed { IfOk result (ListsBy (L.rules (record { profile = profile; limit = limit })) (R.remaining asked.old.reader.now) (R.remaining asked.new.reader.now) (W.contents writer.old) (W.contents writer.new)) }
-    ensures fault { IfErr result (FailsBy (L.rules (record { profile = profile; limit = limit })) (R.remaining asked.old.reader.now) (R.remaining asked.new.reader.now) (W.contents writer.old) (W.contents writer.new)) }
+    ensures listed { IfOk result (ListsBy (L.rules (record { form = form; profile = profile; limit = limit })) (R.remaining asked.old.reader.now) (R.remaining asked.new.reader.now) (W.contents writer.old) (W.contents writer.new)) }
+    ensures fault { IfErr result (FailsBy (L.rules (record { form = form; profile = profile; limit = limit })) (R.remaining asked.old.reader.now) (R.remaining asked.new.reader.now) (W.contents writer.old) (W.contents writer.new)) }
     ensures asks { asked.new.made ≤ 2 ^ 40 }
 {
-    let mut lister = L::new(alloc, profile, limit);
+    let mut lister = L::new(alloc, form, profile, limit);
     let mut buffer = vec![in alloc; 0u8; PIECE_OCTETS]?;
     'pieces: while feed_next(&mut lister, asked, buffer.as_mut_slice())? {
         write_all(writer, lister.text().as_bytes())?;

@@ -11,6 +11,8 @@ use Rattle.clap.specs.declared.error.kind.ErrorKind.{ErrorKind}
 use Rattle.clap.specs.declared.error.kind.ErrorKind.TheVariants.{DisplayHelp, DisplayVersion}
 use Rattle.krb_der.specs.declared.profile.Profile.{Profile}
 use Rattle.krb_der.specs.declared.profile.Profile.TheVariants as profile
+use Rattle.krb_list.specs.declared.form.Form.{Form}
+use Rattle.krb_list.specs.declared.form.Form.TheVariants as form
 use Rattle.krb_words.specs.declared.words.AfterRefusal.{AfterRefusal}
 use Rattle.krb_words.specs.declared.words.AfterRefusal.TheVariants as after
 use Rattle.krb_words.specs.declared.words.Job.{Job}
@@ -47,25 +49,35 @@ strict_flag = flag (codes "strict")
 abbrev pub keep_going_flag : Rule
 keep_going_flag = flag (codes "keep-going")
 
+abbrev pub names_flag : Rule
+names_flag = flag (codes "names")
+
+abbrev pub json_flag : Rule
+json_flag = flag (codes "json")
+
 -- any number of words, for which help has a name
 abbrev pub file_names : Rule
 file_names = record (new_rule (codes "file names")) { range = Some (record { start_inclusive = 0; end_inclusive = usize_max }); value_names = 1 }
+
+-- the options that choose how records are printed
+abbrev pub with_output : App → App
+with_output app = with_rule (with_rule app names_flag) json_flag
 
 -- the words and the option that name what is read
 abbrev pub with_files : App → App
 with_files app = with_rule (with_rule app file_option) file_names
 
 abbrev pub stream_app : App
-stream_app = with_files (with_rule (with_rule (with_rule (new_app (codes "stream")) limit_option) keep_going_flag) strict_flag)
+stream_app = with_files (with_output (with_rule (with_rule (with_rule (new_app (codes "stream")) limit_option) keep_going_flag) strict_flag))
 
 abbrev pub message_app : App
-message_app = with_files (with_rule (new_app (codes "message")) strict_flag)
+message_app = with_files (with_output (with_rule (new_app (codes "message")) strict_flag))
 
 abbrev pub keytab_app : App
-keytab_app = with_files (new_app (codes "keytab"))
+keytab_app = with_files (with_output (new_app (codes "keytab")))
 
 abbrev pub ccache_app : App
-ccache_app = with_files (with_rule (new_app (codes "ccache")) now_option)
+ccache_app = with_files (with_output (with_rule (new_app (codes "ccache")) now_option))
 
 -- the words have no program's name before them, `help` is no command, one is wanted, and `--version` is known
 abbrev pub krbls_top : App
@@ -104,6 +116,12 @@ abbrev pub IsGiven : Option Text → Bool → Type 0
 IsGiven text true = text ≡ Some (codes "true")
 IsGiven text false = text ≢ Some (codes "true")
 
+-- the form of records, by two flags: JSON has names in any case
+abbrev pub IsForm : List Row → Form → Type 0
+IsForm rows form.Json = IsGiven (first_of (codes "json") rows) true
+IsForm rows form.NamedLines = IsGiven (first_of (codes "json") rows) false × IsGiven (first_of (codes "names") rows) true
+IsForm rows form.Lines = IsGiven (first_of (codes "json") rows) false × IsGiven (first_of (codes "names") rows) false
+
 -- the job that a command and its options name
 abbrev pub IsJob : Text → List Row → Job → Type 0
 IsJob name rows (job.Stream limit chosen refused) = (name ≡ codes "stream") × IsNumberOr 16777216 (one_of (codes "limit") rows) limit × IsProfile (first_of (codes "strict") rows) chosen × IsAfter (first_of (codes "keep-going") rows) refused
@@ -117,10 +135,10 @@ IsJob name rows (job.Version text) = ⊥
 abbrev pub sources_of : List Row → List (Option Text)
 sources_of rows = or_input (file_path (first_of (codes "file") rows) ++ map word_path (words_of (all_of (codes "file names") rows)))
 
--- The order names the job of the command that was met, and what is read.
+-- The order names the job of the command that was met, how records are printed, and what is read.
 abbrev pub IsOrderOf : Option (Text × List Row) → Order → Type 0
 IsOrderOf None order = ⊥
-IsOrderOf (Some met) order = IsJob met.0 met.1 order.job × (map path_of order.sources.items ≡ sources_of met.1)
+IsOrderOf (Some met) order = IsJob met.0 met.1 order.job × IsForm met.1 order.form × (map path_of order.sources.items ≡ sources_of met.1)
 
 -- the job is to print the text that such an error of `clap` has
 abbrev pub IsTextBy : ErrorKind → Job → Type 0

@@ -3,7 +3,7 @@
 ghost use Rattle.std.specs.Prelude.{◌≡◌, false, codes, map, string_bytes, [], IfOk};
 ghost use Rattle.clap.specs.Words.{app_of, new_app, found_of, kind_of, rows_of, rule_of, subcommand_rows_of, first_of, one_of};
 ghost use Rattle.clap.specs.declared.builder.command.Command.TheViews.{out-Command};
-ghost use Rattle.krb_words.specs.Words.{file_option, file_names, with_files, number_option, flag, strict_flag, keep_going_flag, stream_app, message_app, keytab_app, ccache_app, krbls, IsTextBy, IsJob, IsProfile, IsAfter, IsGiven, IsOrderOf, IsOrderIn, IsNumber, IsNumberOr};
+ghost use Rattle.krb_words.specs.Words.{file_option, file_names, with_output, with_files, number_option, flag, strict_flag, keep_going_flag, names_flag, json_flag, stream_app, message_app, keytab_app, ccache_app, krbls, IsTextBy, IsJob, IsProfile, IsAfter, IsForm, IsGiven, IsOrderOf, IsOrderIn, IsNumber, IsNumberOr};
 
 use crate::sources::{Source, sources_of};
 use clap::builder::ValueParser;
@@ -11,6 +11,7 @@ use clap::error::ErrorKind;
 use clap::{Arg, ArgAction, ArgMatches, Command, Error, value_parser};
 use krb_der::Profile;
 use krb_frame::Limit;
+use krb_list::Form;
 use std::alloc::{AllocError, Global};
 
 /// What becomes of a stream after a frame that is refused.
@@ -46,6 +47,8 @@ pub enum Job {
 pub struct Order {
     /// What is to be listed.
     pub job: Job,
+    /// How records are printed.
+    pub form: Form,
     /// The sources to list, in order. There are none if a text is to be printed.
     pub sources: Vec<Source>,
 }
@@ -93,7 +96,8 @@ const KRBLS_HELP: CommandHelp = CommandHelp {
 Reads files or the standard input, and prints a line for each message, record or
 credential. The last line says that all was read, or what was refused, at which
 octet and why. If there are several files, a line `file name=FILE` stands before
-the lines of each. No octet of a key is shown.
+the lines of each. Each command has --json, with which lines are JSON objects.
+No octet of a key is shown.
 
 Exit status, the greatest of those of all files:
   0  all was read
@@ -232,6 +236,30 @@ fn keep_going_flag<'a>(alloc: Global) -> Arg<'a>
     )
 }
 
+/// Returns the option `--names`.
+fn names_flag<'a>(alloc: Global) -> Arg<'a>
+    ensures rule { rule_of result ≡ names_flag }
+    ensures local { result.global ≡ false }
+{
+    flag(
+        alloc,
+        "names",
+        "Gives numbers their names: 18:aes256-cts-hmac-sha1-96",
+    )
+}
+
+/// Returns the option `--json`.
+fn json_flag<'a>(alloc: Global) -> Arg<'a>
+    ensures rule { rule_of result ≡ json_flag }
+    ensures local { result.global ≡ false }
+{
+    flag(
+        alloc,
+        "json",
+        "Prints each line as a JSON object, with the names",
+    )
+}
+
 /// Returns an option whose value is a number that a parser takes.
 fn number_option<'a>(
     alloc: Global,
@@ -249,6 +277,14 @@ fn number_option<'a>(
         .value_parser(parser)
         .value_name(value)
         .help(help)
+}
+
+/// Returns a command whose records may be printed with names and as JSON.
+fn with_output<'a>(alloc: Global, command: Command<'a>) -> Result<Command<'a>, AllocError>
+    requires local { (out-Command command).has_globals ≡ false }
+    ensures { IfOk result (λ c. (app_of c ≡ with_output (app_of command.entry)) × ((out-Command c).has_globals ≡ false)) }
+{
+    command.arg(names_flag(alloc))?.arg(json_flag(alloc))
 }
 
 /// Returns a command that takes files.
@@ -274,26 +310,23 @@ fn stream_command<'a>(alloc: Global) -> Result<Command<'a>, AllocError>
         .arg(limit)?
         .arg(keep_going_flag(alloc))?
         .arg(strict_flag(alloc))?;
-    with_files(alloc, command)
+    with_files(alloc, with_output(alloc, command)?)
 }
 
 /// Returns the command `message`.
 fn message_command<'a>(alloc: Global) -> Result<Command<'a>, AllocError>
     ensures { IfOk result (λ c. (app_of c ≡ message_app) × ((out-Command c).has_globals ≡ false)) }
 {
-    new_command(alloc, "message", &MESSAGE_HELP)
-        .arg(strict_flag(alloc))?
-        .arg(file_option(alloc))?
-        .arg(file_names(alloc))
+    let command = new_command(alloc, "message", &MESSAGE_HELP).arg(strict_flag(alloc))?;
+    with_files(alloc, with_output(alloc, command)?)
 }
 
 /// Returns the command `keytab`.
 fn keytab_command<'a>(alloc: Global) -> Result<Command<'a>, AllocError>
     ensures { IfOk result (λ c. (app_of c ≡ keytab_app) × ((out-Command c).has_globals ≡ false)) }
 {
-    new_command(alloc, "keytab", &KEYTAB_HELP)
-        .arg(file_option(alloc))?
-        .arg(file_names(alloc))
+    let command = new_command(alloc, "keytab", &KEYTAB_HELP);
+    with_files(alloc, with_output(alloc, command)?)
 }
 
 /// Returns the command `ccache`.
@@ -307,10 +340,8 @@ fn ccache_command<'a>(alloc: Global) -> Result<Command<'a>, AllocError>
         "SECONDS",
         "Shows which have expired by then, in seconds since 1970",
     );
-    new_command(alloc, "ccache", &CCACHE_HELP)
-        .arg(now)?
-        .arg(file_option(alloc))?
-        .arg(file_names(alloc))
+    let command = new_command(alloc, "ccache", &CCACHE_HELP).arg(now)?;
+    with_files(alloc, with_output(alloc, command)?)
 }
 
 /// Returns the command `krbls`, which `clap` calls simple.
@@ -401,6 +432,20 @@ fn after_refusal_of(found: &ArgMatches<'_>) -> AfterRefusal
     }
 }
 
+/// Returns the form of records: JSON if its flag is given, and else lines, with names if theirs is.
+fn form_of(found: &ArgMatches<'_>) -> Form
+    ensures { IsForm (rows_of (found_of found.now)) result }
+{
+    if is_given(found, "json") {
+        return Form::Json;
+    }
+    if is_given(found, "names") {
+        Form::NamedLines
+    } else {
+        Form::Lines
+    }
+}
+
 /// Returns the job of a command with its options.
 fn job_of(alloc: Global, name: &str, found: &ArgMatches<'_>) -> Result<Job, WordsFault>
     ensures { IfOk result (IsJob name.now (rows_of (found_of found.now))) }
@@ -426,8 +471,9 @@ fn order_of(alloc: Global, matches: &ArgMatches<'_>) -> Result<Order, WordsFault
         None => Err(not_read(alloc)),
         Some((name, found)) => {
             let job = job_of(alloc, name, found)?;
+            let form = form_of(found);
             let sources = sources_of(alloc, found)?;
-            Ok(Order { job, sources })
+            Ok(Order { job, form, sources })
         }
     }
 }
@@ -443,8 +489,11 @@ fn text_of(alloc: Global, error: &Error) -> Result<Order, WordsFault>
         ErrorKind::OutOfMemory => return Err(WordsFault::Memory),
         _ => return Err(WordsFault::Wrong(text)),
     };
-    let sources = Vec::new(alloc);
-    Ok(Order { job, sources })
+    Ok(Order {
+        job,
+        form: Form::Lines,
+        sources: Vec::new(alloc),
+    })
 }
 
 /// Returns the order that the words after the program's name give: a command, its options and the

@@ -1,12 +1,15 @@
-//! `krbls` lists streams of Kerberos V5 messages (RFC 4120), single messages, keytabs and credential
-//! caches, without trusting an octet: a line for each message, record or credential, or a numbered
-//! refusal at an exact place.
+//! `krbls` lists streams of Kerberos V5 messages (RFC 4120), single messages, keytabs and
+//! credential caches, without trusting an octet: a line or an object of JSON for each message,
+//! record or credential, or a numbered refusal at an exact place.
 //!
-//! `krbls stream` reads framed messages, `krbls message` one message in hexadecimal, `krbls keytab` a
-//! keytab, and `krbls ccache` a cache, each from files or from the standard input. The status is the
-//! greatest of those of all files: 0 where all was read, 1 where something was refused, 2 for a wrong
-//! command line, and 3 where a read, a write or memory failed. The standard error has a line for each
-//! fault.
+//! `krbls stream` reads framed messages, `krbls message` one message in hexadecimal, `krbls keytab`
+//! a keytab, and `krbls ccache` a cache, each from files or from the standard input. The status is
+//! the greatest of those of all files: 0 if all was read, 1 if something was refused, 2 if the
+//! command line is wrong, and 3 if a read, a write or an allocation failed. The standard error has
+//! a line for each fault.
+//!
+//! The command line is read by `krb_words`, and `krb_tool` lists what a reader reads. What is here
+//! opens the files and reports the faults, and contracts see little of that.
 #![tactic(auto)]
 
 ghost use Rattle.std.specs.Prelude.{◌≡◌, codes, length, nat_lt, unwrap_or};
@@ -16,7 +19,7 @@ ghost use Rattle.krb_words.specs.Sources.{path_of};
 
 use krb_list::FileName;
 use krb_tool::{
-    ListSource, RunEnd, RunFault, run_ccache, run_keytab, run_message_in, run_sources,
+    Form, ListSource, RunEnd, RunFault, run_ccache_in, run_keytab_in, run_message_in, run_sources,
     run_stream_going_on, run_stream_in,
 };
 use krb_words::{AfterRefusal, Job, NOT_UTF8, Order, Source, WordsFault, read_words};
@@ -32,7 +35,7 @@ const WRONG_COMMAND_LINE: u8 = 2;
 /// The status of a fault before anything is read.
 const FAULT: u8 = 3;
 
-/// What faults call the standard input.
+/// The name of the standard input in faults.
 const INPUT: &str = "standard input";
 
 fn main(rt: HostRuntime) -> ExitCode {
@@ -43,7 +46,7 @@ fn main(rt: HostRuntime) -> ExitCode {
     }
 }
 
-/// The order that the words after the program's name give.
+/// Returns the order that the words after the program's name make.
 fn order(rt: &HostRuntime) -> Result<Order, WordsFault> {
     let alloc = rt.alloc();
     let mut words = match env::args(rt) {
@@ -56,51 +59,55 @@ fn order(rt: &HostRuntime) -> Result<Order, WordsFault> {
     read_words(alloc, words.as_slice())
 }
 
-/// Lists what the order names, from each of its sources, or prints its text.
+/// Lists each source of the order, or prints its text.
 fn carry_out(rt: &HostRuntime, order: &Order) -> ExitCode {
     match &order.job {
         Job::Help(text) | Job::Version(text) => print_text(rt, text.as_str()),
         job => {
-            let lister = Lister { rt, job };
+            let form = order.form;
+            let lister = Lister { rt, form, job };
             let sources = order.sources.as_slice();
-            list_each(rt.alloc(), &lister, sources, &mut rt.stdout())
+            list_each(rt.alloc(), form, &lister, sources, &mut rt.stdout())
         }
     }
 }
 
-/// Lists sources one after another, and exits with the greatest of their statuses.
+/// Lists sources one after another, and returns the greatest of their statuses.
 fn list_each<S, L: ListSource<S>, W: Write>(
     alloc: Global,
+    form: Form,
     lister: &L,
     sources: &[S],
     writer: &mut W,
 ) -> ExitCode
-    ensures { ListsEach (λ source. Reports (L.IsReported lister.now source) (ListsOne (nat_lt 1 (length sources.now)) (L.called source) (L.Lists lister.now source))) sources.now (W.contents writer.old) (W.contents writer.new) (exit_status result) }
+    ensures { ListsEach (λ source. Reports (L.IsReported lister.now source) (ListsOne form (nat_lt 1 (length sources.now)) (L.called source) (L.Lists lister.now source))) sources.now (W.contents writer.old) (W.contents writer.new) (exit_status result) }
 {
-    ExitCode::from(run_sources(alloc, lister, sources, writer))
+    ExitCode::from(run_sources(alloc, form, lister, sources, writer))
 }
 
-/// What does a job.
+/// A lister of sources by a job.
 #[derive(Clone, Copy)]
 struct Lister<'a> {
     rt: &'a HostRuntime,
+    form: Form,
     job: &'a Job,
 }
 
 impl Lister<'_> {
-    /// Does the job on what a reader has.
+    /// Lists what a reader reads.
     fn run<R: Read, W: Write>(&self, reader: &mut R, writer: &mut W) -> Result<RunEnd, RunFault> {
         let alloc = self.rt.alloc();
+        let form = self.form;
         match self.job {
             Job::Stream(limit, profile, AfterRefusal::Ends) => {
-                run_stream_in(alloc, *profile, reader, writer, *limit)
+                run_stream_in(alloc, form, *profile, reader, writer, *limit)
             }
             Job::Stream(limit, profile, AfterRefusal::GoesOn) => {
-                run_stream_going_on(alloc, *profile, reader, writer, *limit)
+                run_stream_going_on(alloc, form, *profile, reader, writer, *limit)
             }
-            Job::Message(profile) => run_message_in(alloc, *profile, reader, writer),
-            Job::Keytab => run_keytab(alloc, reader, writer),
-            Job::Ccache(now) => run_ccache(alloc, reader, writer, *now),
+            Job::Message(profile) => run_message_in(alloc, form, *profile, reader, writer),
+            Job::Keytab => run_keytab_in(alloc, form, reader, writer),
+            Job::Ccache(now) => run_ccache_in(alloc, form, reader, writer, *now),
             Job::Help(_) | Job::Version(_) => Ok(RunEnd::Clean),
         }
     }
@@ -109,10 +116,10 @@ impl Lister<'_> {
 impl ListSource<Source> for Lister<'_> {
     ghost called = { λ source. unwrap_or (path_of source) (codes "-") };
 
-    // A contract does not see what a file or the standard input gives.
+    // A contract does not see what a file or the standard input holds.
     ghost Lists = { λ lister source held holds outcome. Unit {0} };
 
-    // Nor what the standard error takes.
+    // Nor what is written to the standard error.
     ghost IsReported = { λ lister source fault. Unit {0} };
 
     fn name<'a>(&self, source: &'a Source) -> &'a str {
@@ -140,7 +147,7 @@ impl ListSource<Source> for Lister<'_> {
     }
 }
 
-/// Writes the line of a fault to the standard error. There is none where the reader of the standard
+/// Writes the line of a fault to the standard error. There is none if the reader of the standard
 /// output has gone.
 fn report<N: Display>(rt: &HostRuntime, name: &N, fault: &RunFault) {
     let _ = match fault {
@@ -150,7 +157,7 @@ fn report<N: Display>(rt: &HostRuntime, name: &N, fault: &RunFault) {
     };
 }
 
-/// The status of a fault, of which the standard error gets a line.
+/// Reports a fault, and returns its status.
 fn fault<N: Display>(rt: &HostRuntime, name: &N, fault: &RunFault) -> ExitCode
     ensures { exit_status result ≡ 3 }
 {

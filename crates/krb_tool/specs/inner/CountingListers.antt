@@ -9,10 +9,11 @@ use Rattle.krb_msg.specs.Grammar.{messages as grammar}
 use Rattle.krb_msg.specs.Stream.{End, Boundary, Within, Refused}
 use Rattle.krb_msg.specs.Views.{message_der}
 use Rattle.krb_frame.specs.Decoding.{found, status_of, borrowed}
-use Rattle.krb_frame.specs.GoingOn.{entries, last_entry, rest_to_come, GoesOn, ClearsEntry, Skips}
+use Rattle.krb_frame.specs.GoingOn.{entries, rest_to_come, GoesOn, ClearsEntry, Skips}
 use Rattle.krb_frame.specs.declared.decoder.Status.TheVariants as status
 use Rattle.krb_tool.specs.Lines.{message_line}
 use Rattle.krb_tool.specs.Lines.{refused_line, counted_end_line}
+use Rattle.krb_tool.specs.Paths.{frame_path}
 use Rattle.krb_tool.specs.GoingOn.{Listed, Faulty, entry_of, messages_in, refused_in, lines_after, IsCountedListing, AreCountedLines, EndsUnknown, StopsInPiece, counted_run_end}
 use Rattle.krb_tool.specs.inner.Streams.{Request, Rules, Taken}
 use Rattle.krb_tool.specs.inner.Pieces.{request_of, Kind}
@@ -25,7 +26,7 @@ pub record HasCounted (lister : CountingLister) (stream written : List ℕ) : Ty
   pub goes_on : GoesOn (grammar lister.decoder.current.profile) lister.decoder stream (map entry_of listed)
   -- the length of the last of them is known
   pub known : EndsUnknown (map entry_of listed) → ⊥
-  pub lines : written ++ string_bytes lister.text ≡ lines_after 0 listed
+  pub lines : written ++ string_bytes lister.text ≡ lines_after lister.form lister.decoder.current.profile 0 listed
   pub messages : lister.messages ≡ messages_in listed
   pub refused : lister.refused ≡ refused_in listed
 
@@ -35,16 +36,18 @@ pub record CountsReady (old new : CountingLister) : Type 0 where
   pub is_ready : borrowed (grammar old.decoder.current.profile) old.decoder.current ≡ Some contents
   pub message : Message
   pub form : message_der message ≡ contents
-  pub line : string_bytes new.text ≡ string_bytes old.text ++ message_line message
+  pub line : string_bytes new.text ≡ string_bytes old.text ++ message_line old.form message
   pub messages : new.messages ≡ old.messages + 1
   pub refused : new.refused ≡ old.refused
+  pub same_form : new.form ≡ old.form
   pub cleared : ClearsEntry (grammar old.decoder.current.profile) old.decoder new.decoder true
 
 -- the line of the frame that is refused was added, and it is skipped
 pub record CountsRefused (old : CountingLister) (refusal : Refusal) (new : CountingLister) : Type 0 where
-  pub line : string_bytes new.text ≡ string_bytes old.text ++ refused_line old.messages refusal.place refusal.why
+  pub line : string_bytes new.text ≡ string_bytes old.text ++ refused_line old.form old.messages refusal.place refusal.why (frame_path old.decoder.current.profile old.decoder.current.octets)
   pub messages : new.messages ≡ old.messages
   pub refused : new.refused ≡ old.refused + 1
+  pub same_form : new.form ≡ old.form
   pub skipped : Skips (grammar old.decoder.current.profile) old.decoder new.decoder true
 
 -- if its length is not known nothing changes
@@ -52,35 +55,39 @@ abbrev pub SkipsRefused : CountingLister → Refusal → CountingLister → Bool
 SkipsRefused old refusal new true = CountsRefused old refusal new
 SkipsRefused old refusal new false = (new ≡ old) × (rest_to_come (grammar old.decoder.current.profile) old.decoder.current ≡ None)
 
--- what is listed of the end of a stream
-abbrev pub last_listed : End → List Listed
-last_listed Boundary = []
-last_listed (Within present) = Faulty present Truncated ∷ []
-last_listed (Refused place reason) = Faulty place reason ∷ []
+-- what is listed of the end of a stream, with the octets of the frame in which it ends
+abbrev pub last_listed : End → List ℕ → List Listed
+last_listed Boundary octets = []
+last_listed (Within present) octets = Faulty present Truncated octets ∷ []
+last_listed (Refused place reason) octets = Faulty place reason octets ∷ []
+
+-- what a lister lists of the end of its stream
+abbrev pub last_of : CountingLister → List Listed
+last_of lister = last_listed (found (grammar lister.decoder.current.profile) lister.decoder.current).end lister.decoder.current.octets
 
 -- the line that counts was added
 pub record PutsCount (old new : CountingLister) (ended : RunEnd) : Type 0 where
-  pub line : string_bytes new.text ≡ string_bytes old.text ++ counted_end_line old.messages old.refused
+  pub line : string_bytes new.text ≡ string_bytes old.text ++ counted_end_line old.form old.messages old.refused
   pub ended_so : ended ≡ counted_run_end old.refused
 
 -- the line of the last frame was added, and the one that counts
 pub record PutsLast (old : CountingLister) (refusal : Refusal) (new : CountingLister) (ended : RunEnd) : Type 0 where
-  pub lines : string_bytes new.text ≡ string_bytes old.text ++ (refused_line old.messages refusal.place refusal.why ++ counted_end_line old.messages (old.refused + 1))
+  pub lines : string_bytes new.text ≡ string_bytes old.text ++ (refused_line old.form old.messages refusal.place refusal.why (frame_path old.decoder.current.profile old.decoder.current.octets) ++ counted_end_line old.form old.messages (old.refused + 1))
   pub ended_so : ended ≡ counted_run_end (old.refused + 1)
 
 -- the lines of the end were added
 pub record CountsEnd (old new : CountingLister) (ended : RunEnd) : Type 0 where
-  pub lines : string_bytes new.text ≡ string_bytes old.text ++ (lines_after old.messages (last_listed (found (grammar old.decoder.current.profile) old.decoder.current).end) ++ counted_end_line old.messages (old.refused + refused_in (last_listed (found (grammar old.decoder.current.profile) old.decoder.current).end)))
-  pub ended_so : ended ≡ counted_run_end (old.refused + refused_in (last_listed (found (grammar old.decoder.current.profile) old.decoder.current).end))
+  pub lines : string_bytes new.text ≡ string_bytes old.text ++ (lines_after old.form old.decoder.current.profile old.messages (last_of old) ++ counted_end_line old.form old.messages (old.refused + refused_in (last_of old)))
+  pub ended_so : ended ≡ counted_run_end (old.refused + refused_in (last_of old))
 
 -- ---- a lister of a stream
 -- The length of the last frame is not known. The frames before it are listed.
 pub record IsUnknownAfter (lister : CountingLister) (taken : Taken) : Type 0 where
   pub listed : List Listed
-  pub lines : taken.written ++ string_bytes lister.text ≡ lines_after 0 listed
+  pub lines : taken.written ++ string_bytes lister.text ≡ lines_after lister.form lister.decoder.current.profile 0 listed
   pub messages : lister.messages ≡ messages_in listed
   pub refused : lister.refused ≡ refused_in listed
-  pub all : entries (grammar lister.decoder.current.profile) lister.decoder.current.limit taken.octets ≡ map entry_of listed ++ last_entry (found (grammar lister.decoder.current.profile) lister.decoder.current).end
+  pub all : entries (grammar lister.decoder.current.profile) lister.decoder.current.limit taken.octets ≡ map entry_of listed ++ map entry_of (last_of lister)
   pub end : (found (grammar lister.decoder.current.profile) lister.decoder.current).end ≡ Refused 3 HighBit
   pub few : lister.refused ≤ 65536 * taken.pieces
   pub stops : StopsInPiece lister.decoder.current.profile lister.decoder.current.limit taken.octets
@@ -93,15 +100,15 @@ pub record EndsAfter (profile : Profile) (limit : ℕ) (octets : List ℕ) (list
 
 abbrev pub counting_rules : Request → Rules
 counting_rules request = record {
-  IsListing = IsCountedListing request.profile request.limit;
-  AreLines = AreCountedLines request.profile request.limit;
+  IsListing = IsCountedListing request.form request.profile request.limit;
+  AreLines = AreCountedLines request.form request.profile request.limit;
   Ends = λ octets text listing left ended. EndsAfter request.profile request.limit octets listing.found left ended;
 }
 
 abbrev pub counting : Kind CountingLister
 counting = record {
   rules = counting_rules;
-  request = λ lister. request_of lister.decoder.current;
+  request = λ lister. request_of lister.form lister.decoder.current;
   decoding = λ lister. lister.decoder.current;
   text = λ lister. string_bytes lister.text;
   count = λ lister. lister.messages + lister.refused;

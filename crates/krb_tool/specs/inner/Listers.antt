@@ -13,6 +13,7 @@ use Rattle.krb_frame.specs.Feeds.{Clears}
 use Rattle.krb_frame.specs.declared.decoder.Status.TheVariants as status
 use Rattle.krb_tool.specs.Lines.{message_line}
 use Rattle.krb_tool.specs.Lines.{end_line}
+use Rattle.krb_tool.specs.Paths.{frame_path}
 use Rattle.krb_tool.specs.Listing.{end_of, run_end, IsListing, AllIsRead, StopsInPiece, AreLines}
 use Rattle.krb_tool.specs.inner.Streams.{Request, Rules, Taken}
 use Rattle.krb_tool.specs.inner.Pieces.{request_of, Kind}
@@ -23,7 +24,7 @@ use Rattle.krb_tool.specs.declared.run.RunEnd.{RunEnd}
 pub record HasListed (lister : Lister) (stream written : List ℕ) : Type 0 where
   pub messages : List Message
   pub stands : Stands (grammar lister.decoder.profile) lister.decoder stream (map message_der messages)
-  pub lines : written ++ string_bytes lister.text ≡ flat_map message_line messages
+  pub lines : written ++ string_bytes lister.text ≡ flat_map (message_line lister.form) messages
   pub counted : lister.messages ≡ length messages
 
 -- the line of the message that is ready was added, and its frame is cleared
@@ -32,26 +33,30 @@ pub record ListsReady (old new : Lister) : Type 0 where
   pub is_ready : borrowed (grammar old.decoder.profile) old.decoder ≡ Some contents
   pub message : Message
   pub form : message_der message ≡ contents
-  pub line : string_bytes new.text ≡ string_bytes old.text ++ message_line message
+  pub line : string_bytes new.text ≡ string_bytes old.text ++ message_line old.form message
   pub counted : new.messages ≡ old.messages + 1
+  pub same_form : new.form ≡ old.form
   pub cleared : Clears (grammar old.decoder.profile) old.decoder new.decoder true
 
 -- the line of a message was added, which is counted
 pub record AddsLine (message : Message) (old new : Lister) : Type 0 where
-  pub line : string_bytes new.text ≡ string_bytes old.text ++ message_line message
+  pub line : string_bytes new.text ≡ string_bytes old.text ++ message_line old.form message
   pub counted : new.messages ≡ old.messages + 1
+  pub same_form : new.form ≡ old.form
   pub same_decoder : new.decoder ≡ old.decoder
 
 -- the line of the end was added
 pub record AddsEnd (old new : Lister) (ended : RunEnd) : Type 0 where
-  pub line : string_bytes new.text ≡ string_bytes old.text ++ end_line old.messages (found (grammar old.decoder.profile) old.decoder).end
+  pub line : string_bytes new.text ≡ string_bytes old.text ++ end_line old.form old.messages (found (grammar old.decoder.profile) old.decoder).end (frame_path old.decoder.profile old.decoder.octets)
   pub ended_so : ended ≡ run_end (found (grammar old.decoder.profile) old.decoder).end
 
 -- ---- a lister of a stream
--- An octet of the last piece is refused. The frames before it are listed, and the octets of the frame that were used tell where it stands.
+-- An octet of the last piece is refused. The frames before it are listed, and the octets of the frame that were used tell where it stands. The rest of the piece was not used.
 pub record IsRefusedAfter (lister : Lister) (taken : Taken) : Type 0 where
   pub stream : List ℕ
   pub listed : HasListed lister stream taken.written
+  pub rest : List ℕ
+  pub parts : taken.octets ≡ stream ++ rest
   pub same_frames : frames (grammar lister.decoder.profile) lister.decoder.limit taken.octets ≡ frames (grammar lister.decoder.profile) lister.decoder.limit stream
   pub none : (found (grammar lister.decoder.profile) lister.decoder).contents ≡ []
   pub refusal : Refusal
@@ -66,15 +71,15 @@ pub record EndsAt (profile : Profile) (limit : ℕ) (octets : List ℕ) (left : 
 
 abbrev pub stopping_rules : Request → Rules
 stopping_rules request = record {
-  IsListing = IsListing request.profile request.limit;
-  AreLines = AreLines request.profile request.limit;
+  IsListing = IsListing request.form request.profile request.limit;
+  AreLines = AreLines request.form request.profile request.limit;
   Ends = λ octets text listing left ended. EndsAt request.profile request.limit octets left ended;
 }
 
 abbrev pub stopping : Kind Lister
 stopping = record {
   rules = stopping_rules;
-  request = λ lister. request_of lister.decoder;
+  request = λ lister. request_of lister.form lister.decoder;
   decoding = λ lister. lister.decoder;
   text = λ lister. string_bytes lister.text;
   count = λ lister. lister.messages;

@@ -4,11 +4,12 @@ use Rattle.std.specs.Io.KnownBytes.{IsAtEnd}
 use Rattle.krb_msg.specs.Grammar.{messages}
 use Rattle.krb_frame.specs.Decoding.{Decoding, status_of}
 use Rattle.krb_frame.specs.declared.decoder.Status.TheVariants as status
+use Rattle.krb_list.specs.declared.form.Form.{Form}
 use Rattle.krb_tool.specs.inner.Streams.{Request, Rules, Taken, Listing}
 
 -- what the lister of a decoder was asked for
-abbrev pub request_of : Decoding → Request
-request_of decoding = record { profile = decoding.profile; limit = decoding.limit }
+abbrev pub request_of : Form → Decoding → Request
+request_of form decoding = record { form = form; profile = decoding.profile; limit = decoding.limit }
 
 -- What is known of the listers of a kind.
 pub record Kind (L : Type 0) : Type 1 where

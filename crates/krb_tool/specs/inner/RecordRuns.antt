@@ -13,8 +13,8 @@ use Rattle.krb_ccache.specs.declared.reading.Start.{Start}
 use Rattle.krb_ccache.specs.Reading.{Items}
 use Rattle.krb_ccache.specs.Streaming.{Reads as ReadsCredentials, credentials}
 use Rattle.krb_ccache.specs.declared.credentials.State.{State as CredentialsState}
-use Rattle.krb_list.specs.Text.{line_feed}
-use Rattle.krb_tool.specs.Lines.{record_text}
+use Rattle.krb_list.specs.declared.form.Form.{Form}
+use Rattle.krb_tool.specs.Lines.{record_line}
 use Rattle.krb_tool.specs.Lines.{credential_line}
 use Rattle.krb_tool.specs.Lines.{file_refused_line}
 use Rattle.krb_tool.specs.declared.run.RunEnd.{RunEnd}
@@ -33,10 +33,10 @@ abbrev pub Adds : List ℕ → Option RunEnd → List ℕ → List ℕ → Optio
 Adds line wanted old new ended = (ended ≡ wanted) × (new ≡ old ++ line)
 
 -- The line of a refusal was added, which ends the run.
-abbrev pub AddsRefusal : FileFault → List ℕ → List ℕ → Option RunEnd → Type 0
-AddsRefusal (faults.Refused place why) old new ended = Adds (file_refused_line place why) (Some run.Refused) old new ended
-AddsRefusal faults.Read old new ended = ⊥
-AddsRefusal faults.Memory old new ended = ⊥
+abbrev pub AddsRefusal : Form → FileFault → List ℕ → List ℕ → Option RunEnd → Type 0
+AddsRefusal form (faults.Refused place why) old new ended = Adds (file_refused_line form place why None) (Some run.Refused) old new ended
+AddsRefusal form faults.Read old new ended = ⊥
+AddsRefusal form faults.Memory old new ended = ⊥
 
 -- the beginning of a text was written, and the rest is kept
 abbrev pub Moves : Option (List ℕ) → Option (List ℕ) → List ℕ → List ℕ → Type 0
@@ -46,26 +46,26 @@ Moves held holds old new = (front : List ℕ) × Appends held holds front × (ol
 abbrev pub left_of : {A : Type 0} → (A → List ℕ) → List A → ℕ → List ℕ → RunEnd → RecordListing
 left_of line items count last end = record { lines = flat_map line (drop count items); last = last; end = end }
 
-abbrev pub records_left : ℕ → Records → RecordListing
-records_left count found = left_of (λ r. record_text r ++ line_feed) found.records count (keytab_last (length found.records) found.end) (end_of found.end)
+abbrev pub records_left : Form → ℕ → Records → RecordListing
+records_left form count found = left_of (λ r. record_line form r) found.records count (keytab_last form (length found.records) found.end) (end_of found.end)
 
-abbrev pub credentials_left : Option ℕ → ℕ → Items Credential → RecordListing
-credentials_left now count found = left_of (λ c. credential_line now c ++ line_feed) found.items count (ccache_last (length found.items) found.end) (end_of found.end)
+abbrev pub credentials_left : Form → Option ℕ → ℕ → Items Credential → RecordListing
+credentials_left form now count found = left_of (λ c. credential_line form now c) found.items count (ccache_last form (length found.items) found.end) (end_of found.end)
 
 -- A reader gave the first `count` records of a file, and this is left of its listing.
-pub record AreRecordsLeft (held : Held) (state : RecordsState) (count : ℕ) (left : RecordListing) : Type 0 where
+pub record AreRecordsLeft (form : Form) (held : Held) (state : RecordsState) (count : ℕ) (left : RecordListing) : Type 0 where
   pub file : List ℕ
   pub reads : ReadsRecords field_limit held state file count
-  pub is : left ≡ records_left count (keytab_records field_limit file)
+  pub is : left ≡ records_left form count (keytab_records field_limit file)
 
 -- The same of credentials, at a time if one is given.
-pub record AreCredentialsLeft (held : Held) (start : Start) (state : CredentialsState) (now : Option ℕ) (count : ℕ) (left : RecordListing) : Type 0 where
+pub record AreCredentialsLeft (form : Form) (held : Held) (start : Start) (state : CredentialsState) (now : Option ℕ) (count : ℕ) (left : RecordListing) : Type 0 where
   pub file : List ℕ
   pub reads : ReadsCredentials field_limit held start state file count
-  pub is : left ≡ credentials_left now count (credentials field_limit file)
+  pub is : left ≡ credentials_left form now count (credentials field_limit file)
 
 -- if a file is refused, the line of the refusal is what is left
-abbrev pub IsRefusal : FileFault → RecordListing → Type 0
-IsRefusal (faults.Refused place why) left = left ≡ refused_listing (record { place = place; why = why })
-IsRefusal faults.Read left = Unit {0}
-IsRefusal faults.Memory left = Unit {0}
+abbrev pub IsRefusal : Form → FileFault → RecordListing → Type 0
+IsRefusal form (faults.Refused place why) left = left ≡ refused_listing form (record { place = place; why = why })
+IsRefusal form faults.Read left = Unit {0}
+IsRefusal form faults.Memory left = Unit {0}

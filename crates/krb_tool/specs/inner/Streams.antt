@@ -2,13 +2,15 @@
 use Rattle.std.specs.Prelude.{ℕ, ◌+◌, ◌^◌, ◌≡◌, ◌≤◌, ◌⊎◌, Bool, true, false, List, [], ◌++◌, Option}
 use Rattle.std.specs.Io.KnownBytes.{Consumes, Appends, IsAtEnd}
 use Rattle.krb_der.specs.declared.profile.Profile.{Profile}
+use Rattle.krb_list.specs.declared.form.Form.{Form}
 use Rattle.krb_tool.specs.declared.run.RunEnd.{RunEnd}
 use Rattle.krb_tool.specs.declared.run.RunFault.{RunFault}
 use Rattle.krb_tool.specs.declared.run.RunFault.TheVariants as fault
 use Rattle.krb_tool.specs.Listing.{WritesFront}
 
--- what a listing is asked for: the profile of the messages, and the greatest length of a frame
+-- what a listing is asked for: its form, the profile of the messages, and the greatest length of a frame
 pub record Request : Type 0 where
+  pub form : Form
   pub profile : Profile
   pub limit : ℕ
 

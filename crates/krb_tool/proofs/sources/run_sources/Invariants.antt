@@ -6,7 +6,7 @@ use Rattle.krb_tool.proofs.sources.run_sources.Given as goal
 
 -- what is left makes the whole
 abbrev pub invariant-sources : goal.invariant-sources
-invariant-sources g l = Goes (λ source. Reports (g.L.ListSource.IsReported l.lister source) (ListsOne (nat_lt 1 (length l.sources)) (g.L.ListSource.called source) (g.L.ListSource.Lists l.lister source))) l.sources l.rest (g.W.Write.contents l.initial.writer) (g.W.Write.contents l.writer) l.greatest
+invariant-sources g l = Goes (λ source. Reports (g.L.ListSource.IsReported l.lister source) (ListsOne l.form (nat_lt 1 (length l.sources)) (g.L.ListSource.called source) (g.L.ListSource.Lists l.lister source))) l.sources l.rest (g.W.Write.contents l.initial.writer) (g.W.Write.contents l.writer) l.greatest
 
 abbrev pub decreases-sources : goal.decreases-sources
 decreases-sources g l = length l.rest

@@ -59,10 +59,10 @@ pub returns-in_err-write_all-2-clause-fault : goal.returns-in_err-write_all-2-cl
 returns-in_err-write_all-2-clause-fault g c =
     let over = is_over _ c.if-branch.false (c.in_ok-feed_next.ensures.fed _ _ _ _ c.pieces.invariant.runs) in
     let front = subst (AddsFront _ _) (c.as_bytes-2.ensures.value ∙ c.text-2.ensures) c.in_err-write_all-2.ensures.front in
-    Fails-last g.L.ListStream.rules _ _ (g.L.ListStream.listing c.finish.new.self) _ over c.in_ok-ended.ensures (search rules) front
+    Fails-last g.L.ListStream.rules _ _ (g.L.ListStream.listing c.finish.new.self) _ over c.in_ok-ended.ensures.finished (search rules) front
 
 pub returns-clause-listed : goal.returns-clause-listed
 returns-clause-listed g c =
     let over = is_over _ c.if-branch.false (c.in_ok-feed_next.ensures.fed _ _ _ _ c.pieces.invariant.runs) in
     let written = subst (Appends _ _) (c.as_bytes-2.ensures.value ∙ c.text-2.ensures) c.in_ok-write_all-2.ensures.all in
-    Lists-made g.L.ListStream.rules _ (g.L.ListStream.listing c.finish.new.self) _ over c.in_ok-ended.ensures written
+    Lists-made g.L.ListStream.rules _ (g.L.ListStream.listing c.finish.new.self) _ over c.in_ok-ended.ensures.finished written

@@ -8,7 +8,7 @@ invariant-pieces g l = record {
   size : vec_len l.buffer ≡ 65536;
   opens : l.asked.state ≡ reader.Open;
   same_reader : l.asked.reader.ghost_name ≡ l.initial.asked.reader.ghost_name;
-  runs : let request : Request = record { profile = l.fn.profile; limit = l.fn.limit } in Runs (g.L.ListStream.rules request) request (g.R.Read.remaining l.initial.asked.reader.now) (g.R.Read.remaining l.asked.reader.now) (g.W.Write.contents l.initial.writer) (g.W.Write.contents l.writer) l.asked.made (g.L.ListStream.listing l.lister);
+  runs : let request : Request = record { form = l.fn.form; profile = l.fn.profile; limit = l.fn.limit } in Runs (g.L.ListStream.rules request) request (g.R.Read.remaining l.initial.asked.reader.now) (g.R.Read.remaining l.asked.reader.now) (g.W.Write.contents l.initial.writer) (g.W.Write.contents l.writer) l.asked.made (g.L.ListStream.listing l.lister);
 }
 
 abbrev pub decreases-pieces : goal.decreases-pieces

@@ -17,7 +17,7 @@ frames-init c = IsFed-start counting c.args.self.now c.args.piece.now (may_wait 
 pub returns-in-More-clause-fed : goal.returns-in-More-clause-fed
 returns-in-More-clause-fed c =
     let new : CountingLister = record c.frames.self { decoder = c.feed-fed.new.self } in
-    Feeds-made counting Begins-waits stops-unknown c.requires.short (TakesPiece-both counting c.frames.invariant (TakesPiece-more c.frames.self new c.frames.rest.now c.feed-fed.result c.feed-fed.ensures refl refl refl c.in-More.is))
+    Feeds-made counting Begins-waits stops-unknown c.requires.short (TakesPiece-both counting c.frames.invariant (TakesPiece-more c.frames.self new c.frames.rest.now c.feed-fed.result c.feed-fed.ensures refl refl refl refl c.in-More.is))
 
 -- ---- a frame is ready
 pub list_ready-requires-clause-few : goal.list_ready-requires-clause-few
@@ -38,7 +38,7 @@ pub frames-preserved-in_ok-list_ready-in-Ready : goal.frames-preserved-in_ok-lis
 frames-preserved-in_ok-list_ready-in-Ready c =
     let between : CountingLister = record c.frames.self { decoder = c.feed-fed.new.self } in
     rw (take_rest c.frames.rest.now c.feed-fed.result.used)
-    (IsFed-both counting c.frames.invariant (IsFed-ready c.frames.self between c.frames.rest.now c.feed-fed.result c.feed-fed.ensures refl refl refl c.list_ready.new.self c.frames.invariant.waits c.in-Ready.is c.in_ok-list_ready-in-Ready.ensures.listed))
+    (IsFed-both counting c.frames.invariant (IsFed-ready c.frames.self between c.frames.rest.now c.feed-fed.result c.feed-fed.ensures refl refl refl refl c.list_ready.new.self c.frames.invariant.waits c.in-Ready.is c.in_ok-list_ready-in-Ready.ensures.listed))
 
 -- ---- a frame is refused
 pub skip_refused-requires : goal.skip_refused-requires
@@ -54,7 +54,7 @@ returns-then-not-branch-clause-fed c =
     let none = skipped-none between c.skip_refused.new.self c.in-Refused.refusal c.in_ok-skip_refused-in-Refused.field-0 c.if-not-branch.true c.in_ok-skip_refused-in-Refused.ensures.skipped in
     subst (λ n. Feeds counting_rules (listing_of counting c.args.self.now) c.args.piece.now (listing_of counting n) false) (sym none.0)
     (Feeds-made counting Begins-waits stops-unknown c.requires.short
-    (TakesPiece-both counting c.frames.invariant (TakesPiece-unknown c.frames.self between c.frames.rest.now c.feed-fed.result c.feed-fed.ensures refl refl refl c.in-Refused.refusal c.in-Refused.is none.1)))
+    (TakesPiece-both counting c.frames.invariant (TakesPiece-unknown c.frames.self between c.frames.rest.now c.feed-fed.result c.feed-fed.ensures refl refl refl refl c.in-Refused.refusal c.in-Refused.is none.1)))
 
 pub frames-smaller : goal.frames-smaller
 frames-smaller c =
@@ -68,4 +68,4 @@ frames-preserved c =
     let between : CountingLister = record c.frames.self { decoder = c.feed-fed.new.self } in
     let one = skipped-one between c.skip_refused.new.self c.in-Refused.refusal c.in_ok-skip_refused-in-Refused.field-0 c.if-not-branch.false c.in_ok-skip_refused-in-Refused.ensures.skipped in
     rw (take_rest c.frames.rest.now c.feed-fed.result.used)
-    (IsFed-both counting c.frames.invariant (IsFed-refused c.frames.self between c.frames.rest.now c.feed-fed.result c.feed-fed.ensures refl refl refl c.skip_refused.new.self c.in-Refused.refusal c.frames.invariant.waits c.in-Refused.is one))
+    (IsFed-both counting c.frames.invariant (IsFed-refused c.frames.self between c.frames.rest.now c.feed-fed.result c.feed-fed.ensures refl refl refl refl c.skip_refused.new.self c.in-Refused.refusal c.frames.invariant.waits c.in-Refused.is one))

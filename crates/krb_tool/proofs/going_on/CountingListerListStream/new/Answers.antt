@@ -14,7 +14,7 @@ pub returns : goal.returns
 returns c =
     let nothing = c.with_profile-decoder.ensures.nothing in
     let same : c.new.result.current ≡ c.with_profile-decoder.result = ap (λ s. s.current) c.new.ensures.decoder in
-    IsNew-made counting Begins-waits (ap request_of (same ∙ nothing))
+    IsNew-made counting Begins-waits (ap (request_of c.args.form) (same ∙ nothing))
     (record {
       listed = record {
         listed = [];

@@ -17,13 +17,13 @@ pub returns-in-More-clause-fed : goal.returns-in-More-clause-fed
 returns-in-More-clause-fed c =
     let i = IsFed-both stopping c.frames.invariant c.in_ok-after.ensures.fed in
     let new : Lister = record c.list_passed.new.self { decoder = c.feed-fed.new.self } in
-    Feeds-made stopping Begins-waits stops-refused c.requires.short (TakesPiece-both stopping i (TakesPiece-more c.list_passed.new.self new c.in_ok-after.after.now c.feed-fed.result c.feed-fed.ensures refl refl c.in-More.is))
+    Feeds-made stopping Begins-waits stops-refused c.requires.short (TakesPiece-both stopping i (TakesPiece-more c.list_passed.new.self new c.in_ok-after.after.now c.feed-fed.result c.feed-fed.ensures refl refl refl c.in-More.is))
 
 pub returns-in-Refused-clause-fed : goal.returns-in-Refused-clause-fed
 returns-in-Refused-clause-fed c =
     let i = IsFed-both stopping c.frames.invariant c.in_ok-after.ensures.fed in
     let new : Lister = record c.list_passed.new.self { decoder = c.feed-fed.new.self } in
-    Feeds-made stopping Begins-waits stops-refused c.requires.short (TakesPiece-both stopping i (TakesPiece-refused c.list_passed.new.self new c.in_ok-after.after.now c.feed-fed.result c.feed-fed.ensures refl refl c.in-Refused.field-0 c.in-Refused.is))
+    Feeds-made stopping Begins-waits stops-refused c.requires.short (TakesPiece-both stopping i (TakesPiece-refused c.list_passed.new.self new c.in_ok-after.after.now c.feed-fed.result c.feed-fed.ensures refl refl refl c.in-Refused.field-0 c.in-Refused.is))
 
 pub list_ready-requires-clause-few : goal.list_ready-requires-clause-few
 list_ready-requires-clause-few c =
@@ -42,4 +42,4 @@ frames-preserved c =
     let i = IsFed-both stopping c.frames.invariant c.in_ok-after.ensures.fed in
     let between : Lister = record c.list_passed.new.self { decoder = c.feed-fed.new.self } in
     rw (take_rest c.in_ok-after.after.now c.feed-fed.result.used)
-    (IsFed-both stopping i (IsFed-ready c.list_passed.new.self between c.in_ok-after.after.now c.feed-fed.result c.feed-fed.ensures refl refl c.list_ready.new.self i.waits c.in-Ready.is c.in_ok-list_ready-in-Ready.ensures.listed))
+    (IsFed-both stopping i (IsFed-ready c.list_passed.new.self between c.in_ok-after.after.now c.feed-fed.result c.feed-fed.ensures refl refl refl c.list_ready.new.self i.waits c.in-Ready.is c.in_ok-list_ready-in-Ready.ensures.listed))

@@ -4,5 +4,5 @@ use Rattle.krb_tool.proofs.Pieces.{Finishes-made}
 use Rattle.krb_tool.proofs.ListedPieces.{EndsListing-made}
 use Rattle.krb_tool.proofs.listing.ListerListStream.finish.Goals as goal
 
-pub returns : goal.returns
-returns c = IfOk-weaker c.put_end.result _ _ (λ ended f. Finishes-made stopping c.args.self.now c.put_end.new.self ended (EndsListing-made c.args.self.now c.put_end.new.self ended f)) c.put_end.ensures
+pub returns-clause-finished : goal.returns-clause-finished
+returns-clause-finished c = IfOk-weaker c.put_end.result _ _ (λ ended f. Finishes-made stopping c.args.self.now c.put_end.new.self ended (EndsListing-made c.args.self.now c.put_end.new.self ended f)) c.put_end.ensures.added

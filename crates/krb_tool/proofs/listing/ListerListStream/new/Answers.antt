@@ -13,7 +13,7 @@ pub returns : goal.returns
 returns c =
     let nothing = c.with_profile.ensures.nothing in
     let profile : c.with_profile.result.profile ≡ c.args.profile = ap (λ d. d.profile) nothing in
-    IsNew-made stopping Begins-waits (ap request_of nothing)
+    IsNew-made stopping Begins-waits (ap (request_of c.args.form) nothing)
     (record {
       listed = record { messages = []; stands = subst (λ p. Stands (messages p) c.with_profile.result [] []) (sym profile) c.with_profile.ensures.stands; lines = c.new.ensures.bytes; counted = refl };
       waits = ap (λ d. status_of (messages d.profile) d) nothing ∙ more-nothing (messages c.args.profile) c.args.profile c.args.limit _ _;

@@ -1,0 +1,18 @@
+use Rattle.std.proofs.Common.{sym, ◌∙◌, ap, ap₂, take}
+use Rattle.krb_der.specs.Octets.{number}
+use Rattle.krb_judge.specs.Paths.{message_path}
+use Rattle.krb_list.specs.Refusals.{path_in}
+use Rattle.krb_tool.specs.Paths.{frame_path}
+use Rattle.krb_tool.proofs.fault_path.frame_path.Goals as goal
+
+pub returns-in-None-clause-path : goal.returns-in-None-clause-path
+unfolding frame_path
+returns-in-None-clause-path c = ap (path_in c.args.form) (sym (ap (message_path c.args.decoder.now.profile (number (take 4 c.args.decoder.now.octets))) c.in-None.ensures))
+
+pub returns-in_ok-path-in-Some-clause-path : goal.returns-in_ok-path-in-Some-clause-path
+unfolding frame_path
+returns-in_ok-path-in-Some-clause-path c =
+    ap (path_in c.args.form)
+    (c.in_ok-path-in-Some.ensures
+    ∙ ap (λ profile. message_path profile c.in-Some.partial.size c.in-Some.partial.octets.now) c.profile.ensures
+    ∙ ap₂ (message_path c.args.decoder.now.profile) c.in-Some.ensures.announced c.in-Some.ensures.kept)

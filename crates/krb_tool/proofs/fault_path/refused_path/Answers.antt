@@ -1,0 +1,13 @@
+use Rattle.std.proofs.Common.{length, refl, arith, ap, ◌∙◌}
+use Rattle.std.proofs.lemmas.Bool.{lt-ltb}
+use Rattle.krb_list.specs.Refusals.{path_in}
+use Rattle.krb_tool.specs.Paths.{refused_path}
+use Rattle.krb_tool.proofs.FaultPaths.{short_path}
+use Rattle.krb_tool.proofs.fault_path.refused_path.Goals as goal
+
+pub returns-then-octets-gt-MOST_OCTETS-clause-path : goal.returns-then-octets-gt-MOST_OCTETS-clause-path
+unfolding refused_path
+returns-then-octets-gt-MOST_OCTETS-clause-path c = ap (path_in c.args.form) (rw (lt-ltb 2147483647 (length c.args.octets.now) (omega arith)) refl)
+
+pub returns-clause-path : goal.returns-clause-path
+returns-clause-path c = ap (path_in c.args.form) (c.in_ok-path.ensures ∙ short_path c.args.profile c.args.octets.now c.args.refusal (length c.args.octets.now) c.min-front.result (omega arith) refl c.min-front.ensures)

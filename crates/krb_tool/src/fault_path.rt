@@ -1,0 +1,88 @@
+//! The path of the field at fault, of what is refused or cut.
+
+ghost use Rattle.std.specs.Prelude.{◌≡◌, ◌++◌, IfErr, IfOk, OnOk, string_bytes};
+ghost use Rattle.std.specs.Option.{option_map};
+ghost use Rattle.krb_list.specs.Refusals.{path_in};
+ghost use Rattle.krb_tool.specs.Lines.{refused_line, message_refused_line};
+ghost use Rattle.krb_tool.specs.Paths.{frame_path, refused_path};
+
+use crate::run::RunFault;
+use krb_der::{Profile, Refusal};
+use krb_frame::Decoder;
+use krb_judge::path;
+use krb_list::{Form, put_message_refusal, put_stream_refusal};
+use std::alloc::{AllocError, Global};
+
+/// The greatest number of octets of a message.
+const MOST_OCTETS: usize = 2147483647;
+
+/// Returns the path in the frame that a decoder refused or has a part of, if records of the form show
+/// it.
+pub(crate) fn frame_path(
+    alloc: Global,
+    form: Form,
+    decoder: &Decoder,
+) -> Result<Option<String>, RunFault>
+    ensures path { IfOk result (λ path. path_in form (option_map string_bytes path) ≡ path_in form (frame_path decoder.now.profile decoder.now.octets)) }
+    ensures fault { IfErr result (λ e. e ≡ RunFault.Memory) }
+{
+    if form == Form::Lines {
+        return Ok(None);
+    }
+    match decoder.partial() {
+        None => Ok(None),
+        Some(partial) => Ok(path(alloc, decoder.profile(), partial.size, partial.octets)?),
+    }
+}
+
+/// Returns the path in octets that are refused as a message, if records of the form show it.
+pub(crate) fn refused_path(
+    alloc: Global,
+    form: Form,
+    profile: Profile,
+    octets: &[u8],
+    refusal: Refusal,
+) -> Result<Option<String>, RunFault>
+    ensures path { IfOk result (λ path. path_in form (option_map string_bytes path) ≡ path_in form (refused_path profile octets.now refusal)) }
+    ensures fault { IfErr result (λ e. e ≡ RunFault.Memory) }
+{
+    if form == Form::Lines {
+        return Ok(None);
+    }
+    if octets.len() > MOST_OCTETS {
+        return Ok(None);
+    }
+    let front = (refusal.place as usize + 1).min(octets.len());
+    Ok(path(alloc, profile, octets.len() as u32, &octets[..front])?)
+}
+
+/// Appends the line of a frame that is refused, after a number of messages.
+pub(crate) fn put_refused_frame(
+    text: &mut String,
+    form: Form,
+    messages: u64,
+    refusal: Refusal,
+    path: &Option<String>,
+) -> Result<(), AllocError>
+    ensures { OnOk result (string_bytes text.new ≡ string_bytes text.old ++ refused_line form messages refusal.place refusal.why (option_map string_bytes path.now)) }
+{
+    match path {
+        None => put_stream_refusal(text, form, messages, refusal, None),
+        Some(path) => put_stream_refusal(text, form, messages, refusal, Some(path.as_str())),
+    }
+}
+
+/// Appends the line of octets that are no message.
+pub(crate) fn put_refused_message(
+    text: &mut String,
+    form: Form,
+    refusal: Refusal,
+    path: &Option<String>,
+) -> Result<(), AllocError>
+    ensures { OnOk result (string_bytes text.new ≡ string_bytes text.old ++ message_refused_line form refusal (option_map string_bytes path.now)) }
+{
+    match path {
+        None => put_message_refusal(text, form, refusal, None),
+        Some(path) => put_message_refusal(text, form, refusal, Some(path.as_str())),
+    }
+}
