@@ -1,0 +1,4 @@
+pub mod Places
+pub mod Distances
+pub mod Pieces
+pub mod Captured

@@ -1,0 +1,5 @@
+pub mod Serial
+pub mod Waiting
+pub mod Progress
+pub mod Directions
+pub mod Laws

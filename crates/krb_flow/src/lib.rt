@@ -1,0 +1,28 @@
+//! Directions of TCP connections: the octets that one end sends, put together from segments (RFC
+//! 9293).
+//!
+//! The main calls:
+//!
+//! - [`Direction::take`] returns what comes of a segment ([`Taken`]): how the direction begins or
+//!   ends, and the octets that are next in it, whether they were captured in order or not.
+//! - [`Direction::end`] ends a direction, and returns what is known of its octets then.
+//!
+//! Octets that come before their turn wait, at most 1 MiB of them. Nothing here reads packets or
+//! keeps a table of connections, and neither acknowledgments nor times are looked at: `krb_packet`
+//! reads captures.
+//!
+//! The laws of [`law`] say that sequence numbers are compared rightly, and that what is taken is
+//! the stream, however it is cut into segments.
+#![tactic(auto)]
+
+mod direction;
+pub mod law;
+mod serial;
+mod stream;
+#[cfg(test)]
+mod tests;
+mod waiting;
+
+pub use direction::{Beginning, Direction, State, Taken};
+pub use serial::Distance;
+pub use stream::{End, Lost, Stream};

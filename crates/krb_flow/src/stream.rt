@@ -1,0 +1,218 @@
+//! What one end of a connection sends, after it began.
+
+use crate::serial::Distance;
+use crate::waiting::pass;
+use krb_der::Memory;
+use krb_packet::Segment;
+use std::alloc::Global;
+use std::collections::BTreeMap;
+use std::marker::Model;
+
+/// How many octets ahead of the next one that is due a segment may begin: 1 MiB.
+const MOST_AHEAD: u32 = 1 << 20;
+
+/// How many octets may wait: 1 MiB.
+const MOST_WAITING: usize = 1 << 20;
+
+/// The place that no octet of a segment may pass.
+const MOST_OCTETS: u64 = 1 << 62;
+
+/// Octets that are not in a capture.
+#[derive(Clone, Copy, PartialEq, Eq, Debug)]
+pub struct Lost {
+    /// The place of the first of them.
+    pub place: u64,
+    /// How many are missing from there on.
+    pub octets: u64,
+}
+
+/// What is known of the octets of a direction when it ends.
+#[derive(Clone, Copy, PartialEq, Eq, Debug)]
+pub enum End {
+    /// All that were seen were taken.
+    Complete,
+    /// Some are missing.
+    Lost(Lost),
+}
+
+/// The octets that were taken, by their number, and those that wait. It takes memory for these alone.
+#[derive(Drop)]
+pub struct Stream {
+    first: u32,
+    joined: bool,
+    due: u64,
+    waiting: BTreeMap<u64, u8>,
+    seen: u64,
+    fin: Option<u64>,
+}
+
+impl Model for Stream {
+    ghost use Rattle.krb_flow.specs.Progress.{Progress};
+
+    ghost Value = { Progress };
+
+    ghost view = { λ stream. record { first = stream.first; joined = stream.joined; due = stream.due; waiting = stream.waiting.entries; seen = stream.seen; fin = stream.fin } };
+}
+
+ghost use Rattle.std.specs.Prelude.{◌≡◌, ℕ, ◌+◌, ◌++◌, ◌<◌, ◌≤◌, ◌^◌, ◌||◌, ◌&&◌, ◌==◌, not, nat_lt, nat_le, length, IfOk, OnOk};
+ghost use Rattle.krb_der.specs.Octets.{when};
+ghost use Rattle.krb_flow.specs.Progress.{begun};
+ghost use Rattle.krb_flow.specs.Directions.{distance_to, earlier, end_place, ending, is_over, is_passed, later, onward, taken, taking};
+
+/// Returns the place after a segment of `size` octets, unless that is before octet 0.
+fn end_place(due: u64, distance: Distance, size: u64) -> Option<u64>
+    requires { due + size < MOST_OCTETS }
+    ensures { result ≡ end_place due distance size }
+{
+    let end = due + u64::from(distance.ahead()) + size;
+    end.checked_sub(u64::from(distance.behind()))
+}
+
+/// Returns the place after octets that follow each other.
+fn place_after(place: u64, first: &[u8], then: &[u8]) -> u64
+    requires { place + length first.now < 2 ^ 63 }
+    ensures { result ≡ place + length first.now + length then.now }
+{
+    place + first.len() as u64 + then.len() as u64
+}
+
+/// Returns the later of two places, if the other one counts.
+fn seen_with(seen: u64, end: Option<u64>, counts: bool) -> u64
+    ensures { result ≡ when counts (λ _. later end seen) (λ _. seen) }
+{
+    match end {
+        Some(end) if counts => seen.max(end),
+        _ => seen,
+    }
+}
+
+/// Returns the earlier of two places, if the other one counts.
+fn fin_with(fin: Option<u64>, end: Option<u64>, counts: bool) -> Option<u64>
+    ensures { result ≡ when counts (λ _. earlier end fin) (λ _. fin) }
+{
+    if !counts {
+        return fin;
+    }
+    match (end, fin) {
+        (Some(end), Some(fin)) => Some(fin.min(end)),
+        (Some(end), None) => Some(end),
+        (None, fin) => fin,
+    }
+}
+
+impl Stream {
+    /// Creates the stream whose octet 0 has a number.
+    pub(crate) fn new(alloc: Global, first: u32, joined: bool) -> Stream
+        ensures { result ≡ begun first joined }
+    {
+        Stream {
+            first,
+            joined,
+            due: 0,
+            waiting: BTreeMap::new(alloc),
+            seen: 0,
+            fin: None,
+        }
+    }
+
+    /// Returns whether it began with the SYN before an octet 0 of this number.
+    pub(crate) fn began_with(&self, first: u32) -> bool
+        ensures { result ≡ (not self.now.joined && (self.now.first == first)) }
+    {
+        !self.joined & (self.first == first)
+    }
+
+    /// Returns how far the first octet of a segment is from the next one that is due.
+    fn distance_to(&self, segment: &Segment<'_>) -> Distance
+        ensures { result ≡ distance_to self.now segment.now }
+    {
+        let number = segment.sequence.wrapping_add(u32::from(segment.syn));
+        let due = self.first.wrapping_add((self.due % (1 << 32)) as u32);
+        Distance::between(due, number)
+    }
+
+    /// Returns whether a segment that is so far is passed over.
+    fn passes_over(&self, segment: &Segment<'_>, distance: Distance) -> bool
+        requires { distance ≡ distance_to self.now segment.now }
+        ensures { result ≡ is_passed self.now segment.now }
+    {
+        (distance.ahead() > MOST_AHEAD)
+            | (self.due.saturating_add(segment.payload.size()) >= MOST_OCTETS)
+    }
+
+    /// Takes a segment. Returns those of its octets that are taken at once, borrowed; those that
+    /// waited and are taken after them stand in `waited`, and none else.
+    pub(crate) fn take<'a>(
+        &mut self,
+        segment: &Segment<'a>,
+        waited: &mut Vec<u8>,
+    ) -> Result<&'a [u8], Memory>
+        ensures octets { IfOk result (λ front. front.now ++ waited.new.items ≡ (taking self.old segment.now).0) }
+        ensures state { OnOk result (self.new ≡ (taking self.old segment.now).1) }
+    {
+        let distance = self.distance_to(segment);
+        if self.passes_over(segment, distance) {
+            waited.clear();
+            return Ok(&[]);
+        }
+        self.take_near(segment, distance, waited)
+    }
+
+    /// Takes a segment that is not passed over.
+    fn take_near<'a>(
+        &mut self,
+        segment: &Segment<'a>,
+        distance: Distance,
+        waited: &mut Vec<u8>,
+    ) -> Result<&'a [u8], Memory>
+        requires distance { distance ≡ distance_to self.old segment.now }
+        requires near { self.old.due + segment.now.payload.size < MOST_OCTETS }
+        ensures octets { IfOk result (λ front. front.now ++ waited.new.items ≡ taken self.old segment.now) }
+        ensures state { OnOk result (self.new ≡ onward self.old segment.now) }
+    {
+        let octets = segment.payload.octets();
+        let octets = &octets[octets.len().min(distance.behind() as usize)..];
+        let size = segment.payload.size();
+        let end = end_place(self.due, distance, size);
+        self.seen = seen_with(self.seen, end, size > 0 || segment.fin);
+        self.fin = fin_with(self.fin, end, segment.fin);
+        let front = pass(
+            &mut self.waiting,
+            self.due,
+            distance.ahead(),
+            octets,
+            waited,
+        )?;
+        self.due = place_after(self.due, front, waited.as_slice());
+        Ok(front)
+    }
+
+    /// Returns whether it is over: all octets before the FIN were taken, or too many wait.
+    pub(crate) fn is_over(&self) -> bool
+        ensures { result ≡ is_over self.now }
+    {
+        let at_fin = match self.fin {
+            Some(fin) => fin <= self.due,
+            None => false,
+        };
+        at_fin | (self.waiting.len() > MOST_WAITING)
+    }
+
+    /// Returns what is known of its octets at the end.
+    pub(crate) fn end(&self) -> End
+        ensures { result ≡ ending self.now }
+    {
+        let place = match self.waiting.first_key_value() {
+            Some((&first, _)) => first,
+            None => self.seen,
+        };
+        if self.due < place {
+            End::Lost(Lost {
+                place: self.due,
+                octets: place - self.due,
+            })
+        } else {
+            End::Complete
+        }
+    }
+}

@@ -1,0 +1,4 @@
+pub mod Passing
+pub mod Reaching
+pub mod Stepwise
+pub mod Streams

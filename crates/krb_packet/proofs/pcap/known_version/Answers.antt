@@ -1,0 +1,10 @@
+use Rattle.std.proofs.Common.{sym, ◌∙◌}
+use Rattle.krb_file.specs.declared.fault.FileWhy.TheVariants as why
+use Rattle.krb_packet.specs.Captures.{is_version}
+use Rattle.krb_packet.proofs.Reaching.{telling_refuses}
+use Rattle.krb_packet.proofs.pcap.known_version.Goals as goal
+
+pub returns-in-None-clause-read : goal.returns-in-None-clause-read
+returns-in-None-clause-read g c =
+    telling_refuses c.args.order why.Version (is_version c.args.order) c.in_ok-number.number c.place-place.result (g.F.FieldReader.held c.args.reader.now) (g.F.FieldReader.held c.number.new.reader)
+    c.place-place.ensures.value c.in_ok-number.ensures.read (sym c.is_version.ensures ∙ c.in-None.is)

@@ -1,0 +1,199 @@
+-- What a packet carries. None is what cannot be read: a header that is cut or wrong, a fragment, or a link that is not known.
+use Rattle.std.specs.Prelude.{ℕ, zero, suc, ◌+◌, ◌*◌, ◌-◌, ◌/◌, ◌%◌, ◌^◌, Bool, not, ◌&&◌, ◌||◌, ◌==◌, nat_le, bit_and, Option, Some, None, length}
+use Rattle.std.specs.Net.Addr.{segments_of}
+use Rattle.std.specs.declared.net.ip_addr.IpAddr.{IpAddr}
+use Rattle.std.specs.declared.net.ip_addr.IpAddr.TheVariants as ip
+use Rattle.krb_der.specs.Octets.{when}
+use Rattle.krb_packet.specs.Payloads.{Captured, ◌>>=◌, field, number8, number16, number32, after, within}
+use Rattle.krb_packet.specs.declared.contents.Endpoint.{Endpoint}
+use Rattle.krb_packet.specs.declared.contents.Contents.{Contents}
+use Rattle.krb_packet.specs.declared.contents.Contents.TheVariants as contents
+use Rattle.krb_packet.specs.declared.packet.LinkType.{LinkType}
+use Rattle.krb_packet.specs.declared.packet.LinkType.TheVariants as links
+
+-- a value, where the header is as it must be
+abbrev pub if_valid : {A : Type 0} → Bool → A → Option A
+if_valid valid value = when valid (λ _. Some value) (λ _. None)
+
+-- headers of some kinds, each of which tells the kind of the next one, are passed; the first number bounds how many there are
+abbrev pub passes : (ℕ → Bool) → (ℕ → Captured → Option (ℕ × Captured)) → ℕ → ℕ → Captured → Option (ℕ × Captured)
+passes is_passed pass zero kind packet = None
+passes is_passed pass (suc bound) kind packet =
+    when (is_passed kind) (λ _. pass kind packet >>= λ next. passes is_passed pass bound next.0 next.1) (λ _. Some (kind, packet))
+
+abbrev pub endpoint : IpAddr → ℕ → Endpoint
+endpoint address port = record { address = address; port = port }
+
+-- ---- UDP (RFC 768): the length counts the header of eight octets, too
+
+unfoldable pub datagram : IpAddr → IpAddr → Captured → Option Contents
+datagram from to packet = do
+  source ← number16 0 packet
+  target ← number16 2 packet
+  length ← number16 4 packet
+  rest ← after 8 packet
+  if_valid (nat_le 8 length) (contents.Datagram (record { source = endpoint from source; target = endpoint to target; payload = within (length - 8) rest }))
+
+-- ---- TCP (RFC 9293, 3.1): the data offset counts words of four octets
+
+abbrev pub is_set : ℕ → ℕ → Bool
+is_set flag flags = not (bit_and flags flag == 0)
+
+unfoldable pub segment : IpAddr → IpAddr → Captured → Option Contents
+segment from to packet = do
+  source ← number16 0 packet
+  target ← number16 2 packet
+  sequence ← number32 4 packet
+  offset ← number8 12 packet
+  flags ← number8 13 packet
+  rest ← after (offset / 16 * 4) packet
+  if_valid (nat_le 5 (offset / 16)) (contents.Segment (record { source = endpoint from source; target = endpoint to target; sequence = sequence; fin = is_set 1 flags; syn = is_set 2 flags; rst = is_set 4 flags; payload = rest }))
+
+-- by the number of the protocol
+unfoldable pub transport : IpAddr → IpAddr → ℕ → Captured → Option Contents
+transport from to protocol packet =
+    when (protocol == 17) (λ _. datagram from to packet) (λ _.
+    when (protocol == 6) (λ _. segment from to packet) (λ _.
+    Some contents.Other))
+
+-- ---- IP. What stands after the announced length is padding; a length of 0, as offloading leaves it, is all that there is.
+
+unfoldable pub announced : ℕ → Captured → Captured
+announced size packet = when (size == 0) (λ _. packet) (λ _. within size packet)
+
+-- IPv4 (RFC 791, 3.1): the header counts words of four octets. Of a whole datagram the fragment offset is 0, and no more fragments follow.
+unfoldable pub ipv4 : Captured → Option Contents
+ipv4 packet = do
+  first ← number8 0 packet
+  total ← number16 2 packet
+  fragment ← number16 6 packet
+  protocol ← number8 9 packet
+  source ← field 4 12 packet
+  target ← field 4 16 packet
+  rest ← after (first % 16 * 4) (announced total packet)
+  valid ← if_valid (first / 16 == 4 && nat_le 5 (first % 16) && fragment % 2 ^ 14 == 0) rest
+  transport (ip.V4 (record { octets = source })) (ip.V4 (record { octets = target })) protocol valid
+
+-- IPv6 (RFC 8200, 4.3, 4.4, 4.6): the length of an extension header counts groups of eight octets after the first
+unfoldable pub options : Captured → Option (ℕ × Captured)
+options packet = do
+  next ← number8 0 packet
+  size ← number8 1 packet
+  rest ← after (8 * size + 8) packet
+  Some (next, rest)
+
+-- the fragment header (4.5): of a whole datagram the offset is 0, and no more fragments follow
+unfoldable pub only_fragment : Captured → Option (ℕ × Captured)
+only_fragment packet = do
+  next ← number8 0 packet
+  place ← number16 2 packet
+  rest ← after 8 packet
+  if_valid (place / 8 == 0 && place % 2 == 0) (next, rest)
+
+-- hop-by-hop options, routing, destination options, and the fragment header
+abbrev pub is_extension : ℕ → Bool
+is_extension kind = kind == 0 || (kind == 43 || (kind == 60 || kind == 44))
+
+unfoldable pub extension : ℕ → Captured → Option (ℕ × Captured)
+extension kind packet = when (kind == 44) (λ _. only_fragment packet) (λ _. options packet)
+
+abbrev pub extensions : ℕ → ℕ → Captured → Option (ℕ × Captured)
+extensions = passes is_extension extension
+
+-- RFC 8200, 3
+unfoldable pub ipv6 : Captured → Option Contents
+ipv6 packet = do
+  first ← number8 0 packet
+  size ← number16 4 packet
+  kind ← number8 6 packet
+  source ← field 16 8 packet
+  target ← field 16 24 packet
+  rest ← after 40 packet
+  valid ← if_valid (first / 16 == 6) (announced size rest)
+  last ← extensions (length packet.octets) kind valid
+  transport (ip.V6 (record { segments = segments_of source })) (ip.V6 (record { segments = segments_of target })) last.0 last.1
+
+-- ---- Links
+
+-- by an EtherType
+unfoldable pub network : ℕ → Captured → Option Contents
+network kind packet =
+    when (kind == 0x0800) (λ _. ipv4 packet) (λ _.
+    when (kind == 0x86DD) (λ _. ipv6 packet) (λ _.
+    Some contents.Other))
+
+-- VLAN tags (IEEE 802.1Q)
+abbrev pub is_tag : ℕ → Bool
+is_tag kind = kind == 0x8100 || (kind == 0x88A8 || kind == 0x9100)
+
+unfoldable pub tag : Captured → Option (ℕ × Captured)
+tag packet = do
+  kind ← number16 2 packet
+  rest ← after 4 packet
+  Some (kind, rest)
+
+abbrev pub tags : ℕ → ℕ → Captured → Option (ℕ × Captured)
+tags = passes is_tag (λ kind. tag)
+
+unfoldable pub ethernet : Captured → Option Contents
+ethernet packet = do
+  kind ← number16 12 packet
+  rest ← after 14 packet
+  last ← tags (length packet.octets) kind rest
+  network last.0 last.1
+
+-- a header of n octets in which an EtherType stands after `at` others
+unfoldable pub cooked : ℕ → ℕ → Captured → Option Contents
+cooked at size packet = do
+  kind ← number16 at packet
+  rest ← after size packet
+  network kind rest
+
+-- the version tells which
+unfoldable pub raw_ip : Captured → Option Contents
+raw_ip packet = do
+  first ← number8 0 packet
+  when (first / 16 == 4) (λ _. ipv4 packet) (λ _. when (first / 16 == 6) (λ _. ipv6 packet) (λ _. None))
+
+-- AF_INET, and what AF_INET6 is on the systems that capture so
+unfoldable pub of_family : ℕ → Captured → Option Contents
+of_family family packet =
+    when (family == 2) (λ _. ipv4 packet) (λ _.
+    when (family == 24 || (family == 28 || family == 30)) (λ _. ipv6 packet) (λ _.
+    Some contents.Other))
+
+unfoldable pub openbsd_loopback : Captured → Option Contents
+openbsd_loopback packet = do
+  family ← number32 0 packet
+  rest ← after 4 packet
+  of_family family rest
+
+-- the family in either order of octets
+abbrev pub in_either_order : ℕ → ℕ
+in_either_order family = when (family % 2 ^ 24 == 0) (λ _. family / 2 ^ 24) (λ _. family)
+
+unfoldable pub bsd_loopback : Captured → Option Contents
+bsd_loopback packet = do
+  family ← number32 0 packet
+  rest ← after 4 packet
+  of_family (in_either_order family) rest
+
+unfoldable pub frame : LinkType → Captured → Option Contents
+frame links.Ethernet packet = ethernet packet
+frame links.LinuxCooked packet = cooked 14 16 packet
+frame links.LinuxCooked2 packet = cooked 0 20 packet
+frame links.RawIp packet = raw_ip packet
+frame links.Ipv4 packet = ipv4 packet
+frame links.Ipv6 packet = ipv6 packet
+frame links.BsdLoopback packet = bsd_loopback packet
+frame links.OpenBsdLoopback packet = openbsd_loopback packet
+frame (links.Other number) packet = None
+
+-- ---- a packet
+
+abbrev pub or_unread : Option Contents → Contents
+or_unread None = contents.Unread
+or_unread (Some read) = read
+
+abbrev pub contents_of : LinkType → Captured → Contents
+contents_of link packet = or_unread (frame link packet)

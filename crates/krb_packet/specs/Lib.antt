@@ -1,0 +1,5 @@
+pub mod Payloads
+pub mod Contents
+pub mod Captures
+pub mod Streaming
+pub mod Examples

@@ -1,0 +1,140 @@
+//! The headers of IPv4 (RFC 791, 3.1) and IPv6 (RFC 8200, 3 and 4).
+
+ghost use Rattle.std.specs.Prelude.{◌≡◌};
+ghost use Rattle.std.specs.Option.{option_map};
+ghost use Rattle.krb_packet.specs.Contents.{announced, ipv4, options, only_fragment, is_extension, extension, extensions, ipv6};
+
+use crate::contents::Contents;
+use crate::payload::Payload;
+use crate::transport::transport;
+use std::net::{IpAddr, Ipv4Addr, Ipv6Addr};
+
+/// How many octets the header of IPv6 has.
+const IPV6_HEADER: usize = 40;
+
+/// The extension headers that are passed.
+const HOP_BY_HOP_OPTIONS: u8 = 0;
+
+const ROUTING: u8 = 43;
+
+const FRAGMENT: u8 = 44;
+
+const DESTINATION_OPTIONS: u8 = 60;
+
+/// Returns as much of a packet as its header announces, or all of it if it announces 0.
+#[tactic(auto, unfolding(crate::specs::Contents::announced))]
+fn announced<'a>(size: u16, packet: Payload<'a>) -> Payload<'a>
+    ensures { result ≡ announced size packet.entry }
+{
+    if size == 0 {
+        packet
+    } else {
+        packet.within(u64::from(size))
+    }
+}
+
+/// Returns what a packet of IPv4 carries.
+#[tactic(auto, unfolding(crate::specs::Contents::ipv4))]
+pub(crate) fn ipv4<'a>(packet: Payload<'a>) -> Option<Contents<'a>>
+    ensures { result ≡ ipv4 packet.entry }
+{
+    let first = packet.number8(0)?;
+    let total = packet.number16(2)?;
+    let fragment = packet.number16(6)?;
+    let protocol = packet.number8(9)?;
+    let source = packet.field::<4>(12)?;
+    let target = packet.field::<4>(16)?;
+    let words = first % 16;
+    let rest = announced(total, packet).after(usize::from(words) * 4)?;
+    if first / 16 != 4 || words < 5 || fragment % (1 << 14) != 0 {
+        return None;
+    }
+    let source = IpAddr::V4(Ipv4Addr::from_octets(source));
+    let target = IpAddr::V4(Ipv4Addr::from_octets(target));
+    transport(source, target, protocol, &rest)
+}
+
+/// Returns the kind of the header after one of options, and what it begins.
+#[tactic(auto, unfolding(crate::specs::Contents::options))]
+fn options<'a>(packet: Payload<'a>) -> Option<(u8, Payload<'a>)>
+    ensures { result ≡ options packet.entry }
+{
+    let next = packet.number8(0)?;
+    let size = packet.number8(1)?;
+    let rest = packet.after(usize::from(size) * 8 + 8)?;
+    Some((next, rest))
+}
+
+/// Returns the kind of the header after that of a fragment which is the only one, and what it begins.
+#[tactic(auto, unfolding(crate::specs::Contents::only_fragment))]
+fn only_fragment<'a>(packet: Payload<'a>) -> Option<(u8, Payload<'a>)>
+    ensures { result ≡ only_fragment packet.entry }
+{
+    let next = packet.number8(0)?;
+    let place = packet.number16(2)?;
+    let rest = packet.after(8)?;
+    if place / 8 == 0 && place % 2 == 0 {
+        Some((next, rest))
+    } else {
+        None
+    }
+}
+
+/// Returns whether a header is an extension header that is passed.
+fn is_extension(kind: u8) -> bool
+    ensures { result ≡ is_extension kind }
+{
+    matches!(
+        kind,
+        HOP_BY_HOP_OPTIONS | ROUTING | DESTINATION_OPTIONS | FRAGMENT
+    )
+}
+
+/// Returns the kind of the header after an extension header, and what it begins.
+#[tactic(auto, unfolding(crate::specs::Contents::extension))]
+fn extension<'a>(kind: u8, packet: Payload<'a>) -> Option<(u8, Payload<'a>)>
+    ensures { result ≡ extension kind packet.entry }
+{
+    if kind == FRAGMENT {
+        only_fragment(packet)
+    } else {
+        options(packet)
+    }
+}
+
+/// Returns the kind of the header after all extension headers, and what it begins.
+fn extensions<'a>(most: usize, kind: u8, packet: Payload<'a>) -> Option<(u8, Payload<'a>)>
+    ensures { result ≡ extensions most kind packet.entry }
+{
+    let mut kind = kind;
+    let mut packet = packet;
+    for _ in 0..most {
+        if !is_extension(kind) {
+            return Some((kind, packet));
+        }
+        let (next, rest) = extension(kind, packet)?;
+        kind = next;
+        packet = rest;
+    }
+    None
+}
+
+/// Returns what a packet of IPv6 carries.
+#[tactic(auto, unfolding(crate::specs::Contents::ipv6))]
+pub(crate) fn ipv6<'a>(packet: Payload<'a>) -> Option<Contents<'a>>
+    ensures { result ≡ ipv6 packet.entry }
+{
+    let first = packet.number8(0)?;
+    let size = packet.number16(4)?;
+    let kind = packet.number8(6)?;
+    let source = packet.field::<16>(8)?;
+    let target = packet.field::<16>(24)?;
+    let rest = packet.after(IPV6_HEADER)?;
+    if first / 16 != 6 {
+        return None;
+    }
+    let (protocol, last) = extensions(packet.octets().len(), kind, announced(size, rest))?;
+    let source = IpAddr::V6(Ipv6Addr::from_octets(source));
+    let target = IpAddr::V6(Ipv6Addr::from_octets(target));
+    transport(source, target, protocol, &last)
+}

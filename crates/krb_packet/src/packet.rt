@@ -1,0 +1,107 @@
+//! Packets, as a capture file has them.
+
+ghost use Rattle.std.specs.Prelude.{◌≡◌, max, length};
+ghost use Rattle.krb_packet.specs.Captures.{link_type, time_of};
+ghost use Rattle.krb_packet.specs.Contents.{contents_of};
+
+use crate::contents::Contents;
+use crate::link::frame;
+use crate::payload::Payload;
+use krb_der::Octets;
+
+/// What a packet was captured from, which says what its first header is.
+#[derive(Clone, Copy, PartialEq, Eq, Debug)]
+pub enum LinkType {
+    /// Ethernet (1).
+    Ethernet,
+    /// Linux cooked (113).
+    LinuxCooked,
+    /// Linux cooked of version 2 (276).
+    LinuxCooked2,
+    /// IPv4 or IPv6 (12, 14 and 101).
+    RawIp,
+    /// IPv4 (228).
+    Ipv4,
+    /// IPv6 (229).
+    Ipv6,
+    /// Loopback of BSD (0).
+    BsdLoopback,
+    /// Loopback of OpenBSD (108).
+    OpenBsdLoopback,
+    /// Another one.
+    Other(u32),
+}
+
+impl LinkType {
+    /// Returns the type of a number.
+    pub fn of(number: u32) -> LinkType
+        ensures { result ≡ link_type number }
+    {
+        match number {
+            1 => LinkType::Ethernet,
+            113 => LinkType::LinuxCooked,
+            276 => LinkType::LinuxCooked2,
+            12 | 14 | 101 => LinkType::RawIp,
+            228 => LinkType::Ipv4,
+            229 => LinkType::Ipv6,
+            0 => LinkType::BsdLoopback,
+            108 => LinkType::OpenBsdLoopback,
+            _ => LinkType::Other(number),
+        }
+    }
+}
+
+/// How many nanoseconds a second has.
+pub(crate) const NANOSECONDS: u64 = 1_000_000_000;
+
+/// A time after the beginning of 1970.
+#[derive(Clone, Copy, PartialEq, Eq, Debug)]
+pub struct Time {
+    /// The seconds.
+    pub seconds: u32,
+    /// The nanoseconds after these, fewer than a second has.
+    pub nanoseconds: u32,
+}
+
+impl Time {
+    /// Returns the time of so many nanoseconds, or `None` if its seconds are 0 or above 4294967295.
+    pub(crate) fn of(nanoseconds: u64) -> Option<Time>
+        ensures { result ≡ time_of nanoseconds }
+    {
+        let seconds = nanoseconds / NANOSECONDS;
+        if seconds == 0 || seconds >= 1 << 32 {
+            return None;
+        }
+        Some(Time {
+            seconds: seconds as u32,
+            nanoseconds: (nanoseconds % NANOSECONDS) as u32,
+        })
+    }
+}
+
+/// A packet of a capture file.
+#[derive(Drop)]
+pub struct Packet {
+    /// Which one of the file it is, from 1.
+    pub number: u64,
+    /// When it was captured, if that is told.
+    pub time: Option<Time>,
+    /// What it was captured from.
+    pub link: LinkType,
+    /// The octets that were captured.
+    pub octets: Octets,
+    /// How many octets it had on the wire.
+    pub size: u32,
+}
+
+/// Returns what a packet carries: a UDP datagram or a TCP segment, whose octets are borrowed from
+/// it. Octets after the length that IP announces are padding, and no part of them.
+pub fn contents_of(packet: &Packet) -> Contents<'_>
+    ensures { result ≡ contents_of packet.now.link (record { octets = packet.now.octets; size = max packet.now.size (length packet.now.octets) }) }
+{
+    let payload = Payload::new(packet.octets.as_slice(), u64::from(packet.size));
+    match frame(packet.link, payload) {
+        Some(contents) => contents,
+        None => Contents::Unread,
+    }
+}
