@@ -1,4 +1,4 @@
-//! Values as DER octets.
+//! The trait of values that have DER octets.
 
 ghost use Rattle.std.specs.Prelude.{◌≡◌, ◌+◌, ◌<◌, ◌≤◌, ◌++◌, ℕ, List, length};
 ghost use Rattle.std.specs.Vec.{vec_len, vec_capacity};
@@ -10,23 +10,23 @@ pub trait Der {
     /// The DER octets of a value.
     ghost der: { Self → List ℕ };
 
-    /// What is so of each value: its numbers are in their ranges, its times and bit strings have
-    /// their shape.
+    /// What holds of each value: its numbers are in their ranges, and its times and bit strings are
+    /// well formed.
     ghost Fits: { Self → Type 0 };
 
-    /// Returns the number of DER octets; 2147483648 if there are more.
+    /// Returns the number of DER octets of the value, or 2147483648 if there are more.
     fn size(&self) -> u64
         ensures octets { result ≡ saturated (length (der self.now)) }
         ensures fits { Fits self.now };
 
-    /// Appends the DER octets, at most 2147483647 of them, into room that is there. It takes no
-    /// memory.
+    /// Appends the DER octets of the value, at most 2147483647, within the capacity of `out`. It
+    /// allocates nothing.
     fn put(&self, out: &mut Vec<u8>)
         requires short { length (der self.now) ≤ 2147483647 }
         requires room { vec_len out.old + length (der self.now) ≤ vec_capacity out.old }
         ensures { Puts (der self.now) out.old out.new };
 
-    /// Each value has octets.
+    /// Each value has at least one octet.
     ghost begins: { (value : Self) → 0 < length (der value) };
 
     /// Different values have different octets, and no value's octets begin another's.

@@ -1,12 +1,12 @@
-//! Flags, a bit each.
+//! Bit strings of flags.
 
 use crate::der::Der;
 use crate::item::{item_size, put_header, put_octets, size_of};
 use std::marker::Model;
 
-/// A bit string (KerberosFlags of RFC 4120, 5.2.8; X.690, 8.6 and 11.2): octets, and how many low
-/// bits of the last one are unused, 0 to 7. These bits are clear, and if there are no octets
-/// none are unused. Contracts see the pair of the count and the list of the octets.
+/// A bit string (KerberosFlags of RFC 4120, 5.2.8; X.690, 8.6 and 11.2): its octets, and how many
+/// low bits of the last octet are unused, 0 to 7. The unused bits are clear, and if there are no
+/// octets, none is unused. Contracts see the pair of that number and the list of the octets.
 #[derive(Debug, Drop)]
 pub struct Flags {
     unused: u8,
@@ -36,8 +36,9 @@ ghost use Rattle.krb_der.specs.inner.PrefixFree.{item_begins, same_bits};
 ghost use Rattle.krb_der.specs.Scalars.{has_bit};
 
 impl Flags {
-    /// Returns the flags of octets whose last has `unused` low bits that are clear: at most 7, and
-    /// 0 if there are no octets. `None` of any other. The vector is moved and not copied.
+    /// Returns the flags with these octets, of which the last has `unused` low bits that are clear.
+    /// Returns `None` if `unused` is above 7, if one of these bits is set, or if there are no
+    /// octets and `unused` is not 0. The vector is moved, not copied.
     pub fn new(unused: u8, octets: Vec<u8>) -> Option<Flags>
         ensures shape { IsSome result ↔ AreBits unused octets.items }
         ensures value { IfSome result (λ flags. flags ≡ (unused, octets.items)) }
@@ -65,7 +66,7 @@ impl Flags {
         self.octets.as_slice()
     }
 
-    /// Returns the octets, given back in their vector.
+    /// Returns the octets in their vector.
     pub(crate) fn into_octets(self) -> Vec<u8>
         ensures { result.items ≡ self.1 }
     {
@@ -73,8 +74,8 @@ impl Flags {
         octets
     }
 
-    /// Returns the number of bits that are there: 8 for each octet, less the unused. No memory
-    /// holds so many octets that it passes `u64::MAX`, where it would stay.
+    /// Returns the number of bits: 8 for each octet, less the unused ones. It is at most
+    /// `u64::MAX`, and no memory holds so many octets that they have more bits.
     pub fn bits(&self) -> u64
         ensures { result ≡ min (8 * length self.now.1 - self.now.0) u64.MAX }
     {
@@ -82,8 +83,8 @@ impl Flags {
         u64::try_from(bits).unwrap_or(u64::MAX)
     }
 
-    /// Returns whether a bit is set, counted from 0, the high bit of the first octet (X.690,
-    /// 8.6.2). A bit that is missing is not.
+    /// Returns whether the bit with this index is set; bit 0 is the high bit of the first octet
+    /// (X.690, 8.6.2). A bit that is not there is not set.
     pub fn bit(&self, index: u64) -> bool
         ensures value { result ≡ has_bit self.now.1 index }
         ensures missing { 8 * length self.now.1 - self.now.0 ≤ index → result ≡ false }
@@ -95,7 +96,7 @@ impl Flags {
     }
 }
 
-/// By the octets, and the number of unused bits.
+/// Flags are equal if their octets are, and their numbers of unused bits.
 impl PartialEq for Flags {
     ghost eq = { eq_of_both (on (λ flags. flags.1) (pointwise nat_eq)) (on (λ flags. flags.0) nat_eq) };
 
@@ -110,7 +111,7 @@ impl Eq for Flags {
     ghost laws = { Prim.search (comparing, rules) };
 }
 
-/// A BIT STRING (X.690, 8.6).
+/// Flags are encoded as a BIT STRING (X.690, 8.6).
 impl Der for Flags {
     ghost der = { λ bits. item 0x03 (bits.0 ∷ bits.1) };
 

@@ -1,10 +1,10 @@
-//! Signed 32-bit numbers.
+//! Signed numbers of 32 bits.
 
 use crate::der::Der;
 use crate::number::{integer_size, put_integer};
 use std::marker::Model;
 
-/// An Int32 (RFC 4120, 5.2.4): -2147483648 to 2147483647.
+/// A signed number of 32 bits (Int32 of RFC 4120, 5.2.4): -2147483648 to 2147483647.
 #[derive(Clone, Copy, PartialEq, Eq, Debug)]
 pub struct Int32 {
     number: i32,
@@ -41,7 +41,7 @@ impl Int32 {
     }
 }
 
-/// An INTEGER (X.690, 8.3).
+/// An Int32 is encoded as an INTEGER (X.690, 8.3).
 impl Der for Int32 {
     ghost der = { λ number. item 0x02 (integer_octets number) };
 

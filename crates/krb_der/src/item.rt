@@ -8,11 +8,11 @@ ghost use Rattle.krb_der.specs.Sizes.{item_length, saturated};
 
 use crate::number::{number_size, put_number};
 
-/// The least number of octets that no message has.
+/// The least number of octets that is too long for a message, 2^31.
 pub const TOO_LONG: u64 = 2147483648;
 
-/// Returns the number of octets of an item with `contents` octets of contents; 2147483648 if there
-/// are more.
+/// Returns the number of octets of an item whose contents are `contents` octets, or 2147483648 if
+/// there are more.
 pub fn item_size(contents: u64) -> u64
     ensures { result ≡ saturated (item_length contents) }
 {
@@ -25,7 +25,7 @@ pub fn item_size(contents: u64) -> u64
     }
 }
 
-/// Returns the number of octets.
+/// Returns the number of octets of a slice.
 pub fn size_of(octets: &[u8]) -> u64
     ensures value { result ≡ length octets.now }
     ensures octets { AreOctets octets.now }
@@ -33,15 +33,15 @@ pub fn size_of(octets: &[u8]) -> u64
     octets.len() as u64
 }
 
-/// Adds two numbers of octets; 2147483648 if there are more.
+/// Returns the sum of two numbers of octets, or 2147483648 if it is more.
 pub fn add_sizes(size: u64, more: u64) -> u64
     ensures { result ≡ saturated (size + more) }
 {
     size.saturating_add(more).min(TOO_LONG)
 }
 
-/// Appends the tag and the length of an item, into room that is there. Its `contents` octets
-/// of contents are to follow.
+/// Appends the tag and the length octets of an item, within the capacity of `out`. Its contents,
+/// `contents` octets, have to be appended next.
 pub fn put_header(out: &mut Vec<u8>, tag: u8, contents: u32)
     requires { vec_len out.old + (1 + length (length_octets contents)) ≤ vec_capacity out.old }
     ensures { Puts (tag ∷ length_octets contents) out.old out.new }
@@ -56,7 +56,7 @@ pub fn put_header(out: &mut Vec<u8>, tag: u8, contents: u32)
     }
 }
 
-/// Appends octets into room that is there.
+/// Appends octets within the capacity of `out`.
 pub fn put_octets(out: &mut Vec<u8>, octets: &[u8])
     requires { vec_len out.old + length octets.now ≤ vec_capacity out.old }
     ensures { Puts octets.now out.old out.new }
@@ -66,7 +66,8 @@ pub fn put_octets(out: &mut Vec<u8>, octets: &[u8])
     }
 }
 
-/// Appends an item of a tag and contents, at most 2147483647 octets, into room that is there.
+/// Appends an item with a tag and contents, at most 2147483647 octets in all, within the capacity
+/// of `out`.
 pub fn put_item(out: &mut Vec<u8>, tag: u8, contents: &[u8])
     requires short { length (item tag contents.now) ≤ 2147483647 }
     requires room { vec_len out.old + length (item tag contents.now) ≤ vec_capacity out.old }

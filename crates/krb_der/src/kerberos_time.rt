@@ -1,12 +1,12 @@
-//! Points in time.
+//! Times.
 
 use crate::der::Der;
 use crate::item::{item_size, put_item};
 use std::marker::Model;
 
 /// A KerberosTime (RFC 4120, 5.2.3): the year in four digits, month, day, hour, minute and second
-/// in two each, then a `Z`. Whether such a date exists is not asked. Contracts see the list of its
-/// fifteen octets.
+/// in two each, then a `Z`. Whether there is such a date is not checked. Contracts see the list of
+/// its fifteen octets.
 #[derive(Clone, Copy, PartialEq, Eq, Debug)]
 pub struct KerberosTime {
     octets: [u8; 15],
@@ -34,7 +34,7 @@ ghost use Rattle.krb_der.specs.Octets.{item};
 ghost use Rattle.krb_der.specs.inner.PrefixFree.{item_begins, same_octets};
 
 impl KerberosTime {
-    /// Returns the time of fourteen digits and a `Z`, and `None` of any other octets.
+    /// Returns the time with these octets, or `None` if they are not fourteen digits and a `Z`.
     pub fn new(octets: [u8; 15]) -> Option<KerberosTime>
         ensures shape { IsSome result ↔ IsTimeFrom 14 octets }
         ensures value { IfSome result (λ time. time ≡ octets) }
@@ -56,7 +56,7 @@ impl KerberosTime {
     }
 }
 
-/// A GeneralizedTime (X.690, 8.25 and 11.7).
+/// A KerberosTime is encoded as a GeneralizedTime (X.690, 8.25 and 11.7).
 impl Der for KerberosTime {
     ghost der = { λ octets. item 0x18 octets };
 

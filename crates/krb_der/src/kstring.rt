@@ -1,11 +1,11 @@
-//! Strings of Kerberos.
+//! Strings.
 
 use crate::der::Der;
 use crate::item::{item_size, put_item, size_of};
 use std::marker::Model;
 
-/// A KerberosString (RFC 4120, 5.2.1): octets of any kind, as implementations send them. Contracts
-/// see them as their list.
+/// A KerberosString (RFC 4120, 5.2.1), which may hold any octets, as implementations send them.
+/// Contracts see the list of its octets.
 #[derive(Debug, Drop)]
 pub struct KString {
     octets: Vec<u8>,
@@ -27,7 +27,7 @@ ghost use Rattle.krb_der.specs.Octets.{item, AreOctets};
 ghost use Rattle.krb_der.specs.inner.PrefixFree.{item_begins, same_octets};
 
 impl KString {
-    /// Returns the string of a vector of octets, which is moved and not copied.
+    /// Returns the string with these octets. The vector is moved, not copied.
     pub fn new(octets: Vec<u8>) -> KString
         ensures { result ≡ octets.items }
     {
@@ -41,7 +41,7 @@ impl KString {
         self.octets.as_slice()
     }
 
-    /// Returns the octets, given back in their vector.
+    /// Returns the octets in their vector.
     pub fn into_vec(self) -> Vec<u8>
         ensures { result.items ≡ self }
     {
@@ -50,7 +50,7 @@ impl KString {
     }
 }
 
-/// By the octets alone.
+/// Strings are equal if their octets are.
 impl PartialEq for KString {
     ghost eq = { pointwise nat_eq };
 
@@ -65,7 +65,7 @@ impl Eq for KString {
     ghost laws = { nat_list_eq_equiv };
 }
 
-/// A GeneralString (X.690, 8.23).
+/// A KString is encoded as a GeneralString (X.690, 8.23).
 impl Der for KString {
     ghost der = { λ octets. item 0x1B octets };
 

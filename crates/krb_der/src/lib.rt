@@ -1,10 +1,24 @@
-//! DER (ITU-T X.690), for any protocol: why octets are refused and where, the numbers and octets
-//! that values hold, how a value is put as octets ([`Der`]), and, in `specs/`, how
-//! numbers, lengths and items are spelled in octets.
+//! DER (ITU-T X.690), for any protocol: the values of fields, their octets, and why octets are
+//! refused.
 //!
-//! `Numbers`, `Items` and `PrefixFree` of `specs/inner` define nothing: they prove the laws of [`Der`].
+//! A value is an [`Int32`], a [`Wide32`], [`Micros`], a [`KerberosTime`], a [`KString`], [`Flags`],
+//! [`Octets`], or a [`Many`], which is a SEQUENCE OF values. Each value has one DER form ([`Der`]).
+//! The main calls:
 //!
-//! Nothing here knows a Kerberos message; `krb_msg` does.
+//! - [`Octets::new`] makes a value of a vector, without copying it, and [`Octets::into_vec`]
+//!   returns the vector. The other types have calls like these; if not every argument has a value,
+//!   `new` returns an `Option`, as [`Wide32::new`] does.
+//! - [`Der::size`] returns the number of DER octets of a value, and [`Der::put`] appends them.
+//! - [`Room::take`] returns a vector that a value left to be used again, or a new one.
+//!
+//! A [`Refusal`] says which octet is at fault and why ([`Why`]), a [`Verdict`] what the first
+//! octets of a message decide, and [`Memory`] that an allocation failed.
+//!
+//! Nothing here judges octets or finds items in them, and nothing knows a Kerberos message:
+//! `krb_msg`, `krb_judge` and `krb_scan` do.
+//!
+//! `specs/` says how numbers, lengths and items are spelled in octets. `Numbers`, `Items` and
+//! `PrefixFree` of `specs/inner` define nothing: they prove the laws of [`Der`].
 #![tactic(auto)]
 
 mod der;

@@ -1,10 +1,11 @@
-//! Values one after another.
+//! Lists of values.
 
 use crate::der::Der;
 use crate::item::{add_sizes, item_size, put_header};
 use std::marker::Model;
 
-/// Any number of values, in order: a SEQUENCE OF (X.690, 8.10). Contracts see them as their list.
+/// A SEQUENCE OF (X.690, 8.10): any number of values, in order. Contracts see the list of the
+/// values.
 #[derive(Debug, Drop)]
 pub struct Many<T> {
     values: Vec<T>,
@@ -28,7 +29,7 @@ ghost use Rattle.krb_der.specs.Sizes.{saturated};
 ghost use Rattle.krb_der.specs.inner.PrefixFree.{item_begins, same_many};
 
 impl<T> Many<T> {
-    /// Returns the values of a vector, which is moved and not copied.
+    /// Returns the list of these values. The vector is moved, not copied.
     pub fn new(values: Vec<T>) -> Many<T>
         ensures { result ≡ values.items }
     {
@@ -42,7 +43,7 @@ impl<T> Many<T> {
         self.values.as_slice()
     }
 
-    /// Returns the values, given back in their vector.
+    /// Returns the values in their vector.
     pub fn into_vec(self) -> Vec<T>
         ensures { result.items ≡ self }
     {
@@ -51,7 +52,7 @@ impl<T> Many<T> {
     }
 }
 
-/// Value by value, in order.
+/// Lists are equal if their values are, in order.
 impl<T: PartialEq> PartialEq for Many<T> {
     ghost eq = { pointwise T.eq };
 
@@ -66,7 +67,7 @@ impl<T: Eq> Eq for Many<T> {
     ghost laws = { lists_equiv T.Eq.laws };
 }
 
-/// A SEQUENCE OF (X.690, 8.10).
+/// A Many is encoded as a SEQUENCE OF (X.690, 8.10).
 impl<T: Der> Der for Many<T> {
     ghost der = { λ values. item 0x30 (flat_map T.der values) };
 
@@ -87,7 +88,7 @@ impl<T: Der> Der for Many<T> {
     ghost prefix_free = { same_many T.der T.begins T.prefix_free };
 }
 
-/// Returns the number of DER octets of all the values; 2147483648 if there are more.
+/// Returns the number of DER octets of all the values, or 2147483648 if there are more.
 fn size_of_values<T: Der>(values: &[T]) -> u64
     ensures octets { result ≡ saturated (length (flat_map T.der values.now)) }
     ensures fits { AllByRecursion T.Fits values.now }
@@ -99,7 +100,7 @@ fn size_of_values<T: Der>(values: &[T]) -> u64
     size
 }
 
-/// Appends the DER octets of the values in order, into room that is there.
+/// Appends the DER octets of the values in order, within the capacity of `out`.
 fn put_values<T: Der>(out: &mut Vec<u8>, values: &[T])
     requires short { length (flat_map T.der values.now) ≤ 2147483647 }
     requires room { vec_len out.old + length (flat_map T.der values.now) ≤ vec_capacity out.old }

@@ -1,4 +1,4 @@
-//! The answer when out of memory.
+//! The fault of an allocation.
 
 ghost use Rattle.std.specs.Prelude.{Some, codes};
 
@@ -6,7 +6,7 @@ use std::alloc::{AllocError, AllocFailed};
 use std::error::Error;
 use std::fmt;
 
-/// Out of memory: the allocator gave no room. Nothing else answers it.
+/// Out of memory: an allocation failed. Nothing else is answered with it.
 #[derive(Clone, Copy, PartialEq, Eq, Debug)]
 pub struct Memory;
 
@@ -22,7 +22,7 @@ impl<T: Drop> From<AllocFailed<T>> for Memory {
     }
 }
 
-/// `out of memory`.
+/// Shows `out of memory`.
 impl fmt::Display for Memory {
     ghost output = { λ memory. Some (codes "out of memory") };
 

@@ -30,10 +30,10 @@ ghost use Rattle.krb_der.specs.Octets.{item, integer_octets};
 ghost use Rattle.krb_der.specs.inner.PrefixFree.{item_begins, same_natural};
 
 impl Micros {
-    /// The greatest of them, 999999.
+    /// The greatest value, 999999.
     pub const GREATEST: u32 = 999999;
 
-    /// Returns the Micros of a number up to `GREATEST`, and `None` of any other.
+    /// Returns so many microseconds, or `None` if they are more than `GREATEST`.
     pub fn new(number: u32) -> Option<Micros>
         ensures range { IsSome result ↔ IsMicros number }
         ensures value { IfSome result (λ micros. micros ≡ number) }
@@ -54,7 +54,7 @@ impl Micros {
     }
 }
 
-/// An INTEGER (X.690, 8.3).
+/// Micros are encoded as an INTEGER (X.690, 8.3).
 impl Der for Micros {
     ghost der = { λ number. item 0x02 (integer_octets (pos number)) };
 

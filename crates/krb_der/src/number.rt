@@ -1,4 +1,4 @@
-//! Numbers as octets, the highest first (X.690, 8.1.3.5 and 8.3).
+//! Numbers as octets, the most significant first (X.690, 8.1.3.5 and 8.3).
 
 ghost use Rattle.std.specs.Prelude.{◌≡◌, ◌+◌, ◌^◌, ◌<◌, ◌≤◌, ◌++◌, length};
 ghost use Rattle.std.specs.Vec.{vec_len, vec_capacity};
@@ -8,7 +8,8 @@ ghost use Rattle.krb_der.specs.Sizes.{magnitude as magnitude_of};
 
 use crate::item::put_header;
 
-/// Returns how many octets spell a number at least, if they begin below a bound: 1 to 8 or 9.
+/// Returns the least number of octets that spell a number if the first of them is below `bound`: 1
+/// to 8, or 9.
 pub(crate) fn number_size(bound: u64, number: u64) -> u64
     requires { 0 < bound }
     ensures value { result ≡ length (spelled bound number) }
@@ -21,7 +22,7 @@ pub(crate) fn number_size(bound: u64, number: u64) -> u64
     }
 }
 
-/// Appends the fewest octets that spell a number and begin below a bound.
+/// Appends the fewest octets that spell a number and of which the first is below `bound`.
 pub(crate) fn put_number(out: &mut Vec<u8>, bound: u64, number: u64)
     requires bound { 0 < bound }
     requires octets { bound ≤ 256 }
@@ -36,7 +37,8 @@ pub(crate) fn put_number(out: &mut Vec<u8>, bound: u64, number: u64)
     }
 }
 
-/// Appends the complements of the fewest octets that spell a number and begin below 128.
+/// Appends the complements of the fewest octets that spell a number and of which the first is below
+/// 128.
 fn put_complement(out: &mut Vec<u8>, number: u64)
     requires { vec_len out.old + length (spelled 128 number) ≤ vec_capacity out.old }
     ensures { Puts (complement (spelled 128 number)) out.old out.new }
@@ -49,7 +51,7 @@ fn put_complement(out: &mut Vec<u8>, number: u64)
     }
 }
 
-/// Returns the number, or one below the magnitude of a negative one.
+/// Returns the number, or one less than the magnitude of a negative one.
 fn magnitude(number: i64) -> u64
     ensures { result ≡ magnitude_of number }
 {
@@ -68,7 +70,7 @@ pub fn integer_size(number: i64) -> u64
     number_size(128, magnitude(number)) + 2
 }
 
-/// Appends the DER octets of an INTEGER into room that is there (X.690, 8.3).
+/// Appends the DER octets of an INTEGER (X.690, 8.3), within the capacity of `out`.
 pub fn put_integer(out: &mut Vec<u8>, number: i64)
     requires { vec_len out.old + length (item 0x02 (integer_octets number)) ≤ vec_capacity out.old }
     ensures { Puts (item 0x02 (integer_octets number)) out.old out.new }
@@ -82,7 +84,7 @@ pub fn put_integer(out: &mut Vec<u8>, number: i64)
     }
 }
 
-/// Returns the number that at most five octets spell, the first the highest.
+/// Returns the number that at most five octets spell, the most significant first.
 #[inline(always)]
 pub fn number_of(octets: &[u8]) -> u64
     requires { length octets.now ≤ 5 }
@@ -96,7 +98,7 @@ pub fn number_of(octets: &[u8]) -> u64
     number
 }
 
-/// Returns the number that the complements of octets spell.
+/// Returns the number that the complements of octets spell, the most significant first.
 fn number_of_complement(octets: &[u8]) -> u64
     requires { length octets.now ≤ 5 }
     ensures value { result ≡ number_spelled (complement octets.now) }
@@ -109,8 +111,8 @@ fn number_of_complement(octets: &[u8]) -> u64
     number
 }
 
-/// Returns the number of an INTEGER's contents of at most five octets, in two's complement (X.690,
-/// 8.3.3).
+/// Returns the number that at most five contents octets of an INTEGER spell, in two's complement
+/// (X.690, 8.3.3).
 #[inline(always)]
 pub fn integer_value(octets: &[u8]) -> i64
     requires { length octets.now ≤ 5 }

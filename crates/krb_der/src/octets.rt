@@ -1,10 +1,10 @@
-//! Octets that a value holds.
+//! Strings of octets.
 
 use crate::der::Der;
 use crate::item::{item_size, put_item, size_of};
 use std::marker::Model;
 
-/// Octets, any number of any kind. Contracts see them as their list.
+/// An OCTET STRING (X.690, 8.7): any number of octets. Contracts see the list of the octets.
 #[derive(Debug, Drop)]
 pub struct Octets {
     octets: Vec<u8>,
@@ -26,7 +26,7 @@ ghost use Rattle.krb_der.specs.Octets.{item, AreOctets};
 ghost use Rattle.krb_der.specs.inner.PrefixFree.{item_begins, same_octets};
 
 impl Octets {
-    /// Returns the octets of a vector, which is moved and not copied.
+    /// Returns the OCTET STRING with these octets. The vector is moved, not copied.
     pub fn new(octets: Vec<u8>) -> Octets
         ensures { result ≡ octets.items }
     {
@@ -40,7 +40,7 @@ impl Octets {
         self.octets.as_slice()
     }
 
-    /// Returns the octets, given back in their vector.
+    /// Returns the octets in their vector.
     pub fn into_vec(self) -> Vec<u8>
         ensures { result.items ≡ self }
     {
@@ -49,7 +49,7 @@ impl Octets {
     }
 }
 
-/// By the octets alone.
+/// OCTET STRINGs are equal if their octets are.
 impl PartialEq for Octets {
     ghost eq = { pointwise nat_eq };
 
@@ -64,7 +64,7 @@ impl Eq for Octets {
     ghost laws = { nat_list_eq_equiv };
 }
 
-/// An OCTET STRING (X.690, 8.7).
+/// Octets are encoded as an OCTET STRING (X.690, 8.7).
 impl Der for Octets {
     ghost der = { λ octets. item 0x04 octets };
 

@@ -1,6 +1,6 @@
-//! The profiles.
+//! Profiles.
 
-/// How far octets may depart from RFC 4120 and still be accepted.
+/// A profile of RFC 4120: how far octets may depart from it and still be accepted.
 #[derive(Clone, Copy, PartialEq, Eq, Debug)]
 pub enum Profile {
     /// What deployed software sends is accepted: a string may hold any octets, there may be any

@@ -1,4 +1,4 @@
-//! Room that values of octets leave, to be used again.
+//! Vectors that are kept to be used again.
 
 ghost use Rattle.std.specs.Prelude.{◌≡◌, ◌≤◌, [], length, IfOk};
 
@@ -8,44 +8,44 @@ use crate::many::Many;
 use crate::octets::Octets;
 use std::alloc::{AllocError, Global};
 
-/// The number of vectors that are kept at most.
+/// The greatest number of vectors that are kept.
 const MOST: usize = 16;
 
-/// The number of lists that are kept at most.
+/// The greatest number of lists that are kept.
 const MOST_LISTS: usize = 4;
 
-/// The number of strings that a list which is kept has room for at most.
+/// The greatest capacity of a list that is kept, in strings.
 const MOST_STRINGS: usize = 64;
 
-/// The number of octets that a vector which is kept has room for at most.
+/// The greatest capacity of a vector that is kept, in octets.
 const MOST_ROOM: usize = 4096;
 
-/// Room of values that are not wanted any more: at most 16 vectors, each with room for at most 4096
-/// octets, and 4 lists, each with room for at most 64 strings. Values that are read take it before
-/// they ask for memory. No contract sees it.
+/// The vectors of values that are not needed any more: at most 16 vectors of octets, each with a
+/// capacity of at most 4096, and 4 lists of strings, each with a capacity of at most 64. Values
+/// that are read use these before they allocate. Contracts do not see what is kept.
 #[derive(Drop)]
 pub struct Room {
     vectors: [Option<Vec<u8>>; MOST],
-    /// The number of vectors: they stand first.
+    /// The number of vectors, which are the first of the array.
     count: usize,
     pub ghost few: { count ≤ 16 },
     lists: [Option<Vec<KString>>; MOST_LISTS],
-    /// The number of lists: they stand first.
+    /// The number of lists, which are the first of the array.
     list_count: usize,
     pub ghost few_lists: { list_count ≤ 4 },
 }
 
-/// Values whose room can be used again.
+/// A type whose values leave their vectors to be used again.
 pub trait GiveBack: Drop {
-    /// Leaves the room of the value's octets to those that are read after it.
+    /// Gives the vectors of the value to values that are read after it.
     fn give_back(self, room: &mut Room);
 
-    /// Leaves the room of a list of such values, of which none is left.
+    /// Gives the vector of an empty list of such values to values that are read after it.
     fn give_back_list(_list: Vec<Self>, _room: &mut Room) {}
 }
 
 impl Room {
-    /// Creates a room that keeps nothing.
+    /// Returns a `Room` that keeps nothing.
     pub fn new() -> Room {
         Room {
             vectors: [
@@ -58,7 +58,7 @@ impl Room {
         }
     }
 
-    /// Keeps a vector, unless there are many or it is large.
+    /// Keeps a vector, unless as many are kept already as may be, or its capacity is too great.
     fn keep(&mut self, vector: Vec<u8>) {
         if self.count < MOST && vector.capacity() <= MOST_ROOM {
             self.vectors[self.count] = Some(vector);
@@ -66,7 +66,7 @@ impl Room {
         }
     }
 
-    /// Returns a vector without octets: one of those that are kept, if there is one.
+    /// Returns an empty vector: one of those that are kept, if there is one.
     #[inline(always)]
     pub fn take(&mut self, alloc: Global) -> Vec<u8>
         ensures { result.items ≡ [] }
@@ -81,7 +81,7 @@ impl Room {
         Vec::new(alloc)
     }
 
-    /// Keeps a list, unless there are many or it is large.
+    /// Keeps a list, unless as many are kept already as may be, or its capacity is too great.
     fn keep_list(&mut self, list: Vec<KString>) {
         if self.list_count < MOST_LISTS && list.capacity() <= MOST_STRINGS {
             self.lists[self.list_count] = Some(list);
@@ -89,7 +89,7 @@ impl Room {
         }
     }
 
-    /// Returns a list without strings: one of those that are kept, if there is one.
+    /// Returns an empty list: one of those that are kept, if there is one.
     pub fn take_list(&mut self, alloc: Global) -> Vec<KString>
         ensures { result.items ≡ [] }
     {
@@ -103,7 +103,7 @@ impl Room {
         Vec::new(alloc)
     }
 
-    /// Returns a copy of octets, with room for all of them if it is new.
+    /// Returns a copy of octets, in one of the vectors that are kept, if there is one.
     pub fn copy(&mut self, alloc: Global, octets: &[u8]) -> Result<Vec<u8>, AllocError>
         ensures { IfOk result (λ copied. copied.items ≡ octets.now) }
     {

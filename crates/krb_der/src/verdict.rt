@@ -1,4 +1,4 @@
-//! What octets decide.
+//! Verdicts on octets, and refusals.
 
 ghost use Rattle.std.specs.Prelude.{Some};
 ghost use Rattle.krb_der.specs.Reasons.{refusal_text};
@@ -7,28 +7,28 @@ use crate::why::Why;
 use std::error::Error;
 use std::fmt;
 
-/// The first fault, and the octet that shows it.
+/// A refusal of octets: the first octet at fault, and why.
 #[derive(Clone, Copy, PartialEq, Eq, Debug)]
 pub struct Refusal {
     /// The octet at fault, counted from 0: in a frame from the first octet of its length, in a
     /// slice from the slice's first octet.
     pub place: u32,
-    /// What is wrong there.
+    /// Why this octet is refused.
     pub why: Why,
 }
 
-/// What the octets of a message that are present decide.
+/// The verdict on the first octets of a message.
 #[derive(Clone, Copy, PartialEq, Eq, Debug)]
 pub enum Verdict {
-    /// Nothing yet: more octets are needed.
+    /// Nothing is decided: more octets are needed.
     Open,
-    /// They are one message, and all of it.
+    /// They are one whole message.
     Whole,
     /// No message begins with them.
     Refused(Refusal),
 }
 
-/// `refused at 12: Range`.
+/// Shows `refused at 12: Range`.
 impl fmt::Display for Refusal {
     ghost output = { λ refusal. Some (refusal_text refusal) };
 

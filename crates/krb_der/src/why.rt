@@ -5,8 +5,8 @@ ghost use Rattle.krb_der.specs.Reasons.{reason_number, reason_name};
 
 use std::fmt;
 
-/// Why octets are refused. Each reason has a number and a name of its own, by [`why_number`] and
-/// [`why_text`].
+/// A reason for which octets are refused. Each has a number ([`why_number`]) and a name
+/// ([`why_text`]).
 #[derive(Clone, Copy, PartialEq, Eq, Debug)]
 pub enum Why {
     /// The high bit of a frame's length is set (RFC 4120, 7.2.2: it is reserved).
@@ -15,34 +15,35 @@ pub enum Why {
     TooLong,
     /// The frame's length is 0, or a slice has no octets.
     Empty,
-    /// This octet is no tag that may stand here (X.690, 8.1.2).
+    /// The octet is not a tag that may come here (X.690, 8.1.2).
     Tag,
-    /// An item does not fit the room that its container has left.
+    /// An item is longer than what is left of its container.
     Overrun,
-    /// The length octet 80: the indefinite form (X.690, 8.1.3.6), which DER does not have (10.1).
+    /// The length octet is 80, the indefinite form (X.690, 8.1.3.6), which DER does not have
+    /// (10.1).
     Indefinite,
-    /// A length octet from 85 to FF: a length of five octets or more (X.690, 8.1.3.5).
+    /// The length octet is from 85 to FF: the length has five octets or more (X.690, 8.1.3.5).
     LengthWide,
     /// The length has a shorter form (X.690, 10.1).
     LengthNotMinimal,
-    /// The one item that its container holds does not fill it.
+    /// The only item of a container does not fill it.
     Loose,
-    /// The type has no contents of this length.
+    /// The contents have a length that the type does not have.
     Size,
     /// The first nine bits of an integer are equal (X.690, 8.3.2).
     IntegerNotMinimal,
-    /// An integer outside its type.
+    /// An integer is outside the range of its type.
     Range,
-    /// An octet that breaks the shape of a KerberosTime (RFC 4120, 5.2.3).
+    /// An octet does not have the form of a KerberosTime (RFC 4120, 5.2.3).
     Time,
-    /// A bit string's count of unused bits is wrong, or an unused bit is set (X.690, 8.6 and 11.2).
+    /// The number of unused bits of a bit string is wrong, or an unused bit is set (X.690, 8.6 and
+    /// 11.2).
     Bits,
-    /// A container is full, and a part that it must have is not there.
+    /// A container is full, and a component that it must have is not there.
     Missing,
     /// The input ended inside a frame.
     Truncated,
-    /// An octet of a GeneralString that the profile does not have: one above the greatest octet of
-    /// its strings.
+    /// An octet of a GeneralString is above the greatest that the profile accepts.
     Charset,
 }
 
@@ -96,7 +97,7 @@ pub fn why_text(why: Why) -> &'static str
     }
 }
 
-/// Its name.
+/// Shows the name.
 impl fmt::Display for Why {
     ghost output = { λ why. Some (reason_name why) };
 

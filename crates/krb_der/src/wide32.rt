@@ -1,11 +1,11 @@
-//! Numbers of 32 bits, with a sign or without one.
+//! Numbers of 32 bits, signed or unsigned.
 
 use crate::der::Der;
 use crate::number::{integer_size, put_integer};
 use std::marker::Model;
 
-/// A number that implementations read as a signed or as an unsigned number of 32 bits (UInt32 of
-/// RFC 4120, 5.2.4, as it comes in practice): -2147483648 to 4294967295, kept as it came.
+/// A number of 32 bits that some implementations write as signed and others as unsigned (UInt32 of
+/// RFC 4120, 5.2.4, as it is used): -2147483648 to 4294967295, as it was written.
 #[derive(Clone, Copy, PartialEq, Eq, Debug)]
 pub struct Wide32 {
     number: i64,
@@ -30,13 +30,13 @@ ghost use Rattle.krb_der.specs.Octets.{item, integer_octets};
 ghost use Rattle.krb_der.specs.inner.PrefixFree.{item_begins, same_integer};
 
 impl Wide32 {
-    /// The least of them, -2147483648.
+    /// The least value, -2147483648.
     pub const LEAST: i64 = -2147483648;
 
-    /// The greatest of them, 4294967295.
+    /// The greatest value, 4294967295.
     pub const GREATEST: i64 = 4294967295;
 
-    /// Returns the Wide32 of a number from `LEAST` to `GREATEST`, and `None` of any other.
+    /// Returns the Wide32 of a number, or `None` if it is not from `LEAST` to `GREATEST`.
     pub fn new(number: i64) -> Option<Wide32>
         ensures range { IsSome result ↔ IsWide32 number }
         ensures value { IfSome result (λ wide32. wide32 ≡ number) }
@@ -57,7 +57,7 @@ impl Wide32 {
     }
 }
 
-/// An INTEGER (X.690, 8.3).
+/// A Wide32 is encoded as an INTEGER (X.690, 8.3).
 impl Der for Wide32 {
     ghost der = { λ number. item 0x02 (integer_octets number) };
 

@@ -1,4 +1,4 @@
-//! Octets of a file that were taken before their fields are read.
+//! Octets of a file that were read ahead of their fields.
 
 use crate::fault::FileFault;
 use crate::stream_reader::ask;
@@ -6,16 +6,16 @@ use std::alloc::AllocError;
 use std::io::Read;
 use std::marker::Model;
 
-/// How many octets there are at most.
+/// The greatest number of octets that are read ahead.
 const MOST: usize = 512;
 
-/// Octets that are still to be read. Contracts see them as their list.
+/// The octets that were read ahead and are in no field yet. Contracts see the list of them.
 #[derive(Drop)]
 pub(crate) struct Ahead {
     octets: [u8; MOST],
-    /// How many of them were read.
+    /// How many of the octets are in fields already.
     passed: usize,
-    /// How many of them were filled in.
+    /// How many octets were read ahead in all.
     filled: usize,
 }
 
@@ -34,7 +34,7 @@ ghost use Rattle.std.specs.Prelude.{◌≡◌, ◌+◌, ◌++◌, ◌^◌, ◌<�
 ghost use Rattle.std.specs.Io.KnownBytes.{Consumes, IsAtEnd};
 
 impl Ahead {
-    /// None.
+    /// Returns no octets.
     pub(crate) fn new() -> Ahead
         ensures { result ≡ [] }
     {
@@ -45,7 +45,7 @@ impl Ahead {
         }
     }
 
-    /// Returns how many there are.
+    /// Returns the number of octets.
     #[inline(always)]
     pub(crate) fn count(&self) -> usize
         ensures count { result ≡ length self.now }
@@ -54,7 +54,7 @@ impl Ahead {
         self.filled - self.passed
     }
 
-    /// Reads as many as there is room for, which is no more than there are.
+    /// Moves the first octets into `octets`, which they fill; there are enough of them.
     #[inline(always)]
     pub(crate) fn fill(&mut self, octets: &mut [u8])
         requires { length octets.old ≤ length self.old }
@@ -65,7 +65,8 @@ impl Ahead {
         self.passed = end;
     }
 
-    /// Reads `count` of them, which take the place of those in `copied` and the room of these.
+    /// Moves the first `count` octets into `copied`, in place of its octets. It allocates if they
+    /// need more than the capacity that is there.
     #[inline(always)]
     pub(crate) fn copy(&mut self, count: usize, copied: &mut Vec<u8>) -> Result<(), AllocError>
         requires { count ≤ length self.old }
@@ -81,8 +82,8 @@ impl Ahead {
         Ok(())
     }
 
-    /// Takes octets of a reader if none is left: as many as come at once, at most `most`. There
-    /// are none at its end.
+    /// Reads ahead if no octets are left: as many as the reader returns at once, at most `most`. At
+    /// the end of the reader there are none.
     pub(crate) fn refill<R: Read>(
         &mut self,
         reader: &mut R,

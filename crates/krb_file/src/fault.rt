@@ -1,4 +1,4 @@
-//! The reasons why a file is refused.
+//! Why files are refused or cannot be read.
 
 ghost use Rattle.std.specs.Prelude.{◌≡◌, Some};
 ghost use Rattle.krb_file.specs.Faults.{file_reason_number, file_reason_name, file_fault_text};
@@ -8,34 +8,34 @@ use std::alloc::{AllocError, AllocFailed};
 use std::error::Error;
 use std::fmt;
 
-/// Why a keytab or a credential cache is refused. Each reason has a number and a name of its own,
-/// by [`file_why_number`] and [`file_why_text`].
+/// A reason for which a keytab or a credential cache is refused. Each has a number
+/// ([`file_why_number`]) and a name ([`file_why_text`]).
 #[derive(Clone, Copy, PartialEq, Eq, Debug)]
 pub enum FileWhy {
     /// The first octet is not 05.
     Magic,
-    /// The second octet is no version of the format.
+    /// The second octet is not a version of the format.
     Version,
     /// A field passes the end of the file.
     Truncated,
-    /// A field passes the end of the entry or of the header that it stands in.
+    /// A field passes the end of the entry or of the header that it is in.
     Overrun,
     /// A field of octets is longer than the limit.
     TooLong,
 }
 
-/// Why a file could not be read.
+/// A fault of reading a file.
 #[derive(Clone, Copy, PartialEq, Eq, Debug)]
 pub enum FileFault {
-    /// The file is refused: the first octet of the first field at fault, counted from 0, and what
-    /// is wrong with that field. The place is in the file or, if octets are missing, at its end.
+    /// The file is refused: the first octet of the first field at fault, and what is wrong with
+    /// that field. The place is in the file or, if octets are missing, at its end.
     Refused {
-        /// The first octet of the field.
+        /// The first octet of the field, counted from 0.
         place: u64,
-        /// What is wrong with it.
+        /// What is wrong with the field.
         why: FileWhy,
     },
-    /// Octets could not be had from where the file comes.
+    /// The device that the file is read from failed.
     Read,
     /// Out of memory.
     Memory,
@@ -83,7 +83,7 @@ pub fn file_why_text(why: FileWhy) -> &'static str
     }
 }
 
-/// Its name.
+/// Shows the name.
 impl fmt::Display for FileWhy {
     ghost output = { λ why. Some (file_reason_name why) };
 
@@ -92,7 +92,7 @@ impl fmt::Display for FileWhy {
     }
 }
 
-/// `refused at 12: Truncated`, `a read failed` or `out of memory`.
+/// Shows `refused at 12: Truncated`, `a read failed` or `out of memory`.
 impl fmt::Display for FileFault {
     ghost output = { λ fault. Some (file_fault_text fault) };
 

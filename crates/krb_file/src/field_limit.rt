@@ -1,9 +1,9 @@
-//! How many octets a field of a file may have.
+//! The greatest length of a field.
 
 use std::marker::Model;
 
-/// The greatest number of octets of a field of octets: 1 to 2147483647. Numbers have no limit, nor
-/// have octets that are passed and not kept.
+/// The greatest number of octets that a field of octets may have: 1 to 2147483647. Numbers have no
+/// limit, and neither have octets that are skipped.
 #[derive(Clone, Copy, PartialEq, Eq, Debug)]
 pub struct FieldLimit {
     octets: u32,
@@ -24,7 +24,7 @@ impl Model for FieldLimit {
 ghost use Rattle.std.specs.Prelude.{◌≡◌, ◌<◌, ◌^◌, ◌↔◌, IsSome, IfSome};
 
 impl FieldLimit {
-    /// Returns the limit of `octets` octets, and `None` of 0 and of more than 2147483647.
+    /// Returns the limit of `octets` octets, or `None` if they are none or more than 2147483647.
     pub fn new(octets: u32) -> Option<FieldLimit>
         ensures range { IsSome result ↔ ((0 < octets) × (octets < 2 ^ 31)) }
         ensures value { IfSome result (λ limit. limit ≡ octets) }
@@ -36,7 +36,7 @@ impl FieldLimit {
         }
     }
 
-    /// Returns the octets.
+    /// Returns the number of octets.
     pub fn get(self) -> u32
         ensures value { result ≡ self }
         ensures some { 0 < result }

@@ -10,15 +10,16 @@ use krb_der::KString;
 use std::alloc::Global;
 
 /// A reader of the fields of a file. It knows the place of the next octet, the end of the entry or
-/// of the header that the next field stands in, if it stands in one, and how many octets a field of
-/// octets may have.
+/// of the header that the next field is in, if it is in one, and the greatest length of a field of
+/// octets.
 ///
-/// A field that passes that end is Overrun; else a field of octets longer than the limit is TooLong;
-/// else one that passes the end of the file is Truncated: each at the first octet of the field.
-/// After a fault nothing is said of what it reads, but that it took no octet after those that it
-/// passed, and none after the end of what the field at fault stands in.
+/// A field that passes that end is Overrun; else a field of octets longer than the limit is
+/// TooLong; else one that passes the end of the file is Truncated: each at the first octet of the
+/// field. After a fault it is not said what is read next, but only that no octet was read after
+/// those that were skipped, and none after the end of the entry or header that the field at fault
+/// is in.
 pub trait FieldReader {
-    /// What it still has.
+    /// The octets that are left, the place, the end and the limit.
     ghost held: { Self → Held };
 
     /// Whether the device that the octets come from may fail.
@@ -29,11 +30,11 @@ pub trait FieldReader {
         ensures value { result ≡ (held self.now).place }
         ensures bound { result < 2 ^ 63 };
 
-    /// Where the entry or the header ends that the next field stands in.
+    /// Returns the end of the entry or of the header that the next field is in, if it is in one.
     fn end(&self) -> Option<u64>
         ensures { result ≡ (held self.now).bounds.end };
 
-    /// Sets where the entry or the header ends that the next field stands in.
+    /// Sets the end of the entry or of the header that the next field is in.
     fn set_end(&mut self, end: Option<u64>)
         ensures { held self.new ≡ bounded end (held self.old) };
 
@@ -42,37 +43,37 @@ pub trait FieldReader {
         ensures read { Follows (λ empty. empty) result ended_at MayFail (held self.old) (held self.new) }
         ensures looks { LooksTo 1 (held self.old) (held self.new) };
 
-    /// Tells the reader that `size` octets more belong to what is read, so that it may take them
-    /// before their fields are read.
+    /// Announces that `size` more octets belong to what is read, so that the reader may read them
+    /// ahead of their fields.
     fn look_ahead(&mut self, size: u64) -> Result<(), FileFault>
         ensures read { Follows (λ done. done) result (gives tt) MayFail (held self.old) (held self.new) }
         ensures looks { LooksTo size (held self.old) (held self.new) };
 
-    /// Reads the next octets of a field that is no field of octets, as many as there is room for.
+    /// Reads the next octets of a field that is not a field of octets, at most 65536, and fills
+    /// `octets` with them.
     fn fill(&mut self, octets: &mut [u8]) -> Result<(), FileFault>
         requires { length octets.old ≤ 2 ^ 16 }
         ensures read { Follows (λ _. octets.new) result (next_octets_at None (length octets.old)) MayFail (held self.old) (held self.new) }
         ensures keeps { Keeps (held self.old) (held self.new) }
         ensures within { TakesTo ((held self.old).place + length octets.old) (held self.old) (held self.new) };
 
-    /// Returns an empty vector, with the room of octets that were given back if there is some.
+    /// Returns an empty vector: one that was given back, if there is one.
     fn room(&mut self, alloc: Global) -> Vec<u8>
         ensures empty { result.items ≡ [] }
         ensures same { held self.new ≡ held self.old };
 
-    /// Returns an empty list, with the room of one that was given back if there is some.
+    /// Returns an empty list: one that was given back, if there is one.
     fn list(&mut self, alloc: Global) -> Vec<KString>
         ensures empty { result.items ≡ [] }
         ensures same { held self.new ≡ held self.old };
 
-    /// Reads a field of octets, which take the place of those in `octets` and the room of these.
+    /// Reads a field of `size` octets into `octets`, in place of its octets.
     fn octets(&mut self, alloc: Global, size: u64, octets: &mut Vec<u8>) -> Result<(), FileFault>
         ensures read { Follows (λ _. octets.new.items) result (octets_at size) MayFail (held self.old) (held self.new) }
         ensures keeps { Keeps (held self.old) (held self.new) }
         ensures within { TakesTo ((held self.old).place + size) (held self.old) (held self.new) };
 
-    /// Passes octets that are not kept, to which no limit applies, and tells whether all of them are
-    /// 00.
+    /// Skips `size` octets, to which no limit applies, and returns whether all of them are 00.
     fn skip(&mut self, size: u64) -> Result<bool, FileFault>
         ensures read { Follows (λ zeros. zeros) result (skipped_at size) MayFail (held self.old) (held self.new) }
         ensures keeps { Keeps (held self.old) (held self.new) }
@@ -144,7 +145,7 @@ pub trait FieldReader {
         self.octets(alloc, u64::from(size), octets)
     }
 
-    /// Reads what is left up to the end of the entry, as [`octets`](FieldReader::octets) does.
+    /// Reads what is left of the entry, as [`octets`](FieldReader::octets) does.
     final fn rest(&mut self, alloc: Global, octets: &mut Vec<u8>) -> Result<(), FileFault>
         ensures read { Follows (λ _. octets.new.items) result rest_at MayFail (held self.old) (held self.new) }
         ensures keeps { Keeps (held self.old) (held self.new) }
@@ -156,8 +157,8 @@ pub trait FieldReader {
         self.octets(alloc, size, octets)
     }
 
-    /// Reads the realm and the components of a principal, after the number of the components: each
-    /// number of 16 bits.
+    /// Reads the number of the components of a principal, its realm and its components, with each
+    /// number in 16 bits.
     final fn names16(
         &mut self,
         alloc: Global,
@@ -173,8 +174,8 @@ pub trait FieldReader {
         read_many::<String16, Self>(alloc, u32::from(count), self, components)
     }
 
-    /// Reads the realm and the components of a principal, after the number of the components: each
-    /// number of 32 bits.
+    /// Reads the number of the components of a principal, its realm and its components, with each
+    /// number in 32 bits.
     final fn names32(
         &mut self,
         alloc: Global,
@@ -190,7 +191,7 @@ pub trait FieldReader {
         read_many::<String32, Self>(alloc, count, self, components)
     }
 
-    /// Reads an octet, if it is one of those that are wanted, and else refuses it at its place.
+    /// Reads an octet if it is one of `wanted`, and refuses it at its place if it is not.
     final fn expect(&mut self, wanted: &[u8], why: FileWhy) -> Result<u8, FileFault>
         ensures read { Follows (λ octet. octet) result (expect wanted.now why) MayFail (held self.old) (held self.new) }
         ensures keeps { Keeps (held self.old) (held self.new) }
@@ -205,7 +206,8 @@ pub trait FieldReader {
         }
     }
 
-    /// Reads the first two octets of a file: 05, and one of the versions, which is given.
+    /// Reads the first two octets of a file, which are 05 and one of `versions`, and returns the
+    /// version.
     final fn version(&mut self, versions: &[u8]) -> Result<u8, FileFault>
         ensures read { Follows (λ version. version) result (version_at versions.now) MayFail (held self.old) (held self.new) }
         ensures keeps { Keeps (held self.old) (held self.new) }
@@ -216,28 +218,28 @@ pub trait FieldReader {
     }
 }
 
-/// Returns whether an octet is one of some.
+/// Returns whether an octet is one of `wanted`.
 fn is_one_of(octet: u8, wanted: &[u8]) -> bool
     ensures { result ≡ is_one_of octet wanted.now }
 {
     wanted.iter().any(|other| octet == *other)
 }
 
-/// A kind of field, or of fields one after another.
+/// A kind of field, or of several fields in a row.
 pub trait Field {
-    /// What is read.
+    /// The type of what is read.
     type Value: Drop;
 
-    /// How it is read.
+    /// How it is read from octets.
     ghost reads: { Reader Self.Value };
 
-    /// Reads it. What is kept of it is copied once.
+    /// Reads it. Octets that are kept are copied once.
     fn read<F: FieldReader>(alloc: Global, reader: &mut F) -> Result<Self::Value, FileFault>
         ensures read { Follows (λ value. value) result reads F.MayFail (F.held reader.old) (F.held reader.new) }
         ensures keeps { Keeps (F.held reader.old) (F.held reader.new) };
 }
 
-/// Octets after their number of 16 bits, as a string.
+/// A string after the number of its octets in 16 bits.
 pub struct String16;
 
 impl Field for String16 {
@@ -252,7 +254,7 @@ impl Field for String16 {
     }
 }
 
-/// Octets after their number of 32 bits, as a string.
+/// A string after the number of its octets in 32 bits.
 pub struct String32;
 
 impl Field for String32 {
@@ -267,8 +269,8 @@ impl Field for String32 {
     }
 }
 
-/// Reads items of a kind one after another. Memory follows the octets that are there, and not the
-/// number.
+/// Reads `count` items of a kind into `values`, which is empty before. It allocates by the octets
+/// that are there, and not by `count`.
 pub fn read_many<K: Field, F: FieldReader>(
     alloc: Global,
     count: u32,

@@ -1,6 +1,21 @@
-//! What keytabs and credential caches share: why a file is refused ([`FileFault`]), how the fields of
-//! files are spelled (`specs/Fields`) and read one after another, whatever the octets come from
-//! ([`FieldReader`]), and how files are made of parts ([`Part`]).
+//! What keytabs and credential caches share: how the fields of files are read and written, and why
+//! a file is refused.
+//!
+//! The main calls:
+//!
+//! - [`SliceReader::new`] reads a file that is in memory, and [`StreamReader::new`] anything that
+//!   can be read, as it comes. Both are a [`FieldReader`], which reads numbers, and octets after
+//!   their number, up to an end and under a limit ([`FieldLimit`]).
+//! - [`read_many`] reads fields of a kind ([`Field`]) one after another.
+//! - [`Part::put`] appends the octets of a part of a file, and [`Part::size`] returns their number.
+//!
+//! A [`FileFault`] is a refusal at the first octet of a field, a read that failed, or out of
+//! memory.
+//!
+//! Nothing here knows the format of a keytab or of a cache: `krb_keytab` and `krb_ccache` do.
+//! Nothing opens a file: readers are given.
+//!
+//! `specs/Fields` says how fields are spelled, and `specs/FieldReaders` what a reader returns.
 #![tactic(auto)]
 
 mod ahead;

@@ -1,5 +1,6 @@
 //! How the octets of a file are made of those of its parts. A part says what it is made of by a
-//! value like `Then(self.kind, &self.octets)`, and so its size and its octets need no word more.
+//! value like `Then(self.kind, &self.octets)`, from which both its size and its octets are worked
+//! out.
 
 ghost use Rattle.std.specs.Prelude.{◌≡◌, ◌+◌, ◌<◌, ◌≤◌, ◌^◌, ◌++◌, ◌↔◌, ◌||◌, ℕ, Bool, true, false, List, length, IsNone, IfSome};
 ghost use Rattle.std.specs.Int.{w8, w16, w32, to_be_bytes};
@@ -15,35 +16,36 @@ use crate::field_reader::String16;
 use krb_der::{KString, Octets, put_octets, size_of};
 use std::marker::PhantomData;
 
-/// The greatest number of octets that a file is written with, 2^40.
+/// The greatest number of octets of a file that is written, 2^40.
 pub const GREATEST_FILE: u64 = 1 << 40;
 
-/// What stands in a file.
+/// A part of a file.
 pub trait Part {
-    /// Its octets.
+    /// The octets of a part.
     ghost octets: { Self → List ℕ };
 
-    /// Whether a number cannot say how long it or a part of it is.
+    /// Whether a length or a count in a part is too great for the 16 or 32 bits that it is written
+    /// in.
     ghost is_long: { Self → Bool };
 
-    /// Its numbers and lengths are in their ranges.
+    /// What holds of each part: its numbers and lengths are in their ranges.
     ghost Fits: { Self → Type 0 };
 
-    /// Returns the number of octets, or 2^40 + 1 if there are more than 2^40; `None` if a number
-    /// cannot say how long a part is.
+    /// Returns the number of octets, or 2^40 + 1 if there are more than 2^40. Returns `None` if a
+    /// length or a count in the part is too great for the 16 or 32 bits that it is written in.
     fn size(&self) -> Option<u64>
         ensures none { IsNone result ↔ (is_long self.now ≡ true) }
         ensures some { IfSome result (λ size. size ≡ held (length (octets self.now))) }
         ensures fits { IfSome result (λ _. Fits self.now) };
 
-    /// Appends the octets, into room that is there.
+    /// Appends the octets within the capacity of `out`.
     fn put(&self, out: &mut Vec<u8>)
         requires short { is_long self.now ≡ false }
         requires room { vec_len out.old + length (octets self.now) ≤ vec_capacity out.old }
         ensures { Puts (octets self.now) out.old out.new };
 }
 
-/// Returns two numbers of octets together, held at 2^40 + 1.
+/// Returns the sum of two numbers of octets, or 2^40 + 1 if it is more.
 fn add_held(size: u64, more: u64) -> u64
     ensures { result ≡ held (size + more) }
 {
@@ -104,7 +106,7 @@ impl Part for u32 {
     }
 }
 
-/// A number of 32 bits with a sign.
+/// A signed number of 32 bits.
 impl Part for i32 {
     ghost octets = { signed w32 };
 
@@ -122,7 +124,7 @@ impl Part for i32 {
     }
 }
 
-/// Octets after their number of 32 bits.
+/// Octets after their number in 32 bits.
 #[derive(Drop)]
 pub struct Counted32<'a>(pub &'a [u8]);
 
@@ -148,7 +150,7 @@ impl<'a> Part for Counted32<'a> {
     }
 }
 
-/// Octets after their number of 32 bits.
+/// Octets after their number in 32 bits.
 impl Part for Octets {
     ghost octets = { counted w32 };
 
@@ -165,7 +167,7 @@ impl Part for Octets {
     }
 }
 
-/// A string after the number, of 32 bits, of its octets.
+/// A string after the number of its octets in 32 bits.
 impl Part for KString {
     ghost octets = { counted w32 };
 
@@ -182,7 +184,7 @@ impl Part for KString {
     }
 }
 
-/// Octets after their number of 16 bits.
+/// Octets after their number in 16 bits.
 #[derive(Drop)]
 pub struct Counted16<'a>(pub &'a [u8]);
 
@@ -264,7 +266,7 @@ impl<'a> Part for Plain<'a> {
     }
 }
 
-/// The number, of 16 bits, of items.
+/// The number of items, in 16 bits.
 #[derive(Drop)]
 pub struct Count16<'a, T>(pub &'a [T]);
 
@@ -284,7 +286,7 @@ impl<'a, T> Part for Count16<'a, T> {
     }
 }
 
-/// The number, of 32 bits, of items.
+/// The number of items, in 32 bits.
 #[derive(Drop)]
 pub struct Count32<'a, T>(pub &'a [T]);
 
@@ -310,25 +312,26 @@ impl<'a, T> Part for Count32<'a, T> {
 
 /// A kind of items, and how each of them is spelled.
 trait Spelled {
-    /// What is spelled.
+    /// The type of the items.
     type Value;
 
     /// The octets of an item.
     ghost octets: { Self.Value → List ℕ };
 
-    /// Whether a number cannot say how long it or a part of it is.
+    /// Whether a length or a count in an item is too great for the 16 or 32 bits that it is written
+    /// in.
     ghost is_long: { Self.Value → Bool };
 
-    /// Its numbers and lengths are in their ranges.
+    /// What holds of each item: its numbers and lengths are in their ranges.
     ghost Fits: { Self.Value → Type 0 };
 
-    /// Returns the number of its octets, as [`size`](Part::size) of a part.
+    /// Returns the number of octets of an item, as [`size`](Part::size) of a part does.
     fn size(value: &Self::Value) -> Option<u64>
         ensures none { IsNone result ↔ (is_long value.now ≡ true) }
         ensures some { IfSome result (λ size. size ≡ held (length (octets value.now))) }
         ensures fits { IfSome result (λ _. Fits value.now) };
 
-    /// Appends its octets, into room that is there.
+    /// Appends the octets of an item within the capacity of `out`.
     fn put(value: &Self::Value, out: &mut Vec<u8>)
         requires short { is_long value.now ≡ false }
         requires room { vec_len out.old + length (octets value.now) ≤ vec_capacity out.old }
@@ -374,7 +377,7 @@ impl Spelled for String16 {
     }
 }
 
-/// Parts one after another.
+/// Parts in a row.
 #[derive(Drop)]
 pub struct Each<'a, P>(pub &'a [P]);
 
@@ -394,7 +397,7 @@ impl<'a, P: Part> Part for Each<'a, P> {
     }
 }
 
-/// Strings one after another, each after the number, of 16 bits, of its octets.
+/// Strings in a row, each after the number of its octets in 16 bits.
 #[derive(Drop)]
 pub struct Strings16<'a>(pub &'a [KString]);
 
@@ -414,7 +417,7 @@ impl<'a> Part for Strings16<'a> {
     }
 }
 
-/// Items after their number of 32 bits.
+/// Items after their number in 32 bits.
 #[derive(Drop)]
 pub struct Listed<'a, P>(pub &'a [P]);
 
@@ -434,7 +437,7 @@ impl<'a, P: Part> Part for Listed<'a, P> {
     }
 }
 
-/// A part after the number, of 16 bits, of its octets.
+/// A part after the number of its octets in 16 bits.
 #[derive(Drop)]
 pub struct Measured<P>(pub P);
 
@@ -459,8 +462,8 @@ impl<P: Part> Part for Measured<P> {
     }
 }
 
-/// Returns the number of octets of items, held at 2^40 + 1; `None` if a number cannot say how long
-/// one is.
+/// Returns the number of octets of all the items, or 2^40 + 1 if there are more than 2^40. Returns
+/// `None` if a length or a count in one is too great for the 16 or 32 bits that it is written in.
 fn size_of_each<K: Spelled>(items: &[K::Value]) -> Option<u64>
     ensures none { IsNone result ↔ (list_any K.is_long items.now ≡ true) }
     ensures some { IfSome result (λ size. size ≡ held (length (flat_map K.octets items.now))) }
@@ -473,7 +476,7 @@ fn size_of_each<K: Spelled>(items: &[K::Value]) -> Option<u64>
     Some(size)
 }
 
-/// Appends the octets of items in order, into room that is there.
+/// Appends the octets of the items in order, within the capacity of `out`.
 fn put_each<K: Spelled>(out: &mut Vec<u8>, items: &[K::Value])
     requires short { list_any K.is_long items.now ≡ false }
     requires room { vec_len out.old + length (flat_map K.octets items.now) ≤ vec_capacity out.old }

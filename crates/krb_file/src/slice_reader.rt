@@ -1,4 +1,4 @@
-//! The fields of a file that is all there.
+//! A reader of files that are in memory.
 
 use crate::fault::{FileFault, FileWhy};
 use crate::field_reader::FieldReader;
@@ -6,8 +6,9 @@ use krb_der::KString;
 use std::alloc::Global;
 use std::marker::Model;
 
-/// What is left of a slice of octets: no limit applies to its fields. Contracts see what is left,
-/// the place of the first octet of it, and where the entry or the header ends that it stands in.
+/// A reader of the fields of a slice. No limit applies to them. Contracts see the octets that are
+/// left, the place of the first of them, and the end of the entry or of the header that they are
+/// in.
 #[derive(Drop)]
 pub struct SliceReader<'a> {
     place: u64,
@@ -31,7 +32,7 @@ ghost use Rattle.krb_file.specs.Fields.{next_octets_at, are_zero};
 ghost use Rattle.krb_file.specs.FieldReaders.{Follows, Keeps, TakesTo, of_slice};
 
 impl<'a> SliceReader<'a> {
-    /// Creates a reader of a whole file.
+    /// Returns a reader of a whole file.
     pub fn new(octets: &'a [u8]) -> SliceReader<'a>
         ensures { result ≡ record { place = 0; end = None; octets = octets.now } }
     {
@@ -42,7 +43,7 @@ impl<'a> SliceReader<'a> {
         }
     }
 
-    /// Takes the next octets, borrowed.
+    /// Reads the next `size` octets, borrowed.
     fn take(&mut self, size: u64) -> Result<&'a [u8], FileFault>
         ensures size { IfOk result (λ taken. length taken.now ≡ size) }
         ensures read { Follows (λ taken. taken.now) result (next_octets_at None size) ⊥ (of_slice self.old) (of_slice self.new) }

@@ -1,4 +1,4 @@
-//! The fields of a file that is read as it comes.
+//! A reader of files as they come.
 
 use crate::ahead::Ahead;
 use crate::fault::{FileFault, FileWhy};
@@ -10,34 +10,33 @@ use std::alloc::Global;
 use std::io::Read;
 use std::marker::Model;
 
-/// How often a reader is asked at most.
+/// The greatest number of reads.
 const MOST_ASKS: u64 = 1 << 40;
 
-/// How many octets there is room for before any of a field came. Then there is room for as many as
-/// came.
+/// The greatest number of octets of a field that are read first. After that at most as many are
+/// read at once as came before.
 const LEAST_PIECE: u64 = 4096;
 
-/// How many octets a reader is asked for at once at most.
+/// The greatest number of octets that are read at once, 4 MiB.
 const GREATEST_PIECE: u64 = 1 << 22;
 
-/// A reader of the fields of what a [`Read`] gives. It asks for octets when a field of them is
-/// read, when it is asked whether any is left, and when it is told how many belong to what is
-/// read, and for none after these. A reader is asked at most 2^40 times, and not after it told its
-/// end.
+/// A reader of the fields of anything that can be read. It reads when a field needs octets, when it
+/// is asked whether any are left, and when it is told how many belong to what is read, and never
+/// more than these. It reads at most 2^40 times, and not after the end.
 #[derive(Drop)]
 pub struct StreamReader<R: Read> {
     reader: R,
     limit: FieldLimit,
     place: u64,
     end: Option<u64>,
-    /// Octets that were taken and are still to be read.
+    /// The octets that were read ahead.
     ahead: Ahead,
-    /// A field of fewer octets than this is ahead, inside the end and under the limit.
+    /// A field of fewer octets than this was read ahead, is inside the end and is under the limit.
     near: usize,
-    /// Whether the reader told its end.
+    /// Whether the end was read.
     ended: bool,
     asks: u64,
-    /// Room for fields of octets.
+    /// Vectors for fields of octets.
     spare: Room,
 }
 
@@ -59,7 +58,7 @@ ghost use Rattle.krb_file.specs.Fields.{passes, next_octets_at, octets_at};
 ghost use Rattle.krb_file.specs.FieldReaders.{MayHave, FailsBy, Follows, Stays, Keeps, TakesTo, LooksTo};
 ghost use Rattle.krb_file.specs.inner.Takes.{Takes, Within, FailsTaking, AreNear};
 
-/// Asks a reader for octets, and answers how many came: 0 at its end.
+/// Reads from a reader, and returns how many octets came: 0 at its end.
 pub(crate) fn ask<R: Read>(
     reader: &mut R,
     asks: &mut u64,
@@ -86,8 +85,8 @@ pub(crate) fn ask<R: Read>(
 }
 
 impl<R: Read> StreamReader<R> {
-    /// Creates a reader of the fields of what a [`Read`] gives, from place 0 on. No field of octets
-    /// may be longer than the limit.
+    /// Returns a reader of the fields of `reader`, from place 0 on. A field of octets may not be
+    /// longer than the limit.
     pub fn new(reader: R, limit: FieldLimit) -> StreamReader<R>
         ensures { result ≡ record { ahead = []; left = R.remaining reader; place = 0; bounds = record { end = None; limit = Some limit } } }
     {
@@ -104,15 +103,15 @@ impl<R: Read> StreamReader<R> {
         }
     }
 
-    /// Gives back a value that was read, whose room the next fields of octets take.
+    /// Gives back a value that was read, whose vectors are used for the next fields of octets.
     pub fn give_back<T: GiveBack>(&mut self, value: T)
         ensures { self.new ≡ self.old }
     {
         value.give_back(&mut self.spare);
     }
 
-    /// Takes octets that are still to be read, unless some are ahead: as many as come at once, at
-    /// most `most`.
+    /// Reads ahead unless octets are left of those read before: as many as come at once, at most
+    /// `most`.
     fn see(&mut self, most: u64) -> Result<(), FileFault>
         requires { 0 < most }
         ensures same { OnOk result (Takes self.old self.new []) }
@@ -130,7 +129,8 @@ impl<R: Read> StreamReader<R> {
         Ok(())
     }
 
-    /// Takes octets, as many as come at once, and answers how many: 0 if none is left.
+    /// Moves octets into `octets`, as many as come at once, and returns how many: 0 if none is
+    /// left.
     fn take(&mut self, octets: &mut [u8]) -> Result<usize, FileFault>
         requires room { 0 < length octets.old }
         requires few { length octets.old ≤ 2 ^ 22 }
@@ -156,7 +156,7 @@ impl<R: Read> StreamReader<R> {
         Ok(count)
     }
 
-    /// Takes octets that are ahead till there is no more room. What is near is forgotten.
+    /// Moves octets that were read ahead, until they end or `octets` is full. It clears `near`.
     fn fill_ahead(&mut self, octets: &mut [u8])
         requires { length octets.old ≤ length self.old.ahead }
         ensures taken { Takes self.old self.new octets.new }
@@ -167,8 +167,7 @@ impl<R: Read> StreamReader<R> {
         self.place += octets.len() as u64;
     }
 
-    /// Takes octets till there is no more room. If there are too few left, the field that begins
-    /// at `start` is Truncated.
+    /// Fills `octets`. If there are too few left, the field that begins at `start` is Truncated.
     #[inline(never)]
     fn take_all(&mut self, start: u64, octets: &mut [u8]) -> Result<(), FileFault>
         requires { length octets.old ≤ 2 ^ 22 }
@@ -191,8 +190,8 @@ impl<R: Read> StreamReader<R> {
         Ok(())
     }
 
-    /// Takes `room` octets, as [`take_all`](StreamReader::take_all) does, which take the place of
-    /// those in `piece`.
+    /// Reads `room` octets into `piece`, in place of its octets, as
+    /// [`take_all`](StreamReader::take_all) does.
     fn take_piece(&mut self, start: u64, room: usize, piece: &mut Vec<u8>) -> Result<(), FileFault>
         requires { room ≤ 2 ^ 22 }
         ensures taken { OnOk result (Takes self.old self.new piece.new.items) }
@@ -207,7 +206,7 @@ impl<R: Read> StreamReader<R> {
         self.take_all(start, piece.as_mut_slice())
     }
 
-    /// Takes a field of octets, which come in pieces.
+    /// Reads a field of octets, piece by piece.
     fn take_octets(
         &mut self,
         alloc: Global,
@@ -239,7 +238,7 @@ impl<R: Read> StreamReader<R> {
         self.place
     }
 
-    /// Returns whether `size` octets pass the end of the entry or of the header that they stand in.
+    /// Returns whether `size` octets pass the end of the entry or of the header that they are in.
     fn passes_end(&self, size: u64) -> bool
         ensures { result ≡ passes (self.now.place + size) self.now.bounds.end }
     {
@@ -249,7 +248,7 @@ impl<R: Read> StreamReader<R> {
         }
     }
 
-    /// Refuses a field that passes the end of what it stands in, or is longer than it may be.
+    /// Refuses a field that passes the end of what it is in, or is longer than `most`.
     fn check(&self, size: u64, most: Option<u64>) -> Result<(), FileFault>
         ensures inside { OnOk result (passes (self.now.place + size) self.now.bounds.end ≡ false) }
         ensures under { OnOk result (passes size most ≡ false) }
@@ -271,7 +270,7 @@ impl<R: Read> StreamReader<R> {
         Ok(())
     }
 
-    /// Refuses a field of octets that passes the end of what it stands in, or is too long.
+    /// Refuses a field of octets that passes the end of what it is in, or is longer than the limit.
     fn check_octets(&self, size: u64) -> Result<(), FileFault>
         ensures inside { OnOk result (passes (self.now.place + size) self.now.bounds.end ≡ false) }
         ensures under { OnOk result (passes size self.now.bounds.limit ≡ false) }
@@ -281,7 +280,8 @@ impl<R: Read> StreamReader<R> {
         self.check(size, Some(most))
     }
 
-    /// Reads the next octets of a field that is no field of octets, whatever is ahead.
+    /// Reads the next octets of a field that is not a field of octets, whether they were read ahead
+    /// or not.
     #[inline(never)]
     fn fill_slowly(&mut self, octets: &mut [u8]) -> Result<(), FileFault>
         requires { length octets.old ≤ 2 ^ 16 }
@@ -294,7 +294,7 @@ impl<R: Read> StreamReader<R> {
         self.take_all(place, octets)
     }
 
-    /// Reads a field of octets, whatever is ahead.
+    /// Reads a field of octets, whether they were read ahead or not.
     #[inline(never)]
     fn octets_slowly(
         &mut self,
@@ -390,8 +390,8 @@ impl<R: Read> FieldReader for StreamReader<R> {
     }
 }
 
-/// Returns the least number of octets of a field, at a place, that is not ahead, or passes an end
-/// or a limit, if `ahead` octets are ahead.
+/// Returns the least number of octets of a field at `place` that was not read ahead or that passes
+/// the end or the limit, if `ahead` octets were read ahead.
 fn near(ahead: usize, place: u64, end: Option<u64>, limit: FieldLimit) -> usize
     requires { ahead ≤ 512 }
     ensures { AreNear result ahead place end limit }
@@ -405,7 +405,7 @@ fn near(ahead: usize, place: u64, end: Option<u64>, limit: FieldLimit) -> usize
     room as usize + 1
 }
 
-/// Returns whether a number of octets is above the greatest that there may be, if there is one.
+/// Returns whether a number of octets is greater than `most`, if there is such a limit.
 fn is_longer(size: u64, most: Option<u64>) -> bool
     ensures { result ≡ passes size most }
 {

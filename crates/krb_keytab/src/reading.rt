@@ -1,4 +1,4 @@
-//! Keytabs, read from octets.
+//! Reading keytabs.
 
 ghost use Rattle.std.specs.Prelude.{◌≡◌, ℕ, ◌+◌, None, Some, Ok, IfOk, IfErr, OnOk, OnErr};
 ghost use Rattle.std.specs.Int.{w16, w32};
@@ -13,16 +13,16 @@ use krb_der::{KString, Many, Octets};
 use krb_file::{FieldReader, FileFault, SliceReader};
 use std::alloc::Global;
 
-/// What stands where a record is due.
+/// The next record of a keytab, or how its records end.
 #[derive(Drop)]
 pub enum Next {
     /// A record.
     Item(Record),
-    /// No record: how they end.
+    /// The end of the records.
     Done(Stop),
 }
 
-/// Reads the entry whose content is what is left up to the end that the reader knows.
+/// Reads the entry whose content is what is left up to the end that the reader was given.
 #[inline(never)]
 fn entry<F: FieldReader>(alloc: Global, reader: &mut F) -> Result<Entry, FileFault>
     ensures read { Follows (λ entry. entry) result entry_at F.MayFail (F.held reader.old) (F.held reader.new) }
@@ -51,7 +51,7 @@ fn entry<F: FieldReader>(alloc: Global, reader: &mut F) -> Result<Entry, FileFau
     })
 }
 
-/// Reads the entry that the next `size` octets are.
+/// Reads the entry whose content is the next `size` octets.
 fn entry_within<F: FieldReader>(
     alloc: Global,
     size: u32,
@@ -69,7 +69,7 @@ fn entry_within<F: FieldReader>(
     Ok(entry)
 }
 
-/// Reads what a record's length leads to.
+/// Reads what follows the length of a record.
 fn record_after<F: FieldReader>(
     alloc: Global,
     length: i32,
@@ -92,7 +92,7 @@ fn record_after<F: FieldReader>(
     }
 }
 
-/// How many octets the length of a record has.
+/// The number of octets of a record's length.
 const LENGTH_OCTETS: u64 = 4;
 
 /// Reads the next record, or how the records end.
@@ -109,7 +109,7 @@ pub(crate) fn record<F: FieldReader>(alloc: Global, reader: &mut F) -> Result<Ne
     record_after(alloc, length, reader)
 }
 
-/// Reads the records up to the stop, and the place after it.
+/// Reads the records, and returns the keytab and the place after it.
 fn keytab(alloc: Global, reader: &mut SliceReader<'_>) -> Result<(Keytab, usize), FileFault>
     requires { reader.old.end ≡ None }
     ensures { Gives (λ taken. taken) result (keytab_of_items (items_after None (source_at reader.old.place reader.old.octets))) }
@@ -126,7 +126,7 @@ fn keytab(alloc: Global, reader: &mut SliceReader<'_>) -> Result<(Keytab, usize)
     }
 }
 
-/// Reads the keytab that a file holds, and how many of its octets were read.
+/// Reads a keytab, and returns it and how many octets it has.
 fn whole(alloc: Global, octets: &[u8]) -> Result<(Keytab, usize), FileFault>
     ensures { Gives (λ taken. taken) result (read octets.now) }
 {
@@ -135,14 +135,14 @@ fn whole(alloc: Global, octets: &[u8]) -> Result<(Keytab, usize), FileFault>
     keytab(alloc, &mut reader)
 }
 
-/// Reads the keytab that a file holds, and how many of its octets were read: all of them, unless
-/// a record of length 0 ends the keytab before. A file that holds none is refused at the first
-/// field at fault: Magic at 0, Version at 1, Overrun for a field that passes the end of its entry,
-/// else Truncated for one that passes the end of the file.
+/// Reads a keytab from the first octets of a file, and returns it and how many octets it has: all
+/// of them, unless a record of length 0 ends it earlier. A file that is not a keytab is refused at
+/// the first field at fault: Magic at 0, Version at 1, Overrun for a field that passes the end of
+/// its entry, else Truncated for one that passes the end of the file.
 pub fn read(alloc: Global, octets: &[u8]) -> Result<(Keytab, usize), FileFault>
-    // What is read is spelled so.
+    // What is read is spelled by those octets.
     ensures found { IfOk result (λ taken. ReadAs octets.now taken.0 taken.1) }
-    // What is spelled so is read, unless memory ran out.
+    // What octets spell is read, unless memory ran out.
     ensures only { (keytab : KeytabValue) (size : ℕ) → ReadAs octets.now keytab size → Gives (λ taken. taken) result (Ok (keytab, size)) }
     // Which fault it is.
     ensures exact { Gives (λ taken. taken) result (read octets.now) }

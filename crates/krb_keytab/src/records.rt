@@ -1,4 +1,4 @@
-//! Keytabs, read one record at a time.
+//! Reading keytabs record by record.
 
 ghost use Rattle.std.specs.Prelude.{◌≡◌, ℕ, List, [], Some, Ok, Err, IfErr, OnOk, OnErr};
 ghost use Rattle.krb_file.specs.Fields.{StandsIn};
@@ -16,7 +16,7 @@ use krb_file::{FieldLimit, FieldReader, FileFault, StreamReader};
 use std::alloc::Global;
 use std::io::Read;
 
-/// What a reader of records came to. Only contracts read it from outside.
+/// The progress of a reader of records. It is public for contracts alone.
 #[derive(Clone, Copy)]
 pub enum State {
     /// Nothing was read.
@@ -25,13 +25,13 @@ pub enum State {
     Open,
     /// The records ended.
     Done(Stop),
-    /// A fault was met.
+    /// There was a fault.
     Failed(FileFault),
 }
 
-/// A reader of the records of a keytab, which takes no octet of its reader after the record that it
-/// gives, nor after the end, by its length, of one that it meets a fault in. It keeps none of the
-/// records that it gave, and takes memory for the octets that came.
+/// A reader of the records of a keytab, one after another. It reads no octet after the record that
+/// it returns and, at a fault, none after the end of the record by its length. It keeps no record
+/// that it returned, and allocates by the octets that came.
 #[derive(Drop)]
 pub struct Records<R: Read> {
     reader: StreamReader<R>,
@@ -39,11 +39,11 @@ pub struct Records<R: Read> {
 }
 
 impl<R: Read> Records<R> {
-    /// Creates the reader of the records of what a [`Read`] gives. No field of octets may be longer
-    /// than the limit. Nothing is read yet.
+    /// Returns a reader of the records of `reader`. A field of octets may not be longer than the
+    /// limit. Nothing is read yet.
     pub fn new(reader: R, limit: FieldLimit) -> Records<R>
         ensures begins { (file : List ℕ) → R.remaining reader ≡ Some file → Reads (Some limit) result.reader result.state file 0 }
-        // No octet was taken.
+        // No octet was read.
         ensures reach { result.reader.ahead ≡ [] }
     {
         let reader = StreamReader::new(reader, limit);
@@ -54,21 +54,21 @@ impl<R: Read> Records<R> {
     }
 
     /// Reads the next record, or how the records end. A keytab is refused as [`read`](crate::read)
-    /// refuses it, but that a realm, a component, a key or what stands after the key of an entry is
-    /// TooLong if it is longer than the limit: after Overrun, and before Truncated. After a fault
-    /// of any kind each call answers this fault, and after the end each call answers the end;
-    /// neither reads any more.
+    /// refuses it, except that a realm, a component, a key or the octets after a key are TooLong if
+    /// they are longer than the limit; this is checked after Overrun and before Truncated. After a
+    /// fault each call returns this fault, and after the end each call returns the end; neither
+    /// reads any more.
     pub fn next_record(&mut self, alloc: Global) -> Result<Next, FileFault>
-        // The records of a file that its reader tells, one after another, and then the stop or the fault.
+        // The records of the file that is read, one after another, and then the end or the fault.
         ensures next { (file : List ℕ) (limit : ℕ) (given : ℕ) → Reads (Some limit) self.old.reader self.old.state file given → GivesNext (Some limit) file given result self.new.reader self.new.state }
-        // A refusal stands in the file or at its end.
+        // A refusal is at a place of the file or at its end.
         ensures refused { (file : List ℕ) (limit : ℕ) (given : ℕ) → Reads (Some limit) self.old.reader self.old.state file given → IfErr result (StandsIn file) }
-        // No octet after what is answered was taken, if none was ahead before.
+        // No octet after what is returned was read, if none was read ahead before.
         ensures reach { OnOk result (self.old.reader.ahead ≡ [] → self.new.reader.ahead ≡ []) }
-        // At a fault no octet after those that are announced was taken: after the record, by its length.
+        // At a fault no octet was read after the end of the record, by its length.
         ensures announced { OnErr result (KeepsTo (announced_in self.old.state) self.old.reader self.new.reader) }
         ensures ends { (stop : StopValue) → result ≡ Ok (nexts.Done stop) → self.new.state ≡ states.Done stop }
-        // After the stop or a fault nothing more is read.
+        // After the end or a fault nothing more is read.
         ensures ended { (stop : StopValue) → self.old.state ≡ states.Done stop → (result ≡ Ok (nexts.Done stop)) × (self.new.state ≡ states.Done stop) × (self.new.reader ≡ self.old.reader) }
         ensures failed { (fault : FaultValue) → self.old.state ≡ states.Failed fault → (result ≡ Err fault) × (self.new.state ≡ states.Failed fault) × (self.new.reader ≡ self.old.reader) }
         ensures fails { IfErr result (λ fault. self.new.state ≡ states.Failed fault) }
@@ -87,7 +87,7 @@ impl<R: Read> Records<R> {
         }
     }
 
-    /// Gives back a record that was read, whose room the next records take.
+    /// Gives back a record that was read, whose vectors are used for the next records.
     pub fn give_back(&mut self, record: Record)
         ensures same_reader { self.new.reader ≡ self.old.reader }
         ensures same_state { self.new.state ≡ self.old.state }

@@ -1,4 +1,4 @@
-//! What a keytab holds.
+//! Keytabs and what they hold.
 
 use krb_der::{KString, Many, Octets};
 use std::marker::Model;
@@ -6,7 +6,7 @@ use std::marker::Model;
 /// A keytab: its records in order, and how it ends.
 #[derive(Drop)]
 pub struct Keytab {
-    /// The keys, and the room between them that no key uses.
+    /// The records: entries, and holes between them.
     pub records: Many<Record>,
     /// How the records end.
     pub stop: Stop,
@@ -17,42 +17,42 @@ pub struct Keytab {
 pub enum Record {
     /// A key of a principal.
     Entry(Entry),
-    /// Room that no key uses.
+    /// Octets that no key uses.
     Hole(Hole),
 }
 
-/// How the records of a keytab end.
+/// The end of the records of a keytab.
 #[derive(Clone, Copy, PartialEq, Eq, Debug)]
 pub enum Stop {
-    /// Where the file ends.
+    /// With the end of the file.
     File,
-    /// By a record of length 0, after which nothing is read.
+    /// With a record of length 0, after which nothing is read.
     Zero,
 }
 
-/// A key of a principal. None of its texts shows the octets of the key, and so it has no `Debug`.
+/// An entry: a key of a principal. It has no `Debug`, so that no text shows an octet of the key.
 #[derive(Drop)]
 pub struct Entry {
     /// The realm of the principal.
     pub realm: KString,
     /// The components of the principal's name, in order.
     pub components: Many<KString>,
-    /// How the name is meant (RFC 4120, 6.2).
+    /// The type of the name (RFC 4120, 6.2).
     pub name_type: i32,
     /// When the key was written, in seconds since 1970-01-01T00:00:00Z.
     pub time: u32,
     /// The version of the key, modulo 256. [`Entry::kvno`] gives the whole version.
     pub vno8: u8,
-    /// The encryption type of the key (RFC 3961), of which none is refused.
+    /// The encryption type of the key (RFC 3961). No number is refused.
     pub enctype: u16,
     /// The key.
     pub key: Octets,
-    /// What stands after the key: if there are four octets, the first four are the version of
-    /// the key in 32 bits. Octets after these are kept and not looked into.
+    /// The octets after the key. If there are at least four, the first four are the version of the
+    /// key in 32 bits. The others are kept as they are.
     pub rest: Octets,
 }
 
-/// Room that no key uses: how many octets, 1 to 2147483648, and whether all of them are 00.
+/// A hole: octets that no key uses, 1 to 2147483648 of them, and whether all of them are 00.
 #[derive(Clone, Copy, PartialEq, Eq, Debug)]
 pub struct Hole {
     size: u32,
@@ -76,8 +76,8 @@ ghost use Rattle.krb_keytab.specs.Holes.{IsHoleSize};
 ghost use Rattle.krb_keytab.specs.Spelling.{kvno};
 
 impl Entry {
-    /// Returns the version of the key: the first four octets of `rest`, the highest first, if there
-    /// are four and their number is not 0, else `vno8`.
+    /// Returns the version of the key: the first four octets of `rest`, the most significant first,
+    /// if there are four and their number is not 0, or else `vno8`.
     pub fn kvno(&self) -> u32
         ensures { result ≡ kvno self.now }
     {
@@ -92,8 +92,8 @@ impl Entry {
 }
 
 impl Hole {
-    /// Returns the hole of `size` octets, and `None` of 0 and of more than 2147483648. It is clean
-    /// if all of them are 00.
+    /// Returns the hole of `size` octets, or `None` if they are none or more than 2147483648. It is
+    /// clean if all of them are 00.
     pub fn new(size: u32, clean: bool) -> Option<Hole>
         ensures range { IsSome result ↔ IsHoleSize size }
         ensures value { IfSome result (λ hole. hole ≡ record { size = size; clean = clean }) }
@@ -105,7 +105,7 @@ impl Hole {
         }
     }
 
-    /// Returns the hole of `size` octets, which are few enough.
+    /// Returns the hole of `size` octets, at most 2147483648.
     pub(crate) fn of(size: u32, clean: bool) -> Hole
         requires { IsHoleSize size }
         ensures { result ≡ record { size = size; clean = clean } }

@@ -1,4 +1,4 @@
-//! Keytabs, written as octets.
+//! Writing keytabs.
 
 ghost use Rattle.std.specs.Prelude.{◌≡◌, ◌+◌, ◌*◌, ◌<◌, ◌≤◌, ◌^◌, ◌++◌, ◌↔◌, length, min, pos, true, false, None, Some, IsNone, IfSome, Ok, IfOk, IsErrOf, MatchResult};
 ghost use Rattle.std.specs.Int.{w32};
@@ -18,14 +18,14 @@ use krb_file::{Count16, Counted16, GREATEST_FILE, Part, Plain, Strings16, Then};
 use std::alloc::{AllocError, Global};
 use thiserror::Error;
 
-/// Why a keytab could not be written.
+/// A fault of writing a keytab.
 #[derive(Clone, Copy, PartialEq, Eq, Debug, Error)]
 pub enum KeytabFault {
-    /// A hole is not clean: its octets are not kept.
+    /// A hole is not clean, and its octets were not kept.
     #[error("a hole is not clean")]
     Dirty,
-    /// A number of 16 or 32 bits cannot say how many components or octets there are, or the file
-    /// would have more than 2^40 octets.
+    /// The number of components or octets is too great for the number of 16 or 32 bits before them,
+    /// or the file would have more than 2^40 octets.
     #[error("too long")]
     TooLong,
     /// Out of memory.
@@ -49,7 +49,7 @@ type EntryLayout<'a> = Then<
 >;
 
 impl Entry {
-    /// Returns what the octets of its content are made of.
+    /// Returns the parts that the content of the entry is made of.
     fn layout(&self) -> EntryLayout<'_>
         ensures octets { ⟦<EntryLayout<'static> as Part>⟧.octets result ≡ content_of self.now }
         ensures is_long { ⟦<EntryLayout<'static> as Part>⟧.is_long result ≡ has_long_part self.now }
@@ -64,7 +64,7 @@ impl Entry {
     }
 }
 
-/// Returns the number of octets of an entry's content; `None` if it is too long, or a part of it
+/// Returns the number of octets of an entry's content, or `None` if it is too long or a part of it
 /// is.
 fn content_size(entry: &Entry) -> Option<u32>
     ensures none { IsNone result ↔ (is_long_entry entry.now ≡ true) }
@@ -79,8 +79,7 @@ fn content_size(entry: &Entry) -> Option<u32>
     }
 }
 
-/// Returns the number of octets of a record; what keeps it from being written if there is
-/// something.
+/// Returns the number of octets of a record, or why it cannot be written.
 fn record_size(record: &Record) -> Result<u64, KeytabFault>
     ensures fault { MatchResult result (λ _. record_fault «record».now ≡ None) (λ fault. record_fault «record».now ≡ Some fault) }
     ensures size { IfOk result (λ size. size ≡ length (written_record «record».now)) }
@@ -95,8 +94,8 @@ fn record_size(record: &Record) -> Result<u64, KeytabFault>
     Ok(4 + u64::from(size))
 }
 
-/// Returns the number of octets of records, or 2^40 + 1 if there are more than 2^40; the fault of
-/// the first record that has one.
+/// Returns the number of octets of all the records, or 2^40 + 1 if there are more than 2^40, or why
+/// the first record that cannot be written cannot.
 fn records_size(records: &[Record]) -> Result<u64, KeytabFault>
     ensures fault { MatchResult result (λ _. records_fault records.now ≡ None) (λ fault. records_fault records.now ≡ Some fault) }
     ensures size { IfOk result (λ size. size ≡ min (length (flat_map written_record records.now)) (greatest + 1)) }
@@ -119,8 +118,8 @@ fn stop_octets(stop: Stop) -> &'static [u8]
     }
 }
 
-/// Returns the number of octets of a keytab; what keeps it from being written if there is
-/// something: a fault of a record, and then the size of the file.
+/// Returns the number of octets of a keytab, or why it cannot be written: for a record, or else for
+/// the size of the file.
 fn file_size(keytab: &Keytab) -> Result<u64, KeytabFault>
     ensures fault { MatchResult result (λ _. write_fault keytab.now ≡ None) (λ fault. write_fault keytab.now ≡ Some fault) }
     ensures size { IfOk result (λ size. size ≡ length (written keytab.now)) }
@@ -136,7 +135,7 @@ fn file_size(keytab: &Keytab) -> Result<u64, KeytabFault>
     }
 }
 
-/// Appends `count` octets 00, into room that is there.
+/// Appends `count` octets 00 within the capacity of `out`.
 fn put_zeros(out: &mut Vec<u8>, count: u32)
     requires { vec_len out.old + count ≤ vec_capacity out.old }
     ensures { Puts (zeros count) out.old out.new }
@@ -146,7 +145,7 @@ fn put_zeros(out: &mut Vec<u8>, count: u32)
     }
 }
 
-/// Appends a record that has no fault, into room that is there.
+/// Appends a record that can be written, within the capacity of `out`.
 fn put_record(out: &mut Vec<u8>, record: &Record)
     requires fault { record_fault «record».now ≡ None }
     requires room { vec_len out.old + length (written_record «record».now) ≤ vec_capacity out.old }
@@ -158,7 +157,7 @@ fn put_record(out: &mut Vec<u8>, record: &Record)
     }
 }
 
-/// Appends an entry: its content after the number of its octets.
+/// Appends an entry: its content, after the number of the content's octets.
 fn put_entry(out: &mut Vec<u8>, entry: &Entry)
     requires short { is_long_entry entry.now ≡ false }
     requires room { vec_len out.old + (4 + length (content_of entry.now)) ≤ vec_capacity out.old }
@@ -182,7 +181,7 @@ fn put_hole(out: &mut Vec<u8>, hole: Hole)
     put_zeros(out, size);
 }
 
-/// Appends records of which none has a fault, into room that is there.
+/// Appends records that can be written, within the capacity of `out`.
 fn put_records(out: &mut Vec<u8>, records: &[Record])
     requires fault { records_fault records.now ≡ None }
     requires room { vec_len out.old + length (flat_map written_record records.now) ≤ vec_capacity out.old }
@@ -193,11 +192,11 @@ fn put_records(out: &mut Vec<u8>, records: &[Record])
     }
 }
 
-/// Returns the octets of a keytab. What keeps it from being written is decided first: the records
-/// are gone through in order, and the first that has a fault decides: Dirty for a hole that is not
-/// clean, TooLong for more than 65535 components, for a realm, a component or a key of more than
-/// 65535 octets, and for an entry of more than 2147483647. Then TooLong for a file of more than
-/// 2^40 octets. Memory is taken last and once, for just as many octets as are written.
+/// Returns the octets of a keytab. Whether it can be written is decided first. The first record
+/// that cannot be written decides why: Dirty for a hole that is not clean, TooLong for more than
+/// 65535 components, for a realm, a component or a key of more than 65535 octets, and for an entry
+/// of more than 2147483647. After the records, TooLong for a file of more than 2^40 octets. Then it
+/// allocates once, for exactly the octets that are written.
 pub fn write(alloc: Global, keytab: &Keytab) -> Result<Vec<u8>, KeytabFault>
     ensures octets { IfOk result (λ octets. octets.items ≡ written keytab.now) }
     // What is written spells the keytab, and is read back.

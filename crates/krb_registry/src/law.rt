@@ -2,13 +2,13 @@
 
 ghost use Rattle.krb_registry.specs.Laws.{NamesArePlain, RowsAreInOrder};
 
-/// The rows of each registry are in order of number, no number twice.
+/// The rows of each registry are in order of number, and no number is there twice.
 pub fn rows_are_in_order()
     ensures { RowsAreInOrder }
 {}
 
-/// The names of each registry are of octets 21 to 7E alone, and none of these is one of `"`, `+`,
-/// `,`, `:`, `=`, `[`, `\` and `]`.
+/// The names of each registry have only octets from 21 to 7E, and none of `"`, `+`, `,`, `:`, `=`,
+/// `[`, `\` and `]`.
 pub fn names_are_plain()
     ensures { NamesArePlain }
 {}

@@ -1,9 +1,14 @@
-//! The names of the numbers that Kerberos messages carry, by the registry that gives them: IANA's
-//! "Kerberos Parameters", an RFC, or, of the notes, this project.
+//! The names of the numbers that Kerberos messages carry, as the registries of IANA's "Kerberos
+//! Parameters" and the RFCs have them.
 //!
-//! Each registry is a table in `src/tables`, and [`name_of`] looks a number up in one.
+//! The main calls:
 //!
-//! Nothing here knows a message.
+//! - [`name_of`] returns the name of a number in a [`Registry`], if it has one.
+//! - [`rows`] returns all numbers and names of a registry, in order of number.
+//!
+//! Nothing here knows a message, or what a number means. Each registry is a table in `src/tables`,
+//! which says where its rows are from; the notes on messages are one, too, which no standard has.
+//! The laws [`names_are_plain`] and [`rows_are_in_order`] hold of all of them.
 #![tactic(auto)]
 
 mod law;

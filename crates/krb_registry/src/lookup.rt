@@ -1,4 +1,4 @@
-//! Numbers looked up in a registry.
+//! Looking numbers up.
 
 ghost use Rattle.std.specs.Prelude.{◌≡◌};
 ghost use Rattle.std.specs.List.{find};
@@ -9,15 +9,15 @@ ghost use Rattle.krb_registry.specs.Rows.{name_of};
 use crate::registry::{Registry, rows};
 use crate::row::Row;
 
-/// Returns the first row of a number, if there is one.
+/// Returns the first row with a number, if there is one.
 fn row_of(rows: &'static [Row], number: i64) -> Option<&'static Row>
     ensures { option_copied result ≡ find (λ row. int_eq row.number number) rows.now }
 {
     rows.iter().find(|row| row.number == number)
 }
 
-/// Returns the name of a number in a registry, if it has one. A name is octets 21 to 7E alone, and
-/// none of `"`, `+`, `,`, `:`, `=`, `[`, `\` and `]`.
+/// Returns the name of a number in a registry, if it has one. A name has only octets from 21 to 7E,
+/// and none of `"`, `+`, `,`, `:`, `=`, `[`, `\` and `]`.
 pub fn name_of(registry: Registry, number: i64) -> Option<&'static str>
     ensures { option_copied result ≡ name_of registry number }
 {

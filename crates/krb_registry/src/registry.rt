@@ -1,4 +1,4 @@
-//! The registries, and the rows of each.
+//! The registries and their rows.
 
 ghost use Rattle.std.specs.Prelude.{◌≡◌, map};
 ghost use Rattle.krb_registry.specs.Rows.{number_and_name, rows};
@@ -30,7 +30,7 @@ pub enum Registry {
     NameTypes,
     /// The types of addresses (RFC 4120, 7.5.3).
     AddressTypes,
-    /// The notes on a message, which are our own.
+    /// The notes on a message, which no standard has.
     Notes,
 }
 

@@ -1,10 +1,10 @@
-//! A row of a registry.
+//! Rows of registries.
 
 /// A number and its name.
 #[derive(Clone, Copy, PartialEq, Eq, Debug)]
 pub struct Row {
-    /// The number, of 32 bits.
+    /// The number.
     pub number: i64,
-    /// Its name, in graphic characters of ASCII.
+    /// Its name, in printable ASCII characters.
     pub name: &'static str,
 }

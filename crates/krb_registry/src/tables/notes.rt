@@ -1,6 +1,6 @@
-//! The notes on a message, which are our own, with their names.
+//! The notes on a message, with their names.
 //!
-//! What is not a fault, but what a reader of messages may stumble over.
+//! No standard has them: they are what is unusual about a message without being a fault.
 
 use crate::row::Row;
 
