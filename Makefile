@@ -13,7 +13,7 @@ uses = $(filter $(CRATES),$(shell sed -n 's/^$(1):\(.*\)/\1/p' crates.txt))
 run: build
 	bin/krbls stream < examples/ap-rep.stream
 
-# Proves all that the program stands on, compiles it, and leaves it at bin/krbls. Crates that do not use each other are
+# Proves all that the program uses, compiles it, and leaves it at bin/krbls. Crates that do not use each other are
 # proved side by side.
 build:
 	+$(MAKE) --no-print-directory -j $$(nproc) $(addprefix library-,$(call uses,krbls))

@@ -1,5 +1,5 @@
-"""Times bin/krbls on keytabs of entries that are made here, beside cat and, where it is installed, beside
-MIT's klist -k; and says how much memory each took. The runs of one take turns with those of the others.
+"""Times bin/krbls on keytabs of entries that are made here, beside cat and, if it is installed, beside
+MIT's klist -k; and says how much memory each used. The runs of one alternate with those of the others.
 First a keytab of a tenth of the entries, so that the growth is seen."""
 
 import shutil

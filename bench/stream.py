@@ -1,6 +1,6 @@
 """Times bin/krbls on streams of framed messages, beside cat, in 8 MiB of address space: real messages
-of six kinds, and AP-REPs; and on the real messages in turns with MIT's decoder, where its library is
-installed. Then what krb_roundtrip does with streams: to judge their messages, to take them by a scanner
+of six kinds, and AP-REPs; and on the real messages in turns with MIT's decoder, if its library is
+installed. Then what krb_roundtrip does with streams: to judge their messages, to scan them
 octet by octet and at once, to parse them, and to encode them again, beside a memcpy of the same octets."""
 
 import ctypes
@@ -51,7 +51,7 @@ def copy_seconds(size):
 
 
 def time_listing(name, frames, messages, count):
-    """Prints what it takes to list this many times some frames."""
+    """Prints what listing some frames this many times costs."""
     size, messages = count * len(frames), count * messages
     with repeated(frames, count) as stream:
         listing = best_run(KRBLS, stream.name)
@@ -63,8 +63,8 @@ def time_listing(name, frames, messages, count):
 
 
 def time_mit(name, frames, messages, count):
-    """Prints what it takes to list this many times some frames, and to decode them by MIT's library,
-    with the name of each message printed. The two take turns."""
+    """Prints what listing some frames this many times costs, and decoding them by MIT's library with the
+    name of each message printed. The two alternate."""
     size, messages = count * len(frames), count * messages
     with tempfile.TemporaryDirectory() as folder, repeated(frames, count) as stream:
         mit = f"{folder}/mit"
@@ -80,7 +80,7 @@ def time_mit(name, frames, messages, count):
 
 
 def time_again(name, frames, messages, count):
-    """Prints what it takes to parse the messages of this many times some frames, and to encode them."""
+    """Prints what parsing the messages of some frames this many times costs, and encoding them."""
     size, messages = count * len(frames), count * messages
     with repeated(frames, count) as stream:
         cutting = best_run([AGAIN, "frames"], stream.name)
@@ -93,7 +93,7 @@ def time_again(name, frames, messages, count):
 
 
 def time_judging(name, frames, messages, count):
-    """Prints what it takes to judge the messages of this many times some frames, and to scan them. A stream
+    """Prints what judging the messages of some frames this many times costs, and scanning them. A stream
     short enough to stay in the processor's cache is read once and gone through again and again: the octets
     that a decoder is fed were just read, so they are there, too."""
     pieces = max(1, CACHED_OCTETS // len(frames))

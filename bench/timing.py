@@ -28,7 +28,7 @@ def best_run(command, path):
 
 
 def best_runs(commands, path, runs=7):
-    """The same of some commands, which take turns."""
+    """The same of some commands, whose runs alternate."""
     commands = list(commands)
     turns = [[best_of(1, lambda: run_on(command, path)) for command in commands] for _ in range(runs)]
     return [min(seconds) for seconds in zip(*turns)]
@@ -54,7 +54,7 @@ def rate(size, seconds):
 
 
 def print_costs(commands, path, size):
-    """Prints what commands with a name each cost on a file, whose runs take turns."""
+    """Prints what commands with a name each cost on a file, whose runs alternate."""
     seconds = best_runs(commands.values(), path)
     for (name, command), least in zip(commands.items(), seconds):
         print(f"    {name} {rate(size, least)}, {peak_octets(command, path) / 1e6:.1f} MB of memory")

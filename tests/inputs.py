@@ -80,6 +80,14 @@ def krb_error(realm, component, said):
     return item(0x7E, item(0x30, fields))
 
 
+# The realm, the last component and the text of each error in `names`.
+ERRORS = [(octets, octets[::-1], octets) for octets in NAMES]
+
+
+def names():
+    return b"".join(frame(krb_error(*each)) for each in ERRORS)
+
+
 def escaped(octets):
     return "".join(chr(octet) if octet in THEMSELVES else f"\\x{octet:02x}" for octet in octets)
 
@@ -94,10 +102,9 @@ def error_line(realm, component, said):
 
 def main(folder):
     (folder / "large").write_bytes(frame(ap_rep(bytes(16777000))))
-    fields = [(octets, octets[::-1], octets) for octets in NAMES]
-    (folder / "names").write_bytes(b"".join(frame(krb_error(*each)) for each in fields))
-    lines = "".join(error_line(*each) for each in fields)
-    (folder / "lines").write_text(f"{lines}end messages={len(NAMES)}\nstatus 0\n")
+    (folder / "names").write_bytes(names())
+    lines = "".join(error_line(*each) for each in ERRORS)
+    (folder / "lines").write_text(f"{lines}end messages={len(ERRORS)}\nstatus 0\n")
 
 
 if __name__ == "__main__":

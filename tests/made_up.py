@@ -3,6 +3,7 @@
 What is made follows the rules or nearly does, and all of it follows from the dice.
 """
 
+from reference.frames import LIMIT
 from reference.grammar import (
     MESSAGES,
     METHOD_DATA,
@@ -15,8 +16,21 @@ from reference.grammar import (
     Tagged,
     Time,
 )
-from reference.messages import LIMIT, MOST_TEXT
+from reference.messages import MOST_TEXT
+from reference.registries import (
+    ADDRESS_TYPES,
+    CHECKSUM_TYPES,
+    ENCRYPTION_TYPES,
+    ERROR_CODES,
+    NAME_TYPES,
+    PA_DATA_TYPES,
+)
 from reference.values import NAMED_CODES
+
+# The numbers that have a name in some registry.
+NAMED = sorted(
+    {*ADDRESS_TYPES, *CHECKSUM_TYPES, *ENCRYPTION_TYPES, *ERROR_CODES, *NAME_TYPES, *PA_DATA_TYPES}
+)
 
 # How much more often than the tag or the length of an item other parts are wrong: else faults in them
 # would be few.
@@ -103,7 +117,7 @@ class Maker:
 
     def integer(self, item):
         near = [item.low, item.high, 0, -1, 127, 128, -128, -129, 32767, -(2**31), 2**31]
-        number = self.dice.choice([*near, self.dice.randint(item.low, item.high)])
+        number = self.dice.choice([*near, *self.dice.choices(NAMED, k=9), self.dice.randint(item.low, item.high)])
         octets = integer_octets(min(max(number, item.low), item.high))
         if self.is_wrong(OFTEN):
             octets = self.dice.choice(
@@ -243,10 +257,11 @@ class FileMaker:
         self.messages = Maker(dice, faults)
 
     def number(self, size):
-        """Any number of n octets, often one near a bound."""
+        """Any number of n octets, often one near a bound, or one that has a name."""
         bound = 256**size
         near = [0, 1, 2, bound // 2 - 1, bound // 2, bound - 1]
-        return self.dice.choice([*near, *[self.dice.randrange(bound)] * 6]).to_bytes(size, "big")
+        named = [number % bound for number in self.dice.choices(NAMED, k=6)]
+        return self.dice.choice([*near, *named, *[self.dice.randrange(bound)] * 6]).to_bytes(size, "big")
 
     def count(self, items, size):
         """How many items there are, or another number."""

@@ -3,39 +3,74 @@
 It was written from the rules alone (docs/FORMATS.md: the grammar of RFC 4120, appendix A, the order of
 judging, frames, keytabs, credential caches and lines; docs/LISTING.md: names and objects), and not from the
 code of krbls. `grammar` has the types and the messages, `judging` looks at one octet after another, and the
-first rule that one breaks is the refusal; `messages` and `files` have the records, `values` what these
-consist of, with the names of numbers in `registries`, and `records` their forms.
+first rule that one breaks is the refusal, with the path of the field that it stands in (`paths`); `messages`,
+`frames` and `files` have the records, `values` what these consist of, with the names of numbers in
+`registries`, and `records` their forms.
+
+`captures` has the records of captures: `capture_files` gives their packets, `datagrams` what stands in these for
+UDP and TCP, `directions` the streams of TCP, and `kpasswd` the messages that change passwords.
 
 `listing` gives the lines of a listing, and the status of the program.
 """
 
+import re
+from functools import partial
+
+from .captures import capture
 from .files import ccache, keytab
-from .messages import (
-    message,
-    stream,
-    stream_going_on,
-    strict_message,
-    strict_stream,
-    strict_stream_going_on,
-)
+from .frames import stream, stream_going_on
+from .grammar import STRICT_MESSAGES
+from .messages import message
 from .records import file, json_line, line, named_line
 
 RECORDS = {
     "stream": stream,
-    "stream --strict": strict_stream,
+    "stream --strict": partial(stream, messages=STRICT_MESSAGES),
     "stream --keep-going": stream_going_on,
-    "stream --keep-going --strict": strict_stream_going_on,
+    "stream --keep-going --strict": partial(stream_going_on, messages=STRICT_MESSAGES),
     "message": message,
-    "message --strict": strict_message,
+    "message --strict": partial(message, messages=STRICT_MESSAGES),
     "keytab": keytab,
     "ccache": ccache,
+    "capture": capture,
 }
+
+# The commands whose refusals krbls prints with the path of the field at fault, `in`. Of the others it prints none.
+COMMANDS_WITH_PATHS = ("stream", "message")
+
+PATH_IN_LINE = re.compile(r" in=\S+$")
+PATH_IN_OBJECT = re.compile(r',"in":(?:null|"[^"]*")(?=}$)')
+
+
+def as_printed(command, line):
+    """A wanted line without the path of the field at fault, if the command does not print that."""
+    if command in COMMANDS_WITH_PATHS:
+        return line
+    return PATH_IN_LINE.sub(" in=-", PATH_IN_OBJECT.sub(',"in":null', line))
+
+
+def shown(record, words):
+    """A record in the form that the words of a command say."""
+    form = json_line if "--json" in words else named_line if "--names" in words else line
+    return form(record)
+
+
+def taken_number(words, name):
+    """The number after an option, which both are taken out of the words; none if it is not there."""
+    if f"--{name}" not in words:
+        return {}
+    place = words.index(f"--{name}")
+    _, value = words[place : place + 2]
+    del words[place : place + 2]
+    return {name: int(value)}
 
 
 def listing(command, octets, now=None):
-    """The lines that a command prints of octets, as `stream --strict --json` does, and its status."""
+    """The lines that a command prints of octets, as `stream --limit 300 --json` does, and its status."""
     words = command.split()
-    form = json_line if "--json" in words else named_line if "--names" in words else line
+    numbers = {**taken_number(words, "limit"), **taken_number(words, "port"), **taken_number(words, "now")}
+    if now is not None:
+        numbers["now"] = now
     which = " ".join(word for word in words if word not in ("--names", "--json"))
-    records, status = RECORDS[which](octets, *([] if now is None else [now]))
-    return [form(record) for record in records], status
+    records, status = RECORDS[which](octets, **numbers)
+    return [as_printed(words[0], shown(record, words)) for record in records], status

@@ -28,37 +28,51 @@ FILE_REASONS = "Magic Version Truncated Overrun TooLong".split()
 
 
 class Fields:
-    """The fields of a file, one after another, some of which have to end where their entry ends."""
+    """The fields of a file, one after another, some of which have to end where their entry ends.
 
-    def __init__(self, octets):
+    Each is taken by its path, the names of which a refusal tells.
+    """
+
+    def __init__(self, octets, room_end=None):
         self.octets = octets
         self.place = 0
-        self.room_end = None
+        self.room_end = room_end
+        # The order of the octets of numbers.
+        self.order = "big"
 
-    def take(self, size, most=None):
+    def take(self, path, size, most=None):
         end = self.place + size
         if size > 0 and self.room_end is not None and end > self.room_end:
-            raise Refused(self.place, "Overrun")
+            self.refuse(path, "Overrun")
         if most is not None and size > most:
-            raise Refused(self.place, "TooLong")
+            self.refuse(path, "TooLong")
         if size > 0 and end > len(self.octets):
-            raise Refused(self.place, "Truncated")
+            self.refuse(path, "Truncated")
         start, self.place = self.place, end
         return self.octets[start:end]
 
-    def number(self, size, signed=False):
-        return int.from_bytes(self.take(size), "big", signed=signed)
+    def refuse(self, path, why):
+        """Refuses the field that is next."""
+        raise Refused(self.place, why, path)
 
-    def data(self, size_of_length):
-        return self.take(self.number(size_of_length), FIELD_LIMIT)
+    def number(self, path, size, signed=False):
+        return int.from_bytes(self.take(path, size), self.order, signed=signed)
+
+    def data(self, path, size_of_length):
+        """Octets after their number; both are one field by name."""
+        return self.take(path, self.number(path, size_of_length), FIELD_LIMIT)
+
+    def one_of(self, path, size, numbers, why):
+        """A number that is one of these, or is refused."""
+        found = self.number(path, size)
+        if found not in numbers:
+            raise Refused(self.place - size, why, path)
+        return found
 
     def version(self, *versions):
-        """The version, which is one of these."""
-        for place, wanted, why in ((0, (0x05,), "Magic"), (1, versions, "Version")):
-            octet = self.number(1)
-            if octet not in wanted:
-                raise Refused(place, why)
-        return octet
+        """The version, which is one of these, after the first octet of the file."""
+        self.one_of("magic", 1, (0x05,), "Magic")
+        return self.one_of("version", 1, versions, "Version")
 
     def at_end(self):
         return self.place >= len(self.octets)
@@ -75,17 +89,17 @@ def file_listing(records_of, octets):
     return records, 0
 
 
-def entry(fields):
+def entry(fields, path):
     """The record of an entry, of which the length was taken and is the room."""
-    components = fields.number(2)
-    realm = fields.data(2)
-    names = [fields.data(2) for _ in range(components)]
-    name_type = fields.number(4, signed=True)
-    written = fields.number(4)
-    kvno = fields.number(1)
-    enctype = fields.number(2)
-    key = fields.data(2)
-    rest = fields.take(fields.room_end - fields.place, FIELD_LIMIT)
+    components = fields.number(f"{path}.component-count", 2)
+    realm = fields.data(f"{path}.realm", 2)
+    names = [fields.data(f"{path}.component[{k}]", 2) for k in range(components)]
+    name_type = fields.number(f"{path}.name-type", 4, signed=True)
+    written = fields.number(f"{path}.timestamp", 4)
+    kvno = fields.number(f"{path}.key-version", 1)
+    enctype = fields.number(f"{path}.enctype", 2)
+    key = fields.data(f"{path}.key", 2)
+    rest = fields.take(f"{path}.rest", fields.room_end - fields.place, FIELD_LIMIT)
     if len(rest) >= 4:
         kvno = int.from_bytes(rest[:4], "big") or kvno
     shown = {
@@ -106,16 +120,18 @@ def keytab_records(octets):
     records = 0
     zero = False
     while not fields.at_end():
-        size = fields.number(4, signed=True)
+        path = f"record[{records}]"
+        size = fields.number(f"{path}.length", 4, signed=True)
         if size == 0:
             zero = True
             break
         if size > 0:
             fields.room_end = fields.place + size
-            yield entry(fields)
+            yield entry(fields, path)
             fields.room_end = None
         else:
-            yield Record("hole", {"size": number(-size), "clean": yes_or_no(not any(fields.take(-size)))})
+            hole = fields.take(f"{path}.hole", -size)
+            yield Record("hole", {"size": number(-size), "clean": yes_or_no(not any(hole))})
         records += 1
     yield Record("end", {"records": number(records), "zero": yes_or_no(zero)})
 
@@ -126,11 +142,13 @@ def keytab(octets):
 
 def header(fields):
     """The tags and the values of a cache's header."""
-    fields.room_end = 2 + 2 + fields.number(2)
+    size = fields.number("header-length", 2)
+    fields.room_end = fields.place + size
     found = []
     while fields.place < fields.room_end:
-        tag = fields.number(2)
-        found.append((tag, fields.data(2)))
+        path = f"header[{len(found)}]"
+        tag = fields.number(f"{path}.tag", 2)
+        found.append((tag, fields.data(f"{path}.value", 2)))
     fields.room_end = None
     return found
 
@@ -142,24 +160,24 @@ def clock_offset(header_fields):
     return offset(*(int.from_bytes(part, "big", signed=True) for part in (value[:4], value[4:])))
 
 
-def file_principal(fields):
+def file_principal(fields, path):
     """The name type, the components and the realm of a principal in a cache."""
-    name_type = fields.number(4, signed=True)
-    components = fields.number(4)
-    realm = fields.data(4)
+    name_type = fields.number(f"{path}.name-type", 4, signed=True)
+    components = fields.number(f"{path}.component-count", 4)
+    realm = fields.data(f"{path}.realm", 4)
     names = []
     while len(names) < components:
-        names.append(fields.data(4))
+        names.append(fields.data(f"{path}.component[{len(names)}]", 4))
     return name_type, names, realm
 
 
-def typed_items(fields):
-    """The number of addresses, or of elements of authorization data."""
-    items = fields.number(4)
+def typed_items(fields, path):
+    """The number of addresses, or of elements of authorization data, each of which has a type and octets."""
+    items = fields.number(f"{path}-count", 4)
     taken = 0
     while taken < items:
-        fields.number(2)
-        fields.data(4)
+        fields.number(f"{path}[{taken}].type", 2)
+        fields.data(f"{path}[{taken}].octets", 4)
         taken += 1
     return items
 
@@ -181,21 +199,21 @@ def state(end, now):
     return word("live" if now < end else "expired")
 
 
-def credential(fields, version, now):
+def credential(fields, path, version, now):
     """The record of a credential or of a configuration entry."""
-    client = file_principal(fields)
-    server = file_principal(fields)
-    enctype = fields.number(2)
+    client = file_principal(fields, f"{path}.client")
+    server = file_principal(fields, f"{path}.server")
+    enctype = fields.number(f"{path}.enctype", 2)
     if version == 3:
-        fields.number(2)
-    key = fields.data(4)
-    times = [fields.number(4) for _ in range(4)]
-    is_skey = fields.number(1)
-    flags = fields.number(4)
-    addresses = typed_items(fields)
-    authdata = typed_items(fields)
-    ticket = fields.data(4)
-    second = fields.data(4)
+        fields.number(f"{path}.enctype", 2)
+    key = fields.data(f"{path}.key", 4)
+    times = [fields.number(f"{path}.{name}", 4) for name in ("authtime", "starttime", "endtime", "renew-till")]
+    is_skey = fields.number(f"{path}.is-skey", 1)
+    flags = fields.number(f"{path}.ticket-flags", 4)
+    addresses = typed_items(fields, f"{path}.address")
+    authdata = typed_items(fields, f"{path}.authdata")
+    ticket = fields.data(f"{path}.ticket", 4)
+    second = fields.data(f"{path}.second-ticket", 4)
     whose = {"client": principal(*client), "server": principal(*server)}
     _, server_names, server_realm = server
     if server_realm == b"X-CACHECONF:" and server_names[:1] == [b"krb5_ccache_conf_data"]:
@@ -222,7 +240,7 @@ def ccache_records(octets, now):
     fields = Fields(octets)
     version = fields.version(3, 4)
     header_fields = header(fields) if version == 4 else []
-    owner = file_principal(fields)
+    owner = file_principal(fields, "principal")
     shown = {
         "principal": principal(*owner),
         "type": named(owner[0], NAME_TYPES),
@@ -232,7 +250,7 @@ def ccache_records(octets, now):
     yield Record("cache", shown)
     credentials = 0
     while not fields.at_end():
-        yield credential(fields, version, now)
+        yield credential(fields, f"credential[{credentials}]", version, now)
         credentials += 1
     yield Record("end", {"credentials": number(credentials)})
 

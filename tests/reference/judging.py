@@ -13,16 +13,25 @@ REASONS = (
 
 
 class Refused(Exception):
-    """An octet at fault, and why."""
+    """An octet at fault, why, and the path of the field that it stands in, where one is known."""
 
-    def __init__(self, place, why):
-        super().__init__(place, why)
+    def __init__(self, place, why, path=None):
+        super().__init__(place, why, path)
         self.place = place
         self.why = why
+        self.path = path
+
+    def moved(self, octets):
+        """The same refusal with so many octets before it."""
+        return Refused(self.place + octets, self.why, self.path)
 
 
 class Ended(Exception):
-    """The octets ended before anything was refused."""
+    """The octets ended before anything was refused, within what has this path."""
+
+    def __init__(self, path=None):
+        super().__init__(path)
+        self.path = path
 
 
 class Judge:
@@ -31,30 +40,46 @@ class Judge:
     def __init__(self, octets):
         self.octets = octets
         self.place = 0
+        # The path of the innermost item that is open, by the rules of `paths`.
+        self.path = ""
 
     def next(self):
         if self.place >= len(self.octets):
-            raise Ended
+            self.end()
         self.place += 1
         return self.octets[self.place - 1]
 
+    def end(self):
+        raise Ended(self.path or None)
+
     def refuse(self, why):
         """Refuses the octet that was looked at last."""
-        raise Refused(self.place - 1, why)
+        raise Refused(self.place - 1, why, self.path or None)
 
     def take(self, count):
         """Octets that are not looked at."""
         if self.place + count > len(self.octets):
-            raise Ended
+            self.end()
         self.place += count
         return self.octets[self.place - count : self.place]
 
     def item(self, choices, room, sole):
-        """One item of one of some types, in a room: the type that it is of, and its value."""
+        """One item of one of some types, in a room: the name of the type that it is of, and its value.
+
+        The name of each type is what the item adds to the path of its container, once its tag is known.
+        """
         tag = self.next()
-        item = next((choice for choice in choices if choice.tag == tag), None)
-        if item is None:
+        name = next((name for name, choice in choices.items() if choice.tag == tag), None)
+        if name is None:
             self.refuse("Tag")
+        container = self.path
+        self.path += name
+        value = self.contents(choices[name], self.length(room, sole))
+        self.path = container
+        return name, value
+
+    def length(self, room, sole):
+        """The length of an item in a room, of which the tag octet was looked at."""
         if room == 1:
             self.refuse("Overrun")
         first = self.next()
@@ -78,7 +103,7 @@ class Judge:
             self.refuse("Overrun")
         if sole and header + size < room:
             self.refuse("Loose")
-        return item, self.contents(item, size)
+        return size
 
     def contents(self, item, size):
         match item:
@@ -98,7 +123,7 @@ class Judge:
                 end = self.place + size
                 values = []
                 while self.place < end:
-                    values.append(self.item([item.item], end - self.place, False)[1])
+                    values.append(self.item({f"[{len(values)}]": item.item}, end - self.place, False)[1])
                 return values
             case Sequence():
                 return self.sequence(item, size)
@@ -152,7 +177,7 @@ class Judge:
     def tagged(self, item, size):
         if size == 0:
             self.refuse("Missing")
-        return self.item([item.item], size, True)[1]
+        return self.item({"": item.item}, size, True)[1]
 
     def sequence(self, item, size):
         end = self.place + size
@@ -165,19 +190,21 @@ class Judge:
                 may_stand.append(field)
                 if not field.optional:
                     break
-            found, value = self.item([field.item for field in may_stand], end - self.place, False)
-            index = next(k for k, field in enumerate(may_stand) if field.item is found)
+            choices = {f".{field.name}": field.item for field in may_stand}
+            found, value = self.item(choices, end - self.place, False)
+            index = list(choices).index(found)
             values[fields[index].name] = value
             fields = fields[index + 1 :]
-        if any(not field.optional for field in fields):
+        missing = next((field.name for field in fields if not field.optional), None)
+        if missing is not None:
+            self.path += f".{missing}"
             self.refuse("Missing")
         return values
 
 
 def judge(octets, n, choices=MESSAGES):
     """The name of the choice that n octets are, of which these are present, and their value."""
-    found, value = Judge(octets[:n]).item(list(choices.values()), n, True)
-    return next(name for name, item in choices.items() if item is found), value
+    return Judge(octets[:n]).item(choices, n, True)
 
 
 def whole(octets, choices=MESSAGES):

@@ -1,7 +1,7 @@
-"""The records of messages, with their notes, and those of streams and of a message in hexadecimal."""
+"""The records of messages, with their notes, and that of a message in hexadecimal."""
 
-from .grammar import MESSAGES, METHOD_DATA, STRICT_MESSAGES, Bits, ListOf, Sequence, String, Tagged
-from .judging import Ended, Refused, judge, whole
+from .grammar import MESSAGES, METHOD_DATA, Bits, ListOf, Sequence, String, Tagged
+from .judging import Refused, judge, whole
 from .records import Record, refused
 from .registries import AP_OPTIONS, ENCRYPTION_TYPES, KDC_OPTIONS, NOTES, PA_DATA_TYPES
 from .values import (
@@ -22,9 +22,9 @@ from .values import (
     word,
 )
 
-LIMIT = 16777216
-
+# How many octets of text are read of a message.
 MOST_TEXT = 16777216
+
 
 def notes(item, value, field=""):
     """The numbers of what is to be noted of a value, which stands in some field, and of all its parts."""
@@ -186,52 +186,14 @@ def message_record(name, value):
     return Record(name, {**FIELDS[name](value), "notes": numbers(noted, NOTES)})
 
 
-def frame(octets, limit, messages):
-    """The record of the message at the front of a stream, and the size of its frame."""
-    if len(octets) < 4:
-        raise Refused(len(octets), "Truncated")
-    n = int.from_bytes(octets[:4], "big")
-    for why, holds in (("HighBit", n >= 2**31), ("TooLong", n > limit), ("Empty", n == 0)):
-        if holds:
-            raise Refused(3, why)
+def record_or_refusal(octets, n, messages=MESSAGES):
+    """The record of n octets, of which these are there, or their refusal."""
+    if n == 0:
+        return Refused(0, "Empty")
     try:
-        return message_record(*judge(octets[4 : 4 + n], n, messages)), 4 + n
+        return message_record(*judge(octets, n, messages))
     except Refused as refusal:
-        raise Refused(refusal.place + 4, refusal.why) from None
-    except Ended:
-        raise Refused(len(octets), "Truncated") from None
-
-
-def stream(octets, limit=LIMIT, messages=MESSAGES):
-    """The records of a stream of frames, and the status of the program."""
-    records = []
-    while octets:
-        found = {"messages": number(len(records))}
-        try:
-            record, size = frame(octets, limit, messages)
-        except Refused as refusal:
-            return [*records, refused(refusal, found)], 1
-        records.append(record)
-        octets = octets[size:]
-    return [*records, Record("end", {"messages": number(len(records))})], 0
-
-
-def stream_going_on(octets, limit=LIMIT, messages=MESSAGES):
-    """The same of a stream in which one goes on after a frame that is refused, where that one ends."""
-    records, found, faults = [], 0, 0
-    while octets:
-        try:
-            record, size = frame(octets, limit, messages)
-            found += 1
-        except Refused as refusal:
-            record = refused(refusal, {"messages": number(found)})
-            size = 4 + int.from_bytes(octets[:4], "big")
-            faults += 1
-            if refusal.why in ("HighBit", "Truncated"):
-                size = len(octets)
-        records.append(record)
-        octets = octets[size:]
-    return [*records, Record("end", {"messages": number(found), "refused": number(faults)})], min(faults, 1)
+        return refusal
 
 
 def refused_input(why):
@@ -240,28 +202,12 @@ def refused_input(why):
 
 
 def message(text, messages=MESSAGES):
-    """The same of one message in hexadecimal."""
+    """The records of one message in hexadecimal, and the status of the program."""
     if len(text) > MOST_TEXT:
         return [refused_input("length")], 1
     digits = text.translate(None, delete=b" \t\r\n")
     if len(digits) % 2 != 0 or digits.strip(b"0123456789abcdefABCDEF"):
         return [refused_input("hex")], 1
-    try:
-        return [message_record(*whole(bytes.fromhex(digits.decode("ascii")), messages))], 0
-    except Refused as refusal:
-        return [refused(refusal)], 1
-
-
-def strict_stream(octets):
-    """As `stream`, by the strict profile."""
-    return stream(octets, messages=STRICT_MESSAGES)
-
-
-def strict_message(text):
-    """As `message`, by the strict profile."""
-    return message(text, STRICT_MESSAGES)
-
-
-def strict_stream_going_on(octets):
-    """As `stream_going_on`, by the strict profile."""
-    return stream_going_on(octets, messages=STRICT_MESSAGES)
+    octets = bytes.fromhex(digits.decode("ascii"))
+    found = record_or_refusal(octets, len(octets), messages)
+    return ([refused(found)], 1) if isinstance(found, Refused) else ([found], 0)

@@ -4,13 +4,15 @@ import json
 from typing import NamedTuple
 
 from .judging import REASONS
-from .values import file_name, number, reason
+from .values import file_name, number, path, reason
 
 
 class Record(NamedTuple):
     kind: str
     # The values by their names, in order.
     fields: dict
+    # Those that stand before the kind in a line, and between the kind and the others in an object.
+    before: dict = {}
 
 
 def file(name):
@@ -20,29 +22,41 @@ def file(name):
 
 def refused(refusal, before=None, reasons=REASONS):
     """A refusal, after the fields of what came before it."""
-    return Record(
-        "refused", {**(before or {}), "place": number(refusal.place), "why": reason(refusal.why, reasons)}
-    )
+    shown = {
+        **(before or {}),
+        "place": number(refusal.place),
+        "why": reason(refusal.why, reasons),
+        "in": path(refusal.path),
+    }
+    return Record("refused", shown)
 
 
-def line_of(kind, texts):
-    """The kind, and then each field: `name=text`, or the text alone of what is said of input as a whole."""
-    fields = (text if name == "input" else f"{name}={text}" for name, text in texts.items())
-    return " ".join([kind, *fields])
+def field_text(name, text):
+    """`name=text`, or the text alone of what is said of input as a whole."""
+    return text if name == "input" else f"{name}={text}"
+
+
+def line_of(record, text_of):
+    """The fields before the kind, the kind, and the others, each with its text, if it has one."""
+
+    def texts(fields):
+        return [field_text(name, text_of(value)) for name, value in fields.items() if text_of(value) is not None]
+
+    return " ".join([*texts(record.before), record.kind, *texts(record.fields)])
 
 
 def line(record):
-    return line_of(record.kind, {name: value.text for name, value in record.fields.items()})
+    return line_of(record, lambda value: value.text)
 
 
 def named_line(record):
-    return line_of(record.kind, {name: value.text_with_names for name, value in record.fields.items()})
+    return line_of(record, lambda value: value.text_with_names)
 
 
 def members(record):
     """The members of a record's object, in order."""
     found = {"kind": record.kind}
-    for name, value in record.fields.items():
+    for name, value in {**record.before, **record.fields}.items():
         found[name] = value.member
         if value.second_member is not None:
             ending, names = value.second_member

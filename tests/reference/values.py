@@ -21,6 +21,7 @@ OLDER_TICKET_FLAGS = {bit: name for bit, name in TICKET_FLAGS.items() if bit <= 
 
 
 class Value(NamedTuple):
+    # None if only a line with names and an object have the value.
     text: str
     text_with_names: str
     member: object
@@ -84,9 +85,47 @@ def message_time(octets):
     return word(octets.decode("ascii"))
 
 
+def path(text):
+    """The path of a field at fault, which is told with names and in objects alone."""
+    return Value(None, "-" if text is None else text, text)
+
+
 def file_time(seconds):
     """T"""
     return word(time.strftime("%Y-%m-%dT%H:%M:%SZ", time.gmtime(seconds))) if seconds else ABSENT
+
+
+def instant(nanoseconds):
+    """When a packet was captured, in nanoseconds since 1970-01-01, if that is told."""
+    seconds, fraction = divmod(nanoseconds or 0, 10**9)
+    if not 0 < seconds < 2**32:
+        return ABSENT
+    return word(f"{time.strftime('%Y-%m-%dT%H:%M:%S', time.gmtime(seconds))}.{fraction:09}Z")
+
+
+def ip_address(octets):
+    """An IPv4 address in decimal, or an IPv6 address as RFC 5952 has it."""
+    if len(octets) == 4:
+        return ".".join(map(str, octets))
+    if octets[:12] == bytes(10) + b"\xff\xff":
+        return f"::ffff:{ip_address(octets[12:])}"
+    groups = [f"{int.from_bytes(octets[place : place + 2], 'big'):x}" for place in range(0, 16, 2)]
+    runs = [(begin, end) for end in range(9) for begin in range(end - 1) if groups[begin:end] == ["0"] * (end - begin)]
+    if not runs:
+        return ":".join(groups)
+    begin, end = max(runs, key=lambda run: (run[1] - run[0], -run[0]))
+    return f"{':'.join(groups[:begin])}::{':'.join(groups[end:])}"
+
+
+def flow(value):
+    """The ends of a connection or of a datagram, each with its address and port."""
+    ends = []
+    members = {"over": value.over}
+    for name, (address_octets, port) in (("source", value.source), ("target", value.target)):
+        text = ip_address(address_octets)
+        ends.append(f"[{text}]:{port}" if ":" in text else f"{text}:{port}")
+        members[name] = {"address": text, "port": port}
+    return plain(f"{value.over}/{'>'.join(ends)}", members)
 
 
 def with_name(value, registry):

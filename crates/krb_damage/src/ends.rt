@@ -1,8 +1,10 @@
-//! Runs whose reader or writer fails.
+//! Runs with a reader or a writer that fails.
 
 use crate::fakes::{Narrow, Slow};
 use krb_der::Profile;
-use krb_tool::{Limit, RunEnd, RunFault, run_ccache, run_keytab, run_message_in, run_stream_in};
+use krb_tool::{
+    Form, Limit, RunEnd, RunFault, run_ccache, run_keytab, run_message_in, run_stream_in,
+};
 use std::alloc::Global;
 use std::io::{Read, Write};
 
@@ -24,15 +26,15 @@ impl Run {
     ) -> Result<RunEnd, RunFault> {
         match self {
             Run::Stream(profile) => {
-                run_stream_in(alloc, profile, reader, writer, Limit::DEFAULT)
+                run_stream_in(alloc, Form::Lines, profile, reader, writer, Limit::DEFAULT)
             }
-            Run::Message(profile) => run_message_in(alloc, profile, reader, writer),
+            Run::Message(profile) => run_message_in(alloc, Form::Lines, profile, reader, writer),
             Run::Keytab => run_keytab(alloc, reader, writer),
             Run::Ccache => run_ccache(alloc, reader, writer, Some(946688399)),
         }
     }
 
-    /// The listing of octets.
+    /// Returns the listing of octets.
     pub(crate) fn listing(self, alloc: Global, octets: &[u8]) -> Option<Vec<u8>> {
         let mut text = Vec::new(alloc);
         let mut reader = octets;
@@ -41,20 +43,20 @@ impl Run {
     }
 }
 
-/// How many failures there were.
+/// The numbers of failures.
 #[derive(Clone, Copy)]
 pub(crate) struct Failed {
     pub(crate) reads: u64,
     pub(crate) writes: u64,
 }
 
-/// No failure.
+/// No failures.
 pub(crate) const NONE_FAILED: Failed = Failed {
     reads: 0,
     writes: 0,
 };
 
-/// A text without its last line.
+/// Returns a text without its last line.
 fn without_last(text: &[u8]) -> &[u8] {
     let mut end = 0;
     for (place, octet) in text.iter().enumerate() {
@@ -66,9 +68,9 @@ fn without_last(text: &[u8]) -> &[u8] {
     text.get(..end).unwrap_or(text)
 }
 
-/// How many asks a run makes of a reader of at most `at_most` octets for an ask, each of which was made
-/// to fail. After each the lines are there of what was read, all or the first of them. `None` where
-/// something is not as it has to be, or out of memory.
+/// Returns how many reads a run makes from a reader of at most `at_most` octets at once, each of
+/// which was made to fail in turn. After each failure the lines of what was read are written, all
+/// or the first of them. Returns `None` if something is wrong, or out of memory.
 fn failing_reads(alloc: Global, run: Run, octets: &[u8], at_most: usize) -> Option<u64> {
     let whole = run.listing(alloc, octets)?;
     let mut reads = 0u64;
@@ -94,8 +96,9 @@ fn failing_reads(alloc: Global, run: Run, octets: &[u8], at_most: usize) -> Opti
     None
 }
 
-/// How many writes of at most `at_most` octets a run makes, each of which was made to fail. After each a
-/// front of the listing is there. `None` where something is not as it has to be, or out of memory.
+/// Returns how many writes of at most `at_most` octets a run makes, each of which was made to fail
+/// in turn. After each failure a prefix of the listing is written. Returns `None` if something is
+/// wrong, or out of memory.
 fn failing_writes(
     alloc: Global,
     run: Run,
@@ -131,8 +134,8 @@ fn failing_writes(
     None
 }
 
-/// Lists octets from readers that fail and to writers that fail; how many failures there were, those of
-/// before with them.
+/// Lists octets from readers that fail and to writers that fail, and returns the numbers of
+/// failures, with those before.
 pub(crate) fn failures(alloc: Global, run: Run, octets: &[u8], before: Failed) -> Option<Failed> {
     let Failed {
         mut reads,

@@ -1,9 +1,9 @@
-//! Readers and writers that are slow, or fail.
+//! Readers and writers that are slow or fail.
 
 use std::io;
 use std::io::{ErrorKind, Read, Write};
 
-/// A reader that gives at most `at_most` octets for an ask, and fails when it was asked `asks` times.
+/// A reader of at most `at_most` octets at once that fails after `asks` reads.
 #[derive(Drop)]
 pub(crate) struct Slow<'a> {
     pub(crate) octets: &'a [u8],
@@ -24,8 +24,8 @@ impl Read for Slow<'_> {
     }
 }
 
-/// A writer that takes at most `at_most` octets at a write, and fails, or takes nothing, after
-/// `writes` of them.
+/// A writer that accepts at most `at_most` octets at once, and fails or accepts none after `writes`
+/// writes.
 #[derive(Drop)]
 pub(crate) struct Narrow {
     pub(crate) taken: Vec<u8>,

@@ -1,4 +1,4 @@
-//! Files that are cut, or in which an octet is changed: read whole, and one record after another.
+//! Files that are cut or in which an octet is changed, read whole and one record after another.
 
 use crate::fakes::Slow;
 use krb_ccache::{Ccache, Credential, Credentials, FilePrincipal, Header, read3, upgrade};
@@ -12,14 +12,14 @@ use std::io::Read;
 #[derive(Clone, Copy)]
 pub(crate) enum Format {
     Keytab,
-    /// Caches, those of version 3 as they are upgraded.
+    /// Caches; those of version 3 are upgraded.
     Ccache,
 }
 
-/// What is written of a file that is read, or why it is none.
+/// The octets that are written of a file that was read, or why it could not be read.
 type Written = Result<Vec<u8>, FileFault>;
 
-/// What is written of a keytab, with its holes clean, and then for each hole whether it is.
+/// Returns what is written of a keytab with all its holes clean, and then whether each hole is.
 fn written_keytab(alloc: Global, records: Vec<Record>, stop: Stop) -> Option<Vec<u8>> {
     let mut records = records;
     let mut holes = Vec::new(alloc);
@@ -35,7 +35,7 @@ fn written_keytab(alloc: Global, records: Vec<Record>, stop: Stop) -> Option<Vec
     Some(octets)
 }
 
-/// A keytab that a reader gives, one record after another, which are no more than `most`.
+/// Reads a keytab one record after another, at most `most` of them.
 fn keytab_of<R: Read + Drop>(alloc: Global, reader: R, most: usize) -> Option<Written> {
     let mut reader = Records::new(reader, FieldLimit::new(16777216)?);
     let mut records = Vec::new(alloc);
@@ -49,7 +49,7 @@ fn keytab_of<R: Read + Drop>(alloc: Global, reader: R, most: usize) -> Option<Wr
     None
 }
 
-/// The cache that octets are, in version 4.
+/// Reads a cache, as one of version 4.
 fn cache(alloc: Global, octets: &[u8]) -> Result<Ccache, FileFault> {
     if octets.get(1) != Some(&3) {
         return krb_ccache::read(alloc, octets);
@@ -60,7 +60,7 @@ fn cache(alloc: Global, octets: &[u8]) -> Result<Ccache, FileFault> {
     }
 }
 
-/// Whether two headers are one.
+/// Returns whether two headers are equal.
 fn is_same_header(header: &Header, other: &Header) -> bool {
     let (fields, others) = (header.fields.as_slice(), other.fields.as_slice());
     for (field, other) in fields.iter().zip(others) {
@@ -71,14 +71,14 @@ fn is_same_header(header: &Header, other: &Header) -> bool {
     fields.len() == others.len()
 }
 
-/// Whether two principals are one.
+/// Returns whether two principals are equal.
 fn is_same_principal(principal: &FilePrincipal, other: &FilePrincipal) -> bool {
     principal.name_type == other.name_type
         && principal.realm == other.realm
         && principal.components == other.components
 }
 
-/// The credentials that a reader has left, which are no more than `most`.
+/// Reads the credentials that are left, at most `most` of them.
 fn credentials_of<R: Read + Drop>(
     alloc: Global,
     reader: &mut Credentials<R>,
@@ -95,8 +95,8 @@ fn credentials_of<R: Read + Drop>(
     None
 }
 
-/// A cache that a reader gives, one credential after another. `None` where it begins in another way
-/// than the one that is read whole of the same octets.
+/// Reads a cache one credential after another. Returns `None` if its header or principal differs
+/// from that of the cache that is read whole from the same octets.
 fn cache_of<R: Read + Drop>(alloc: Global, reader: R, octets: &[u8]) -> Option<Written> {
     let mut reader = match Credentials::start(alloc, reader, FieldLimit::new(16777216)?) {
         Ok(reader) => reader,
@@ -124,8 +124,8 @@ fn cache_of<R: Read + Drop>(alloc: Global, reader: R, octets: &[u8]) -> Option<W
     Some(Ok(krb_ccache::write(alloc, &ccache).ok()?))
 }
 
-/// Whether two ways to read octets come to the same: but a field may be too long for the one that has
-/// a limit.
+/// Returns whether reading octets in two ways returns the same, except that a field may be too long
+/// for the way that has a limit.
 fn is_same(streamed: &Written, whole: &Written) -> bool {
     match (streamed, whole) {
         (Ok(octets), Ok(others)) => octets.as_slice() == others.as_slice(),
@@ -145,9 +145,9 @@ fn is_same(streamed: &Written, whole: &Written) -> bool {
     }
 }
 
-/// Whether octets are written as they were read, but for what is written of holes. A cache of version 3
-/// is written in version 4, with two octets more for the length of the header, and two less for each
-/// credential.
+/// Returns whether octets are written as they were read, apart from what is written of holes. A
+/// cache of version 3 is written in version 4, with two octets more for the length of the header,
+/// and two fewer for each credential.
 fn is_again(alloc: Global, written: &[u8], octets: &[u8]) -> bool {
     if octets.get(1) != Some(&3) {
         return written.starts_with(octets);
@@ -162,7 +162,7 @@ fn is_again(alloc: Global, written: &[u8], octets: &[u8]) -> bool {
 }
 
 impl Format {
-    /// What is written of the file that is read whole.
+    /// Returns what is written of the file that is read whole.
     fn whole(self, alloc: Global, octets: &[u8]) -> Option<Written> {
         let written = match self {
             Format::Keytab => match krb_keytab::read(alloc, octets) {
@@ -179,7 +179,7 @@ impl Format {
         Some(Ok(written))
     }
 
-    /// Whether the reader gives the file that the octets are.
+    /// Returns whether what is read one record after another is the file that the octets are.
     fn gives<R: Read + Drop>(
         self,
         alloc: Global,
@@ -194,9 +194,9 @@ impl Format {
         Some(is_same(&streamed, whole))
     }
 
-    /// Whether octets are a file, whether it is read whole or one record after another: from readers
-    /// that give all at once, octet by octet, and in two parts. `None` where these differ, or out of
-    /// memory.
+    /// Returns whether octets are a file, read whole or one record after another: from readers of
+    /// all octets at once, of one octet at once, and of two parts. Returns `None` if these differ,
+    /// or out of memory.
     pub(crate) fn is_whole(self, alloc: Global, octets: &[u8], cut: usize) -> Option<bool> {
         let whole = self.whole(alloc, octets)?;
         let (front, back) = octets.split_at(cut.min(octets.len()));
@@ -211,7 +211,7 @@ impl Format {
         alike.then_some(whole.is_ok())
     }
 
-    /// How many fronts of octets are a file.
+    /// Returns how many prefixes of octets are a file.
     pub(crate) fn fronts(self, alloc: Global, octets: &[u8]) -> Option<u64> {
         let mut fronts = 0u64;
         for count in 0..=octets.len() {
@@ -222,8 +222,8 @@ impl Format {
         Some(fronts)
     }
 
-    /// Whether a file is written as it was read, whole and one record after another from readers that
-    /// give it octet by octet, and in two parts, whatever the first is.
+    /// Returns whether a file is written as it was read, whole and one record after another, from
+    /// readers of one octet at once and of two parts, whatever the first part is.
     pub(crate) fn comes_again(self, alloc: Global, octets: &[u8]) -> Option<bool> {
         let whole = self.whole(alloc, octets)?;
         let Ok(written) = &whole else {

@@ -13,13 +13,13 @@ use krb_msg::Message;
 use octets::{AP_REP, CACHE, KEYTAB, KRB_ERROR, message_of};
 use std::io;
 
-/// What came of a call.
+/// How a call ended.
 #[derive(Clone, Copy, PartialEq, Eq)]
 enum Outcome {
-    /// It gave what it has to give.
+    /// It returned what it has to return.
     Done,
-    /// It was out of memory, nothing was changed, and the same call then gave that; or a reader of a
-    /// file was out of memory, and stayed so.
+    /// It was out of memory, nothing was changed, and the same call then returned what it has to;
+    /// or a reader of a file was out of memory, and said so again.
     Memory,
     /// It was out of memory twice.
     Refused,
@@ -37,7 +37,7 @@ impl Outcome {
     }
 }
 
-/// Makes each call, prints what came of it, and whether none was wrong.
+/// Makes each call and prints how it ended; returns whether none was wrong.
 fn report<R: Print + AllocGlobal>(rt: &R, given: Given<'_>) -> io::Result<bool> {
     let mut right = true;
     for (name, call) in CALLS {
@@ -49,7 +49,7 @@ fn report<R: Print + AllocGlobal>(rt: &R, given: Given<'_>) -> io::Result<bool> 
     Ok(right)
 }
 
-/// The same of calls with a message.
+/// Does the same with a message for the calls.
 fn report_with<R: Print + AllocGlobal>(rt: &R, message: &Message) -> io::Result<bool> {
     let alloc = rt.alloc();
     let mut decoder = Decoder::new(alloc, Limit::DEFAULT);
@@ -70,8 +70,8 @@ fn report_with<R: Print + AllocGlobal>(rt: &R, message: &Message) -> io::Result<
     }
 }
 
-/// Makes each call that takes memory, with octets that are no allocation, prints what came of it, and
-/// whether none was wrong. None is made where there is no memory for what they are given.
+/// Makes each call that allocates, with octets that are not allocated, and prints how it ended;
+/// returns whether none was wrong. It makes none if there is no memory for their arguments.
 pub(crate) fn report_calls<R: Print + AllocGlobal>(rt: &R) -> io::Result<bool> {
     match parse(rt.alloc(), message_of(KRB_ERROR)) {
         Ok(message) => {

@@ -1,29 +1,30 @@
-//! What damage, failing ends and want of memory come to. It reads messages, keytabs and caches, a line
-//! for each with its name and its octets in hexadecimal.
+//! Damages messages, keytabs and caches, and lets readers, writers and allocations fail. It reads
+//! them from the standard input, one a line, each with its name and its octets in hexadecimal.
 //!
-//! Octets are cut after each of them, and each of them is changed to each other value. A message stands
-//! in a frame then, and is tried by both profiles: decoders that are fed all at once and octet by octet
-//! have to give one answer; and `judge_in` of each front, `parse_in`, and scanners that take the octets
-//! one after another and in pieces of some sizes have to give the same. A file that is read whole, and
-//! one record after another from some readers, has to be the same records or the same fault. And each
-//! is listed from readers that fail when they are asked for the first time, for the second, and so on,
-//! and to writers that fail, or take nothing, at each write in turn: a front of the lines is there
-//! then. A message is listed as a stream and as its digits. The line of each counts its fronts that are
-//! whole, the changes, those after which it is still a message or a file, and the reads and the writes
+//! Octets are cut after each of them, and each of them is changed to each other value. A message is
+//! tried in a frame by both profiles. Decoders that are fed all octets at once and one at a time
+//! have to answer the same, and so have `judge_in` of each prefix, `parse_in`, and scanners of one
+//! octet and of some octets at a time. A file that is read whole, and one record after another from
+//! several readers, has to have the same records or the same fault. Each is also listed from
+//! readers that fail at the first read, at the second, and so on, and to writers that fail, or
+//! accept nothing, at each write in turn: then a prefix of the lines has to be written. A message
+//! is listed as a stream and as its digits. The line of each counts the prefixes that are whole,
+//! the changes, those after which it is still a message or a file, and the reads and the writes
 //! that failed.
 //!
-//! A file of more than 256 octets is not changed: it has to come again where it is read and written, also
-//! from readers that give it in two parts, whatever the first is.
+//! A file of more than 256 octets is not changed: it has to be written as it was read, also from
+//! readers of two parts, whatever the first part is.
 //!
-//! Before all this each call that takes memory is made once. Its line is `done` where it gave what it
-//! has to give; `memory` where it was out of memory, nothing was changed, and the same call then gave
-//! that; `refused` where it was out of memory both times; and `wrong` otherwise. With ample memory all is
-//! done; `tests/memory` refuses it.
+//! Before all this each call that allocates is made once. Its line is `done` if it returned what it
+//! has to; `memory` if it was out of memory, nothing was changed, and the same call then returned
+//! what it has to; `refused` if it was out of memory both times; and `wrong` otherwise. With enough
+//! memory all are done; `tests/memory` refuses allocations.
 //!
-//! With the word `memory` the calls alone are made. With `answers` there is a line for each change of a
-//! message instead, by each profile: its place, the new octet, and the answer. With `marks` nothing is
-//! changed, and the octets need not be a message: the line of each has the answer, how many lengths are
-//! open, and the marks, each as where the contents begin, how many octets they are, and the number.
+//! With the word `memory` only these calls are made. With `answers` there is instead a line for
+//! each change of a message, by each profile: the place, the new octet, and the answer. With
+//! `marks` nothing is changed, and the octets need not be a message: the line of each has the
+//! answer, how many lengths are open, and the marks, each as the place of the contents, their
+//! number of octets, and the number.
 #![tactic(auto)]
 
 mod ends;
@@ -47,7 +48,7 @@ use std::alloc::Global;
 use std::process::ExitCode;
 use std::{env, io};
 
-/// How many octets a file has at most that is changed.
+/// The greatest number of octets of a file that is changed.
 const MOST_CHANGED: usize = 256;
 
 /// What octets are tried as.
@@ -59,7 +60,8 @@ enum Subject {
 }
 
 impl Subject {
-    /// How many fronts of octets are whole. `None` where answers differ, or out of memory.
+    /// Returns how many prefixes of octets are whole, or `None` if answers differ, or out of
+    /// memory.
     fn fronts(self, alloc: Global, octets: &[u8]) -> Option<u64> {
         match self {
             Subject::Frame(profile) => fronts(alloc, profile, octets),
@@ -67,8 +69,8 @@ impl Subject {
         }
     }
 
-    /// Whether octets are whole of which the one at a place is changed. `None` where answers differ, or
-    /// out of memory.
+    /// Returns whether octets are whole if the one at a place is changed, or `None` if answers
+    /// differ, or out of memory.
     fn is_whole(self, alloc: Global, octets: &[u8], place: usize) -> Option<bool> {
         match self {
             Subject::Frame(profile) => {
@@ -82,11 +84,11 @@ impl Subject {
 /// What was tried with octets.
 #[derive(Clone, Copy)]
 struct Counts {
-    /// How many fronts of them are whole.
+    /// How many prefixes of them are whole.
     fronts: u64,
     /// How many changes were made.
     changes: u64,
-    /// After how many of these they are whole.
+    /// After how many changes they are whole.
     whole: u64,
     failed: Failed,
 }
@@ -117,7 +119,7 @@ fn tried(alloc: Global, subject: Subject, octets: &mut [u8], failed: Failed) -> 
     })
 }
 
-/// Cuts a file, and changes it.
+/// Cuts and changes a file.
 fn tried_file(alloc: Global, format: Format, octets: &mut [u8]) -> Option<Counts> {
     let run = match format {
         Format::Keytab => Run::Keytab,
@@ -127,7 +129,7 @@ fn tried_file(alloc: Global, format: Format, octets: &mut [u8]) -> Option<Counts
     tried(alloc, Subject::File(format), octets, failed)
 }
 
-/// Cuts a message, and changes it, by a profile. It comes in a frame, and as digits.
+/// Cuts and changes a message, in a frame and as digits, by a profile.
 fn tried_message(alloc: Global, profile: Profile, message: &[u8], digits: &str) -> Option<Counts> {
     let mut frame = Vec::new(alloc);
     let length = u32::try_from(message.len()).ok()?;
@@ -138,7 +140,7 @@ fn tried_message(alloc: Global, profile: Profile, message: &[u8], digits: &str) 
     tried(alloc, Subject::Frame(profile), frame.as_mut_slice(), failed)
 }
 
-/// Prints what was tried, and whether all was as it has to be.
+/// Prints what was tried; returns whether nothing was wrong.
 fn report(rt: &impl Print, name: &str, counts: Option<Counts>) -> io::Result<bool> {
     let Some(counts) = counts else {
         println!(rt; "{name} is not as it has to be")?;
@@ -200,7 +202,7 @@ fn damage_message<R: Print + AllocGlobal>(
     )
 }
 
-/// Prints an answer, and no line feed.
+/// Prints an answer without a line feed.
 fn print_answer(rt: &impl Print, answer: Verdict) -> io::Result<()> {
     match answer {
         Verdict::Open => print!(rt; "open"),
@@ -212,7 +214,7 @@ fn print_answer(rt: &impl Print, answer: Verdict) -> io::Result<()> {
     }
 }
 
-/// Prints the answer to each change of a message, by a profile, and whether each had one.
+/// Prints the answer to each change of a message, by a profile; returns whether each had one.
 fn print_answers<R: Print + AllocGlobal>(
     rt: &R,
     profile: Profile,
@@ -236,7 +238,7 @@ fn print_answers<R: Print + AllocGlobal>(
     Ok(true)
 }
 
-/// Prints what octets are and the marks in them, and whether they get one answer.
+/// Prints what octets are and the marks in them; returns whether all answers are the same.
 fn print_marks<R: Print + AllocGlobal>(rt: &R, name: &str, octets: &[u8]) -> io::Result<bool> {
     let alloc = rt.alloc();
     if octets.is_empty() || octets.len() > 2147483647 {
@@ -265,7 +267,7 @@ fn print_marks<R: Print + AllocGlobal>(rt: &R, name: &str, octets: &[u8]) -> io:
     Ok(has_all)
 }
 
-/// Does what a word asks for with octets, and whether all was as it has to be.
+/// Does what a word asks for with octets; returns whether nothing was wrong.
 fn work_on<R: Print + AllocGlobal>(
     rt: &R,
     word: Option<&str>,

@@ -1,4 +1,4 @@
-//! Messages, and frames of them, that are cut or in which an octet is changed.
+//! Messages, and frames of messages, that are cut or in which an octet is changed.
 
 ghost use Rattle.std.specs.Prelude.{◌^◌, ◌<◌, length};
 
@@ -11,12 +11,12 @@ use krb_judge::{ParseFault, judge_in, parse_in};
 use krb_msg::{Message, encode};
 use std::alloc::Global;
 
-/// How many octets of a frame stand before its message.
+/// The number of octets of a frame before its message.
 const LENGTH_OCTETS: usize = 4;
 
-/// What `judge_in` answers to all octets of a slice, the fronts of up to `open` octets being open.
-/// `None` where it does not stand by its answer: each front has to be open until one octet refuses, and
-/// refused by that octet from then on; and all octets are not open.
+/// Returns what `judge_in` answers to all octets of a slice, if the prefixes of up to `open` octets
+/// are open. Returns `None` if its answers do not agree: each prefix has to be open until one octet
+/// refuses, and refused by that octet from then on, and all octets together are not open.
 fn judged(profile: Profile, octets: &[u8], open: usize) -> Option<Verdict>
     requires { length octets.now < 2 ^ 31 }
 {
@@ -36,7 +36,7 @@ fn judged(profile: Profile, octets: &[u8], open: usize) -> Option<Verdict>
     Some(Verdict::Refused(refusal?))
 }
 
-/// Whether octets are those of a message.
+/// Returns whether octets are those of a message.
 fn is_encoded(alloc: Global, message: &Message, octets: &[u8]) -> bool {
     match encode(alloc, message) {
         Ok(same) => same.as_slice() == octets,
@@ -44,7 +44,7 @@ fn is_encoded(alloc: Global, message: &Message, octets: &[u8]) -> bool {
     }
 }
 
-/// What `parse_in` answers. `None` when out of memory, or where a message has other octets.
+/// Returns what `parse_in` answers, or `None` if out of memory or if the message has other octets.
 fn parsed(alloc: Global, profile: Profile, octets: &[u8]) -> Option<Verdict> {
     match parse_in(alloc, profile, octets) {
         Ok(message) => {
@@ -57,8 +57,8 @@ fn parsed(alloc: Global, profile: Profile, octets: &[u8]) -> Option<Verdict> {
     }
 }
 
-/// The one verdict that octets get, by `judge_in` of each front, by `parse_in` and by scanners. `None`
-/// where it is not one, or out of memory.
+/// Returns the verdict that octets get by `judge_in` of each prefix, by `parse_in` and by scanners,
+/// or `None` if these differ, or out of memory.
 pub(crate) fn verdict(
     alloc: Global,
     profile: Profile,
@@ -77,14 +77,14 @@ pub(crate) fn verdict(
 /// What a decoder answers.
 #[derive(Clone, Copy, PartialEq, Eq)]
 struct Answer {
-    /// How many octets it used.
+    /// How many octets were used.
     used: usize,
     status: Status,
-    /// What it says of a stream that ends there.
+    /// What `finish` refuses if the stream ends there.
     end: Option<Refusal>,
 }
 
-/// What a decoder answers that is fed octets in pieces of a size.
+/// Returns what a decoder answers that is fed octets in pieces of a size.
 fn fed(alloc: Global, profile: Profile, octets: &[u8], size: usize) -> Answer
     requires { 0 < size }
 {
@@ -102,15 +102,16 @@ fn fed(alloc: Global, profile: Profile, octets: &[u8], size: usize) -> Answer
     Answer { used, status, end }
 }
 
-/// The one answer of decoders that are fed octets at once and octet by octet.
+/// Returns the answer of decoders that are fed all octets at once and one at a time, or `None` if
+/// these differ.
 fn answered(alloc: Global, profile: Profile, octets: &[u8]) -> Option<Answer> {
     let by_octets = fed(alloc, profile, octets, 1);
     let at_once = fed(alloc, profile, octets, octets.len().max(1));
     (at_once == by_octets).then_some(by_octets)
 }
 
-/// What a decoder has to answer to octets of a frame that announces its message as it is, where this is
-/// the verdict on those of the message.
+/// Returns what a decoder has to answer to the octets of a frame, if `verdict` is the verdict on
+/// those of its message.
 fn wanted(verdict: Verdict, octets: &[u8]) -> Answer {
     let used = octets.len();
     match verdict {
@@ -142,8 +143,8 @@ fn wanted(verdict: Verdict, octets: &[u8]) -> Answer {
     }
 }
 
-/// How many fronts of a frame a stream may end with, as a decoder and a listing say: none of it, and
-/// all. The others are truncated. Of a frame that is refused none is tried.
+/// Returns at how many places a stream of one frame may end, as a decoder and a listing say: before
+/// the frame and after it; elsewhere it is truncated. Returns 0 for a frame that is refused.
 pub(crate) fn fronts(alloc: Global, profile: Profile, frame: &[u8]) -> Option<u64> {
     if verdict(alloc, profile, frame.get(LENGTH_OCTETS..)?, 0)? != Verdict::Whole {
         return Some(0);
@@ -178,7 +179,7 @@ pub(crate) fn fronts(alloc: Global, profile: Profile, frame: &[u8]) -> Option<u6
     Some(ends)
 }
 
-/// What a frame is in which the octet at a place is changed. `None` where answers differ.
+/// Returns what a frame is if the octet at a place is changed, or `None` if answers differ.
 pub(crate) fn changed(
     alloc: Global,
     profile: Profile,

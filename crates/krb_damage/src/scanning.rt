@@ -1,4 +1,4 @@
-//! What scanners say of octets, which they take one after another and in pieces of some sizes.
+//! What scanners answer to octets, one at a time and in pieces of some sizes.
 
 ghost use Rattle.std.specs.Prelude.{◌<◌, ◌^◌, length};
 
@@ -6,7 +6,8 @@ use krb_der::Profile;
 use krb_scan::{Scanner, Verdict};
 use std::alloc::Global;
 
-/// Takes octets one after another, until something is decided, and whether there was memory for that.
+/// Scans octets one after another until something is decided; returns whether memory did not run
+/// out.
 pub(crate) fn step_all(scanner: &mut Scanner, octets: &[u8]) -> bool {
     for octet in octets {
         if let Verdict::Open = scanner.verdict() {
@@ -18,7 +19,7 @@ pub(crate) fn step_all(scanner: &mut Scanner, octets: &[u8]) -> bool {
     true
 }
 
-/// Whether two scanners have the same marks, from a number on.
+/// Returns whether two scanners have the same marks from a number on.
 fn mark_the_same(scanner: &Scanner, other: &Scanner, from: usize) -> bool {
     let (marks, others) = (scanner.marks(), other.marks());
     for (mark, same) in marks.iter().zip(others).skip(from) {
@@ -31,7 +32,7 @@ fn mark_the_same(scanner: &Scanner, other: &Scanner, from: usize) -> bool {
     marks.len() == others.len()
 }
 
-/// Whether two scanners tell the same, of their marks how many there are and the last.
+/// Returns whether two scanners answer the same, have as many marks, and the same last mark.
 fn tell_the_same(scanner: &Scanner, other: &Scanner) -> bool {
     let last = scanner.marks().len().saturating_sub(1);
     mark_the_same(scanner, other, last)
@@ -40,7 +41,8 @@ fn tell_the_same(scanner: &Scanner, other: &Scanner) -> bool {
         && scanner.open_lengths() == other.open_lengths()
 }
 
-/// Whether a scanner of a message of `n` octets decided something, and with the last octet that it took.
+/// Returns whether a scanner of a message of `n` octets decided something, and did so with the last
+/// octet that it scanned.
 fn has_decided(scanner: &Scanner, n: u32) -> bool {
     match scanner.verdict() {
         Verdict::Open => false,
@@ -49,8 +51,8 @@ fn has_decided(scanner: &Scanner, n: u32) -> bool {
     }
 }
 
-/// Whether a scanner that takes octets in pieces tells after each piece what one tells that takes them
-/// one after another. Not so when out of memory.
+/// Returns whether a scanner of pieces of octets answers after each piece what one answers that
+/// scans them one after another. Returns false if out of memory.
 fn take_alike(scanner: &mut Scanner, stepping: &mut Scanner, octets: &[u8], size: usize) -> bool
     requires { 0 < size }
 {
@@ -67,8 +69,9 @@ fn take_alike(scanner: &mut Scanner, stepping: &mut Scanner, octets: &[u8], size
     mark_the_same(scanner, stepping, 0)
 }
 
-/// What scanners of a profile say of octets, whatever the pieces are. `None` when out of memory, or
-/// where they do not say the same after each piece as one that takes them one after another.
+/// Returns what scanners of a profile answer to octets, whatever the pieces are. Returns `None` if
+/// out of memory, or if one does not answer the same after each piece as one that scans octet by
+/// octet.
 pub(crate) fn scanned(alloc: Global, profile: Profile, octets: &[u8]) -> Option<Verdict>
     requires some { 0 < length octets.now }
     requires short { length octets.now < 2 ^ 31 }

@@ -1,22 +1,28 @@
-//! What docs/LIBRARIES.md shows of each library, called once.
+//! The code that `docs/LIBRARIES.md` shows of each library, and a program that calls each function
+//! of it once and prints what it returns.
+//!
+//! The functions are short examples and no library: a program that needs one copies it.
+//! [`first_kind`] and [`highest_kvno`] show a whole loop over a stream and over a file, and
+//! [`ap_rep`] how a message is made.
 #![tactic(auto)]
 
 use anyhow::Result;
 use krb_ccache::{Ccache, Credentials, TicketStateView, read3, ticket_view_of, upgrade};
 use krb_der::{Int32, KString, Many, Memory, Octets, Profile, Refusal, Verdict};
 use krb_file::{Field, FieldLimit, FieldReader, FileFault, SliceReader, String16};
-use krb_frame::{Decoder, Limit, Status, frame};
+use krb_frame::{Decoder, Limit, SkippingDecoder, Status, frame};
 use krb_judge::{ParseFault, judge, parse, read_ticket};
 use krb_keytab::{Next, Record, Records};
 use krb_list::{Form, message_line, principal_text};
 use krb_msg::{ApRep, EncodeFault, EncryptedData, Kind, Message, PrincipalName, encode};
+use krb_registry::{Registry, name_of};
 use krb_scan::Scanner;
 use krb_tool::{run_keytab, status};
 use krb_words::{Job, WordsFault, read_words};
 use std::alloc::{AllocError, Global};
 use std::io::Read;
 
-/// The name of a user.
+/// Returns the name of a user.
 fn user(alloc: Global, name: &str) -> Result<PrincipalName, AllocError> {
     let component = KString::new(Vec::from_slice(alloc, name.as_bytes())?);
     Ok(PrincipalName {
@@ -25,7 +31,7 @@ fn user(alloc: Global, name: &str) -> Result<PrincipalName, AllocError> {
     })
 }
 
-/// An AP-REP with a sealed part of encryption type 18.
+/// Returns an AP-REP with an encrypted part of encryption type 18.
 fn ap_rep(alloc: Global, sealed: &[u8]) -> Result<Message, AllocError> {
     let cipher = Octets::new(Vec::from_slice(alloc, sealed)?);
     let enc_part = EncryptedData {
@@ -36,30 +42,30 @@ fn ap_rep(alloc: Global, sealed: &[u8]) -> Result<Message, AllocError> {
     Ok(Message::ApRep(ApRep { enc_part }))
 }
 
-/// Its octets.
+/// Returns the octets of that message.
 fn octets_of(alloc: Global, sealed: &[u8]) -> Result<Vec<u8>, EncodeFault> {
     let message = ap_rep(alloc, sealed)?;
     encode(alloc, &message)
 }
 
-/// The kind of the message that octets are.
+/// Returns the kind of the message that octets are.
 fn kind_of(alloc: Global, octets: &[u8]) -> Result<Kind, ParseFault> {
     let message = parse(alloc, octets)?;
     Ok(message.kind())
 }
 
-/// Whether the first octets of a message of 31 octets may go on.
+/// Returns whether the first octets of a message of 31 octets decide nothing yet.
 fn may_go_on(present: &[u8]) -> bool {
     present.len() <= 31 && matches!(judge(31, present), Verdict::Open)
 }
 
-/// The encryption type of a Ticket, whose octets are borrowed.
+/// Returns the encryption type of a Ticket, which is read without copying it.
 fn ticket_etype(octets: &[u8]) -> Result<i64, Refusal> {
     let ticket = read_ticket(octets)?;
     Ok(ticket.enc_part.etype)
 }
 
-/// How many items the first octets of a message of `size` octets have shown.
+/// Returns how many items are found in the first octets of a message of `size` octets.
 fn items_in(alloc: Global, size: u16, present: &[u8]) -> Result<usize, Memory> {
     if size == 0 {
         return Ok(0);
@@ -69,8 +75,8 @@ fn items_in(alloc: Global, size: u16, present: &[u8]) -> Result<usize, Memory> {
     Ok(scanner.marks().len())
 }
 
-/// Whether a stream begins with a message of the strict profile, of at most 65536 octets. Memory is
-/// allocated before the stream is fed.
+/// Returns whether a stream begins with a message of the strict profile, of at most 65536 octets.
+/// Memory is allocated before the stream is fed.
 fn begins_strictly(alloc: Global, stream: &[u8]) -> Result<bool, Memory> {
     let Some(limit) = Limit::new(65536) else {
         return Ok(false);
@@ -79,7 +85,24 @@ fn begins_strictly(alloc: Global, stream: &[u8]) -> Result<bool, Memory> {
     Ok(decoder.feed(stream).status == Status::Ready)
 }
 
-/// A number of 32 bits, and the string after it, which follows its length of 16 bits.
+/// Returns the kind of the first message of a stream, whatever frames are refused before it.
+fn first_kind(alloc: Global, stream: &[u8]) -> Option<Kind> {
+    let mut decoder = SkippingDecoder::new(Decoder::new(alloc, Limit::DEFAULT));
+    let mut rest = stream;
+    for _ in 0..u64::MAX {
+        let fed = decoder.feed(rest);
+        rest = &rest[fed.used..];
+        match fed.status {
+            Status::Ready => break,
+            Status::Refused(_) if decoder.skip() => {}
+            _ => return None,
+        }
+    }
+    let frame = decoder.ready()?;
+    Some(frame.kind())
+}
+
+/// Reads a number of 32 bits, and a string after the number of its octets in 16 bits.
 fn number_and_string(alloc: Global, octets: &[u8]) -> Result<(u32, KString), FileFault> {
     let mut reader = SliceReader::new(octets);
     let number = reader.number32()?;
@@ -87,7 +110,7 @@ fn number_and_string(alloc: Global, octets: &[u8]) -> Result<(u32, KString), Fil
     Ok((number, string))
 }
 
-/// The highest version of a key in a keytab.
+/// Returns the highest version of a key in a keytab.
 fn highest_kvno<R: Read + Drop>(
     alloc: Global,
     file: R,
@@ -108,7 +131,7 @@ fn highest_kvno<R: Read + Drop>(
     Ok(highest)
 }
 
-/// When the first ticket of a cache of either version expires, in seconds since 1970.
+/// Returns when the first ticket of a cache of either version expires, in seconds since 1970.
 fn first_end(alloc: Global, file: &[u8], limit: FieldLimit) -> Result<Option<u32>, FileFault> {
     let mut credentials = Credentials::start(alloc, file, limit)?;
     for _ in 0..u64::MAX {
@@ -125,7 +148,7 @@ fn first_end(alloc: Global, file: &[u8], limit: FieldLimit) -> Result<Option<u32
     Ok(None)
 }
 
-/// A cache of version 3, as one of version 4, which can be written.
+/// Returns a cache of version 3 as one of version 4, which can be written.
 fn upgraded(alloc: Global, file: &[u8]) -> Result<Ccache, FileFault> {
     match upgrade(alloc, read3(alloc, file)?) {
         Ok(cache) => Ok(cache),
@@ -133,20 +156,25 @@ fn upgraded(alloc: Global, file: &[u8]) -> Result<Ccache, FileFault> {
     }
 }
 
-/// The line of an AP-REP, as `krbls` prints it.
+/// Returns the line of an AP-REP, as `krbls` prints it.
 fn line_of(alloc: Global, sealed: &[u8]) -> Result<String, Memory> {
     let message = ap_rep(alloc, sealed)?;
     message_line(alloc, Form::Lines, &message)
 }
 
-/// The text of a user's name in a realm.
+/// Returns the text of a user's name in a realm.
 fn user_text(alloc: Global, name: &str, realm: &str) -> Result<String, Memory> {
     let user = user(alloc, name)?;
     let realm = KString::new(Vec::from_slice(alloc, realm.as_bytes())?);
     principal_text(alloc, user.name.as_slice(), &realm)
 }
 
-/// What `krbls keytab` would print of a file, and its status.
+/// Returns the name of an encryption type, or `-` if it has none.
+fn etype_name(number: i64) -> &'static str {
+    name_of(Registry::EncryptionTypes, number).unwrap_or("-")
+}
+
+/// Returns what `krbls keytab` prints of a file, and its status.
 fn listed(alloc: Global, file: &[u8]) -> (Vec<u8>, u8) {
     let mut text = Vec::new(alloc);
     let mut reader = file;
@@ -154,19 +182,23 @@ fn listed(alloc: Global, file: &[u8]) -> (Vec<u8>, u8) {
     (text, status(&outcome))
 }
 
-/// Whether words are a command that lists a keytab.
+/// Returns whether words are a command that lists a keytab.
 fn is_keytab_command(alloc: Global, words: &[String]) -> Result<bool, WordsFault> {
     let order = read_words(alloc, words)?;
     Ok(matches!(order.job, Job::Keytab))
 }
 
+/// A stream of a frame that is refused at its contents octet, and of an AP-REP.
+const STREAM: &[u8] =
+    b"\x00\x00\x00\x01\x01\x00\x00\x00\x1F\x6F\x1D\x30\x1B\xA0\x03\x02\x01\x05\xA1\x03\x02\x01\x0F\xA2\x0F\x30\x0D\xA0\x03\x02\x01\x12\xA2\x06\x04\x04\x01\x02\x03\x04";
+
 /// A keytab that holds a hole of two octets.
 const KEYTAB: &[u8] = b"\x05\x02\xFF\xFF\xFF\xFE\x00\x00";
 
-/// A cache of version 3 of u@A, with no credential.
+/// A cache of version 3 of u@A, with no credentials.
 const CACHE3: &[u8] = b"\x05\x03\x00\x00\x00\x01\x00\x00\x00\x01\x00\x00\x00\x01A\x00\x00\x00\x01u";
 
-/// Shows messages.
+/// Shows what is done with messages.
 fn show_messages(rt: &HostRuntime) -> Result<()> {
     let alloc = rt.alloc();
     let octets = octets_of(alloc, &[1, 2, 3, 4])?;
@@ -179,10 +211,11 @@ fn show_messages(rt: &HostRuntime) -> Result<()> {
     }
     println!(rt; "{}", line_of(alloc, &[1, 2, 3, 4])?)?;
     println!(rt; "{}", user_text(alloc, "u/v", "A")?)?;
+    println!(rt; "18 is {}", etype_name(18))?;
     Ok(())
 }
 
-/// Shows a stream.
+/// Shows what is done with a stream.
 fn show_stream(rt: &HostRuntime) -> Result<()> {
     let alloc = rt.alloc();
     let message = ap_rep(alloc, &[1, 2, 3, 4])?;
@@ -193,10 +226,13 @@ fn show_stream(rt: &HostRuntime) -> Result<()> {
         "begins strictly: {}",
         begins_strictly(alloc, framed.as_slice())?
     )?;
+    if let Some(kind) = first_kind(alloc, STREAM) {
+        println!(rt; "first message: {}", kind.name())?;
+    }
     Ok(())
 }
 
-/// Shows files.
+/// Shows what is done with files.
 fn show_files(rt: &HostRuntime) -> Result<()> {
     let alloc = rt.alloc();
     let Some(limit) = FieldLimit::new(65536) else {

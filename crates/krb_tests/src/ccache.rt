@@ -1,5 +1,5 @@
-//! Caches of versions 4 and 3, worked out by hand from the file format. How files are refused is tried
-//! by `tests/compare`.
+//! Caches of versions 4 and 3, worked out by hand from the file format. `tests/compare` tests how
+//! files are refused.
 
 use crate::examples::{CACHE, CACHE3, TICKET_FIELDS, octets_of};
 use krb_ccache::{
@@ -12,27 +12,28 @@ use std::alloc::Global;
 use std::test::Fail;
 
 /// A cache of u@A without a header, and a credential for u@A with a different number in each field,
-/// with an address and an element of authorization data.
+/// an address and an element of authorization data.
 const NUMBERED: &str =
     "05040000000000010000000100000001410000000175000000010000000100000001410000000175000000010000000100000001410000000175001200000002ABCD000000010000000200000003000000040180000001000000010002000000047F000001000000010001000000047F00000100000001610000000105";
 
-/// The cache of version 3 of the examples, where the encryption type that is written again is another.
+/// The cache of version 3 of the examples, with a second encryption type that differs from the
+/// first.
 const OTHER_ENCTYPE: &str =
     "05030000000100000001000000014100000001750000000100000001000000014100000001750000000200000001000000014100000001680012001100000002ABCD386D4380386D4380386D5190000000000040E10000000000000000000000000002618000000000";
 
-/// The same in version 4.
+/// The same cache in version 4.
 const UPGRADED: &str =
     "05040000000000010000000100000001410000000175000000010000000100000001410000000175000000020000000100000001410000000168001200000002ABCD386D4380386D4380386D5190000000000040E10000000000000000000000000002618000000000";
 
-/// A cache of version 3 of u@A: a configuration entry, and that credential.
+/// A cache of version 3 of u@A: a configuration entry, and the same credential.
 const CONFIG3: &str =
     "050300000001000000010000000141000000017500000001000000010000000141000000017500000000000000020000000C582D4341434845434F4E463A000000156B7262355F6363616368655F636F6E665F646174610000000770615F74797065000000000000000000000000000000000000000000000000000000000000000000000000000000000132000000000000000100000001000000014100000001750000000200000001000000014100000001680012001200000002ABCD386D4380386D4380386D5190000000000040E10000000000000000000000000002618000000000";
 
-/// The same in version 4.
+/// The same cache in version 4.
 const CONFIG_UPGRADED: &str =
     "0504000000000001000000010000000141000000017500000001000000010000000141000000017500000000000000020000000C582D4341434845434F4E463A000000156B7262355F6363616368655F636F6E665F646174610000000770615F747970650000000000000000000000000000000000000000000000000000000000000000000000000000013200000000000000010000000100000001410000000175000000020000000100000001410000000168001200000002ABCD386D4380386D4380386D5190000000000040E10000000000000000000000000002618000000000";
 
-/// Whether a list has one item, of this kind and these octets.
+/// Returns whether a list has one item, of this kind and with these octets.
 fn is_typed(list: &Many<Typed>, kind: u16, octets: &[u8]) -> bool {
     match list.as_slice() {
         [only] => only.kind == kind && only.octets.as_slice() == octets,
@@ -40,7 +41,7 @@ fn is_typed(list: &Many<Typed>, kind: u16, octets: &[u8]) -> bool {
     }
 }
 
-/// Whether a credential has each number in its field.
+/// Returns whether each field of a credential has its number.
 fn is_numbered(credential: &Credential) -> bool {
     let numbers = (credential.enctype, credential.is_skey, credential.flags);
     let times = [
@@ -58,7 +59,7 @@ fn is_numbered(credential: &Credential) -> bool {
         && credential.second_ticket.as_slice() == b"\x05".as_slice()
 }
 
-/// Whether these octets, in no more room, are written of a cache.
+/// Returns whether these octets, and no greater capacity, are written for a cache.
 fn is_written(alloc: Global, cache: &Ccache, octets: &[u8]) -> bool {
     match write(alloc, cache) {
         Ok(written) => written.as_slice() == octets && written.capacity() == octets.len(),
@@ -66,8 +67,8 @@ fn is_written(alloc: Global, cache: &Ccache, octets: &[u8]) -> bool {
     }
 }
 
-/// Whether octets are a cache that is written as them; where it has one credential, this has each
-/// number in its field.
+/// Returns whether octets are a cache that is written as the same octets, and each field of its
+/// credential, if it has one, has its number.
 fn comes_again(alloc: Global, octets: &[u8]) -> bool {
     match read(alloc, octets) {
         Ok(cache) => {
@@ -90,8 +91,8 @@ fn reads_and_writes_each_field(rt: HostRuntime) -> Result<(), Fail> {
     Ok(())
 }
 
-/// Whether a state is what is named here: a configuration entry's, a Ticket of the realm A, a cut one, or
-/// none.
+/// Returns whether a state is the one named: that of a configuration entry, a Ticket of the realm
+/// A, one that is cut, or none.
 fn is_named(state: &TicketState, name: &str) -> bool {
     let (place, why) = (1, Why::Indefinite);
     match state {
@@ -102,7 +103,7 @@ fn is_named(state: &TicketState, name: &str) -> bool {
     }
 }
 
-/// Whether the ticket field of a credential has what is named here.
+/// Returns whether the ticket field of a credential holds what is named.
 fn has(alloc: Global, credential: &Credential, name: &str) -> bool {
     match ticket_of(alloc, credential) {
         Ok(state) => is_named(&state, name),
@@ -110,7 +111,7 @@ fn has(alloc: Global, credential: &Credential, name: &str) -> bool {
     }
 }
 
-/// Whether octets are a cache whose credentials have one of each in their ticket fields.
+/// Returns whether octets are a cache whose credentials have one of each in their ticket fields.
 fn have_each(alloc: Global, octets: &[u8]) -> bool {
     match read(alloc, octets) {
         Ok(cache) => match cache.credentials.as_slice() {
@@ -136,7 +137,8 @@ fn tells_what_a_ticket_field_holds(rt: HostRuntime) -> Result<(), Fail> {
 /// A cache of u@A without a header.
 const OF_U: &[u8] = b"\x05\x04\0\0\0\0\0\x01\0\0\0\x01\0\0\0\x01A\0\0\0\x01u";
 
-/// What that cache is refused for if its header has one field, with a value of `size` octets.
+/// Returns why that cache cannot be written if its header has one field with a value of `size`
+/// octets, or `None` if it can.
 fn fault_of_size(alloc: Global, size: usize) -> Result<Option<CcacheFault>, Fail> {
     let value = Octets::new(vec![in alloc; 0u8; size]?);
     let fields = Many::new(vec![in alloc; HeaderField { tag: 3, value }]?);
@@ -161,8 +163,8 @@ fn refuses_to_write_a_header_that_is_too_long(rt: HostRuntime) -> Result<(), Fai
     Ok(())
 }
 
-/// Whether octets are a cache of version 3 whose last credential has this as the encryption type that is
-/// written again, and that is this one in version 4.
+/// Returns whether octets are a cache of version 3 whose last credential has this second encryption
+/// type, and which in version 4 is the wanted one.
 fn is_upgraded(alloc: Global, octets: &[u8], again: u16, wanted: &[u8]) -> bool {
     let Ok(cache) = read3(alloc, octets) else {
         return false;
@@ -193,7 +195,7 @@ fn reads_and_upgrades_version_3(rt: HostRuntime) -> Result<(), Fail> {
     Ok(())
 }
 
-/// Why a file is refused, if it is.
+/// Returns why a file is refused, if it is.
 fn fault_of<T: Drop>(answer: Result<T, FileFault>) -> Option<FileFault> {
     match answer {
         Ok(_) => None,

@@ -12,7 +12,7 @@ use std::alloc::Global;
 use std::error::Error;
 use std::test::Fail;
 
-/// Whether octets are a time, which then has them.
+/// Returns whether octets are a time, which then has these octets.
 fn is_time(octets: &[u8; 15]) -> bool {
     match KerberosTime::new(*octets) {
         Some(time) => time.octets() == octets,
@@ -63,8 +63,8 @@ fn takes_what_is_in_range(rt: HostRuntime) {
     }
 }
 
-/// How many flags there are, and whether the first three, the eighth and the last that a number can
-/// name are set.
+/// Returns how many flags there are, and whether the first three, the eighth and the last that a
+/// number can name are set.
 fn told(flags: &Flags) -> (u64, [bool; 5]) {
     let set = [
         flags.bit(0),
@@ -76,7 +76,7 @@ fn told(flags: &Flags) -> (u64, [bool; 5]) {
     (flags.bits(), set)
 }
 
-/// What flags of octets tell, if they are some.
+/// Returns the same of the flags with these octets, if there are such flags.
 fn flags(alloc: Global, unused: u8, octets: &[u8]) -> Result<Option<(u64, [bool; 5])>, Fail> {
     let octets = octets.to_vec(alloc)?;
     Ok(match Flags::new(unused, octets) {
@@ -103,7 +103,7 @@ fn takes_flags_with_clear_unused_bits(rt: HostRuntime) -> Result<(), Fail> {
     Ok(())
 }
 
-/// Whether a value has these octets, and says how many they are.
+/// Returns whether a value has these DER octets, and says how many they are.
 fn has_octets<D: Der>(alloc: Global, value: &D, octets: &[u8]) -> Result<bool, Fail> {
     let size = value.size();
     if size != octets.len() as u64 || size >= 2147483648 {
@@ -134,7 +134,7 @@ fn puts_the_octets_of_numbers(rt: HostRuntime) -> Result<(), Fail> {
     Ok(())
 }
 
-/// Whether this many octets come after these, which are their tag and their length.
+/// Returns whether this many contents octets follow these, which are their tag and their length.
 fn is_headed(alloc: Global, count: usize, header: &[u8]) -> Result<bool, Fail> {
     let contents = vec![in alloc; 7u8; count]?;
     let mut wanted = header.to_vec(alloc)?;
@@ -156,7 +156,7 @@ fn puts_lengths_in_their_shortest_form(rt: HostRuntime) -> Result<(), Fail> {
     Ok(())
 }
 
-/// Whether a fault shows this text.
+/// Returns whether a fault shows this text.
 fn is_shown<E: Error>(alloc: Global, fault: &E, text: &str) -> bool {
     match format!(in alloc; "{fault}") {
         Ok(shown) => shown.as_str() == text,
@@ -182,7 +182,7 @@ fn shows_faults(rt: HostRuntime) {
         ),
         is_shown(alloc, &FileFault::Read, "a read failed"),
         is_shown(alloc, &FileFault::Memory, "out of memory"),
-        // those of writing are promised by no contract
+        // no contract promises the texts of writing
         is_shown(alloc, &EncodeFault::TooLong, "too long"),
         is_shown(alloc, &EncodeFault::Memory, "out of memory"),
         is_shown(alloc, &KeytabFault::Dirty, "a hole is not clean"),
@@ -195,7 +195,7 @@ fn shows_faults(rt: HostRuntime) {
     }
 }
 
-/// Whether a string with room for more is the same as another.
+/// Returns whether a string with a greater capacity equals another.
 fn is_same(alloc: Global, octets: &[u8], others: &[u8]) -> Result<bool, Fail> {
     let mut roomy = Vec::with_capacity(alloc, 16)?;
     roomy.extend_from_slice(octets)?;

@@ -1,22 +1,22 @@
-//! A reader and a writer that fail, and see what is asked of them.
+//! A reader and a writer that fail, and count what is asked of them.
 
 use std::cell::Cell;
 use std::io;
 use std::io::{ErrorKind, Read, Write};
 
-/// What a reader was asked.
+/// The reads of a reader.
 #[derive(Drop)]
 pub(crate) struct Asked {
-    /// How many octets it gave.
+    /// The number of octets that were read.
     pub(crate) given: Cell<usize>,
-    /// How often it was asked.
+    /// The number of reads.
     pub(crate) asks: Cell<usize>,
-    /// How often with no room, and after its end or its error.
+    /// The number of reads of no octets, and of those after the end or an error.
     pub(crate) wrong_asks: Cell<usize>,
 }
 
 impl Asked {
-    /// Nothing yet.
+    /// Returns no reads.
     pub(crate) fn new() -> Asked {
         Asked {
             given: Cell::new(0),
@@ -26,7 +26,7 @@ impl Asked {
     }
 }
 
-/// A reader that gives some octets, at most `at_most` for each ask, and then tells its end, or fails.
+/// A reader of some octets, at most `at_most` at once, that then ends or fails.
 #[derive(Drop)]
 pub(crate) struct Watched<'a> {
     pub(crate) octets: &'a [u8],
@@ -60,22 +60,22 @@ impl Read for Watched<'_> {
     }
 }
 
-/// A writer that takes `room` octets of a text that it knows, and then fails, or takes nothing. After
-/// that it takes all.
+/// A writer that accepts the first `room` octets of a text that it knows, and then fails once or
+/// accepts none once. After that it accepts all.
 #[derive(Drop)]
 pub(crate) struct Full<'a> {
     pub(crate) text: &'a [u8],
     pub(crate) room: usize,
     pub(crate) fails: bool,
     pub(crate) is_over: bool,
-    /// How often it was written to.
+    /// The number of writes.
     pub(crate) writes: usize,
-    /// How often after it was full, or with another text.
+    /// The number of writes after it was full, and of those of another text.
     pub(crate) wrong_writes: usize,
 }
 
 impl Full<'_> {
-    /// Takes octets of its text.
+    /// Accepts octets of its text.
     fn take(&mut self, octets: &[u8]) {
         match self.text.strip_prefix(octets) {
             Some(rest) => self.text = rest,

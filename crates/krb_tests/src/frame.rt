@@ -1,11 +1,11 @@
-//! Streams fed in pieces of every kind. What is expected was worked out by hand from the rules of
-//! `docs/FORMATS.md`; the frames of messages were made so from RFC 4120, appendix A.
+//! Streams that are fed in pieces of all sizes. What is expected was worked out by hand from the
+//! rules of `docs/FORMATS.md`; the frames of messages were made by hand from RFC 4120, appendix A.
 
 use crate::examples::{
     AP_REP, AP_REQ, AS_REP, AS_REQ, KRB_CRED, KRB_ERROR, KRB_ERROR_OF_CLIENT, KRB_PRIV, KRB_SAFE,
     TGS_REP, TGS_REQ, TWO_AP_REPS, octets_of,
 };
-use krb_der::{GiveBack, Refusal, Room, Why};
+use krb_der::{Refusal, Why};
 use krb_frame::{Decoder, Fed, Framed, Limit, Status, frame};
 use krb_msg::{EncodeFault, Kind, Message, encode, size};
 use std::alloc::Global;
@@ -14,7 +14,7 @@ use std::test::Fail;
 const WRONG_VERSION: &str =
     "0000001F6F1D301BA003020104A10302010FA20F300DA003020112A2060404DEADBEEF";
 
-/// What a decoder answers in the end.
+/// What a decoder answers at last.
 enum Answer {
     More,
     Ready,
@@ -22,7 +22,7 @@ enum Answer {
 }
 
 impl Answer {
-    /// The answer, and what is said of a stream that ends after this many octets.
+    /// Returns the answer, and what `finish` returns if the stream ends after this many octets.
     fn after(&self, used: usize) -> (Status, Option<Refusal>) {
         match self {
             Answer::More if used == 0 => (Status::More, None),
@@ -41,8 +41,8 @@ impl Answer {
     }
 }
 
-/// Octets in hexadecimal, the limit that they are fed with, how many of them are used, the answer,
-/// how many octets are kept, and how many lengths are open.
+/// Octets in hexadecimal, the limit, how many octets are used, the answer, how many octets are
+/// kept, and how many lengths are open.
 struct Row(&'static str, u32, usize, Answer, u32, usize);
 
 const USUAL: u32 = 16777216;
@@ -193,7 +193,7 @@ const ROWS: [Row; 43] = [
         8,
         3,
     ),
-    // none of the octets after the one that is refused are used
+    // no octet after the refused one is used
     Row(
         "0000001F6F1D301BA003020105A10302010FA20F300DA004020200120105A10302010F",
         USUAL,
@@ -236,7 +236,7 @@ const ROWS: [Row; 43] = [
     ),
 ];
 
-/// Feeds octets in pieces of `at_most`, up to an answer that is not `More`, and answers how many were
+/// Feeds octets in pieces of `at_most` until the answer is not `More`, and returns how many were
 /// used in all.
 fn feed_pieces(decoder: &mut Decoder, octets: &[u8], at_most: usize) -> Fed {
     let mut rest = octets;
@@ -259,13 +259,13 @@ fn feed_pieces(decoder: &mut Decoder, octets: &[u8], at_most: usize) -> Fed {
     }
 }
 
-/// Whether a decoder is where it is after `next`: nothing is kept or ready.
+/// Returns whether a decoder is between frames: nothing is kept or ready.
 fn is_between(decoder: &mut Decoder) -> bool {
     (decoder.kept(), decoder.looked(), decoder.open_lengths()) == (0, 0, 0) && !decoder.next()
 }
 
-/// Whether a decoder came to what a row says: to the answer, again at every further piece, of which
-/// none is used; and after a frame, to the next.
+/// Returns whether a decoder answers what a row says, answers it again for each further piece, of
+/// which it uses none, and after a frame goes on to the next.
 fn came_to(decoder: &mut Decoder, fed: Fed, row: &Row, octets: &[u8]) -> bool {
     let Row(_, _, used, answer, kept, open) = row;
     let (status, end) = answer.after(*used);
@@ -291,7 +291,7 @@ fn came_to(decoder: &mut Decoder, fed: Fed, row: &Row, octets: &[u8]) -> bool {
         && (!is_ready || is_between(decoder) && decoder.feed(octets) == fed)
 }
 
-/// Whether a decoder that is fed in pieces of `at_most` octets comes to what a row says.
+/// Returns whether a decoder that is fed in pieces of `at_most` octets answers what a row says.
 fn comes_to(alloc: Global, row: &Row, octets: &[u8], at_most: usize) -> bool {
     let Row(_, limit, _, _, _, _) = row;
     let Some(limit) = Limit::new(*limit) else {
@@ -318,7 +318,7 @@ fn decodes_in_pieces_of_every_size(rt: HostRuntime) -> Result<(), Fail> {
     Ok(())
 }
 
-/// How many lengths are open after octets, and after one more.
+/// Returns how many lengths are open after octets, and after one more.
 fn open_lengths(alloc: Global, octets: &[u8], next: &[u8]) -> (usize, usize) {
     let mut decoder = Decoder::new(alloc, Limit::DEFAULT);
     let _ = decoder.feed(octets);
@@ -327,7 +327,7 @@ fn open_lengths(alloc: Global, octets: &[u8], next: &[u8]) -> (usize, usize) {
     (open, decoder.open_lengths())
 }
 
-/// A frame, how many lengths are open after some of its octets, and after the next octet.
+/// A frame, how many lengths are open after some of its octets, and how many after the next octet.
 const OPEN_LENGTHS: [(&str, usize, usize, usize); 6] = [
     (AP_REP, 12, 4, 2),
     (AP_REP, 34, 6, 0),
@@ -353,8 +353,8 @@ fn says_how_many_lengths_are_open(rt: HostRuntime) -> Result<(), Fail> {
     Ok(())
 }
 
-/// Whether a message has the octets of a frame, by `encode` and by `frame`, and is too long for any
-/// smaller limit.
+/// Returns whether `encode` and `frame` return the octets of a frame for a message, which is too
+/// long for any smaller limit.
 fn is_framed(alloc: Global, message: &Message, octets: &[u8], count: u32) -> bool {
     let (Some(limit), Some(less)) = (Limit::new(count), Limit::new(count.saturating_sub(1))) else {
         return false;
@@ -373,36 +373,28 @@ fn is_framed(alloc: Global, message: &Message, octets: &[u8], count: u32) -> boo
         && frame(alloc, message, less).err() == Some(EncodeFault::TooLong)
 }
 
-/// Whether the message of a frame has the octets of the frame again, where it takes the room that one
-/// left before.
-fn comes_again(
-    alloc: Global,
-    framed: &Framed<'_>,
-    room: &mut Room,
-    octets: &[u8],
-    count: u32,
-) -> bool {
-    match framed.message_in(alloc, room) {
+/// Returns whether the message of a frame has the octets of the frame again.
+fn comes_again(alloc: Global, framed: &Framed<'_>, octets: &[u8], count: u32) -> bool {
+    match framed.message(alloc) {
         Ok(message) => {
             let same = is_framed(alloc, &message, octets, count);
-            message.give_back(room);
+            drop(message);
             same
         }
         Err(_) => false,
     }
 }
 
-/// Whether a decoder gives a frame with this kind and these octets, and its message has them again.
+/// Returns whether a decoder decodes a frame with this kind and these octets, and whether its
+/// message has them again.
 fn is_given(alloc: Global, octets: &[u8], kind: Kind, count: u32) -> bool {
     let mut decoder = Decoder::new(alloc, Limit::DEFAULT);
-    let mut room = Room::new();
     let _ = decoder.feed(octets);
     match decoder.ready() {
         Some(framed) => {
             framed.kind() == kind
                 && Some(framed.octets()) == octets.get(4..)
-                && comes_again(alloc, &framed, &mut room, octets, count)
-                && comes_again(alloc, &framed, &mut room, octets, count)
+                && comes_again(alloc, &framed, octets, count)
         }
         None => false,
     }
@@ -445,7 +437,7 @@ const REALMS: [(&str, Option<usize>); 11] = [
     (KRB_CRED, None),
 ];
 
-/// Whether octets are a frame whose message has this realm.
+/// Returns whether octets are a frame whose message has this realm.
 fn has_realm(alloc: Global, octets: &[u8], realm: Option<&[u8]>) -> bool {
     let mut decoder = Decoder::new(alloc, Limit::DEFAULT);
     let _ = decoder.feed(octets);
@@ -455,7 +447,7 @@ fn has_realm(alloc: Global, octets: &[u8], realm: Option<&[u8]>) -> bool {
     }
 }
 
-/// Whether the realm of a frame is the octet at this place, whatever it is.
+/// Returns whether the realm of a frame is the octet at this place, whatever the octet is.
 fn has_realm_at(alloc: Global, digits: &str, place: Option<usize>) -> Result<bool, Fail> {
     let mut octets = octets_of(alloc, digits)?;
     let Some(place) = place else {

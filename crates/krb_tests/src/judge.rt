@@ -6,15 +6,15 @@ use crate::examples::{
 };
 use krb_der::{Profile, Refusal, Verdict, Why};
 use krb_judge::{
-    ParseFault, TicketView, judge_in, parse, parse_in, parse_method_data, parse_ticket,
-    parse_ticket_in, read_ticket,
+    ParseFault, judge_in, parse, parse_in, parse_method_data, parse_ticket, parse_ticket_in,
+    read_ticket,
 };
 use krb_msg::{Message, view_message};
 use std::alloc::Global;
 use std::fmt::Debug;
 use std::test::Fail;
 
-/// What `Debug` shows of what was parsed, or the text of the fault.
+/// Returns what `Debug` shows of what was parsed, or the text of the fault.
 fn shown<T: Debug + Drop>(alloc: Global, answer: Result<T, ParseFault>) -> Result<String, Fail> {
     let text = match answer {
         Ok(value) => format!(in alloc; "{value:?}"),
@@ -23,7 +23,7 @@ fn shown<T: Debug + Drop>(alloc: Global, answer: Result<T, ParseFault>) -> Resul
     Ok(text?)
 }
 
-/// A frame of each kind, and what is shown of its message: each field, as it stands in the octets.
+/// A frame of each kind, and what is shown of its message: each field, as it is in the octets.
 const MESSAGES: [(&str, &str); 12] = [
     (
         AP_REP,
@@ -75,13 +75,13 @@ const MESSAGES: [(&str, &str); 12] = [
     ),
 ];
 
-/// What is shown of the message of a frame that is parsed by a profile.
+/// Returns what is shown of the message of a frame that is parsed by a profile.
 fn parsed(alloc: Global, profile: Profile, frame: &str) -> Result<String, Fail> {
     let octets = contents(alloc, frame)?;
     shown(alloc, parse_in(alloc, profile, octets.as_slice()))
 }
 
-/// The message that octets are, copied out of a view of them. Of other octets memory is the fault.
+/// Returns the message that octets are, copied out of a view of them, or `Memory` for other octets.
 fn copy_of(alloc: Global, octets: &[u8]) -> Result<Message, ParseFault> {
     if octets.len() >= 0x8000_0000 {
         return Err(ParseFault::Memory);
@@ -92,7 +92,7 @@ fn copy_of(alloc: Global, octets: &[u8]) -> Result<Message, ParseFault> {
     }
 }
 
-/// What is shown of the message of a frame that is copied out of a view of it.
+/// Returns what is shown of the message of a frame, copied out of a view of it.
 fn copied(alloc: Global, frame: &str) -> Result<String, Fail> {
     let octets = contents(alloc, frame)?;
     shown(alloc, copy_of(alloc, octets.as_slice()))
@@ -114,7 +114,7 @@ fn reads_messages(rt: HostRuntime) -> Result<(), Fail> {
 const TICKET_TEXT: &str =
     "Ticket { realm: KString { octets: [65] }, sname: PrincipalName { name_type: Int32 { number: 2 }, name: Many { values: [KString { octets: [104] }] } }, enc_part: EncryptedData { etype: Int32 { number: 18 }, kvno: None, cipher: Octets { octets: [190, 239] } } }";
 
-/// Octets, and what is shown of the Ticket that they are, or why they are none.
+/// Octets, and what is shown of the Ticket that they are, or why they are not one.
 const TICKETS: [(&str, &str); 4] = [
     (TICKET, TICKET_TEXT),
     ("", "refused at 0: Empty"),
@@ -151,28 +151,17 @@ fn reads_a_ticket_and_method_data_alone(rt: HostRuntime) -> Result<(), Fail> {
     Ok(())
 }
 
-/// Whether a Ticket that is read where it stands is the one for h of the realm A.
-fn is_for_h(ticket: &TicketView<'_>) -> bool {
-    match ticket.sname.name.split_first() {
-        Some((name, others)) => {
-            name == b"h".as_slice()
-                && others.split_first().is_none()
-                && ticket.realm == b"A".as_slice()
-                && ticket.enc_part.etype == 18
-                && ticket.enc_part.kvno.is_none()
-                && ticket.enc_part.cipher == b"\xBE\xEF".as_slice()
-        }
-        None => false,
-    }
-}
-
-/// Whether octets are read where they stand as a Ticket for h of the realm A. The refusal, if they are
-/// none.
+/// Returns whether octets are read, borrowed, as a Ticket for h of the realm A, or the refusal if
+/// they are not a Ticket.
 fn read_for_h(octets: &[u8]) -> Result<bool, Refusal> {
-    match read_ticket(octets) {
-        Ok(ticket) => Ok(is_for_h(&ticket)),
-        Err(refusal) => Err(refusal),
-    }
+    let ticket = read_ticket(octets)?;
+    Ok(
+        ticket.sname.name.octets == b"\x1B\x01h".as_slice()
+            && ticket.realm == b"A".as_slice()
+            && ticket.enc_part.etype == 18
+            && ticket.enc_part.kvno.is_none()
+            && ticket.enc_part.cipher == b"\xBE\xEF".as_slice(),
+    )
 }
 
 #[test]
@@ -184,7 +173,7 @@ fn reads_a_ticket_where_it_stands(rt: HostRuntime) -> Result<(), Fail> {
     Ok(())
 }
 
-/// Whether two values were parsed that are equal.
+/// Returns whether two values were parsed and are equal.
 fn are_equal<T: PartialEq + Drop>(
     one: Result<T, ParseFault>,
     other: Result<T, ParseFault>,
@@ -195,7 +184,7 @@ fn are_equal<T: PartialEq + Drop>(
     }
 }
 
-/// Whether a message is equal to the one in which an octet is this one.
+/// Returns whether a message equals the one in which the octet at a place is this one.
 fn is_equal(alloc: Global, frame: &str, place: usize, octet: u8) -> Result<bool, Fail> {
     let octets = contents(alloc, frame)?;
     let mut others = octets.as_slice().to_vec(alloc)?;

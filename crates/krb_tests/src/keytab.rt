@@ -1,5 +1,4 @@
-//! Keytabs worked out by hand from the file format. How files are refused is tried by
-//! `tests/compare`.
+//! Keytabs worked out by hand from the file format. `tests/compare` tests how files are refused.
 
 use crate::examples::{KEYTAB, octets_of};
 use krb_der::{KString, Many, Octets};
@@ -7,7 +6,7 @@ use krb_keytab::{Entry, Hole, Keytab, KeytabFault, Record, Stop, read, write};
 use std::alloc::Global;
 use std::test::Fail;
 
-/// Whether an entry is that of the keytab.
+/// Returns whether an entry is that of the keytab.
 fn is_for_h(entry: &Entry) -> bool {
     let is_h = match entry.components.as_slice() {
         [only] => only.octets() == b"h".as_slice(),
@@ -20,8 +19,8 @@ fn is_for_h(entry: &Entry) -> bool {
         && entry.rest.as_slice() == [0, 0, 1, 2].as_slice()
 }
 
-/// Whether a keytab is an entry and a hole of eight octets, and is written as these octets, in no more
-/// room.
+/// Returns whether a keytab is an entry and a hole of eight octets, and is written as these octets,
+/// with no greater capacity.
 fn is_of_h(alloc: Global, keytab: &Keytab, octets: &[u8]) -> bool {
     let is_read = match keytab.records.as_slice() {
         [Record::Entry(entry), Record::Hole(hole)] => {
@@ -36,7 +35,7 @@ fn is_of_h(alloc: Global, keytab: &Keytab, octets: &[u8]) -> bool {
     is_read && keytab.stop == Stop::Zero && is_written
 }
 
-/// Whether octets are read as that keytab, of which they are the first 49.
+/// Returns whether octets are read as that keytab, which the first 49 of them are.
 fn comes_again(alloc: Global, octets: &[u8]) -> bool {
     match (read(alloc, octets), octets.get(..49)) {
         (Ok((keytab, size)), Some(front)) => size == 49 && is_of_h(alloc, &keytab, front),
@@ -67,15 +66,16 @@ fn makes_holes_of_the_sizes_that_there_are(rt: HostRuntime) {
     }
 }
 
-/// This many octets.
+/// Returns this many octets.
 fn some_octets(alloc: Global, count: usize) -> Result<Vec<u8>, Fail> {
     Ok(vec![in alloc; 0x41u8; count]?)
 }
 
-/// An entry with a realm of some octets, some components of some octets each, and a key of some.
+/// The numbers of octets of an entry's realm, of its components and of the octets of each, and of
+/// the octets of its key.
 struct Sizes(usize, usize, usize, usize);
 
-/// The entry.
+/// Returns an entry of these sizes.
 fn entry(alloc: Global, sizes: &Sizes) -> Result<Entry, Fail> {
     let Sizes(realm, count, size, key) = *sizes;
     let mut components = Vec::new(alloc);
@@ -96,8 +96,8 @@ fn entry(alloc: Global, sizes: &Sizes) -> Result<Entry, Fail> {
     })
 }
 
-/// The records: holes of the greatest size, one that is not clean where its place is 0, the entry, and
-/// one that is not clean where its place is 1.
+/// Returns the records: holes of the greatest size, a hole that is not clean if its place is 0, the
+/// entry, and a hole that is not clean if its place is 1.
 fn records(
     alloc: Global,
     holes: usize,
@@ -119,7 +119,7 @@ fn records(
     Ok(records)
 }
 
-/// What a keytab of these records is refused for.
+/// Returns why a keytab of these records cannot be written, if it cannot.
 fn fault(
     alloc: Global,
     holes: usize,

@@ -1,12 +1,12 @@
-//! The tests of the libraries, each in the module that is named for its crate or for what it tries.
-//! They hold what no contract says: that definitions mean what the formats say, that calls succeed
-//! where memory is there, texts, and readers and writers that fail. What the program shows of octets
-//! is tried by `tests/compare` on the input that `tests/` has.
+//! The tests of the libraries, each in the module named after its crate or after what it tests.
+//! They test what no contract says: that definitions mean what the formats say, that calls succeed
+//! if memory is there, texts, and readers and writers that fail. What the program shows of octets
+//! is tested by `tests/compare` on the input in `tests/`.
 //!
-//! The gate proves a crate that has tests once with them and once without. So the tests stand here,
-//! beside nothing else, and no library is proved again for them. Each function costs its proof some
-//! seconds, and each test two of these: so a test goes over rows, and a large value is owned by a
-//! function that has one way out.
+//! The gate proves a crate that has tests twice, with them and without. So the tests are a crate of
+//! their own, and no library is proved again for them. Each function costs its proof some seconds,
+//! and each test two of these: so a test goes over rows, and a large value is owned by a function
+//! that has one way out.
 #![tactic(auto)]
 
 #[cfg(test)]
@@ -25,6 +25,8 @@ mod judge;
 mod keytab;
 #[cfg(test)]
 mod list;
+#[cfg(test)]
+mod locating;
 #[cfg(test)]
 mod registry;
 #[cfg(test)]

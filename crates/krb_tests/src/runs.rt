@@ -1,6 +1,6 @@
-//! How runs treat their readers and writers: how often they ask, when they write, and that they do not
-//! ask or write again after an error, the end or a refusal. The texts that are expected were worked out
-//! by hand from the rules of `docs/FORMATS.md`.
+//! How runs use their readers and writers: how often they read, when they write, and that they do
+//! not read or write again after an error, the end or a refusal. The texts that are expected were
+//! worked out by hand from the rules of `docs/FORMATS.md`.
 
 use crate::fakes::{Asked, Full, Watched};
 use krb_tool::{Limit, RunEnd, RunFault, run_ccache, run_keytab, run_message, run_stream, status};
@@ -16,7 +16,7 @@ enum Run {
     Ccache,
 }
 
-/// Makes a run.
+/// Runs it.
 fn list<R: Read, W: Write>(
     alloc: Global,
     run: &Run,
@@ -31,7 +31,8 @@ fn list<R: Read, W: Write>(
     }
 }
 
-/// A run, what it lists, its lines, and the first of them, each with how many of the octets it takes.
+/// A run, its input, the lines that it writes, and the first of them, each with how many octets of
+/// the input it needs.
 struct Example(Run, &'static [u8], &'static str, [(usize, &'static str); 2]);
 
 const FRAME: &[u8] =
@@ -84,7 +85,7 @@ const EXAMPLES: [Example; 4] = [
     ),
 ];
 
-/// The lines of an example that are written if a read fails after this many octets.
+/// Returns the lines of an example that are written if a read fails after this many octets.
 fn lines_before(example: &Example, count: usize) -> &'static str {
     let Example(_, _, _, [(one, line), (two, lines)]) = example;
     if count >= *two {
@@ -96,7 +97,7 @@ fn lines_before(example: &Example, count: usize) -> &'static str {
     }
 }
 
-/// What a run gives of a reader: how it ends, unless a read fails.
+/// What a run does with a reader: how it ends if no read fails.
 #[derive(Drop)]
 struct Given<'a> {
     outcome: Option<RunEnd>,
@@ -104,8 +105,8 @@ struct Given<'a> {
     asks: usize,
 }
 
-/// Whether a run gives this of a reader that gives octets, at most `at_most` for each ask, and then
-/// tells its end or fails. It asks the reader no more after that.
+/// Returns whether a run does this with a reader of octets, at most `at_most` at once, that then
+/// ends or fails, and does not read after that.
 fn gives(
     alloc: Global,
     run: &Run,
@@ -134,8 +135,8 @@ fn gives(
         && (asked.asks.get(), asked.wrong_asks.get()) == (wanted.asks, 0)
 }
 
-/// Whether an example is listed from a reader that fails after this many octets, or tells its end after
-/// all of them.
+/// Returns whether an example is listed from a reader that fails after this many octets, or that
+/// ends after all of them.
 fn is_listed(alloc: Global, example: &Example, count: Option<usize>, at_most: usize) -> bool {
     let Example(run, octets, lines, _) = example;
     let (octets, lines, outcome) = match count {
@@ -191,8 +192,8 @@ fn asks_until_a_refusal_and_no_more(rt: HostRuntime) -> Result<(), Fail> {
     Ok(())
 }
 
-/// Whether a run writes the first `room` octets of the lines of an example to a writer that then fails or
-/// takes nothing, and no more.
+/// Returns whether a run writes the first `room` octets of the lines of an example, and no more, to
+/// a writer that then fails or accepts none.
 fn is_cut(alloc: Global, example: &Example, room: usize, fails: bool) -> bool {
     let Example(run, octets, lines, _) = example;
     let asked = Asked::new();
@@ -228,8 +229,8 @@ fn writes_until_an_error_and_no_more(rt: HostRuntime) {
     }
 }
 
-/// How many writes the listing of two frames takes, of a reader that gives at most some octets for an
-/// ask.
+/// Returns how many writes the listing of two frames needs from a reader of at most some octets at
+/// once.
 fn writes_of(alloc: Global, at_most: usize) -> usize {
     let [Example(run, octets, lines, _), ..] = &EXAMPLES;
     let asked = Asked::new();
@@ -262,7 +263,7 @@ fn writes_each_line_when_its_frame_ends(rt: HostRuntime) {
     );
 }
 
-/// Octets again and again, and then zeros.
+/// Returns octets repeated, and then zeros.
 fn repeated(
     alloc: Global,
     octets: &[u8],

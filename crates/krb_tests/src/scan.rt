@@ -1,5 +1,5 @@
-//! Messages taken an octet at a time. What is expected was worked out by hand from RFC 4120,
-//! appendix A. How a scanner takes pieces is tried by `krb_damage`.
+//! Messages that are scanned octet by octet. What is expected was worked out by hand from RFC 4120,
+//! appendix A. `krb_damage` tests how a scanner uses pieces.
 
 ghost use Rattle.std.specs.Prelude.{◌<◌, ◌^◌};
 
@@ -11,8 +11,8 @@ use krb_scan::{Refusal, Scanner, Verdict, Why};
 use std::alloc::Global;
 use std::test::Fail;
 
-/// Takes octets up to the one that decides: where `runs`, the front ones of each string at once. Not so
-/// when out of memory.
+/// Scans octets up to the one that decides, those inside strings by `run` if `runs` is true.
+/// Returns false if out of memory.
 fn take(scanner: &mut Scanner, octets: &[u8], runs: bool) -> bool {
     let mut passed = 0;
     for (place, octet) in octets.iter().enumerate() {
@@ -50,7 +50,7 @@ const AP_REP_MARKS: [(u32, u32, i64); 12] = [
     (27, 4, 0),
 ];
 
-/// Whether the marks are those of the AP-REP.
+/// Returns whether the marks are those of the AP-REP.
 fn has_marks(scanner: &Scanner) -> bool {
     for (at, wanted) in AP_REP_MARKS.iter().enumerate() {
         match scanner.marks().get(at) {
@@ -61,7 +61,8 @@ fn has_marks(scanner: &Scanner) -> bool {
     scanner.marks().len() == AP_REP_MARKS.len()
 }
 
-/// Whether octets are taken as a whole message, and marked as the AP-REP where they are `marked`.
+/// Returns whether octets are scanned as a whole message, with the marks of the AP-REP if they are
+/// `marked`.
 fn is_whole(alloc: Global, octets: &[u8], runs: bool, marked: bool) -> bool {
     let n = octets.len();
     if n == 0 || n >= 1 << 31 {
@@ -96,7 +97,7 @@ fn takes_messages_and_marks_each_item(rt: HostRuntime) -> Result<(), Fail> {
     Ok(())
 }
 
-/// The number of the last mark.
+/// Returns the number of the last mark.
 fn last_number(scanner: &Scanner) -> Option<i64> {
     match scanner.marks().last() {
         Some(mark) => Some(mark.value),
@@ -104,8 +105,8 @@ fn last_number(scanner: &Scanner) -> Option<i64> {
     }
 }
 
-/// Whether a scanner of a message of `n` octets refuses one of these: then this many marks are kept,
-/// the last with the number 0, and four lengths are open.
+/// Returns whether a scanner of a message of `n` octets refuses one of these and then has this many
+/// marks, the last with the number 0, and four open lengths.
 fn is_refused(alloc: Global, n: u32, octets: &[u8], refusal: Refusal, marks: usize) -> bool
     requires some { 0 < n }
     requires short { n < 2 ^ 31 }
@@ -128,8 +129,8 @@ fn keeps_what_came_before_a_refusal(rt: HostRuntime) {
     assert!(rt; is_refused(rt.alloc(), 14, missing_part, Refusal { place, why }, 6));
 }
 
-/// Whether a scanner that took all of an AP-REP but its cipher takes three octets of that at once and
-/// then no more, and goes on with another message.
+/// Returns whether a scanner that scanned all of an AP-REP but its cipher scans three octets of
+/// that at once and no more after that, and goes on with another message.
 fn goes_on(scanner: &mut Scanner, cipher: &[u8]) -> bool {
     if (scanner.run(cipher), scanner.run(cipher), scanner.looked()) != (3, 0, 30) {
         return false;

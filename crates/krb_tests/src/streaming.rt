@@ -1,5 +1,5 @@
-//! Keytabs and caches read one record after another. What is expected was worked out by hand from the
-//! file formats.
+//! Keytabs and caches that are read one record after another. What is expected was worked out by
+//! hand from the file formats.
 
 use crate::examples::{CACHE, CACHE3, KEYTAB, octets_of};
 use crate::fakes::{Asked, Watched};
@@ -10,10 +10,10 @@ use std::alloc::{AllocError, Global};
 use std::io::Read;
 use std::test::Fail;
 
-/// How often a reader of records is asked for the next.
+/// How often the next record is asked for.
 const CALLS: usize = 4;
 
-/// The name of an answer.
+/// Returns the name of an answer.
 fn name_of(answer: &Next) -> &'static str {
     match answer {
         Next::Item(Record::Entry(_)) => "entry",
@@ -23,7 +23,7 @@ fn name_of(answer: &Next) -> &'static str {
     }
 }
 
-/// The name of an answer.
+/// Returns the name of an answer.
 fn name_of_credential(answer: &Option<Credential>) -> &'static str {
     match answer {
         Some(credential) if credential.is_config() => "config",
@@ -32,7 +32,7 @@ fn name_of_credential(answer: &Option<Credential>) -> &'static str {
     }
 }
 
-/// Appends an answer: its name, and how many octets the reader gave until then, or its fault.
+/// Appends an answer: its name and how many octets were read until then, or its fault.
 fn put_answer(
     text: &mut String,
     answer: Result<&'static str, FileFault>,
@@ -45,7 +45,7 @@ fn put_answer(
     Ok(())
 }
 
-/// Appends what a reader of a keytab's records answers.
+/// Appends the answers of a reader of a keytab's records.
 fn put_records<R: Read + Drop>(
     alloc: Global,
     text: &mut String,
@@ -62,7 +62,7 @@ fn put_records<R: Read + Drop>(
     Ok(())
 }
 
-/// Appends what a reader of a cache's credentials answers.
+/// Appends the answers of a reader of a cache's credentials.
 fn put_credentials<R: Read + Drop>(
     alloc: Global,
     text: &mut String,
@@ -79,7 +79,7 @@ fn put_credentials<R: Read + Drop>(
     Ok(())
 }
 
-/// The answers to reading a keytab.
+/// Returns the answers to reading a keytab.
 fn keytab<R: Read + Drop>(
     alloc: Global,
     reader: R,
@@ -109,7 +109,7 @@ fn put_start<R: Read + Drop>(
     Ok(())
 }
 
-/// The answers to reading a cache.
+/// Returns the answers to reading a cache.
 fn ccache<R: Read + Drop>(
     alloc: Global,
     reader: R,
@@ -132,11 +132,11 @@ fn ccache<R: Read + Drop>(
     Ok(text)
 }
 
-/// Octets in hexadecimal, of which the first are given, how many, whether the reader then fails, the
-/// greatest length of a field, and the answers.
+/// Octets in hexadecimal, how many of them are given, whether the reader then fails, the greatest
+/// length of a field, and the answers.
 struct Row(&'static str, usize, bool, u32, &'static str);
 
-/// Keytabs. What stands after a record is not asked for before the next record is.
+/// Keytabs. Nothing after a record is read before the next record is asked for.
 const KEYTABS: [Row; 12] = [
     Row(
         KEYTAB,
@@ -168,7 +168,7 @@ const KEYTABS: [Row; 12] = [
         1,
         "refused at 27: TooLong; refused at 27: TooLong; refused at 27: TooLong; refused at 27: TooLong; ",
     ),
-    // what stands after the key
+    // the octets after the key
     Row(
         KEYTAB,
         51,
@@ -215,8 +215,8 @@ const KEYTABS: [Row; 12] = [
     ),
 ];
 
-/// Caches of version 4 and of version 3. What stands after a credential is not asked for before the
-/// next credential is.
+/// Caches of version 4 and of version 3. Nothing after a credential is read before the next
+/// credential is asked for.
 const CCACHES: [Row; 17] = [
     // the value of the header's field has 8 octets, the realm of the first server 12, and its first
     // component 21
@@ -300,14 +300,14 @@ const CCACHES: [Row; 17] = [
         21,
         "version 3, 0 fields, type 1; start 20; cred 105; a read failed; a read failed; a read failed; ",
     ),
-    // what stands before the credentials
+    // the header
     Row("05040003000100", 7, false, 1, "refused at 6: Overrun; "),
     Row("0502", 2, false, 1, "refused at 1: Version; "),
     Row("0503", 2, false, 1, "refused at 2: Truncated; "),
     Row("05", 1, true, 1, "a read failed; "),
 ];
 
-/// Whether a row's answers are those, by a reader of at most so many octets for each ask.
+/// Returns whether a row's answers come from a reader of at most so many octets at once.
 fn is_answered(alloc: Global, row: &Row, is_keytab: bool, at_most: usize) -> Result<bool, Fail> {
     let Row(digits, count, fails, most, wanted) = row;
     let octets = octets_of(alloc, digits)?;

@@ -1,11 +1,11 @@
 //! Command lines.
 
 use krb_der::Profile;
-use krb_words::{AfterRefusal, Job, Order, Source, WordsFault, read_words};
+use krb_words::{AfterRefusal, Form, Job, Order, Source, WordsFault, read_words};
 use std::alloc::Global;
 use std::test::Fail;
 
-/// The words of a command line, which stand here with one blank between them.
+/// Returns the words of a command line, which are given with one blank between them.
 fn words(alloc: Global, line: &str) -> Result<Vec<String>, Fail> {
     let mut words = Vec::new(alloc);
     for word in line.split(' ') {
@@ -16,7 +16,7 @@ fn words(alloc: Global, line: &str) -> Result<Vec<String>, Fail> {
     Ok(words)
 }
 
-/// What the listing of a stream is, in short.
+/// Returns a short name of the listing of a stream.
 fn stream_name(profile: Profile, after: AfterRefusal) -> &'static str {
     match (profile, after) {
         (Profile::Lenient, AfterRefusal::Ends) => "stream",
@@ -26,12 +26,12 @@ fn stream_name(profile: Profile, after: AfterRefusal) -> &'static str {
     }
 }
 
-/// The first line of a text.
+/// Returns the first line of a text.
 fn first_line(text: &str) -> &str {
     text.lines().next().unwrap_or("")
 }
 
-/// What a job is, in short, and its number, if it has one.
+/// Returns a short name of a job, and its number, if it has one.
 fn named(job: &Job) -> (&str, Option<u32>) {
     match job {
         Job::Stream(limit, profile, after) => (stream_name(*profile, *after), Some(limit.get())),
@@ -44,7 +44,7 @@ fn named(job: &Job) -> (&str, Option<u32>) {
     }
 }
 
-/// The name of a source.
+/// Returns the name of a source.
 fn source_name(source: &Source) -> &str {
     match source {
         Source::Input => "-",
@@ -52,13 +52,23 @@ fn source_name(source: &Source) -> &str {
     }
 }
 
-/// What an order is, in short.
+/// Returns what is added for the form of records.
+fn form_name(form: Form) -> &'static str {
+    match form {
+        Form::Lines => "",
+        Form::NamedLines => " named",
+        Form::Json => " json",
+    }
+}
+
+/// Returns a short name of an order.
 fn shown_order(alloc: Global, order: &Order) -> Result<String, Fail> {
     let (name, number) = named(&order.job);
     let mut shown = match number {
         Some(number) => format!(in alloc; "{name} {number}")?,
         None => String::from_str(alloc, name)?,
     };
+    shown.push_str(form_name(order.form))?;
     for source in &order.sources {
         shown.push_str(", ")?;
         shown.push_str(source_name(source))?;
@@ -66,7 +76,7 @@ fn shown_order(alloc: Global, order: &Order) -> Result<String, Fail> {
     Ok(shown)
 }
 
-/// What words give, in short.
+/// Returns a short name of what words ask for.
 fn shown(alloc: Global, line: &str) -> Result<String, Fail> {
     let words = words(alloc, line)?;
     match read_words(alloc, words.as_slice()) {
@@ -80,8 +90,8 @@ fn shown(alloc: Global, line: &str) -> Result<String, Fail> {
     }
 }
 
-/// Words, and what they give: the job with its number, and the sources.
-const ORDERS: [(&str, &str); 27] = [
+/// Words, and what they ask for: the job with its number, the form, and the sources.
+const ORDERS: [(&str, &str); 32] = [
     ("stream", "stream 16777216, -"),
     ("stream --limit 30 --file a", "stream 30, a"),
     ("stream --limit=5", "stream 5, -"),
@@ -98,6 +108,11 @@ const ORDERS: [(&str, &str); 27] = [
         "stream --strict --keep-going a",
         "strict stream on 16777216, a",
     ),
+    ("stream --names", "stream 16777216 named, -"),
+    ("message --json --strict", "strict message json, -"),
+    ("keytab --names --json a", "keytab json, a"),
+    ("ccache --json --names --now 5", "ccache 5 json, -"),
+    ("keytab -- --json", "keytab, --json"),
     ("keytab", "keytab, -"),
     ("ccache", "ccache, -"),
     ("ccache --now 0", "ccache 0, -"),
@@ -117,7 +132,7 @@ const ORDERS: [(&str, &str); 27] = [
     ("stream -- -x --file", "stream 16777216, -x, --file"),
 ];
 
-const WRONG: [&str; 26] = [
+const WRONG: [&str; 29] = [
     "",
     "stream --limit 0",
     "stream --limit 2147483648",
@@ -144,6 +159,9 @@ const WRONG: [&str; 26] = [
     "help stream",
     "--limit 5 stream",
     "--file a keytab",
+    "keytab --json --json",
+    "stream --names=1",
+    "--json keytab",
 ];
 
 #[test]

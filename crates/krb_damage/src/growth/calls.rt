@@ -1,4 +1,4 @@
-//! The calls, and what each has to give.
+//! The calls that allocate, and what each has to return.
 
 use super::Outcome;
 use super::decoders::{fed_twice, reserved_answers, reserved_feeds, reserves, stepped_over};
@@ -18,7 +18,7 @@ use krb_msg::{EncodeFault, Message, encode};
 use krb_scan::Scanner;
 use std::alloc::Global;
 
-/// What calls are given.
+/// The arguments of the calls.
 #[derive(Clone, Copy)]
 pub(super) struct Given<'a> {
     /// An AP-REP.
@@ -28,7 +28,7 @@ pub(super) struct Given<'a> {
     pub(super) cache: &'a Ccache,
 }
 
-/// A call that gives a text.
+/// A call that returns a text.
 #[derive(Clone, Copy)]
 pub(super) enum Text {
     Message,
@@ -43,7 +43,7 @@ pub(super) enum Text {
     Credential,
 }
 
-/// A call that gives octets.
+/// A call that returns octets.
 #[derive(Clone, Copy)]
 pub(super) enum Encoding {
     Message,
@@ -52,7 +52,7 @@ pub(super) enum Encoding {
     Cache,
 }
 
-/// A call that gives a value of octets.
+/// A call that returns a value of octets.
 #[derive(Clone, Copy)]
 pub(super) enum Reading {
     Framed,
@@ -64,7 +64,7 @@ pub(super) enum Reading {
     TicketState,
 }
 
-/// A call that takes memory.
+/// A call that allocates.
 #[derive(Clone, Copy)]
 pub(super) enum Call {
     Feed(usize),
@@ -80,7 +80,7 @@ pub(super) enum Call {
     Credentials,
 }
 
-/// Each call, its name, and what it has to give.
+/// Each call with its name, and with what it has to return.
 pub(super) const CALLS: [(&str, Call); 37] = [
     ("feed", Call::Feed(1)),
     ("feed", Call::Feed(7)),
@@ -192,7 +192,7 @@ pub(super) const CALLS: [(&str, Call); 37] = [
     ("start and next_credential", Call::Credentials),
 ];
 
-/// What a call gave; `None` where it refused. It is out of memory where its fault says so.
+/// Returns what a call returned, `None` for a refusal, or `Memory` if its fault is `memory`.
 fn tried<T, E: PartialEq + Drop>(answer: Result<T, E>, memory: E) -> Result<Option<T>, Memory> {
     match answer {
         Ok(value) => Ok(Some(value)),
@@ -241,7 +241,7 @@ impl Encoding {
         }
     }
 
-    /// The octets that the call gives. `None` where it refuses.
+    /// Returns the octets that the call returns, or `None` if it refuses.
     fn make(self, alloc: Global, given: Given<'_>) -> Result<Option<Vec<u8>>, Memory> {
         match self {
             Encoding::Message => tried(encode(alloc, given.message), EncodeFault::Memory),
@@ -256,7 +256,7 @@ impl Encoding {
 }
 
 impl Reading {
-    /// Whether the call gives a value.
+    /// Returns whether the call returns a value.
     fn make(self, alloc: Global, given: Given<'_>) -> Result<bool, Memory> {
         let mut room = Room::new();
         match self {
@@ -292,7 +292,7 @@ impl Reading {
     }
 }
 
-/// Whether the ticket of the last credential is refused.
+/// Returns whether the ticket of the last credential is refused.
 fn is_refused(alloc: Global, cache: &Ccache, room: &mut Room) -> Result<bool, Memory> {
     let [_, credential] = cache.credentials.as_slice() else {
         return Ok(false);
@@ -308,8 +308,8 @@ fn is_refused(alloc: Global, cache: &Ccache, room: &mut Room) -> Result<bool, Me
 }
 
 impl Call {
-    /// Whether the call, made once, gives what it has to give; of one that may be made again where it
-    /// was out of memory.
+    /// Returns whether the call, made once, returns what it has to return. It is a call that may be
+    /// made again after it was out of memory.
     fn make(self, alloc: Global, given: Given<'_>) -> Result<bool, Memory> {
         match self {
             Call::Reserved(profile, at_most) => reserved_feeds(alloc, profile, at_most),
@@ -325,7 +325,7 @@ impl Call {
         }
     }
 
-    /// What comes of the call.
+    /// Returns how the call ends.
     pub(super) fn outcome(self, alloc: Global, given: Given<'_>) -> Outcome {
         match self {
             Call::Feed(at_most) => {

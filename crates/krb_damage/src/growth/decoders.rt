@@ -1,4 +1,4 @@
-//! Octets as they come: decoders and scanners.
+//! Decoders and scanners of octets as they come.
 
 use super::Outcome;
 use super::octets::{AP_REP, message_of};
@@ -7,7 +7,7 @@ use krb_frame::{Decoder, Limit, Status};
 use krb_scan::{Scanner, Verdict};
 use std::alloc::Global;
 
-/// Feeds an AP-REP in pieces, and the rest again after memory was refused once.
+/// Feeds an AP-REP in pieces, and the rest again if memory ran out once.
 fn fed(decoder: &mut Decoder, at_most: usize) -> Outcome {
     let mut rest = AP_REP;
     let mut outcome = Outcome::Done;
@@ -46,7 +46,7 @@ pub(super) fn fed_twice(decoder: &mut Decoder, at_most: usize) -> Outcome {
     }
 }
 
-/// Feeds two frames of 31 octets to a decoder with room for one: no feed is out of memory.
+/// Feeds two frames of 31 octets to a decoder with memory for one, which never runs out of memory.
 pub(super) fn reserved_feeds(
     alloc: Global,
     profile: Profile,
@@ -56,7 +56,7 @@ pub(super) fn reserved_feeds(
     Ok(fed_twice(&mut decoder, at_most) == Outcome::Done)
 }
 
-/// A decoder with room for any frame of a limit.
+/// Returns a decoder with memory for any frame of a limit.
 fn reserved(alloc: Global, profile: Profile, limit: u32) -> Result<Decoder, Memory> {
     let limit = Limit::new(limit).unwrap_or(Limit::DEFAULT);
     match profile {
@@ -65,7 +65,7 @@ fn reserved(alloc: Global, profile: Profile, limit: u32) -> Result<Decoder, Memo
     }
 }
 
-/// Whether a decoder with room for any frame of a limit answers this for octets.
+/// Returns whether a decoder with memory for any frame of a limit answers this for octets.
 pub(super) fn reserved_answers(
     alloc: Global,
     limit: u32,
@@ -76,7 +76,7 @@ pub(super) fn reserved_answers(
     Ok(decoder.feed(octets).status == status)
 }
 
-/// Takes an octet, again where memory was refused: then nothing may have changed.
+/// Scans an octet, and again if memory ran out: then nothing may have changed.
 fn stepped(scanner: &mut Scanner, octet: u8) -> Outcome {
     let (looked, marks) = (scanner.looked(), scanner.marks().len());
     for outcome in [Outcome::Done, Outcome::Memory] {
@@ -93,7 +93,7 @@ fn stepped(scanner: &mut Scanner, octet: u8) -> Outcome {
     Outcome::Refused
 }
 
-/// Takes the octets of an AP-REP one after another.
+/// Scans the octets of an AP-REP one after another.
 pub(super) fn stepped_over(scanner: &mut Scanner) -> Outcome {
     let mut outcome = Outcome::Done;
     for octet in message_of(AP_REP) {
@@ -110,8 +110,8 @@ pub(super) fn stepped_over(scanner: &mut Scanner) -> Outcome {
     }
 }
 
-/// Takes room for the marks of a message, again where memory was refused: then nothing may have changed.
-/// With it no octet is out of memory.
+/// Reserves memory for the marks of a message, and again if memory ran out: then nothing may have
+/// changed. After that no octet runs out of memory.
 pub(super) fn reserves(alloc: Global) -> Outcome {
     let mut scanner = Scanner::new(alloc, 31);
     for outcome in [Outcome::Done, Outcome::Memory] {

@@ -1,4 +1,4 @@
-//! Readers of files, which stay out of memory, and caches that are handed back.
+//! Readers of files, which say that they are out of memory again, and caches that are returned.
 
 use super::Outcome;
 use super::octets::{CACHE, CACHE3, KEYTAB};
@@ -7,7 +7,8 @@ use krb_file::{FieldLimit, FileFault};
 use krb_keytab::{Next, Records, Stop};
 use std::alloc::Global;
 
-/// What a fault of a reader comes to, and what it answers after that, if it is a fault.
+/// Returns how a call ended with a fault, `after` being the next answer of the same reader, if that
+/// is a fault.
 fn faulted(fault: FileFault, after: Option<FileFault>) -> Outcome {
     if fault == FileFault::Memory && after == Some(fault) {
         Outcome::Memory
@@ -53,7 +54,7 @@ pub(super) fn credentials(alloc: Global) -> Outcome {
     Outcome::Wrong
 }
 
-/// Upgrades a cache of version 3, again where it was handed back.
+/// Upgrades a cache of version 3, and again if it was returned because memory ran out.
 fn upgraded(alloc: Global, cache: Cache3) -> Outcome {
     let (upgraded, outcome) = match upgrade(alloc, cache) {
         Ok(upgraded) => (upgraded, Outcome::Done),
@@ -69,7 +70,7 @@ fn upgraded(alloc: Global, cache: Cache3) -> Outcome {
     }
 }
 
-/// Reads a cache of version 3, and upgrades it.
+/// Reads a cache of version 3 and upgrades it.
 pub(super) fn upgrades(alloc: Global) -> Outcome {
     for outcome in [Outcome::Done, Outcome::Memory] {
         if let Ok(cache) = read3(alloc, CACHE3) {

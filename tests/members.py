@@ -1,0 +1,153 @@
+"""The members of each kind of object, as the tables of docs/LISTING.md have them.
+
+A table is one of the kinds that the heading before it names, or has the kind of a record in its first column.
+Each of its rows has fields and their values, and a kind may have several tables: the end of a stream and that of
+a keytab have other fields.
+"""
+
+import pathlib
+import re
+
+LISTING = pathlib.Path(__file__).resolve().parent.parent / "docs/LISTING.md"
+QUOTED = re.compile(r"`([^`]+)`")
+LINK = re.compile(r"\[([^]]*)\]\([^)]*\)")
+OPTIONAL = " or `-`"
+
+
+def is_number(value):
+    return type(value) is int
+
+
+def is_text(value):
+    return type(value) is str
+
+
+def is_truth(value):
+    return type(value) is bool
+
+
+def or_null(shape):
+    return lambda value: value is None or shape(value)
+
+
+def spelled(pattern):
+    return lambda value: is_text(value) and re.fullmatch(pattern, value)
+
+
+def list_of(shape):
+    return lambda value: type(value) is list and all(map(shape, value))
+
+
+def members(**shapes):
+    """An object of these members in this order, of these types."""
+    return lambda value: (
+        type(value) is dict
+        and list(value) == list(shapes)
+        and all(shape(value[name]) for name, shape in shapes.items())
+    )
+
+
+is_name = or_null(is_text)
+is_hex = spelled("([0-9a-f]{2})*")
+is_flags = members(bits=is_number, hex=is_hex, names=list_of(is_text))
+is_sealed = members(etype=is_number, etype_name=is_name, kvno=or_null(is_number), size=is_number)
+is_refused_ticket = members(refused=members(place=is_number, why=is_number, why_name=is_text))
+
+# The type of the member that a value has.
+SHAPES = {
+    "number": is_number,
+    "count": is_number,
+    "named number": is_number,
+    "code": is_number,
+    "reason": is_number,
+    "list": list_of(is_number),
+    "string": is_text,
+    "text": is_text,
+    "word": is_text,
+    "file name": is_text,
+    "time": spelled("[0-9]{14}Z"),
+    "date": or_null(spelled("[0-9]{4}(-[0-9]{2}){2}T[0-9]{2}(:[0-9]{2}){2}Z")),
+    "yes or no": is_truth,
+    "flags": is_flags,
+    "ticket flags": is_flags,
+    "sealed": is_sealed,
+    "ticket": or_null(lambda value: is_sealed(value) or is_refused_ticket(value)),
+    "principal": members(
+        text=is_text, type=is_number, type_name=is_name, components=list_of(is_text), realm=is_text
+    ),
+    "address": members(type=is_number, type_name=is_name, hex=is_hex),
+    "checksum": members(type=is_number, type_name=is_name, size=is_number),
+    "offset": members(seconds=is_number, microseconds=is_number),
+    "path": is_text,
+}
+
+# What the name of a second member has at its end, and its type, by the value.
+SECOND_MEMBERS = {
+    "named number": ("_name", is_name),
+    "code": ("_name", is_name),
+    "reason": ("_name", is_text),
+    "list": ("_names", list_of(is_name)),
+}
+
+
+def cells(line):
+    return [LINK.sub(r"\1", cell).strip() for cell in line.strip("|").split("|")]
+
+
+def fields_of(names, values):
+    """The fields of a row: each with its name and its value; one value is that of all."""
+    names, values = QUOTED.findall(names), values.split(", ")
+    return list(zip(names, values * len(names) if len(values) == 1 else values, strict=True))
+
+
+def tables():
+    """The kinds and the fields of each row that begins a kind, and of those below it."""
+    heading, header, previous = "", None, ""
+    for line in LISTING.read_text().splitlines():
+        if line.startswith("#"):
+            heading = line.lstrip("# ")
+        if not line.startswith("|"):
+            header = None
+        elif header is None:
+            header = cells(line)
+        elif header[:2] == ["Field", "Value"] and not line.startswith("|---"):
+            names, values = cells(line)[:2]
+            yield heading.split(", ") if previous.startswith("|---") else [], fields_of(names, values)
+        elif header[:3] == ["Line", "Field", "Value"] and not line.startswith("|---"):
+            kinds, names, values = cells(line)[:3]
+            yield QUOTED.findall(kinds), fields_of(names, values)
+        previous = line
+
+
+def kinds_of_records():
+    """The kinds, each with the lists of fields that its records may have."""
+    found, now = {}, []
+    for kinds, fields in tables():
+        if kinds:
+            now = []
+            for kind in kinds:
+                found.setdefault(kind, []).append(now)
+        now.extend(fields)
+    return found
+
+
+KINDS = kinds_of_records()
+
+
+def members_after_kind(fields, record):
+    """The members that an object with these fields has after its kind, each with its type."""
+    for name, value in fields:
+        is_optional, value = value.endswith(OPTIONAL), value.removesuffix(OPTIONAL)
+        shape = or_null(SHAPES[value]) if is_optional else SHAPES[value]
+        yield name, shape
+        if value in SECOND_MEMBERS and record.get(name) is not None:
+            ending, second = SECOND_MEMBERS[value]
+            yield f"{name}{ending}", second
+
+
+def is_as_listed(record):
+    """Whether an object has the members of its kind, in their order and of their types."""
+    return any(
+        members(kind=is_text, **dict(members_after_kind(fields, record)))(record)
+        for fields in KINDS.get(record["kind"], [])
+    )

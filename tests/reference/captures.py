@@ -1,0 +1,109 @@
+"""The records of captures: of each Kerberos message in a pcap or pcapng as it is whole."""
+
+from .capture_files import packets
+from .datagrams import Fragments, Segment, Unread, internet, transport
+from .directions import Directions, lost
+from .files import FILE_REASONS
+from .frames import LIMIT, Frames
+from .judging import Ended, Refused
+from .kpasswd import change_password
+from .messages import FIELDS, record_or_refusal
+from .records import Record, refused
+from .values import flow, instant, number
+
+PORT = 88
+CHANGE_PASSWORD_PORT = 464
+
+
+def message(octets, n):
+    """What is found in a message of n octets, of which these are there."""
+    return [record_or_refusal(octets, n)]
+
+
+class Capture:
+    """The records of the packets of a capture, as they come."""
+
+    def __init__(self, limit, port):
+        self.port = port
+        self.counts = dict.fromkeys(("packets", "messages", "refused", "lost", "unread"), 0)
+        self.fragments = Fragments()
+        self.directions = Directions(lambda of_flow: Frames(self.reading(of_flow), limit))
+        # The packet that came last.
+        self.packet = None
+
+    def reading(self, of_flow):
+        """What reads the messages of a flow, by its ports; None if they are not of Kerberos."""
+        ports = (of_flow.source.port, of_flow.target.port)
+        if self.port in ports:
+            return message
+        return change_password if CHANGE_PASSWORD_PORT in ports else None
+
+    def take(self, packet):
+        """The records that are due with one more packet."""
+        self.packet = packet
+        self.counts["packets"] += 1
+        try:
+            found = self.whole(internet(packet))
+        except Unread:
+            self.counts["unread"] += 1
+            return
+        if found is None or self.reading(found.flow) is None:
+            return
+        due = self.directions.take(found) if isinstance(found, Segment) else self.datagram(found)
+        yield from self.records(due)
+
+    def whole(self, datagram):
+        """The datagram of UDP or segment of TCP that is whole with an IP datagram or fragment, or None."""
+        if datagram is not None and datagram.fragment is not None:
+            datagram = self.fragments.take(datagram)
+        return None if datagram is None else transport(datagram)
+
+    def datagram(self, datagram):
+        """What is found in a datagram of UDP, which is a message; each with its flow."""
+        octets, size = datagram.held
+        try:
+            found = self.reading(datagram.flow)(octets, size)
+        except Ended as ended:
+            found = [lost(len(octets), size - len(octets), ended.path)]
+        return [(datagram.flow, one) for one in found]
+
+    def records(self, due):
+        """The records of what is found in flows, with the packet that is the last one."""
+        for of_flow, found in due:
+            record = refused(found) if isinstance(found, Refused) else found
+            kind = "messages" if record.kind in FIELDS else record.kind
+            if kind in self.counts:
+                self.counts[kind] += 1
+            before = {
+                "packet": number(self.packet.number),
+                "t": instant(self.packet.time),
+                "flow": flow(of_flow),
+            }
+            yield record._replace(before=before)
+
+    def end(self):
+        """The records that are due at the end of the file."""
+        yield from self.records(self.directions.end_all())
+
+    def totals(self):
+        """The counts, and among what is unread the fragments no whole datagram came of."""
+        return {**self.counts, "unread": self.counts["unread"] + self.fragments.unread()}
+
+
+def shown(totals):
+    return {name: number(total) for name, total in totals.items()}
+
+
+def capture(octets, limit=LIMIT, port=PORT):
+    """The records of a capture, and the status of the program."""
+    followed = Capture(limit, port)
+    records = []
+    try:
+        for packet in packets(octets):
+            records.extend(followed.take(packet))
+    except Refused as refusal:
+        return [*records, refused(refusal, shown(followed.totals()), FILE_REASONS)], 1
+    records.extend(followed.end())
+    totals = followed.totals()
+    is_clean = not any(totals[name] for name in ("refused", "lost", "unread"))
+    return [*records, Record("end", shown(totals))], 0 if is_clean else 1
