@@ -14,7 +14,7 @@ _krbls() {
     esac
     case $word in
         -*)
-            local options="--file --help"
+            local options="--names --json --file --help"
             case $command in
                 stream) options="--limit --keep-going --strict $options" ;;
                 message) options="--strict $options" ;;

@@ -6,6 +6,8 @@ complete -c krbls -f -n "not __fish_seen_subcommand_from $commands" -a keytab -d
 complete -c krbls -f -n "not __fish_seen_subcommand_from $commands" -a ccache -d "A credential cache"
 complete -c krbls -s h -l help -d "Print help"
 complete -c krbls -n "not __fish_seen_subcommand_from $commands" -s V -l version -d "Print the version"
+complete -c krbls -n "__fish_seen_subcommand_from $commands" -l names -d "Show the names of numbers"
+complete -c krbls -n "__fish_seen_subcommand_from $commands" -l json -d "Print JSON, an object a line"
 complete -c krbls -n "__fish_seen_subcommand_from $commands" -l file -r -d "Read this file first"
 complete -c krbls -n "__fish_seen_subcommand_from stream" -l limit -x -d "Refuse longer frames"
 complete -c krbls -n "__fish_seen_subcommand_from stream" -l keep-going -d "Go on after a refused frame"
