@@ -1,3 +1,4 @@
+pub mod Gathering
 pub mod Passing
 pub mod Reaching
 pub mod Stepwise

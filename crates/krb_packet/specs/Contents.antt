@@ -1,11 +1,13 @@
--- What a packet carries. None is what cannot be read: a header that is cut or wrong, a fragment, or a link that is not known.
-use Rattle.std.specs.Prelude.{ℕ, zero, suc, ◌+◌, ◌*◌, ◌-◌, ◌/◌, ◌%◌, ◌^◌, Bool, not, ◌&&◌, ◌||◌, ◌==◌, nat_le, bit_and, Option, Some, None, length}
+-- What a packet carries. None is what cannot be read: a header that is cut or wrong, or a link that is not known.
+use Rattle.std.specs.Prelude.{ℕ, zero, suc, ◌+◌, ◌*◌, ◌-◌, ◌/◌, ◌%◌, ◌^◌, Bool, not, ◌&&◌, ◌||◌, ◌==◌, nat_le, bit_and, true, false, Option, Some, None, List, length}
+use Rattle.std.specs.Option.{option_map_or}
 use Rattle.std.specs.Net.Addr.{segments_of}
 use Rattle.std.specs.declared.net.ip_addr.IpAddr.{IpAddr}
 use Rattle.std.specs.declared.net.ip_addr.IpAddr.TheVariants as ip
 use Rattle.krb_der.specs.Octets.{when}
 use Rattle.krb_packet.specs.Payloads.{Captured, ◌>>=◌, field, number8, number16, number32, after, within}
 use Rattle.krb_packet.specs.declared.contents.Endpoint.{Endpoint}
+use Rattle.krb_packet.specs.declared.contents.Original.{Original}
 use Rattle.krb_packet.specs.declared.contents.Contents.{Contents}
 use Rattle.krb_packet.specs.declared.contents.Contents.TheVariants as contents
 use Rattle.krb_packet.specs.declared.packet.LinkType.{LinkType}
@@ -16,10 +18,10 @@ abbrev pub if_valid : {A : Type 0} → Bool → A → Option A
 if_valid valid value = when valid (λ _. Some value) (λ _. None)
 
 -- headers of some kinds, each of which tells the kind of the next one, are passed; the first number bounds how many there are
-abbrev pub passes : (ℕ → Bool) → (ℕ → Captured → Option (ℕ × Captured)) → ℕ → ℕ → Captured → Option (ℕ × Captured)
+abbrev pub passes : (ℕ → Captured → Bool) → (ℕ → Captured → Option (ℕ × Captured)) → ℕ → ℕ → Captured → Option (ℕ × Captured)
 passes is_passed pass zero kind packet = None
 passes is_passed pass (suc bound) kind packet =
-    when (is_passed kind) (λ _. pass kind packet >>= λ next. passes is_passed pass bound next.0 next.1) (λ _. Some (kind, packet))
+    when (is_passed kind packet) (λ _. pass kind packet >>= λ next. passes is_passed pass bound next.0 next.1) (λ _. Some (kind, packet))
 
 abbrev pub endpoint : IpAddr → ℕ → Endpoint
 endpoint address port = record { address = address; port = port }
@@ -61,18 +63,28 @@ transport from to protocol packet =
 unfoldable pub announced : ℕ → Captured → Captured
 announced size packet = when (size == 0) (λ _. packet) (λ _. within size packet)
 
--- IPv4 (RFC 791, 3.1): the header counts words of four octets. Of a whole datagram the fragment offset is 0, and no more fragments follow.
+-- a fragment of an IP datagram: what it has in common with the others, what it begins with, its place, and its octets
+abbrev pub fragment_of : Original → ℕ → ℕ → Bool → Captured → Contents
+fragment_of original protocol place is_last payload = contents.Fragment (record { original = original; protocol = protocol; place = place; is_last = is_last; payload = payload })
+
+abbrev pub original4 : List ℕ → List ℕ → ℕ → ℕ → Original
+original4 from to identification protocol = record { source = ip.V4 (record { octets = from }); target = ip.V4 (record { octets = to }); identification = identification; protocol = Some protocol }
+
+-- IPv4 (RFC 791, 3.1): the header counts words of four octets. The fragment offset, of 13 bits, counts groups of eight; the bit before it says that more fragments follow. Of a whole datagram both are 0.
 unfoldable pub ipv4 : Captured → Option Contents
 ipv4 packet = do
   first ← number8 0 packet
   total ← number16 2 packet
-  fragment ← number16 6 packet
+  identification ← number16 4 packet
+  flags ← number16 6 packet
   protocol ← number8 9 packet
   source ← field 4 12 packet
   target ← field 4 16 packet
   rest ← after (first % 16 * 4) (announced total packet)
-  valid ← if_valid (first / 16 == 4 && nat_le 5 (first % 16) && fragment % 2 ^ 14 == 0) rest
-  transport (ip.V4 (record { octets = source })) (ip.V4 (record { octets = target })) protocol valid
+  valid ← if_valid (first / 16 == 4 && nat_le 5 (first % 16)) rest
+  when (flags % 2 ^ 14 == 0)
+      (λ _. transport (ip.V4 (record { octets = source })) (ip.V4 (record { octets = target })) protocol valid)
+      (λ _. Some (fragment_of (original4 source target identification protocol) protocol (flags % 2 ^ 13 * 8) (flags / 2 ^ 13 % 2 == 0) valid))
 
 -- IPv6 (RFC 8200, 4.3, 4.4, 4.6): the length of an extension header counts groups of eight octets after the first
 unfoldable pub options : Captured → Option (ℕ × Captured)
@@ -82,23 +94,40 @@ options packet = do
   rest ← after (8 * size + 8) packet
   Some (next, rest)
 
--- the fragment header (4.5): of a whole datagram the offset is 0, and no more fragments follow
-unfoldable pub only_fragment : Captured → Option (ℕ × Captured)
-only_fragment packet = do
+-- the fragment header (4.5), which is passed in a packet that is all of its datagram (RFC 6946): of one the offset is 0, and no more fragments follow
+unfoldable pub fragment_header : Captured → Option (ℕ × Captured)
+fragment_header packet = do
   next ← number8 0 packet
-  place ← number16 2 packet
   rest ← after 8 packet
-  if_valid (place / 8 == 0 && place % 2 == 0) (next, rest)
+  Some (next, rest)
+
+unfoldable pub is_whole : Captured → Bool
+is_whole packet = option_map_or (λ place. place / 8 == 0 && place % 2 == 0) (number16 2 packet) false
 
 -- hop-by-hop options, routing, destination options, and the fragment header
-abbrev pub is_extension : ℕ → Bool
-is_extension kind = kind == 0 || (kind == 43 || (kind == 60 || kind == 44))
+abbrev pub is_passed : ℕ → Captured → Bool
+is_passed kind packet = when (kind == 0 || (kind == 43 || kind == 60)) (λ _. true) (λ _. when (kind == 44) (λ _. is_whole packet) (λ _. false))
 
 unfoldable pub extension : ℕ → Captured → Option (ℕ × Captured)
-extension kind packet = when (kind == 44) (λ _. only_fragment packet) (λ _. options packet)
+extension kind packet = when (kind == 44) (λ _. fragment_header packet) (λ _. options packet)
 
 abbrev pub extensions : ℕ → ℕ → Captured → Option (ℕ × Captured)
-extensions = passes is_extension extension
+extensions = passes is_passed extension
+
+-- any other fragment: the offset counts groups of eight octets, and stands before three bits, of which the last one says that more fragments follow
+unfoldable pub fragment : IpAddr → IpAddr → Captured → Option Contents
+fragment from to packet = do
+  next ← number8 0 packet
+  place ← number16 2 packet
+  identification ← number32 4 packet
+  rest ← after 8 packet
+  Some (fragment_of (record { source = from; target = to; identification = identification; protocol = None }) next (place / 8 * 8) (place % 2 == 0) rest)
+
+-- what stands after the extension headers, the first of which is of this kind
+unfoldable pub after_headers : IpAddr → IpAddr → ℕ → Captured → Option Contents
+after_headers from to kind packet = do
+  last ← extensions (length packet.octets + 1) kind packet
+  when (last.0 == 44) (λ _. fragment from to last.1) (λ _. transport from to last.0 last.1)
 
 -- RFC 8200, 3
 unfoldable pub ipv6 : Captured → Option Contents
@@ -110,8 +139,7 @@ ipv6 packet = do
   target ← field 16 24 packet
   rest ← after 40 packet
   valid ← if_valid (first / 16 == 6) (announced size rest)
-  last ← extensions (length packet.octets) kind valid
-  transport (ip.V6 (record { segments = segments_of source })) (ip.V6 (record { segments = segments_of target })) last.0 last.1
+  after_headers (ip.V6 (record { segments = segments_of source })) (ip.V6 (record { segments = segments_of target })) kind valid
 
 -- ---- Links
 
@@ -133,7 +161,7 @@ tag packet = do
   Some (kind, rest)
 
 abbrev pub tags : ℕ → ℕ → Captured → Option (ℕ × Captured)
-tags = passes is_tag (λ kind. tag)
+tags = passes (λ kind packet. is_tag kind) (λ kind. tag)
 
 unfoldable pub ethernet : Captured → Option Contents
 ethernet packet = do

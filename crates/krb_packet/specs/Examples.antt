@@ -1,5 +1,5 @@
 -- Worked examples, computed by the definitions: octets in hexadecimal, and what they are.
-use Rattle.std.specs.Prelude.{ℕ, ◌+◌, ◌≡◌, true, false, Some, None, List, [], ◌∷◌, ◌++◌, codes, length, take, refl}
+use Rattle.std.specs.Prelude.{ℕ, ◌+◌, ◌≡◌, true, false, Some, None, List, [], ◌∷◌, ◌++◌, codes, length, take, drop, refl}
 use Rattle.std.specs.Net.Addr.{segments_of}
 use Rattle.std.specs.declared.net.ip_addr.IpAddr.{IpAddr}
 use Rattle.std.specs.declared.net.ip_addr.IpAddr.TheVariants as ip
@@ -10,8 +10,12 @@ use Rattle.krb_packet.specs.declared.packet.LinkType.TheVariants as links
 use Rattle.krb_packet.specs.declared.field.CaptureField.TheVariants as fields
 use Rattle.krb_packet.specs.declared.field.PacketField.TheVariants as packet_fields
 use Rattle.krb_packet.specs.declared.contents.Contents.TheVariants as contents
+use Rattle.krb_packet.specs.declared.contents.Original.{Original}
+use Rattle.krb_packet.specs.declared.contents.Fragment.{Fragment}
 use Rattle.krb_packet.specs.Payloads.{Captured, field, number8, number16, number32, after, within}
-use Rattle.krb_packet.specs.Contents.{datagram, segment, transport, announced, ipv4, options, extension, ipv6, network, tag, ethernet, frame, contents_of}
+use Rattle.krb_packet.specs.Contents.{datagram, segment, transport, announced, ipv4, options, extension, after_headers, ipv6, network, tag, ethernet, raw_ip, frame, contents_of}
+use Rattle.krb_packet.specs.Table.{Table}
+use Rattle.krb_packet.specs.Fragments.{no_fragments, step, unread}
 use Rattle.krb_packet.specs.Captures.{Refusal, Packets, packets}
 
 -- ---- a capture with the first segment of a connection from 127.0.0.1:42700 to port 88
@@ -77,5 +81,57 @@ abbrev tagged : List ℕ
 tagged = hex (codes "000000000000 000000000000 88A8 0005 8100 002A 86DD 60000000 0015 00 40 00000000000000000000000000000001 00000000000000000000000000000001 11 00 010400000000 0058 C000 000D 0000 6B6573")
 
 datagram_is_carried : contents_of links.Ethernet (record { octets = tagged; size = length tagged + 4 }) ≡ contents.Datagram (record { source = record { address = loopback; port = 88 }; target = record { address = loopback; port = 49152 }; payload = record { octets = hex (codes "6B6573"); size = 5 } })
-unfolding frame ethernet tag number16 number8 field after within network ipv6 extension options announced transport datagram
+unfolding frame ethernet tag number16 number8 field after within network ipv6 after_headers extension options announced transport datagram
 datagram_is_carried = refl
+
+-- ---- fragments: the segment above in two, of 16 octets and of 24
+abbrev segment_octets : List ℕ
+segment_octets = drop 34 syn
+
+abbrev first_octets : List ℕ
+first_octets = take 16 segment_octets
+
+abbrev second_octets : List ℕ
+second_octets = drop 16 segment_octets
+
+abbrev original : Original
+original = record { source = local; target = local; identification = 0xA468; protocol = Some 6 }
+
+abbrev first : Fragment
+first = record { original = original; protocol = 6; place = 0; is_last = false; payload = whole first_octets }
+
+abbrev second : Fragment
+second = record { original = original; protocol = 6; place = 16; is_last = true; payload = whole second_octets }
+
+first_is_carried : contents_of links.RawIp (whole (hex (codes "45000024 A4682000 40060000 7F000001 7F000001") ++ first_octets)) ≡ contents.Fragment first
+unfolding frame raw_ip number16 number8 field after within ipv4 announced
+first_is_carried = refl
+
+second_is_carried : contents_of links.RawIp (whole (hex (codes "4500002C A4680002 40060000 7F000001 7F000001") ++ second_octets)) ≡ contents.Fragment second
+unfolding frame raw_ip number16 number8 field after within ipv4 announced
+second_is_carried = refl
+
+-- one after another, and what comes of the last one
+abbrev after_all : Table → List Fragment → Table
+after_all table [] = table
+after_all table (fragment ∷ fragments) = after_all (step table fragment).1 fragments
+
+abbrev kept : List Fragment → Table
+kept = after_all no_fragments
+
+-- in the other order, the first one twice
+fragments_are_put_together : (step (kept (second ∷ second ∷ [])) first).0 ≡ Some (record { original = original; protocol = 6; octets = segment_octets })
+fragments_are_put_together = refl
+
+none_is_left : kept (second ∷ second ∷ first ∷ []) ≡ no_fragments
+none_is_left = refl
+
+-- eight octets of the second one again, as the first ones of a third
+abbrev third : Fragment
+third = record { original = original; protocol = 6; place = 8; is_last = false; payload = whole (take 16 (drop 8 segment_octets)) }
+
+overlap_spoils : (step (kept (first ∷ third ∷ [])) second).0 ≡ None
+overlap_spoils = refl
+
+spoiled_are_unread : unread (kept (first ∷ third ∷ second ∷ [])) ≡ 3
+spoiled_are_unread = refl

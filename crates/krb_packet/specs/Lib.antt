@@ -1,5 +1,9 @@
 pub mod Payloads
 pub mod Contents
+pub mod Parts
+pub mod Table
+pub mod Fragments
+pub mod FragmentLaws
 pub mod Captures
 pub mod Streaming
 pub mod Examples

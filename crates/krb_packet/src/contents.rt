@@ -42,6 +42,35 @@ pub struct Segment<'a> {
     pub payload: Payload<'a>,
 }
 
+/// What the fragments of one IP datagram have in common (RFC 791, 3.2; RFC 8200, 4.5).
+#[derive(Clone, Copy, PartialEq, Eq, Hash)]
+pub struct Original {
+    /// Where the datagram comes from.
+    pub source: IpAddr,
+    /// Where it goes to.
+    pub target: IpAddr,
+    /// The identification, of 16 bits in IPv4 and of 32 bits in IPv6.
+    pub identification: u32,
+    /// The protocol in IPv4. In IPv6 fragments may disagree on what they begin with.
+    pub protocol: Option<u8>,
+}
+
+/// A fragment of an IP datagram (RFC 791, 3.2; RFC 8200, 4.5).
+#[derive(Drop)]
+pub struct Fragment<'a> {
+    /// The datagram that it is of.
+    pub original: Original,
+    /// What the octets of the datagram begin with, as this fragment says: the number of a protocol or,
+    /// in IPv6, of a header.
+    pub protocol: u8,
+    /// How many octets of the datagram stand before it.
+    pub place: u16,
+    /// No more octets of the datagram follow it.
+    pub is_last: bool,
+    /// Its octets.
+    pub payload: Payload<'a>,
+}
+
 /// What a packet carries.
 #[derive(Drop)]
 pub enum Contents<'a> {
@@ -49,8 +78,10 @@ pub enum Contents<'a> {
     Datagram(Datagram<'a>),
     /// A TCP segment.
     Segment(Segment<'a>),
+    /// A fragment, unless it is all of its datagram.
+    Fragment(Fragment<'a>),
     /// Another protocol.
     Other,
-    /// A header is cut or wrong, or the packet is a fragment, or the type of its link is not known.
+    /// A header is cut or wrong, or the type of its link is not known.
     Unread,
 }

@@ -2,9 +2,9 @@
 
 ghost use Rattle.std.specs.Prelude.{◌≡◌};
 ghost use Rattle.std.specs.Option.{option_map};
-ghost use Rattle.krb_packet.specs.Contents.{announced, ipv4, options, only_fragment, is_extension, extension, extensions, ipv6};
+ghost use Rattle.krb_packet.specs.Contents.{announced, ipv4, options, fragment_header, is_whole, is_passed, extension, extensions, fragment, after_headers, ipv6};
 
-use crate::contents::Contents;
+use crate::contents::{Contents, Fragment, Original};
 use crate::payload::Payload;
 use crate::transport::transport;
 use std::net::{IpAddr, Ipv4Addr, Ipv6Addr};
@@ -12,7 +12,7 @@ use std::net::{IpAddr, Ipv4Addr, Ipv6Addr};
 /// How many octets the header of IPv6 has.
 const IPV6_HEADER: usize = 40;
 
-/// The extension headers that are passed.
+/// The extension headers.
 const HOP_BY_HOP_OPTIONS: u8 = 0;
 
 const ROUTING: u8 = 43;
@@ -40,18 +40,33 @@ pub(crate) fn ipv4<'a>(packet: Payload<'a>) -> Option<Contents<'a>>
 {
     let first = packet.number8(0)?;
     let total = packet.number16(2)?;
-    let fragment = packet.number16(6)?;
+    let identification = packet.number16(4)?;
+    let flags = packet.number16(6)?;
     let protocol = packet.number8(9)?;
     let source = packet.field::<4>(12)?;
     let target = packet.field::<4>(16)?;
     let words = first % 16;
-    let rest = announced(total, packet).after(usize::from(words) * 4)?;
-    if first / 16 != 4 || words < 5 || fragment % (1 << 14) != 0 {
+    let payload = announced(total, packet).after(usize::from(words) * 4)?;
+    if first / 16 != 4 || words < 5 {
         return None;
     }
     let source = IpAddr::V4(Ipv4Addr::from_octets(source));
     let target = IpAddr::V4(Ipv4Addr::from_octets(target));
-    transport(source, target, protocol, &rest)
+    if flags % (1 << 14) == 0 {
+        return transport(source, target, protocol, &payload);
+    }
+    Some(Contents::Fragment(Fragment {
+        original: Original {
+            source,
+            target,
+            identification: u32::from(identification),
+            protocol: Some(protocol),
+        },
+        protocol,
+        place: flags % (1 << 13) * 8,
+        is_last: flags / (1 << 13) % 2 == 0,
+        payload,
+    }))
 }
 
 /// Returns the kind of the header after one of options, and what it begins.
@@ -65,29 +80,36 @@ fn options<'a>(packet: Payload<'a>) -> Option<(u8, Payload<'a>)>
     Some((next, rest))
 }
 
-/// Returns the kind of the header after that of a fragment which is the only one, and what it begins.
-#[tactic(auto, unfolding(crate::specs::Contents::only_fragment))]
-fn only_fragment<'a>(packet: Payload<'a>) -> Option<(u8, Payload<'a>)>
-    ensures { result ≡ only_fragment packet.entry }
+/// Returns the kind of the header after that of a fragment, and what it begins.
+#[tactic(auto, unfolding(crate::specs::Contents::fragment_header))]
+fn fragment_header<'a>(packet: Payload<'a>) -> Option<(u8, Payload<'a>)>
+    ensures { result ≡ fragment_header packet.entry }
 {
     let next = packet.number8(0)?;
-    let place = packet.number16(2)?;
     let rest = packet.after(8)?;
-    if place / 8 == 0 && place % 2 == 0 {
-        Some((next, rest))
-    } else {
-        None
+    Some((next, rest))
+}
+
+/// Returns whether the header of a fragment is that of all of its datagram.
+#[tactic(auto, unfolding(crate::specs::Contents::is_whole))]
+fn is_whole(packet: &Payload<'_>) -> bool
+    ensures { result ≡ is_whole packet.now }
+{
+    match packet.number16(2) {
+        Some(place) => (place / 8 == 0) & (place % 2 == 0),
+        None => false,
     }
 }
 
 /// Returns whether a header is an extension header that is passed.
-fn is_extension(kind: u8) -> bool
-    ensures { result ≡ is_extension kind }
+fn is_passed(kind: u8, packet: &Payload<'_>) -> bool
+    ensures { result ≡ is_passed kind packet.now }
 {
-    matches!(
-        kind,
-        HOP_BY_HOP_OPTIONS | ROUTING | DESTINATION_OPTIONS | FRAGMENT
-    )
+    match kind {
+        HOP_BY_HOP_OPTIONS | ROUTING | DESTINATION_OPTIONS => true,
+        FRAGMENT => is_whole(packet),
+        _ => false,
+    }
 }
 
 /// Returns the kind of the header after an extension header, and what it begins.
@@ -96,20 +118,20 @@ fn extension<'a>(kind: u8, packet: Payload<'a>) -> Option<(u8, Payload<'a>)>
     ensures { result ≡ extension kind packet.entry }
 {
     if kind == FRAGMENT {
-        only_fragment(packet)
+        fragment_header(packet)
     } else {
         options(packet)
     }
 }
 
-/// Returns the kind of the header after all extension headers, and what it begins.
+/// Returns the kind of the header after all extension headers that are passed, and what it begins.
 fn extensions<'a>(most: usize, kind: u8, packet: Payload<'a>) -> Option<(u8, Payload<'a>)>
     ensures { result ≡ extensions most kind packet.entry }
 {
     let mut kind = kind;
     let mut packet = packet;
     for _ in 0..most {
-        if !is_extension(kind) {
+        if !is_passed(kind, &packet) {
             return Some((kind, packet));
         }
         let (next, rest) = extension(kind, packet)?;
@@ -117,6 +139,47 @@ fn extensions<'a>(most: usize, kind: u8, packet: Payload<'a>) -> Option<(u8, Pay
         packet = rest;
     }
     None
+}
+
+/// Returns the fragment whose header a packet begins with.
+#[tactic(auto, unfolding(crate::specs::Contents::fragment))]
+fn fragment<'a>(source: IpAddr, target: IpAddr, packet: &Payload<'a>) -> Option<Contents<'a>>
+    ensures { result ≡ fragment source target packet.now }
+{
+    let next = packet.number8(0)?;
+    let place = packet.number16(2)?;
+    let identification = packet.number32(4)?;
+    let payload = packet.after(8)?;
+    Some(Contents::Fragment(Fragment {
+        original: Original {
+            source,
+            target,
+            identification,
+            protocol: None,
+        },
+        protocol: next,
+        place: place / 8 * 8,
+        is_last: place % 2 == 0,
+        payload,
+    }))
+}
+
+/// Returns what a packet of IPv6 carries from a header of this kind on.
+#[tactic(auto, unfolding(crate::specs::Contents::after_headers))]
+pub(crate) fn after_headers<'a>(
+    source: IpAddr,
+    target: IpAddr,
+    kind: u8,
+    packet: Payload<'a>,
+) -> Option<Contents<'a>>
+    ensures { result ≡ after_headers source target kind packet.entry }
+{
+    let (kind, packet) = extensions(packet.octets().len() + 1, kind, packet)?;
+    if kind == FRAGMENT {
+        fragment(source, target, &packet)
+    } else {
+        transport(source, target, kind, &packet)
+    }
 }
 
 /// Returns what a packet of IPv6 carries.
@@ -133,8 +196,7 @@ pub(crate) fn ipv6<'a>(packet: Payload<'a>) -> Option<Contents<'a>>
     if first / 16 != 6 {
         return None;
     }
-    let (protocol, last) = extensions(packet.octets().len(), kind, announced(size, rest))?;
     let source = IpAddr::V6(Ipv6Addr::from_octets(source));
     let target = IpAddr::V6(Ipv6Addr::from_octets(target));
-    transport(source, target, protocol, &last)
+    after_headers(source, target, kind, announced(size, rest))
 }

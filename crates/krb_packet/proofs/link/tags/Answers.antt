@@ -5,5 +5,5 @@ use Rattle.krb_packet.proofs.link.tags.Goals as goal
 
 pub loop-preserved : goal.loop-preserved
 loop-preserved c =
-    sym (passes-step is_tag (λ kind. tag) c.args.most c.loop.counter c.loop.kind c.in_ok-next.next c.loop.packet c.in_ok-next.rest c.loop-test.true (sym c.is_tag.ensures ∙ c.if-not-is_tag.false) (sym c.in_ok-next.ensures))
+    sym (passes-step (λ kind packet. is_tag kind) (λ kind. tag) c.args.most c.loop.counter c.loop.kind c.in_ok-next.next c.loop.packet c.in_ok-next.rest c.loop-test.true (sym c.is_tag.ensures ∙ c.if-not-is_tag.false) (sym c.in_ok-next.ensures))
     ∙ c.loop.invariant
