@@ -121,9 +121,11 @@ kept = after_all no_fragments
 
 -- in the other order, the first one twice
 fragments_are_put_together : (step (kept (second ∷ second ∷ [])) first).0 ≡ Some (record { original = original; protocol = 6; octets = segment_octets })
+unfolding step
 fragments_are_put_together = refl
 
 none_is_left : kept (second ∷ second ∷ first ∷ []) ≡ no_fragments
+unfolding step
 none_is_left = refl
 
 -- eight octets of the second one again, as the first ones of a third
@@ -131,7 +133,9 @@ abbrev third : Fragment
 third = record { original = original; protocol = 6; place = 8; is_last = false; payload = whole (take 16 (drop 8 segment_octets)) }
 
 overlap_spoils : (step (kept (first ∷ third ∷ [])) second).0 ≡ None
+unfolding step
 overlap_spoils = refl
 
 spoiled_are_unread : unread (kept (first ∷ third ∷ second ∷ [])) ≡ 3
+unfolding step unread
 spoiled_are_unread = refl

@@ -103,11 +103,11 @@ abbrev pub finished : Table × ℕ → Option Reassembled × Table
 finished at = left_by (option_and_then whole_of (slice_get at.0.pending at.1)) at
 
 -- the whole datagram that a fragment completes, and the datagrams that are left
-abbrev pub step : Table → Fragment → Option Reassembled × Table
+unfoldable pub step : Table → Fragment → Option Reassembled × Table
 step table fragment = finished (placed table fragment (place_of fragment.original table.pending))
 
--- how many fragments came of which no whole datagram came
-abbrev pub unread : Table → ℕ
+-- how many fragments came, of those of which no whole datagram came
+unfoldable pub unread : Table → ℕ
 unread table = fold (λ count pending. plus count pending.count) table.given_up table.pending
 
 -- ---- what a whole datagram carries
@@ -126,5 +126,5 @@ abbrev pub carried : Original → ℕ → Captured → Option ℕ → Option Con
 carried original kind packet (Some protocol) = transport original.source original.target protocol packet
 carried original kind packet None = after_headers original.source original.target kind packet
 
-abbrev pub contents_of : Reassembled → Contents
-contents_of whole = or_unread (carried whole.original whole.protocol (record { octets = whole.octets; size = length whole.octets }) whole.original.protocol)
+unfoldable pub contents_of_whole : Reassembled → Contents
+contents_of_whole whole = or_unread (carried whole.original whole.protocol (record { octets = whole.octets; size = length whole.octets }) whole.original.protocol)

@@ -63,7 +63,7 @@ impl Model for Fragments {
 
 ghost use Rattle.std.specs.Prelude.{◌≡◌, ◌+◌, ◌<◌, ◌≤◌, Some, None, is_some, length, max, IfOk, OnErr, OnOk};
 ghost use Rattle.krb_packet.specs.Parts.{no_parts, taking};
-ghost use Rattle.krb_packet.specs.Fragments.{same_original, begun, pending_with, whole_of, no_fragments, place_of, kept, placed, finished, step, unread, carried, or_unread, contents_of};
+ghost use Rattle.krb_packet.specs.Fragments.{same_original, begun, pending_with, whole_of, no_fragments, place_of, kept, placed, finished, step, unread, carried, or_unread, contents_of_whole};
 
 impl Original {
     /// Returns whether another one is the same.
@@ -136,8 +136,9 @@ impl Pending {
 impl Reassembled {
     /// Returns what the datagram carries: a UDP datagram or a TCP segment, whose octets are borrowed
     /// from it. If a header is cut or wrong, or of another fragment, it cannot be read.
+    #[tactic(auto, unfolding(crate::specs::Fragments::contents_of_whole))]
     pub fn contents(&self) -> Contents<'_>
-        ensures { result ≡ contents_of self.now }
+        ensures { result ≡ contents_of_whole self.now }
     {
         let Original { source, target, .. } = self.original;
         let packet = Payload::new(self.octets.as_slice(), 0);
@@ -169,6 +170,7 @@ impl Fragments {
     /// any other way, passes 65535 octets, was not captured whole, has no multiple of 8 octets without
     /// being the last, or disagrees about the end spoils its datagram: nothing comes of that until it
     /// gives way. Out of memory, nothing changes.
+    #[tactic(auto, unfolding(crate::specs::Fragments::step))]
     pub fn take(&mut self, fragment: &Fragment<'_>) -> Result<Option<Reassembled>, Memory>
         ensures whole { IfOk result (λ whole. whole ≡ (step self.old fragment.now).0) }
         ensures state { OnOk result (self.new ≡ (step self.old fragment.now).1) }
@@ -185,6 +187,7 @@ impl Fragments {
     }
 
     /// Returns how many fragments came of which no whole datagram came, at most 2^64 - 1.
+    #[tactic(auto, unfolding(crate::specs::Fragments::unread))]
     pub fn unread(&self) -> u64
         ensures { result ≡ unread self.now }
     {
