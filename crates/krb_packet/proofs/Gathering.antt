@@ -1,5 +1,5 @@
 -- Fragments of one datagram, in any order, give the datagram.
-use Rattle.std.proofs.Common.{◌≡◌, ℕ, ◌+◌, ◌-◌, ◌%◌, ◌<◌, ◌≤◌, ◌==◌, ◌⊎◌, inl, inr, Bool, true, false, not, ◌&&◌, ◌||◌, Option, Some, None, List, [], ◌∷◌, ◌++◌, length, take, drop, replicate, get_or, refl, sym, ap, subst, ◌∙◌, arith, length-append}
+use Rattle.std.proofs.Common.{◌≡◌, ℕ, ◌+◌, ◌-◌, ◌%◌, ◌<◌, ◌≤◌, ◌==◌, ◌⊎◌, inl, inr, Bool, true, false, not, ◌||◌, Some, List, [], ◌∷◌, ◌++◌, length, replicate, get_or, refl, sym, subst, ◌∙◌, arith, length-append}
 use Rattle.std.specs.Prelude.{nat_le}
 use Rattle.std.specs.List.{list_all, list_any}
 use Rattle.std.proofs.lemmas.List.Folds.{list_all-append}
@@ -7,10 +7,9 @@ use Rattle.std.proofs.lemmas.Bool.Decides.{nat_tests}
 use Rattle.std.proofs.lemmas.Bool.{cases_lt, eq-eqb, eqb-true}
 use Rattle.std.proofs.lemmas.List.{get_or_append_left, length-replicate}
 use Rattle.std.proofs.lemmas.Grind.{common_steps, same_number_lists}
-use Rattle.krb_der.specs.Octets.{when}
 use Rattle.krb_packet.specs.declared.contents.Fragment.{Fragment}
 use Rattle.krb_packet.specs.declared.assembly.Span.{Span}
-use Rattle.krb_packet.specs.Parts.{Parts, no_parts, most_octets, is_sound, span_of, same_span, is_copy, are_apart, fits, reaching, laid, with_fragment, taking, is_complete}
+use Rattle.krb_packet.specs.Parts.{Parts, no_parts, most_octets, is_sound, span_of, same_span, is_copy, are_apart, fits, reaching, laid, with_fragment, taking}
 use Rattle.krb_packet.specs.FragmentLaws.{IsPiece, ArePieces, IsApart, AreApart, IsSent, size_of, IsCut, gathered, GivesWhole}
 
 -- ---- spans that are apart
