@@ -1,5 +1,5 @@
 -- What is printed of captures is one line.
-use Rattle.std.proofs.Common.{◌≡◌, ℕ, ◌≤◌, ◌<◌, ◌^◌, inl, inr, true, List, [], ◌∷◌, ◌++◌, Option, Some, None, IfSome, refl, arith, codes, drop, get_or}
+use Rattle.std.proofs.Common.{◌≡◌, ℕ, ◌≤◌, ◌<◌, ◌^◌, inl, inr, true, List, [], ◌∷◌, Option, Some, None, IfSome, refl, arith, codes, drop, get_or}
 use Rattle.std.proofs.NetLemmas.Alphabet.{IsHexOrColon, All-hex_groups_text}
 use Rattle.std.proofs.lemmas.List.Elements.{recursion_from_All}
 use Rattle.std.specs.List.{AllByRecursion, list_all}
@@ -17,7 +17,6 @@ use Rattle.krb_msg.specs.declared.message.Message.{Message}
 use Rattle.krb_packet.specs.declared.contents.Endpoint.{Endpoint}
 use Rattle.krb_packet.specs.declared.packet.Time.{Time}
 use Rattle.krb_list.specs.Captures.{transport_name, host_text, endpoint_text, endpoint_object, flow_text, flow_object, flow_field, origin_fields, captured_opening, captured_text, captured_line, captured_message_line, captured_refused_line, joined_line, lost_record, lost_line, password_record, password_line, count_fields, capture_end_line, capture_refused_record, capture_refused_line}
-use Rattle.krb_list.specs.Forms.{labelled}
 use Rattle.krb_list.specs.Laws.{IsOneLine, OriginIsInRange}
 use Rattle.krb_list.specs.Messages.{message_record}
 use Rattle.krb_list.specs.Refusals.{fault_record}
