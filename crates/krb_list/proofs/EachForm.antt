@@ -296,13 +296,15 @@ after_value begin (Numbers registry ns) before h = join (join before (word (code
 after_value begin value before h = word [] refl
 
 -- ---- fields and records
-one_field : (f : Form) (name : List ℕ) (value : Value) → list_all is_printable name ≡ true → IsShown value → Prints (field f name value)
+pub labelled_field : (f : Form) (label begin : List ℕ) (value : Value) → Prints label → Prints begin → IsShown value → Prints (labelled f label begin value)
 unfolding labelled members
-one_field form.Lines name value e h = join (join (join (word (codes " ") refl) (word name e)) (word (codes "=") refl)) (in_line false value h)
-one_field form.NamedLines name value e h = join (join (join (word (codes " ") refl) (word name e)) (word (codes "=") refl)) (in_line true value h)
-one_field form.Json name value e h =
-    let begin : Prints (codes ",\"" ++ name) = join (word (codes ",\"") refl) (word name e) in
-    join (join (join begin (word (codes "\":") refl)) (in_object value h)) (after_value (codes ",\"" ++ name) value begin h)
+labelled_field form.Lines label begin value l b h = join l (in_line false value h)
+labelled_field form.NamedLines label begin value l b h = join l (in_line true value h)
+labelled_field form.Json label begin value l b h = join (join (join b (word (codes "\":") refl)) (in_object value h)) (after_value begin value b h)
+
+pub one_field : (f : Form) (name : List ℕ) (value : Value) → list_all is_printable name ≡ true → IsShown value → Prints (field f name value)
+one_field f name value e h =
+    labelled_field f (codes " " ++ name ++ codes "=") (codes ",\"" ++ name) value (join (join (word (codes " ") refl) (word name e)) (word (codes "=") refl)) (join (word (codes ",\"") refl) (word name e)) h
 
 abbrev pub AreShown : List Field → Type 0
 AreShown fields = AllByRecursion (λ (this : Field). IsShown this.value) fields
@@ -310,19 +312,19 @@ AreShown fields = AllByRecursion (λ (this : Field). IsShown this.value) fields
 abbrev pub names_are_plain : List Field → Bool
 names_are_plain fields = list_all (λ (this : Field). list_all is_printable this.name) fields
 
-all_fields : (f : Form) (fields : List Field) → names_are_plain fields ≡ true → AreShown fields → Prints (fields_text f fields)
+pub all_fields : (f : Form) (fields : List Field) → names_are_plain fields ≡ true → AreShown fields → Prints (fields_text f fields)
 all_fields f [] e h = word [] refl
 all_fields f (first ∷ others) e h =
     let names = and_parts (list_all is_printable first.name) (names_are_plain others) e in
     join (one_field f first.name first.value names.0 h.0) (all_fields f others names.1 h.1)
 
-begins : (f : Form) (kind : List ℕ) → list_all is_printable kind ≡ true → Prints (opening f kind)
+pub begins : (f : Form) (kind : List ℕ) → list_all is_printable kind ≡ true → Prints (opening f kind)
 unfolding opening
 begins form.Lines kind e = word kind e
 begins form.NamedLines kind e = word kind e
 begins form.Json kind e = join (join (word (codes "{\"kind\":\"") refl) (word kind e)) (word (codes "\"") refl)
 
-ends : (f : Form) → Prints (closing f)
+pub ends : (f : Form) → Prints (closing f)
 unfolding closing
 ends form.Lines = word [] refl
 ends form.NamedLines = word [] refl

@@ -24,7 +24,7 @@ use Rattle.krb_list.proofs.Printable.{Prints, is_printable, word}
 use Rattle.krb_list.proofs.Reasons as reasons
 use Rattle.krb_list.proofs.EachForm.{IsShown, AreShown, names_are_plain, record_prints}
 
-ended : {text : List ℕ} → Prints text → IsOneLine (text ++ line_feed)
+pub ended : {text : List ℕ} → Prints text → IsOneLine (text ++ line_feed)
 ended {text} h = (text, h.all, refl)
 
 -- a record of plain names whose values are shown
@@ -32,7 +32,7 @@ pub one_line : (form : Form) (r : Printed) → list_all is_printable r.kind ≡ 
 one_line form r kind names h = ended (record_prints form r kind names h)
 
 -- the path of the field at fault
-path_is_plain : (form : Form) (path : Option (List ℕ)) → names_are_plain (path_in form path) ≡ true
+pub path_is_plain : (form : Form) (path : Option (List ℕ)) → names_are_plain (path_in form path) ≡ true
 path_is_plain forms.Lines path = refl
 path_is_plain forms.NamedLines path = refl
 path_is_plain forms.Json path = refl
@@ -41,7 +41,7 @@ octets_shown : (path : Option (List ℕ)) → IfSome path AreOctets → IsShown 
 octets_shown None h = tt
 octets_shown (Some octets) h = h
 
-path_shown : (form : Form) (path : Option (List ℕ)) → IfSome path AreOctets → AreShown (path_in form path)
+pub path_shown : (form : Form) (path : Option (List ℕ)) → IfSome path AreOctets → AreShown (path_in form path)
 path_shown forms.Lines path h = tt
 path_shown forms.NamedLines path h = (octets_shown path h, tt)
 path_shown forms.Json path h = (octets_shown path h, tt)

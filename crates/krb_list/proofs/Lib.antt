@@ -17,5 +17,6 @@ pub mod Methods
 pub mod Records
 pub mod EndOneLine
 pub mod MessageOneLine
+pub mod CaptureOneLine
 pub mod FileOneLine
 pub mod Masks

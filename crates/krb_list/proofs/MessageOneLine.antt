@@ -24,7 +24,7 @@ use Rattle.krb_list.specs.declared.form.Form.{Form}
 use Rattle.krb_list.specs.Laws.{IsOneLine}
 use Rattle.krb_list.specs.Messages.{padata, notes, methods, methods_in, kdc_req_fields, kdc_rep_fields, ap_req_fields, krb_safe_fields, krb_error_fields, fields_of, message_record, message_line}
 use Rattle.krb_list.specs.Text.{AllAreOctets}
-use Rattle.krb_list.specs.Values.{Value, Number, Quoted, Word, Field, the, if_there, count, sealed, principal, client, address}
+use Rattle.krb_list.specs.Values.{Value, Number, Quoted, Word, Field, Printed, the, if_there, count, sealed, principal, client, address}
 use Rattle.krb_list.proofs.Printable.{is_printable, time}
 use Rattle.krb_list.proofs.EachForm.{IsShown, AreShown, names_are_plain}
 use Rattle.krb_list.proofs.EndOneLine.{one_line}
@@ -181,18 +181,31 @@ and_notes : (fields : List Field) (n : Notes) → AreShown fields → AreShown (
 and_notes [] n h = (tt, tt)
 and_notes (field ∷ fields) n h = (h.0, and_notes fields n h.1)
 
-line : (form : Form) (m : Message) → list_all is_printable (kind_name (kind_of m)) ≡ true → names_are_plain (fields_of m ++ (the (codes "notes") (notes (notes_of m)) ∷ [])) ≡ true → AreShown (fields_of m) → IsOneLine (message_line form m)
-unfolding message_line message_record
-line form m kind names h = one_line form (message_record m) kind names (and_notes (fields_of m) (notes_of m) h)
+-- ---- records
+-- the kind and the names are plain, and the values are shown
+pub record IsPlain (r : Printed) : Type 0 where
+  pub kind : list_all is_printable r.kind ≡ true
+  pub names : names_are_plain r.fields ≡ true
+  pub fields : AreShown r.fields
+
+plain : (m : Message) → list_all is_printable (kind_name (kind_of m)) ≡ true → names_are_plain (fields_of m ++ (the (codes "notes") (notes (notes_of m)) ∷ [])) ≡ true → AreShown (fields_of m) → IsPlain (message_record m)
+unfolding message_record
+plain m kind names h = record { kind = kind; names = names; fields = and_notes (fields_of m) (notes_of m) h }
+
+pub record_is_plain : (m : Message) → IsInProfile profiles.Lenient m → IsPlain (message_record m)
+record_is_plain (message.AsReq m) good = plain (message.AsReq m) refl refl (kdc_req m good.fits.1.1.1.0)
+record_is_plain (message.AsRep m) good = plain (message.AsRep m) refl refl (kdc_rep m good.fits.1.1.1.0.0 good.fits.1.1.1.1.0 good.fits.1.1.1.1.1.0)
+record_is_plain (message.TgsReq m) good = plain (message.TgsReq m) refl refl (kdc_req m good.fits.1.1.1.0)
+record_is_plain (message.TgsRep m) good = plain (message.TgsRep m) refl refl (kdc_rep m good.fits.1.1.1.0.0 good.fits.1.1.1.1.0 good.fits.1.1.1.1.1.0)
+record_is_plain (message.ApReq m) good = plain (message.ApReq m) refl refl (of_ap_req m good.fits)
+record_is_plain (message.ApRep m) good = plain (message.ApRep m) refl refl (tt, tt)
+record_is_plain (message.KrbSafe m) good = plain (message.KrbSafe m) refl refl (safe m good.fits)
+record_is_plain (message.KrbPriv m) good = plain (message.KrbPriv m) refl refl (tt, tt)
+record_is_plain (message.KrbCred m) good = plain (message.KrbCred m) refl refl (tt, (tt, tt))
+record_is_plain (message.KrbError m) good = plain (message.KrbError m) refl refl (error m good.fits)
 
 pub message_shown : (form : Form) (m : Message) → IsInProfile profiles.Lenient m → IsOneLine (message_line form m)
-message_shown form (message.AsReq m) good = line form (message.AsReq m) refl refl (kdc_req m good.fits.1.1.1.0)
-message_shown form (message.AsRep m) good = line form (message.AsRep m) refl refl (kdc_rep m good.fits.1.1.1.0.0 good.fits.1.1.1.1.0 good.fits.1.1.1.1.1.0)
-message_shown form (message.TgsReq m) good = line form (message.TgsReq m) refl refl (kdc_req m good.fits.1.1.1.0)
-message_shown form (message.TgsRep m) good = line form (message.TgsRep m) refl refl (kdc_rep m good.fits.1.1.1.0.0 good.fits.1.1.1.1.0 good.fits.1.1.1.1.1.0)
-message_shown form (message.ApReq m) good = line form (message.ApReq m) refl refl (of_ap_req m good.fits)
-message_shown form (message.ApRep m) good = line form (message.ApRep m) refl refl (tt, tt)
-message_shown form (message.KrbSafe m) good = line form (message.KrbSafe m) refl refl (safe m good.fits)
-message_shown form (message.KrbPriv m) good = line form (message.KrbPriv m) refl refl (tt, tt)
-message_shown form (message.KrbCred m) good = line form (message.KrbCred m) refl refl (tt, (tt, tt))
-message_shown form (message.KrbError m) good = line form (message.KrbError m) refl refl (error m good.fits)
+unfolding message_line
+message_shown form m good =
+    let h = record_is_plain m good in
+    one_line form (message_record m) h.kind h.names h.fields

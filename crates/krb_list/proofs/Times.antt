@@ -3,7 +3,9 @@ use Rattle.std.proofs.Common.{ℕ, zero, suc, pos, ◌+◌, ◌-◌, ◌/◌, �
 use Rattle.std.proofs.lemmas.Bool.{cases_lt}
 use Rattle.jiff_core.specs.Calendar.{days_in_year, days_in_month}
 use Rattle.jiff_core.proofs.CalendarLemmas.{days_in_year_bounds}
-use Rattle.krb_list.specs.Time.{CivilDate, date_in_year, date_from, civil_date, two_digits, date_text, clock_text, moment_text}
+use Rattle.krb_packet.specs.declared.packet.Time.{Time}
+use Rattle.krb_list.specs.Text.{IsPrintable}
+use Rattle.krb_list.specs.Time.{CivilDate, date_in_year, date_from, civil_date, two_digits, date_text, clock_text, second_text, moment_text, last_digits, instant_text}
 use Rattle.krb_list.proofs.Dates.{in_year-here, in_year-next, from-zero, from-here, from-next}
 use Rattle.krb_list.proofs.Printable.{Prints, word, join}
 
@@ -47,6 +49,18 @@ unfolding clock_text
 clock seconds h =
     join (join (join (join (two (seconds / 3600) (omega arith)) (word (codes ":") refl)) (two (seconds / 60 % 60) (omega arith))) (word (codes ":") refl)) (two (seconds % 60) (omega arith))
 
+second : (seconds : ℕ) → seconds < 2 ^ 32 → Prints (second_text seconds)
+second seconds h =
+    join (join (date (civil_date (seconds / 86400)) (near (seconds / 86400) (omega arith))) (word (codes "T") refl)) (clock (seconds % 86400) (omega arith))
+
 pub moment : (seconds : ℕ) → seconds < 2 ^ 32 → Prints (moment_text seconds)
-moment seconds h =
-    join (join (join (date (civil_date (seconds / 86400)) (near (seconds / 86400) (omega arith))) (word (codes "T") refl)) (clock (seconds % 86400) (omega arith))) (word (codes "Z") refl)
+moment seconds h = join (second seconds h) (word (codes "Z") refl)
+
+all-digits : (k n : ℕ) → IsPrintable (last_digits k n)
+all-digits zero n = tt
+all-digits (suc k) n = ((omega arith, omega arith), all-digits k n)
+
+pub instant : (time : Time) → time.seconds < 2 ^ 32 → Prints (instant_text time)
+unfolding instant_text
+instant time h =
+    join (join (join (second time.seconds h) (word (codes ".") refl)) (record { all = all-digits 9 time.nanoseconds })) (word (codes "Z") refl)

@@ -11,7 +11,9 @@ pub mod Keytabs
 pub mod Ccaches
 pub mod Messages
 pub mod Streams
+pub mod Captures
 pub mod Laws
 pub mod Examples
 pub mod MessageExamples
+pub mod CaptureExamples
 pub mod inner

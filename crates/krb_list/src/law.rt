@@ -1,5 +1,5 @@
 //! Laws of what is printed. Each is the contract of a function that does nothing.
-ghost use Rattle.krb_list.specs.Laws.{CacheEndIsOneLine, CacheIsOneLine, CountedStreamEndIsOneLine, CredentialIsOneLine, CredentialKeyIsNotShown, DatesAreTheCalendars, EscapeIsGraphic, FileNameIsOneLine, FileRefusalIsOneLine, InputRefusalIsOneLine, KeysAreNotShown, KeytabEndIsOneLine, MessageIsOneLine, MessageRefusalIsOneLine, PrincipalTextTells, RecordIsOneLine, RecordKeyIsNotShown, SessionKeys3AreNotShown, SessionKeysAreNotShown, StreamEndIsOneLine};
+ghost use Rattle.krb_list.specs.Laws.{CacheEndIsOneLine, CacheIsOneLine, CaptureEndIsOneLine, CaptureRefusalIsOneLine, CapturedMessageIsOneLine, CapturedRefusalIsOneLine, CountedStreamEndIsOneLine, CredentialIsOneLine, CredentialKeyIsNotShown, DatesAreTheCalendars, EscapeIsGraphic, FileNameIsOneLine, FileRefusalIsOneLine, InputRefusalIsOneLine, JoinedIsOneLine, KeysAreNotShown, KeytabEndIsOneLine, LostIsOneLine, MessageIsOneLine, MessageRefusalIsOneLine, PasswordIsOneLine, PrincipalTextTells, RecordIsOneLine, RecordKeyIsNotShown, SessionKeys3AreNotShown, SessionKeysAreNotShown, StreamEndIsOneLine};
 
 /// Different components or realms have different texts.
 pub fn principal_text_tells()
@@ -41,6 +41,18 @@ pub fn end_is_one_line()
     ensures stream { StreamEndIsOneLine }
     ensures counted { CountedStreamEndIsOneLine }
     ensures name { FileNameIsOneLine }
+{}
+
+/// What is printed of each record of a capture, and of its end or of its refusal, is one line in each
+/// form: blanks and graphic characters of ASCII, and a line feed after them.
+pub fn capture_is_one_line_each()
+    ensures message { CapturedMessageIsOneLine }
+    ensures refusal { CapturedRefusalIsOneLine }
+    ensures joined { JoinedIsOneLine }
+    ensures lost { LostIsOneLine }
+    ensures password { PasswordIsOneLine }
+    ensures end { CaptureEndIsOneLine }
+    ensures file { CaptureRefusalIsOneLine }
 {}
 
 /// The date n days after 1970-01-01, found by counting, is the calendar's.

@@ -6,10 +6,12 @@
 //! one text, and its contract says what was appended.
 //!
 //! The main calls are [`put_message_view`] and [`message_line`] for messages, [`put_record`] for keytabs,
-//! and [`put_credential`] for caches. Nothing here reads or writes a file, and no octet of a key is
-//! shown ([`keys_are_not_shown`], [`session_keys_are_not_shown`]).
+//! [`put_credential`] for caches, and [`put_captured_message`] for captures. Nothing here reads or
+//! writes a file, and no octet of a key is shown ([`keys_are_not_shown`],
+//! [`session_keys_are_not_shown`]).
 #![tactic(auto)]
 
+mod capture;
 mod ccache;
 mod credential;
 mod error;
@@ -26,6 +28,7 @@ mod list;
 mod message;
 mod notes;
 mod number;
+mod origin;
 mod principal;
 mod refusal;
 mod shown;
@@ -34,6 +37,10 @@ mod ticket_flags;
 mod time;
 mod view_field;
 
+pub use capture::{
+    CaptureCounts, put_capture_end, put_capture_refusal, put_captured_message,
+    put_captured_refusal, put_joined, put_lost, put_password,
+};
 pub use ccache::{cache_end_line, cache_line, ccache_lines, put_cache, put_cache_end, put_ccache};
 pub use credential::{credential_line, put_credential};
 pub use escape::put_escaped;
@@ -44,11 +51,12 @@ pub use keytab::{
 };
 pub use krb_msg::{Notes, notes_of};
 pub use law::{
-    ccache_is_one_line_each, dates_are_the_calendars, end_is_one_line, escape_is_graphic,
-    keys_are_not_shown, keytab_is_one_line_each, message_is_one_line, principal_text_tells,
-    session_keys_are_not_shown,
+    capture_is_one_line_each, ccache_is_one_line_each, dates_are_the_calendars, end_is_one_line,
+    escape_is_graphic, keys_are_not_shown, keytab_is_one_line_each, message_is_one_line,
+    principal_text_tells, session_keys_are_not_shown,
 };
 pub use message::{message_line, put_message, put_message_view};
+pub use origin::{Origin, Transport};
 pub use principal::{principal_text, put_principal};
 pub use refusal::{InputFault, put_file_refusal, put_input_refusal, put_message_refusal};
 pub use shown::Shown;

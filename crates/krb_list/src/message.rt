@@ -3,8 +3,8 @@
 ghost use Rattle.std.specs.Prelude.{◌≡◌, ◌++◌, IfOk, OnOk, codes, string_bytes};
 ghost use Rattle.krb_msg.specs.Seen.{KdcReqBodyLists, KdcReqLists, KdcRepLists, ApReqLists, KrbSafeLists, KrbCredLists, MessageLists, kdc_req_body_seen, kdc_req_seen, kdc_rep_seen, ap_req_seen, ap_rep_seen, krb_safe_seen, krb_priv_seen, krb_cred_seen, message_seen};
 ghost use Rattle.krb_registry.specs.declared.registry.Registry.TheVariants as registries;
-ghost use Rattle.krb_list.specs.Forms.{field, fields_text};
-ghost use Rattle.krb_list.specs.Messages.{padata, kdc_req_fields, kdc_rep_fields, ap_req_fields, ap_rep_fields, krb_safe_fields, krb_priv_fields, krb_cred_fields, fields_of, message_text, message_line};
+ghost use Rattle.krb_list.specs.Forms.{closing, field, fields_text};
+ghost use Rattle.krb_list.specs.Messages.{padata, kdc_req_fields, kdc_rep_fields, ap_req_fields, ap_rep_fields, krb_safe_fields, krb_priv_fields, krb_cred_fields, fields_of, message_record, message_text, message_line};
 ghost use Rattle.krb_list.specs.Values.{Flags, Number, Numbers, String as Escaped, Word, count, if_there, principal, sealed};
 
 use crate::error::put_krb_error;
@@ -191,15 +191,28 @@ fn put_fields(text: &mut String, form: Form, view: &MessageView<'_>) -> Result<(
     }
 }
 
+/// Appends what a message has after its kind, without its line feed.
+pub(crate) fn put_rest(
+    text: &mut String,
+    form: Form,
+    view: &MessageView<'_>,
+) -> Result<(), AllocError>
+    requires { MessageLists view.now }
+    ensures { OnOk result (string_bytes text.new ≡ string_bytes text.old ++ fields_text form (message_record (message_seen view.now)).fields ++ closing form) }
+{
+    put_fields(text, form, view)?;
+    put_field(text, form, " notes=", ",\"notes", &notes_of_view(view))?;
+    put_closing(text, form)
+}
+
 /// Appends a message without its line feed.
+#[tactic(auto, unfolding(crate::specs::Forms::record_text, crate::specs::Messages::message_record))]
 fn put_text(text: &mut String, form: Form, view: &MessageView<'_>) -> Result<(), AllocError>
     requires { MessageLists view.now }
     ensures { OnOk result (string_bytes text.new ≡ string_bytes text.old ++ message_text form (message_seen view.now)) }
 {
     put_opening(text, form, view.kind().name())?;
-    put_fields(text, form, view)?;
-    put_field(text, form, " notes=", ",\"notes", &notes_of_view(view))?;
-    put_closing(text, form)
+    put_rest(text, form, view)
 }
 
 /// Appends a message that is viewed where it stands, as a line or an object with its line feed. No

@@ -4,8 +4,9 @@ ghost use Rattle.std.specs.Prelude.{◌≡◌, ◌++◌, OnOk, string_bytes};
 ghost use Rattle.std.specs.Option.{option_copied};
 ghost use Rattle.krb_der.specs.Reasons.{reason_name, reason_number};
 ghost use Rattle.krb_file.specs.Faults.{file_reason_name, file_reason_number};
-ghost use Rattle.krb_list.specs.Forms.{fields_text, record_line};
+ghost use Rattle.krb_list.specs.Forms.{closing, fields_text, record_line};
 ghost use Rattle.krb_list.specs.Refusals.{path_in, fault_record, file_refused_line, input_refused_line, message_refused_line};
+ghost use Rattle.krb_list.specs.Text.{line_feed};
 ghost use Rattle.krb_list.specs.Values.{Reason as IsReason};
 
 use crate::field::{put_end, put_field, put_opening};
@@ -94,6 +95,22 @@ pub(crate) fn put_path(text: &mut String, form: Form, path: Option<&str>) -> Res
     }
 }
 
+/// Appends what the line of what is refused at a place has after its kind.
+pub(crate) fn put_fault_rest(
+    text: &mut String,
+    form: Form,
+    place: u64,
+    reason: &Reason,
+    path: Option<&str>,
+) -> Result<(), AllocError>
+    ensures { OnOk result (string_bytes text.new ≡ string_bytes text.old ++ fields_text form (fault_record form place reason.now.0 reason.now.1 (option_copied path.entry)).fields ++ closing form ++ line_feed) }
+{
+    put_field(text, form, " place=", ",\"place", &place)?;
+    put_field(text, form, " why=", ",\"why", reason)?;
+    put_path(text, form, path)?;
+    put_end(text, form)
+}
+
 /// Appends the line of what is refused at a place.
 #[tactic(auto, unfolding(crate::specs::Forms::record_text))]
 fn put_fault(
@@ -106,10 +123,7 @@ fn put_fault(
     ensures { OnOk result (string_bytes text.new ≡ string_bytes text.old ++ record_line form (fault_record form place reason.now.0 reason.now.1 (option_copied path.entry))) }
 {
     put_opening(text, form, "refused")?;
-    put_field(text, form, " place=", ",\"place", &place)?;
-    put_field(text, form, " why=", ",\"why", reason)?;
-    put_path(text, form, path)?;
-    put_end(text, form)
+    put_fault_rest(text, form, place, reason, path)
 }
 
 /// Appends the line of a refused file: the place of the field at fault, what is wrong with it, and its
