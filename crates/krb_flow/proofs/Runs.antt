@@ -1,5 +1,5 @@
 -- Octets that wait in runs: what is kept with them, what of them is ready, and how many they are.
-use Rattle.std.proofs.Common.{◌≡◌, ℕ, zero, suc, ◌+◌, ◌-◌, ◌^◌, ◌<◌, ◌≤◌, ◌==◌, ◌⊎◌, inl, inr, Bool, true, false, cond, Option, Some, None, List, [], ◌∷◌, ◌++◌, length, take, drop, refl, sym, ap, subst, ◌∙◌, arith, add-zero, append_assoc, length-append}
+use Rattle.std.proofs.Common.{◌≡◌, ℕ, zero, suc, ◌+◌, ◌-◌, ◌^◌, ◌<◌, ◌≤◌, ◌==◌, ◌⊎◌, inl, inr, Bool, true, false, cond, Option, Some, None, List, [], ◌∷◌, ◌++◌, length, take, drop, refl, sym, ap, subst, ◌∙◌, arith, add-zero, append-nil, append_assoc, length-append}
 use Rattle.std.specs.Prelude.{slice_get, IsSome, IfSome}
 use Rattle.std.specs.Global.{Vec}
 use Rattle.std.specs.List.{filter}
@@ -14,6 +14,7 @@ use Rattle.std.specs.BTreeMap.{insert_entry, is_at}
 use Rattle.std.specs.BTreeMap.Range.{range_contains}
 use Rattle.std.proofs.lemmas.Bool.{lt-ltb, le-ltb, eq-eqb, ne_eqb, cases_lt}
 use Rattle.std.proofs.lemmas.Bool.Decides.{nat_tests}
+use Rattle.std.proofs.lemmas.List.{nil_from_length}
 use Rattle.krb_flow.specs.Waiting.{Waiting, keep_one, keep, ready, early}
 use Rattle.krb_flow.specs.inner.Runs.{Runs, places, waiting_in, AreApart, AreFree}
 use Rattle.krb_flow.specs.inner.Stretches.{AreHeld}
@@ -229,6 +230,93 @@ put_in low place octets (first ∷ runs) run empty some none is le fits apart fr
           (put_behind low place octets first runs (insert_entry nat_cmp others (place + length octets) run) (omega arith) apart
           (put_in first.0 place octets runs run empty some none is (omega arith) fits apart.2 free.1))
     ] refl is
+
+-- ---- a run joined with the one after it
+
+abbrev pub is_from : ℕ → ℕ × Vec ℕ → Bool
+is_from place run = range_contains nat_cmp (Included place) Unbounded run.0
+
+not_before : (place : ℕ) (run : ℕ × Vec ℕ) → is_from place run ≡ true → place ≤ run.0
+not_before place run is = grind (arith, nat_tests)
+
+before : (place : ℕ) (run : ℕ × Vec ℕ) → is_from place run ≡ false → run.0 < place
+before place run is = grind (arith, nat_tests)
+
+pub first_from : (place : ℕ) (runs others : Runs) (run : ℕ × Vec ℕ) → filter (is_from place) runs ≡ run ∷ others → place ≤ run.0
+first_from place [] others run is = cc
+first_from place (first ∷ runs) others run is =
+    elim (is_from place first) as (λ (b : Bool). is_from place first ≡ b → cond b (first ∷ filter (is_from place) runs) (filter (is_from place) runs) ≡ run ∷ others → place ≤ run.0) [
+      | true ↦ λ test is. let same : first ≡ run = cc in subst (λ (r : ℕ × Vec ℕ). place ≤ r.0) same (not_before place first test)
+      | false ↦ λ test is. first_from place runs others run is
+    ] refl is
+
+pub record IsJoined (low : ℕ) (old new : Runs) : Type 0 where
+  pub same : waiting_in new ≡ waiting_in old
+  pub apart : AreApart low new
+
+put_over : (run : Vec ℕ) (first : ℕ × Vec ℕ) (runs : Runs) (place : ℕ) → place ≡ first.0 → insert_entry nat_cmp (first ∷ runs) place run ≡ (first.0, run) ∷ runs
+put_over run first runs place here = rw (le-ltb place first.0 (omega arith), eq-eqb place first.0 here) refl
+
+-- the run after it
+joined_two : (low end : ℕ) (first : ℕ × Vec ℕ) (runs : Runs) (run both : Vec ℕ) → first.0 ≡ end + length first.1.items → both.items ≡ run.items ++ first.1.items → AreApart low ((end, run) ∷ first ∷ runs) → IsJoined low ((end, run) ∷ first ∷ runs) ((first.0, both) ∷ runs)
+joined_two low end first runs run both next is apart =
+    let room : low + length run.items ≤ end = apart.1 in
+    let some : 0 < length run.items = apart.0 in
+    let size : length both.items ≡ length run.items + length first.1.items = ap length is ∙ length-append run.items first.1.items in
+    let start : first.0 - length both.items ≡ end - length run.items = omega arith in
+    let middle : end - length run.items + length run.items ≡ first.0 - length first.1.items = omega arith in
+    record {
+      same =
+          ap (λ (n : ℕ). places n both.items ++ waiting_in runs) start
+          ∙ ap (λ (l : List ℕ). places (end - length run.items) l ++ waiting_in runs) is
+          ∙ ap (λ (w : Waiting). w ++ waiting_in runs) (places_joined (end - length run.items) run.items first.1.items)
+          ∙ append_assoc (places (end - length run.items) run.items) (places (end - length run.items + length run.items) first.1.items) (waiting_in runs)
+          ∙ ap (λ (n : ℕ). places (end - length run.items) run.items ++ (places n first.1.items ++ waiting_in runs)) middle;
+      apart = (omega arith, omega arith, apart.2.2);
+    }
+
+-- a run of no octets there
+joined_one : (low end : ℕ) (first : ℕ × Vec ℕ) (runs : Runs) (run both : Vec ℕ) → first.1.items ≡ [] → both.items ≡ run.items ++ first.1.items → AreApart low ((first.0, run) ∷ runs) → IsJoined low ((first.0, run) ∷ runs) ((first.0, both) ∷ runs)
+joined_one low end first runs run both none is apart =
+    let all : both.items ≡ run.items = is ∙ ap (λ (l : List ℕ). run.items ++ l) none ∙ append-nil run.items in
+    let some : 0 < length run.items = apart.0 in
+    let room : low + length run.items ≤ first.0 = apart.1 in
+    let size : length both.items ≡ length run.items = ap length all in
+    record {
+      same = ap (λ (l : List ℕ). places (first.0 - length l) l ++ waiting_in runs) all;
+      apart = (omega arith, omega arith, apart.2);
+    }
+
+joined_here : (low end : ℕ) (first : ℕ × Vec ℕ) (runs : Runs) (run both : Vec ℕ) → first.0 ≡ end + length first.1.items → both.items ≡ run.items ++ first.1.items → AreApart low (insert_entry nat_cmp (first ∷ runs) end run) → IsJoined low (insert_entry nat_cmp (first ∷ runs) end run) (insert_entry nat_cmp (first ∷ runs) first.0 both)
+joined_here low end first runs run both next is apart =
+    subst (IsJoined low (insert_entry nat_cmp (first ∷ runs) end run)) (sym (put_over both first runs first.0 refl))
+    (elim (cases_lt end first.0) [
+      | inl later ↦
+          let old : insert_entry nat_cmp (first ∷ runs) end run ≡ (end, run) ∷ first ∷ runs = rw (lt-ltb end first.0 later) refl in
+          subst (λ (l : Runs). IsJoined low l ((first.0, both) ∷ runs)) (sym old) (joined_two low end first runs run both next is (subst (AreApart low) old apart))
+      | inr here ↦
+          let old : insert_entry nat_cmp (first ∷ runs) end run ≡ (first.0, run) ∷ runs = put_over run first runs end (omega arith) in
+          subst (λ (l : Runs). IsJoined low l ((first.0, both) ∷ runs)) (sym old) (joined_one low end first runs run both (nil_from_length first.1.items (omega arith)) is (subst (AreApart low) old apart))
+    ])
+
+pub joined : (low end : ℕ) (runs others : Runs) (next : ℕ × Vec ℕ) (run both : Vec ℕ) → filter (is_from end) runs ≡ next ∷ others → next.0 ≡ end + length next.1.items → both.items ≡ run.items ++ next.1.items → AreApart low (insert_entry nat_cmp runs end run) → IsJoined low (insert_entry nat_cmp runs end run) (insert_entry nat_cmp runs next.0 both)
+joined low end [] others next run both found here is apart = cc
+joined low end (first ∷ runs) others next run both found here is apart =
+    elim (is_from end first) as (λ (b : Bool). is_from end first ≡ b → cond b (first ∷ filter (is_from end) runs) (filter (is_from end) runs) ≡ next ∷ others → IsJoined low (insert_entry nat_cmp (first ∷ runs) end run) (insert_entry nat_cmp (first ∷ runs) next.0 both)) [
+      | true ↦ λ test found.
+          let same : next ≡ first = cc in
+          subst (λ (r : ℕ × Vec ℕ). IsJoined low (insert_entry nat_cmp (first ∷ runs) end run) (insert_entry nat_cmp (first ∷ runs) r.0 both)) (sym same)
+          (joined_here low end first runs run both (subst (λ (r : ℕ × Vec ℕ). r.0 ≡ end + length r.1.items) same here) (subst (λ (r : ℕ × Vec ℕ). both.items ≡ run.items ++ r.1.items) same is) apart)
+      | false ↦ λ test found.
+          let later : first.0 < end = before end first test in
+          let old : insert_entry nat_cmp (first ∷ runs) end run ≡ first ∷ insert_entry nat_cmp runs end run = put_later end run first runs later in
+          let new : insert_entry nat_cmp (first ∷ runs) next.0 both ≡ first ∷ insert_entry nat_cmp runs next.0 both = put_later next.0 both first runs (omega arith) in
+          let parts : AreApart low (first ∷ insert_entry nat_cmp runs end run) = subst (AreApart low) old apart in
+          let rest = joined first.0 end runs others next run both found here is parts.2 in
+          subst (λ (l : Runs). IsJoined low l (insert_entry nat_cmp (first ∷ runs) next.0 both)) (sym old)
+          (subst (IsJoined low (first ∷ insert_entry nat_cmp runs end run)) (sym new)
+          (record { same = ap (λ (w : Waiting). places (first.0 - length first.1.items) first.1.items ++ w) rest.same; apart = (parts.0, parts.1, rest.apart) }))
+    ] refl found
 
 -- ---- the first run that ends after a place
 

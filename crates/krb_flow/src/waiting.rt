@@ -2,7 +2,9 @@
 
 ghost use Rattle.std.specs.Prelude.{◌≡◌, ◌+◌, ◌-◌, ◌++◌, ◌<◌, ◌≤◌, ◌^◌, [], All, length, slice_get, IfOk, IfSome, OnOk};
 ghost use Rattle.std.specs.Map.{keys_of};
+ghost use Rattle.std.specs.BTreeMap.{insert_entry};
 ghost use Rattle.std.specs.Option.{option_map};
+ghost use Rattle.std.specs.Ordering.{nat_cmp};
 ghost use Rattle.krb_flow.specs.inner.Runs.{AreApart, AreFree, waiting_in};
 ghost use Rattle.krb_flow.specs.inner.Stretches.{IsStretch, KeepsSome};
 ghost use Rattle.krb_flow.specs.Waiting.{early, keep, ready};
@@ -11,6 +13,10 @@ use krb_der::Memory;
 use std::alloc::Global;
 use std::collections::BTreeMap;
 use std::marker::Model;
+
+/// The greatest run that is copied to join it with the one before it. So a stream whose octets come
+/// backwards has few runs, and no long one is copied again and again.
+const SHORT_RUN: usize = 64;
 
 /// Octets that wait, each in a run of octets that follow each other. It takes memory for these
 /// octets, and some for each run.
@@ -70,6 +76,24 @@ fn stretch_at(runs: &BTreeMap<u64, Vec<u8>>, place: u64) -> Stretch
     }
 }
 
+/// Inserts a run that ends at a place. The run that begins there is joined with it, if it is short.
+fn insert_run(runs: &mut BTreeMap<u64, Vec<u8>>, end: u64, mut run: Vec<u8>) -> Result<(), Memory>
+    requires { AreApart 0 (insert_entry nat_cmp runs.old.entries end run) }
+    ensures same { OnOk result (waiting_in runs.new.entries ≡ waiting_in (insert_entry nat_cmp runs.old.entries end run)) }
+    ensures apart { OnOk result (AreApart 0 runs.new.entries) }
+{
+    if let Some((&next_end, next)) = runs.range(end..).next() {
+        let count = next.len();
+        if count <= SHORT_RUN && next_end - end == count as u64 {
+            run.extend_from_slice(next.as_slice())?;
+            runs.insert(next_end, run)?;
+            return Ok(());
+        }
+    }
+    runs.insert(end, run)?;
+    Ok(())
+}
+
 /// Keeps octets from a place on, where none waits. They go on with the run that ends there, if one
 /// does.
 fn put(
@@ -88,8 +112,7 @@ fn put(
 {
     let mut run = runs.remove(&place).unwrap_or(Vec::new(alloc));
     run.extend_from_slice(octets)?;
-    runs.insert(place + octets.len() as u64, run)?;
-    Ok(())
+    insert_run(runs, place + octets.len() as u64, run)
 }
 
 /// Keeps the first of octets that stand from a place on, up to where a run begins or ends, if no
