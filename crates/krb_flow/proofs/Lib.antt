@@ -1,4 +1,5 @@
 pub mod Places
+pub mod Runs
 pub mod Distances
 pub mod Pieces
 pub mod Captured

@@ -1,5 +1,5 @@
 -- Octets that wait, by their places: what is kept before all others, and where what is ready ends.
-use Rattle.std.proofs.Common.{◌≡◌, ℕ, suc, ◌+◌, ◌<◌, ◌≤◌, ◌==◌, Bool, true, false, is_some, Some, List, [], ◌∷◌, ◌++◌, length, refl, sym, ap, subst, ◌∙◌, arith, add-zero}
+use Rattle.std.proofs.Common.{◌≡◌, ℕ, zero, suc, ◌+◌, ◌<◌, ◌≤◌, ◌==◌, Bool, true, false, is_some, Some, List, [], ◌∷◌, ◌++◌, length, refl, sym, ap, subst, ◌∙◌, arith, add-zero}
 use Rattle.std.specs.Prelude.{slice_get, All}
 use Rattle.std.specs.Ordering.{nat_cmp}
 use Rattle.std.specs.Map.{lookup, keys_of}
@@ -17,7 +17,7 @@ stops due (entry ∷ entries) first is apart =
     (rw other refl, rw other refl)
 
 -- all that wait stand at a place or after it
-pub IsFrom : ℕ → Waiting → Type 0
+unfoldable pub IsFrom : ℕ → Waiting → Type 0
 IsFrom place [] = Unit {0}
 IsFrom place (entry ∷ entries) = (place ≤ entry.0) × IsFrom place entries
 
@@ -26,7 +26,13 @@ unfolding IsFrom
 from_all place [] all = tt
 from_all place (entry ∷ entries) all = (all 0 0 (omega arith), from_all place entries (λ k d below. all (suc k) d (omega arith)))
 
-from_fewer : (place more : ℕ) (waiting : Waiting) → place ≤ more → IsFrom more waiting → IsFrom place waiting
+pub all_from : (place : ℕ) (waiting : Waiting) → IsFrom place waiting → All (λ other. place ≤ other) (keys_of waiting)
+unfolding IsFrom
+all_from place [] from k d below = absurd (omega arith)
+all_from place (entry ∷ entries) from zero d below = from.0
+all_from place (entry ∷ entries) from (suc k) d below = all_from place entries from.1 k d (omega arith)
+
+pub from_fewer : (place more : ℕ) (waiting : Waiting) → place ≤ more → IsFrom more waiting → IsFrom place waiting
 unfolding IsFrom
 from_fewer place more [] le from = tt
 from_fewer place more (entry ∷ entries) le from = (omega arith, from_fewer place more entries le from.1)
@@ -44,29 +50,29 @@ inserted_first place octet (entry ∷ entries) from = rw (lt-ltb place entry.0 f
 kept_first : (place octet : ℕ) (waiting : Waiting) → IsFrom (suc place) waiting → keep_one place octet waiting ≡ (place, octet) ∷ waiting
 kept_first place octet waiting from = rw (unheld place waiting from) (inserted_first place octet waiting from)
 
-kept_one_after : (first octet place other : ℕ) (waiting : Waiting) → first < place → keep_one place other ((first, octet) ∷ waiting) ≡ (first, octet) ∷ keep_one place other waiting
+pub kept_one_after : (first octet place other : ℕ) (waiting : Waiting) → first < place → keep_one place other ((first, octet) ∷ waiting) ≡ (first, octet) ∷ keep_one place other waiting
 kept_one_after first octet place other waiting after =
     rw (le-ltb place first (omega arith), ne_eqb place first (λ same. omega arith))
     (elim (is_some (lookup (is_at (nat_cmp place)) waiting)) as (λ (held : Bool). when held (λ _. (first, octet) ∷ waiting) (λ _. (first, octet) ∷ insert_entry nat_cmp waiting place other) ≡ (first, octet) ∷ when held (λ _. waiting) (λ _. insert_entry nat_cmp waiting place other)) [ true ↦ refl | false ↦ refl ])
 
-kept_after : (first octet place : ℕ) (octets : List ℕ) (waiting : Waiting) → first < place → keep place octets ((first, octet) ∷ waiting) ≡ (first, octet) ∷ keep place octets waiting
+pub kept_after : (first octet place : ℕ) (octets : List ℕ) (waiting : Waiting) → first < place → keep place octets ((first, octet) ∷ waiting) ≡ (first, octet) ∷ keep place octets waiting
 kept_after first octet place [] waiting after = refl
 kept_after first octet place (other ∷ octets) waiting after =
     ap (keep (place + 1) octets) (kept_one_after first octet place other waiting after)
     ∙ kept_after first octet (place + 1) octets (keep_one place other waiting) (omega arith)
 
-kept_at : (place octet : ℕ) (octets : List ℕ) (waiting : Waiting) → IsFrom (suc place) waiting → keep place (octet ∷ octets) waiting ≡ (place, octet) ∷ keep (place + 1) octets waiting
+pub kept_at : (place octet : ℕ) (octets : List ℕ) (waiting : Waiting) → IsFrom (suc place) waiting → keep place (octet ∷ octets) waiting ≡ (place, octet) ∷ keep (place + 1) octets waiting
 kept_at place octet octets waiting from =
     ap (keep (place + 1) octets) (kept_first place octet waiting from)
     ∙ kept_after place octet (place + 1) octets waiting (omega arith)
 
-ready_at : (place octet : ℕ) (waiting : Waiting) → ready place ((place, octet) ∷ waiting) ≡ octet ∷ ready (place + 1) waiting
+pub ready_at : (place octet : ℕ) (waiting : Waiting) → ready place ((place, octet) ∷ waiting) ≡ octet ∷ ready (place + 1) waiting
 ready_at place octet waiting = rw (eq-eqb place place refl) refl
 
-early_at : (place octet : ℕ) (waiting : Waiting) → early place ((place, octet) ∷ waiting) ≡ early (place + 1) waiting
+pub early_at : (place octet : ℕ) (waiting : Waiting) → early place ((place, octet) ∷ waiting) ≡ early (place + 1) waiting
 early_at place octet waiting = rw (eq-eqb place place refl) refl
 
-next_place : (place count : ℕ) → place + 1 + count ≡ place + suc count
+pub next_place : (place count : ℕ) → place + 1 + count ≡ place + suc count
 next_place place count = omega arith
 
 -- of octets that are due, those before all that wait are ready at once

@@ -2,4 +2,5 @@ pub mod Serial
 pub mod Waiting
 pub mod Progress
 pub mod Directions
+pub mod inner
 pub mod Laws

@@ -7,9 +7,9 @@
 //!   ends, and the octets that are next in it, whether they were captured in order or not.
 //! - [`Direction::end`] ends a direction, and returns what is known of its octets then.
 //!
-//! Octets that come before their turn wait, at most 1 MiB of them. Nothing here reads packets or
-//! keeps a table of connections, and neither acknowledgments nor times are looked at: `krb_packet`
-//! reads captures.
+//! Octets that come before their turn wait, in runs of octets that follow each other, at most 1 MiB
+//! of them. Nothing here reads packets or keeps a table of connections, and neither acknowledgments
+//! nor times are looked at: `krb_packet` reads captures.
 //!
 //! The laws of [`law`] say that sequence numbers are compared rightly, and that what is taken is
 //! the stream, however it is cut into segments.

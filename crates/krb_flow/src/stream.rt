@@ -1,11 +1,10 @@
 //! What one end of a connection sends, after it began.
 
 use crate::serial::Distance;
-use crate::waiting::pass;
+use crate::waiting::Runs;
 use krb_der::Memory;
 use krb_packet::Segment;
 use std::alloc::Global;
-use std::collections::BTreeMap;
 use std::marker::Model;
 
 /// How many octets ahead of the next one that is due a segment may begin: 1 MiB.
@@ -41,7 +40,7 @@ pub struct Stream {
     first: u32,
     joined: bool,
     due: u64,
-    waiting: BTreeMap<u64, u8>,
+    waiting: Runs,
     seen: u64,
     fin: Option<u64>,
 }
@@ -51,7 +50,7 @@ impl Model for Stream {
 
     ghost Value = { Progress };
 
-    ghost view = { λ stream. record { first = stream.first; joined = stream.joined; due = stream.due; waiting = stream.waiting.entries; seen = stream.seen; fin = stream.fin } };
+    ghost view = { λ stream. record { first = stream.first; joined = stream.joined; due = stream.due; waiting = stream.waiting; seen = stream.seen; fin = stream.fin } };
 }
 
 ghost use Rattle.std.specs.Prelude.{◌≡◌, ℕ, ◌+◌, ◌++◌, ◌<◌, ◌≤◌, ◌^◌, ◌||◌, ◌&&◌, ◌==◌, not, nat_lt, nat_le, length, IfOk, OnOk};
@@ -109,7 +108,7 @@ impl Stream {
             first,
             joined,
             due: 0,
-            waiting: BTreeMap::new(alloc),
+            waiting: Runs::new(alloc),
             seen: 0,
             fin: None,
         }
@@ -176,13 +175,9 @@ impl Stream {
         let end = end_place(self.due, distance, size);
         self.seen = seen_with(self.seen, end, size > 0 || segment.fin);
         self.fin = fin_with(self.fin, end, segment.fin);
-        let front = pass(
-            &mut self.waiting,
-            self.due,
-            distance.ahead(),
-            octets,
-            waited,
-        )?;
+        let front = self
+            .waiting
+            .pass(self.due, distance.ahead(), octets, waited)?;
         self.due = place_after(self.due, front, waited.as_slice());
         Ok(front)
     }
@@ -202,10 +197,7 @@ impl Stream {
     pub(crate) fn end(&self) -> End
         ensures { result ≡ ending self.now }
     {
-        let place = match self.waiting.first_key_value() {
-            Some((&first, _)) => first,
-            None => self.seen,
-        };
+        let place = self.waiting.first_place().unwrap_or(self.seen);
         if self.due < place {
             End::Lost(Lost {
                 place: self.due,

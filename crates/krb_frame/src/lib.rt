@@ -6,7 +6,8 @@
 //! - [`Decoder::ready`] returns the frame that is ready, borrowed ([`Framed`]), and
 //!   [`Decoder::next`] goes on to the next one. [`Decoder::pass`] returns a frame that lies whole
 //!   in a piece without copying it.
-//! - [`SkippingDecoder::skip`] goes on with the next frame after one that is refused.
+//! - [`SkippingDecoder::skip`] goes on with the next frame after one that is refused;
+//!   [`SkippingDecoder`] has the calls above, too.
 //! - [`frame`] returns a message as a frame.
 //!
 //! Nothing here reads or writes: pieces are given. A decoder keeps at most the octets of one frame,

@@ -2,6 +2,7 @@
 
 use crate::decoder::{Decoder, Fed};
 use crate::framed::Framed;
+use crate::pass::Passed;
 use krb_der::Refusal;
 use std::marker::Model;
 
@@ -22,10 +23,12 @@ impl Model for SkippingDecoder {
     ghost view = { λ s. record { current = s.decoder; skipped = s.skipped } };
 }
 
-ghost use Rattle.std.specs.Prelude.{◌≡◌, []};
+ghost use Rattle.std.specs.Prelude.{◌≡◌, [], IfSome};
+ghost use Rattle.std.specs.Option.{option_map};
 ghost use Rattle.krb_msg.specs.Grammar.{messages};
 ghost use Rattle.krb_frame.specs.Decoding.{borrowed, finish_of};
-ghost use Rattle.krb_frame.specs.GoingOn.{GoesOn, FeedsAfter, ClearsEntry, Skips};
+ghost use Rattle.krb_frame.specs.GoingOn.{GoesOn, FeedsAfter, PassesEntry, ClearsEntry, Skips, passed_by};
+ghost use Rattle.krb_frame.specs.Passes.{contents_of};
 
 impl SkippingDecoder {
     /// Goes on with the stream of a decoder.
@@ -51,6 +54,18 @@ impl SkippingDecoder {
             used: count + fed.used,
             status: fed.status,
         }
+    }
+
+    /// Passes the frame with which a piece begins, as [`Decoder::pass`] does. Returns `None`, too,
+    /// while octets of a skipped frame are to come: then the piece is to be fed.
+    pub fn pass<'p>(&self, piece: &'p [u8]) -> Option<Passed<'p>>
+        ensures frame { option_map contents_of result ≡ passed_by self.now piece.now }
+        ensures passes { IfSome result (PassesEntry (messages self.now.current.profile) self.now piece.now) }
+    {
+        if self.skipped > 0 {
+            return None;
+        }
+        self.decoder.pass(piece)
     }
 
     /// Returns the frame that is ready, borrowed.

@@ -4,11 +4,16 @@ use Rattle.std.specs.Prelude.{IsSome, is_some}
 use Rattle.std.proofs.lemmas.List.{map-append}
 use Rattle.krb_der.specs.declared.why.Why.TheVariants.{HighBit}
 use Rattle.krb_der.specs.declared.verdict.Refusal.{Refusal}
+use Rattle.krb_msg.specs.Seen.{message_seen}
 use Rattle.krb_msg.specs.Views.{message_der}
+use Rattle.krb_msg.specs.declared.message.Message.{Message}
 use Rattle.krb_msg.specs.Grammar.{messages}
 use Rattle.krb_frame.specs.Decoding.{status_of, borrowed}
-use Rattle.krb_frame.specs.GoingOn.{Contents, Fault, rest_to_come, GoesOn, without, FeedsAfter, GivesUp}
+use Rattle.krb_frame.specs.GoingOn.{Contents, Fault, rest_to_come, GoesOn, without, FeedsAfter, PassesEntry, GivesUp}
+use Rattle.krb_frame.specs.Frame.{framed}
+use Rattle.krb_frame.specs.Passes.{contents_of}
 use Rattle.krb_frame.specs.declared.decoder.Fed.{Fed}
+use Rattle.krb_frame.specs.declared.pass.Passed.{Passed}
 use Rattle.krb_frame.specs.declared.decoder.Status.{Status}
 use Rattle.krb_frame.specs.declared.decoder.Status.TheVariants as status
 use Rattle.krb_frame.proofs.Founds.{more-nothing}
@@ -18,12 +23,12 @@ use Rattle.krb_tool.specs.Lines.{refused_line}
 use Rattle.krb_der.specs.declared.profile.Profile.{Profile}
 use Rattle.krb_tool.specs.Paths.{frame_path}
 use Rattle.krb_tool.specs.GoingOn.{Listed, Whole, Faulty, entry_of, messages_in, refused_in, lines_after, EndsUnknown}
-use Rattle.krb_tool.specs.inner.Pieces.{IsWaiting, IsFed, Goes, TakesPiece}
-use Rattle.krb_tool.specs.inner.CountingListers.{HasCounted, CountsReady, CountsRefused, SkipsRefused, counting}
+use Rattle.krb_tool.specs.inner.Pieces.{request_of, IsWaiting, IsFed, Goes, TakesPiece}
+use Rattle.krb_tool.specs.inner.CountingListers.{HasCounted, CountsReady, CountsLine, CountsRefused, SkipsRefused, counting}
 use Rattle.krb_tool.specs.declared.going_on.CountingLister.{CountingLister}
 use Rattle.krb_tool.proofs.KnownLengths.{known_last, whole_known, refused_known}
-use Rattle.krb_tool.proofs.Pieces.{IsFed-used}
-use Rattle.krb_tool.proofs.Listings.{is_status, is_borrowed, some_used-by, memory_ready, memory_more, memory_refused, more_ready, cleared_is, cleared_waits, same_request}
+use Rattle.krb_tool.proofs.Pieces.{IsFed-used, IsFed-frame}
+use Rattle.krb_tool.proofs.Listings.{is_status, is_borrowed, some_used-by, memory_ready, memory_more, memory_refused, more_ready, cleared_is, cleared_waits, contents_is, same_request}
 
 pub more_refused : (refusal : Refusal) → status.More ≡ status.Refused refusal → ⊥
 more_refused refusal e = cc
@@ -51,12 +56,12 @@ lines_after-append form profile n (Faulty place reason front ∷ xs) ys =
     ∙ sym (append_assoc (refused_line form n place reason (frame_path profile front)) (lines_after form profile n xs) (lines_after form profile (n + messages_in xs) ys))
 
 -- one frame more
-HasCounted-more : (old new : CountingLister) (x : Listed) (stream written : List ℕ) (h : HasCounted old stream written) → ((front : List ℕ) → entry_of x ≡ Fault 3 HighBit front → ⊥) → new.decoder.current.profile ≡ old.decoder.current.profile → new.form ≡ old.form → string_bytes new.text ≡ string_bytes old.text ++ lines_after old.form old.decoder.current.profile old.messages (x ∷ []) → new.messages ≡ old.messages + messages_in (x ∷ []) → new.refused ≡ old.refused + refused_in (x ∷ []) → GoesOn (messages old.decoder.current.profile) new.decoder stream (map entry_of h.listed ++ entry_of x ∷ []) → HasCounted new stream written
-HasCounted-more old new x stream written h known p o t m r g =
+HasCounted-more : (old new : CountingLister) (x : Listed) (stream grown written : List ℕ) (h : HasCounted old stream written) → ((front : List ℕ) → entry_of x ≡ Fault 3 HighBit front → ⊥) → new.decoder.current.profile ≡ old.decoder.current.profile → new.form ≡ old.form → string_bytes new.text ≡ string_bytes old.text ++ lines_after old.form old.decoder.current.profile old.messages (x ∷ []) → new.messages ≡ old.messages + messages_in (x ∷ []) → new.refused ≡ old.refused + refused_in (x ∷ []) → GoesOn (messages old.decoder.current.profile) new.decoder grown (map entry_of h.listed ++ entry_of x ∷ []) → HasCounted new grown written
+HasCounted-more old new x stream grown written h known p o t m r g =
     let all : List Listed = h.listed ++ x ∷ [] in
     record {
       listed = all;
-      goes_on = subst (λ p. GoesOn (messages p) new.decoder stream (map entry_of all)) (sym p) (subst (GoesOn (messages old.decoder.current.profile) new.decoder stream) (sym (map-append entry_of h.listed (x ∷ []))) g);
+      goes_on = subst (λ p. GoesOn (messages p) new.decoder grown (map entry_of all)) (sym p) (subst (GoesOn (messages old.decoder.current.profile) new.decoder grown) (sym (map-append entry_of h.listed (x ∷ []))) g);
       known = subst (λ l. EndsUnknown l → ⊥) (sym (map-append entry_of h.listed (x ∷ []))) (known_last (map entry_of h.listed) (entry_of x) known);
       lines =
           ap (λ l. written ++ l) t
@@ -146,7 +151,7 @@ module _ (old new : CountingLister) (piece : List ℕ) (fed : Fed) (f : FeedsAft
         (omega (arith, fed_some status.Ready w e more_ready memory_ready, m, r, l.messages, l.refused))
         (λ stream written h.
         let u = HasCounted-used stream written h in
-        HasCounted-more new next (Whole l.message) (stream ++ take fed.used piece) written u (whole_known (message_der l.message)) profile l.same_form (l.line ∙ ap (λ t. string_bytes new.text ++ t) (sym (append-nil (message_line new.form l.message)))) (omega (arith, l.messages)) (omega (arith, l.refused))
+        HasCounted-more new next (Whole l.message) (stream ++ take fed.used piece) (stream ++ take fed.used piece) written u (whole_known (message_der l.message)) profile l.same_form (l.line ∙ ap (λ t. string_bytes new.text ++ t) (sym (append-nil (message_line new.form l.message)))) (omega (arith, l.messages)) (omega (arith, l.refused))
         (subst (λ o. GoesOn (messages new.decoder.current.profile) next.decoder (stream ++ take fed.used piece) (map entry_of u.listed ++ Contents o ∷ [])) (sym l.form) (l.cleared.goes_on (stream ++ take fed.used piece) l.contents (map entry_of u.listed) u.goes_on l.is_ready)))
 
     -- a frame is refused, and is skipped
@@ -162,5 +167,24 @@ module _ (old new : CountingLister) (piece : List ℕ) (fed : Fed) (f : FeedsAft
         (omega (arith, fed_some (status.Refused refusal) w e (more_refused refusal) (memory_refused refusal), m, r, l.messages, l.refused))
         (λ stream written h.
         let u = HasCounted-used stream written h in
-        HasCounted-more new next (Faulty refusal.place refusal.why new.decoder.current.octets) (stream ++ take fed.used piece) written u (refused_known (messages new.decoder.current.profile) new.decoder.current refusal rest.0 refused rest.1) profile l.same_form (l.line ∙ ap (λ t. string_bytes new.text ++ t) (sym (append-nil (refused_line new.form new.messages refusal.place refusal.why (frame_path new.decoder.current.profile new.decoder.current.octets))))) (omega (arith, l.messages)) (omega (arith, l.refused))
+        HasCounted-more new next (Faulty refusal.place refusal.why new.decoder.current.octets) (stream ++ take fed.used piece) (stream ++ take fed.used piece) written u (refused_known (messages new.decoder.current.profile) new.decoder.current refusal rest.0 refused rest.1) profile l.same_form (l.line ∙ ap (λ t. string_bytes new.text ++ t) (sym (append-nil (refused_line new.form new.messages refusal.place refusal.why (frame_path new.decoder.current.profile new.decoder.current.octets))))) (omega (arith, l.messages)) (omega (arith, l.refused))
         (l.skipped.goes_on (stream ++ take fed.used piece) (map entry_of u.listed) refusal.place refusal.why u.goes_on refused refl))
+
+-- ---- a frame that is passed
+module _ (old new : CountingLister) (octets : List ℕ) (passed : Passed) (p : PassesEntry (messages old.decoder.current.profile) old.decoder octets passed) (l : CountsLine (message_seen passed.message) old new) where
+  HasCounted-passed : (stream written : List ℕ) → HasCounted old stream written → HasCounted new (stream ++ framed (contents_of passed)) written
+  HasCounted-passed stream written h =
+      let message : Message = message_seen passed.message in
+      let grown : List ℕ = stream ++ framed (contents_of passed) in
+      HasCounted-more old new (Whole message) stream grown written h (whole_known (message_der message)) (ap (λ s. s.current.profile) l.same_decoder) l.same_form (l.line ∙ ap (λ t. string_bytes old.text ++ t) (sym (append-nil (message_line old.form message)))) (omega (arith, l.messages)) (omega (arith, l.refused))
+      (subst (λ s. GoesOn (messages old.decoder.current.profile) s grown (map entry_of h.listed ++ Contents (message_der message) ∷ [])) (sym l.same_decoder)
+      (subst (λ o. GoesOn (messages old.decoder.current.profile) old.decoder grown (map entry_of h.listed ++ Contents o ∷ [])) (contents_is passed)
+      (p.goes_on stream (map entry_of h.listed) h.goes_on)))
+
+  pub IsFed-passed : IsWaiting counting old → IsFed counting old octets passed.rest.now new
+  IsFed-passed w =
+      IsFed-frame counting old new octets (contents_of passed) passed.rest.now p.passes.parts
+      (λ i. request_of (l.same_form i) (l.same_decoder i).current)
+      (ap (λ s. status_of (messages s.current.profile) s.current) l.same_decoder ∙ w)
+      (omega (arith, l.messages, l.refused))
+      HasCounted-passed

@@ -1,7 +1,7 @@
 -- Frames listed one after another.
-use Rattle.std.proofs.Common.{◌≡◌, ℕ, zero, suc, ◌+◌, ◌^◌, ◌<◌, ◌⊎◌, inl, inr, Bool, true, false, List, [], ◌∷◌, ◌++◌, length, take, drop, map, Some, string_bytes, refl, sym, ◌∙◌, ap, subst, arith, append_assoc, append-nil, length-append, drop_at}
+use Rattle.std.proofs.Common.{◌≡◌, ℕ, zero, suc, ◌+◌, ◌^◌, ◌<◌, ◌⊎◌, inl, inr, Bool, true, false, List, [], ◌∷◌, ◌++◌, length, take, drop, map, Some, string_bytes, refl, sym, ◌∙◌, ap, subst, arith, append_assoc, append-nil, length-append}
 use Rattle.std.specs.Prelude.{IsSome, if◌then◌else◌, is_some}
-use Rattle.std.proofs.lemmas.List.{map-append, take_at}
+use Rattle.std.proofs.lemmas.List.{map-append}
 use Rattle.std.proofs.lemmas.Grind.{flat_map-append}
 use Rattle.std.specs.List.{flat_map}
 use Rattle.krb_der.specs.declared.profile.Profile.{Profile}
@@ -27,7 +27,7 @@ use Rattle.krb_tool.specs.Lines.{message_line}
 use Rattle.krb_tool.specs.inner.Pieces.{request_of, IsWaiting, IsFed, Goes, TakesPiece}
 use Rattle.krb_tool.specs.inner.Listers.{HasListed, ListsReady, AddsLine, stopping}
 use Rattle.krb_tool.specs.declared.listing.Lister.{Lister}
-use Rattle.krb_tool.proofs.Pieces.{IsFed-used}
+use Rattle.krb_tool.proofs.Pieces.{IsFed-used, IsFed-frame}
 
 -- ---- what a decoder's answer says
 ready_borrowed : (contents : List (List ℕ)) (end : End) → status_at contents end ≡ status.Ready → IsSome (first_of contents)
@@ -149,48 +149,33 @@ module _ (old new : Lister) (piece : List ℕ) (fed : Fed) (f : Uses (messages o
       (λ stream written h. HasListed-ready new next l (stream ++ take fed.used piece) written (HasListed-used stream written h))
 
 -- ---- a frame that is passed
-contents_is : (passed : Passed) → contents_of passed ≡ message_der (message_seen passed.message)
+pub contents_is : (passed : Passed) → contents_of passed ≡ message_der (message_seen passed.message)
 unfolding contents_of
 contents_is passed = refl
 
--- octets that begin with a frame of a message, and a decoder that stands for a stream with it
-module _ (old new : Lister) (message : Message) (octets contents rest : List ℕ) (form : contents ≡ message_der message) (parts : octets ≡ framed contents ++ rest) (stands : (stream : List ℕ) (cleared : List (List ℕ)) → Stands (messages old.decoder.profile) old.decoder stream cleared → Stands (messages old.decoder.profile) old.decoder (stream ++ framed contents) (cleared ++ contents ∷ [])) where
-  some_octets : length octets ≡ length (framed contents) + length rest
-  some_octets = ap length parts ∙ length-append (framed contents) rest
+module _ (old new : Lister) (octets : List ℕ) (passed : Passed) (p : Passes (messages old.decoder.profile) old.decoder octets passed) (l : AddsLine (message_seen passed.message) old new) where
+  HasListed-passed : (stream written : List ℕ) → HasListed old stream written → HasListed new (stream ++ framed (contents_of passed)) written
+  HasListed-passed stream written h =
+      let message : Message = message_seen passed.message in
+      let grown : List ℕ = stream ++ framed (contents_of passed) in
+      let all : List Message = h.messages ++ message ∷ [] in
+      record {
+        messages = all;
+        stands =
+            subst (λ d. Stands (messages d.profile) d grown (map message_der all)) (sym l.same_decoder)
+            (subst (Stands (messages old.decoder.profile) old.decoder grown) (ap (λ o. map message_der h.messages ++ o ∷ []) (contents_is passed) ∙ sym (map-append message_der h.messages (message ∷ [])))
+            (p.stands stream (map message_der h.messages) h.stands));
+        lines = line_added old new message h.messages written l.line l.same_form h.lines;
+        counted = omega (arith, l.counted, h.counted, length-append h.messages (message ∷ []));
+      }
 
-  shorter : length rest < length octets
-  shorter = omega (arith, some_octets)
-
-  module _ (l : AddsLine message old new) where
-    HasListed-frame : (stream written : List ℕ) → HasListed old stream written → HasListed new (stream ++ framed contents) written
-    HasListed-frame stream written h =
-        let all : List Message = h.messages ++ message ∷ [] in
-        record {
-          messages = all;
-          stands =
-              subst (λ d. Stands (messages d.profile) d (stream ++ framed contents) (map message_der all)) (sym l.same_decoder)
-              (subst (Stands (messages old.decoder.profile) old.decoder (stream ++ framed contents)) (ap (λ o. map message_der h.messages ++ o ∷ []) form ∙ sym (map-append message_der h.messages (message ∷ [])))
-              (stands stream (map message_der h.messages) h.stands));
-          lines = line_added old new message h.messages written l.line l.same_form h.lines;
-          counted = omega (arith, l.counted, h.counted, length-append h.messages (message ∷ []));
-        }
-
-    IsFed-frame : IsWaiting stopping old → IsFed stopping old octets rest new
-    IsFed-frame w =
-        let front : take (length (framed contents)) octets ≡ framed contents = ap (take (length (framed contents))) parts ∙ take_at (framed contents) rest (length (framed contents)) refl in
-        let back : drop (length (framed contents)) octets ≡ rest = ap (drop (length (framed contents))) parts ∙ drop_at (framed contents) rest (length (framed contents)) refl in
-        subst (λ r. IsFed stopping old octets r new) back
-        (IsFed-used stopping old new octets (length (framed contents)) (omega (arith, some_octets))
-        (λ i. request_of (l.same_form i) (l.same_decoder i))
-        (ap (λ d. status_of (messages d.profile) d) l.same_decoder ∙ w)
-        (omega (arith, l.counted))
-        (λ stream written h. subst (λ f. HasListed new (stream ++ f) written) (sym front) (HasListed-frame stream written h)))
-
-pub passed_shorter : (old : Lister) (octets : List ℕ) (passed : Passed) → Passes (messages old.decoder.profile) old.decoder octets passed → length passed.rest.now < length octets
-passed_shorter old octets passed p = shorter old old (message_seen passed.message) octets (contents_of passed) passed.rest.now (contents_is passed) p.parts p.stands
-
-pub IsFed-passed : (old new : Lister) (octets : List ℕ) (passed : Passed) → Passes (messages old.decoder.profile) old.decoder octets passed → AddsLine (message_seen passed.message) old new → IsWaiting stopping old → IsFed stopping old octets passed.rest.now new
-IsFed-passed old new octets passed p l = IsFed-frame old new (message_seen passed.message) octets (contents_of passed) passed.rest.now (contents_is passed) p.parts p.stands l
+  pub IsFed-passed : IsWaiting stopping old → IsFed stopping old octets passed.rest.now new
+  IsFed-passed w =
+      IsFed-frame stopping old new octets (contents_of passed) passed.rest.now p.parts
+      (λ i. request_of (l.same_form i) (l.same_decoder i))
+      (ap (λ d. status_of (messages d.profile) d) l.same_decoder ∙ w)
+      l.counted
+      HasListed-passed
 
 -- one message more is few enough
 pub passed_few : (messages size rest : ℕ) → rest < size → messages + size < 2 ^ 64 → messages + 1 < 2 ^ 64

@@ -1,7 +1,12 @@
 -- Pieces of a stream, whatever kind of lister lists it.
-use Rattle.std.proofs.Common.{◌≡◌, ℕ, ◌+◌, ◌-◌, ◌*◌, ◌^◌, ◌<◌, ◌≤◌, inl, inr, Bool, true, false, List, [], ◌++◌, length, take, drop, Option, refl, sym, ◌∙◌, ap, subst, arith, append-nil, append_assoc, length-drop}
-use Rattle.std.proofs.lemmas.List.{drop-drop, take_all}
+use Rattle.std.proofs.Common.{◌≡◌, ℕ, ◌+◌, ◌-◌, ◌*◌, ◌^◌, ◌<◌, ◌≤◌, inl, inr, Bool, true, false, List, [], ◌++◌, length, take, drop, Option, refl, sym, ◌∙◌, ap, subst, arith, append-nil, append_assoc, length-append, length-drop, drop_at}
+use Rattle.std.proofs.lemmas.List.{drop-drop, take_all, take_at}
 use Rattle.std.proofs.Math.Seq.{take-add}
+use Rattle.krb_msg.specs.Term.{Term}
+use Rattle.krb_frame.specs.Decoding.{Decoding}
+use Rattle.krb_frame.specs.Frame.{framed}
+use Rattle.krb_frame.specs.Passes.{Passes, contents_of}
+use Rattle.krb_frame.specs.declared.pass.Passed.{Passed}
 use Rattle.krb_tool.specs.inner.Streams.{Request, Taken, with_piece, Begins, GoesOn, IsNew, MayTake, Feeds, Clears, IsLast, EndsListing, Finishes}
 use Rattle.krb_tool.specs.inner.Pieces.{Kind, IsWaiting, IsFed, Goes, TakesPiece, WaitsAfter, IsLastOf, listing_of}
 use Rattle.krb_tool.specs.declared.run.RunEnd.{RunEnd}
@@ -12,6 +17,10 @@ together piece rest stream used e =
     append_assoc stream (take (length piece - length rest) piece) (take used rest)
     ∙ ap (λ l. stream ++ (take (length piece - length rest) piece ++ take used l)) e
     ∙ ap (λ l. stream ++ l) (sym (take-add (length piece - length rest) used piece))
+
+-- fewer octets follow a frame that is passed
+pub passed_shorter : {messages : List Term} {decoding : Decoding} {octets : List ℕ} {passed : Passed} → Passes messages decoding octets passed → length passed.rest.now < length octets
+passed_shorter {passed = passed} p = omega (arith, ap length p.parts, length-append (framed (contents_of passed)) passed.rest.now)
 
 module _ {L : Type 0} (kind : Kind L) where
   -- ---- a piece, as far as it was used
@@ -27,6 +36,16 @@ module _ {L : Type 0} (kind : Kind L) where
         few = omega (arith, length-drop used piece);
         listed = λ stream written h. subst (λ n. kind.HasListed new (stream ++ take n piece) written) (sym left) (listed stream written h);
       }
+
+  -- those of a frame, which is listed
+  pub IsFed-frame : (old new : L) (octets contents rest : List ℕ) → octets ≡ framed contents ++ rest → kind.request new ≡ kind.request old → IsWaiting kind new → kind.count new ≡ kind.count old + 1 → ((stream written : List ℕ) → kind.HasListed old stream written → kind.HasListed new (stream ++ framed contents) written) → IsFed kind old octets rest new
+  IsFed-frame old new octets contents rest parts same waits one listed =
+      let size : length octets ≡ length (framed contents) + length rest = ap length parts ∙ length-append (framed contents) rest in
+      let front : take (length (framed contents)) octets ≡ framed contents = ap (take (length (framed contents))) parts ∙ take_at (framed contents) rest (length (framed contents)) refl in
+      let back : drop (length (framed contents)) octets ≡ rest = ap (drop (length (framed contents))) parts ∙ drop_at (framed contents) rest (length (framed contents)) refl in
+      subst (λ r. IsFed kind old octets r new) back
+      (IsFed-used old new octets (length (framed contents)) (omega (arith, size)) same waits (omega (arith, one))
+      (λ stream written h. subst (λ f. kind.HasListed new (stream ++ f) written) (sym front) (listed stream written h)))
 
   -- none was used
   pub IsFed-start : (lister : L) (piece : List ℕ) → IsWaiting kind lister → IsFed kind lister piece piece lister

@@ -1,13 +1,14 @@
 //! The run over a stream that goes on after refusals.
 
-ghost use Rattle.std.specs.Prelude.{◌≡◌, ◌≢◌, ◌+◌, ◌<◌, ◌^◌, IfErr, IfOk, OnOk, IsSome};
+ghost use Rattle.std.specs.Prelude.{◌≡◌, ◌≢◌, ◌+◌, ◌<◌, ◌^◌, length, IfErr, IfOk, OnOk, IsSome};
 ghost use Rattle.krb_msg.specs.Grammar.{messages};
+ghost use Rattle.krb_msg.specs.Seen.{MessageLists, message_seen};
 ghost use Rattle.krb_frame.specs.Decoding.{status_of, borrowed};
 ghost use Rattle.krb_frame.specs.declared.decoder.Status.TheVariants as status;
 ghost use Rattle.krb_tool.specs.GoingOn.{ListsAll, FailsAll, counted_run_end};
 ghost use Rattle.krb_tool.specs.declared.run.RunFault.TheVariants as fault;
-ghost use Rattle.krb_tool.specs.inner.Pieces.{listing_of};
-ghost use Rattle.krb_tool.specs.inner.CountingListers.{CountsReady, SkipsRefused, PutsCount, PutsLast, counting};
+ghost use Rattle.krb_tool.specs.inner.Pieces.{IsFed, listing_of};
+ghost use Rattle.krb_tool.specs.inner.CountingListers.{CountsReady, CountsLine, SkipsRefused, PutsCount, PutsLast, counting};
 
 use crate::fault_path::{frame_path, put_refused_frame};
 use crate::run::{RunEnd, RunFault};
@@ -16,6 +17,7 @@ use crate::transfer::Asked;
 use krb_der::{Profile, Refusal};
 use krb_frame::{Decoder, Limit, SkippingDecoder, Status};
 use krb_list::{Form, put_counted_stream_end, put_message_view};
+use krb_msg::MessageView;
 use std::alloc::Global;
 use std::io::{Read, Write};
 
@@ -52,6 +54,34 @@ pub(crate) struct CountingLister {
 }
 
 impl CountingLister {
+    /// Adds the lines of the frames that stand whole at the beginning of a piece, and returns the
+    /// octets after them.
+    fn list_passed<'p>(&mut self, piece: &'p [u8]) -> Result<&'p [u8], RunFault>
+        requires waits { status_of (messages self.old.decoder.current.profile) self.old.decoder.current ≡ status.More }
+        requires few { self.old.messages + self.old.refused + length piece.now < 2 ^ 64 }
+        ensures fed { IfOk result (λ rest. IsFed counting self.old piece.now rest.now self.new) }
+        ensures fault { IfErr result (λ e. e ≡ fault.Memory) }
+    {
+        let mut rest = piece;
+        while let Some(passed) = self.decoder.pass(rest) {
+            self.add_line(&passed.message)?;
+            rest = passed.rest;
+        }
+        Ok(rest)
+    }
+
+    /// Adds the line of a message.
+    fn add_line(&mut self, message: &MessageView<'_>) -> Result<(), RunFault>
+        requires few { self.old.messages + 1 < 2 ^ 64 }
+        requires lists { MessageLists message.now }
+        ensures added { OnOk result (CountsLine (message_seen message.now) self.old self.new) }
+        ensures fault { IfErr result (λ e. e ≡ fault.Memory) }
+    {
+        put_message_view(&mut self.text, self.form, message)?;
+        self.messages += 1;
+        Ok(())
+    }
+
     /// Adds the line of the frame that is ready, and clears it.
     fn list_ready(&mut self) -> Result<(), RunFault>
         requires few { self.old.messages + 1 < 2 ^ 64 }
@@ -127,8 +157,9 @@ impl ListStream for CountingLister {
     fn feed(&mut self, piece: &[u8]) -> Result<bool, RunFault> {
         let mut rest = piece;
         'frames: loop {
-            let fed = self.decoder.feed(rest);
-            rest = &rest[fed.used..];
+            let after = self.list_passed(rest)?;
+            let fed = self.decoder.feed(after);
+            rest = &after[fed.used..];
             match fed.status {
                 Status::More => return Ok(true),
                 Status::Memory => return Err(RunFault::Memory),

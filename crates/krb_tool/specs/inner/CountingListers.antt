@@ -42,6 +42,14 @@ pub record CountsReady (old new : CountingLister) : Type 0 where
   pub same_form : new.form ≡ old.form
   pub cleared : ClearsEntry (grammar old.decoder.current.profile) old.decoder new.decoder true
 
+-- the line of a message was added, which is counted
+pub record CountsLine (message : Message) (old new : CountingLister) : Type 0 where
+  pub line : string_bytes new.text ≡ string_bytes old.text ++ message_line old.form message
+  pub messages : new.messages ≡ old.messages + 1
+  pub refused : new.refused ≡ old.refused
+  pub same_form : new.form ≡ old.form
+  pub same_decoder : new.decoder ≡ old.decoder
+
 -- the line of the frame that is refused was added, and it is skipped
 pub record CountsRefused (old : CountingLister) (refusal : Refusal) (new : CountingLister) : Type 0 where
   pub line : string_bytes new.text ≡ string_bytes old.text ++ refused_line old.form old.messages refusal.place refusal.why (frame_path old.decoder.current.profile old.decoder.current.octets)

@@ -1,7 +1,7 @@
 use Rattle.std.proofs.Common.{arith}
 use Rattle.krb_tool.specs.inner.Listers.{stopping}
-use Rattle.krb_tool.proofs.Pieces.{IsFed-start, IsFed-both}
-use Rattle.krb_tool.proofs.Listings.{IsFed-passed, passed_shorter}
+use Rattle.krb_tool.proofs.Pieces.{passed_shorter, IsFed-start, IsFed-both}
+use Rattle.krb_tool.proofs.Listings.{IsFed-passed}
 use Rattle.krb_tool.proofs.listing.Lister.list_passed.Goals as goal
 
 pub loop-passed-init : goal.loop-passed-init
@@ -13,11 +13,11 @@ loop-passed-preserved c =
     IsFed-both stopping i (IsFed-passed c.loop-passed.self c.add_line.new.self c.loop-passed.rest.now c.in-Some.passed c.in-Some.ensures.passes c.in_ok-add_line.ensures.added i.waits)
 
 pub loop-passed-smaller : goal.loop-passed-smaller
-loop-passed-smaller c = passed_shorter c.loop-passed.self c.loop-passed.rest.now c.in-Some.passed c.in-Some.ensures.passes
+loop-passed-smaller c = passed_shorter c.in-Some.ensures.passes
 
 pub add_line-requires-clause-few : goal.add_line-requires-clause-few
 add_line-requires-clause-few c =
-    let shorter = passed_shorter c.loop-passed.self c.loop-passed.rest.now c.in-Some.passed c.in-Some.ensures.passes in
+    let shorter = passed_shorter c.in-Some.ensures.passes in
     omega (arith, shorter, c.loop-passed.invariant.few, c.requires.few)
 
 pub add_line-requires-clause-lists : goal.add_line-requires-clause-lists
