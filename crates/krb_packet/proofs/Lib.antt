@@ -1,4 +1,9 @@
+pub mod Bodies
+pub mod Clocks
+pub mod Options
+pub mod Parsing
 pub mod Passing
 pub mod Reaching
+pub mod Steps
 pub mod Stepwise
 pub mod Streams

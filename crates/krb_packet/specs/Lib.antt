@@ -1,5 +1,13 @@
 pub mod Payloads
 pub mod Contents
+pub mod Numbers
+pub mod Values
+pub mod Parsers
+pub mod Pcaps
+pub mod Interfaces
+pub mod Bodies
+pub mod Blocks
 pub mod Captures
+pub mod FieldNames
 pub mod Streaming
 pub mod Examples

@@ -2,19 +2,28 @@
 //!
 //! The main calls:
 //!
-//! - [`Packets::next_packet`] reads one packet after another of a classic pcap file, in either
-//!   order of octets, from anything that can be read.
+//! - [`Packets::next_packet`] reads one packet after another of a pcap or a pcapng, in either order of
+//!   octets, from anything that can be read.
 //! - [`contents_of`] returns the UDP datagram or the TCP segment that a packet carries, whose
 //!   octets are borrowed, or that it is something else or cannot be read.
 //!
-//! Fragments are not put together, checksums are not checked, and pcapng is not read. Nothing here
+//! Fragments are not put together, and checksums are not checked. Nothing here
 //! knows a TCP connection or a message: `krb_flow` puts directions of connections together.
 #![tactic(auto)]
 
+mod block;
+#[cfg(test)]
+mod block_tests;
+mod blocks;
+mod body;
 mod contents;
+mod fault;
 mod field;
+mod format;
+mod interface;
 mod internet;
 mod link;
+mod order;
 mod packet;
 mod packets;
 mod payload;
@@ -23,9 +32,14 @@ mod pcap;
 mod tests;
 mod transport;
 
+pub use block::Section;
 pub use contents::{Contents, Datagram, Endpoint, Segment};
-pub use field::{CaptureField, PacketField};
+pub use fault::CaptureFault;
+pub use field::{BlockField, CaptureField, PacketField};
+pub use format::Format;
+pub use interface::{Clock, Interface};
+pub use order::Order;
 pub use packet::{LinkType, Packet, Time, contents_of};
-pub use packets::{CaptureFault, Packets, State};
+pub use packets::{Packets, State};
 pub use payload::Payload;
-pub use pcap::{Form, Header, Order, Precision};
+pub use pcap::{Form, Header, Precision};
