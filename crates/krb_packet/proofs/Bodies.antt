@@ -2,8 +2,8 @@
 use Rattle.std.proofs.Common.{◌≡◌, ℕ, zero, suc, ◌+◌, ◌*◌, ◌^◌, ◌≤◌, ◌&&◌, ◌==◌, min, max, Bool, true, false, Option, Some, None, Result, Ok, Err, IfErr, List, length, refl, sym, ap, subst, arith, rules}
 use Rattle.std.specs.Int.{w8, w16, w32, w64, from_be_bytes, cast_signed}
 use Rattle.krb_der.specs.Octets.{when}
-use Rattle.krb_file.specs.Fields.{Source, Fault, Bounds, ended, source_of, Reader, ◌>>=◌, gives, next_octets_at, octets_at, number_at, room, is_at_end, Fails, Gives, StandsIn}
-use Rattle.krb_file.specs.FieldReaders.{skipped_at, source_at, Follows, Slice, of_slice}
+use Rattle.krb_file.specs.Fields.{Source, Fault, Bounds, ended, source_of, Reader, ◌>>=◌, gives, next_octets_at, octets_at, number_at, room, reaches, Fails, Gives, StandsIn}
+use Rattle.krb_file.specs.FieldReaders.{Held, skipped_at, Follows, Slice, of_slice}
 use Rattle.krb_file.specs.declared.fault.FileFault.{FileFault}
 use Rattle.krb_file.specs.declared.fault.FileFault.TheVariants as faults
 use Rattle.krb_file.proofs.FieldReaders.{known, known_fault}
@@ -36,32 +36,29 @@ Passes-setting order =
     Passes-then 0 0 (number_in w16 order) _ (Passes-fewer 2 _ (Passes-number w16 order)) (λ size.
     Passes-when 0 (code == 0) _ _ (Passes-gives None) (Passes-made 0 (value_at order code size) Some (Passes-value order code size))))
 
+stops_test : (test : Bool) (found : Options) (more : Reader Options) → Stops more → Stops (when test (λ _. gives found) (λ _. more))
+stops_test true found more stops = Stops-gives found
+stops_test false found more stops = stops
+
+stops_setting : (found : Options) (others : Options → Reader Options) → ((options : Options) → Stops (others options)) → (setting : Option Setting) → Stops (after_setting found setting others)
+stops_setting found others each None = Stops-gives found
+stops_setting found others each (Some setting) = each (with_setting setting found)
+
+at_place : {A : Type 0} (reader : Bounds → ℕ → Reader A) → ((bounds : Bounds) (place : ℕ) → Stops (reader bounds place)) → Stops (λ bounds source. reader bounds source.place bounds source)
+at_place reader each = record {
+  passes = record { on = λ bounds s v t e. (each bounds s.place).passes.on bounds s v t e; same = λ bounds s v t e. (each bounds s.place).passes.same bounds s v t e };
+  upto = λ bounds s f e. (each bounds s.place).upto bounds s f e;
+}
+
 Stops-options_within : (bound : ℕ) (order : Order) (found : Options) → Stops (options_within bound order found)
 Stops-options_within zero order found = Stops-gives found
-Stops-options_within (suc bound) order found = record {
-  passes = record {
-    on = λ bounds s v t e. (whole (is_at_end bounds s)).passes.on bounds s v t e;
-    same = λ bounds s v t e. (whole (is_at_end bounds s)).passes.same bounds s v t e;
-  };
-  upto = λ bounds s f e. (whole (is_at_end bounds s)).upto bounds s f e;
-}
-  where
-    stops_next : (setting : Option Setting) → Stops (after_setting found setting (options_within bound order))
-    stops_next None = Stops-gives found
-    stops_next (Some setting) = Stops-options_within bound order (with_setting setting found)
-
-    whole : (test : Bool) → Stops (when test (λ _. gives found) (λ _. option_at order >>= λ setting. after_setting found setting (options_within bound order)))
-    whole true = Stops-gives found
-    whole false = Stops-then (option_at order) _ (Stops-whole (setting_at order) (Passes-setting order)) stops_next
+Stops-options_within (suc bound) order found =
+    at_place (λ bounds place. when (reaches place bounds.end) (λ _. gives found) (λ _. option_at order >>= λ setting. after_setting found setting (options_within bound order)))
+    (λ bounds place. stops_test (reaches place bounds.end) found (option_at order >>= λ setting. after_setting found setting (options_within bound order))
+    (Stops-then (option_at order) (λ setting. after_setting found setting (options_within bound order)) (Stops-whole (setting_at order) (Passes-setting order)) (stops_setting found (options_within bound order) (Stops-options_within bound order))))
 
 Stops-options : (order : Order) → Stops (options_at order)
-Stops-options order = record {
-  passes = record {
-    on = λ bounds s v t e. (Stops-options_within (room bounds.end s.place) order no_options).passes.on bounds s v t e;
-    same = λ bounds s v t e. (Stops-options_within (room bounds.end s.place) order no_options).passes.same bounds s v t e;
-  };
-  upto = λ bounds s f e. (Stops-options_within (room bounds.end s.place) order no_options).upto bounds s f e;
-}
+Stops-options order = at_place (λ bounds place. options_within (room bounds.end place) order no_options) (λ bounds place. Stops-options_within (room bounds.end place) order no_options)
 
 Stops-interface : (order : Order) → Stops (interface_at order)
 Stops-interface order =
@@ -81,13 +78,7 @@ Stops-timed order count interface =
     Stops-gives (record { number = count + 1; time = clock_time interface.clock (high * 2 ^ 32 + low); link = interface.link; octets = octets; size = max captured original }))))))
 
 Stops-most : (most : ℕ) → Stops (most_octets_at most)
-Stops-most most = record {
-  passes = record {
-    on = λ bounds s v t e. (Stops-octets (min most (room bounds.end s.place))).passes.on bounds s v t e;
-    same = λ bounds s v t e. (Stops-octets (min most (room bounds.end s.place))).passes.same bounds s v t e;
-  };
-  upto = λ bounds s f e. (Stops-octets (min most (room bounds.end s.place))).upto bounds s f e;
-}
+Stops-most most = at_place (λ bounds place. octets_at (min most (room bounds.end place))) (λ bounds place. Stops-octets (min most (room bounds.end place)))
 
 Stops-simple : (order : Order) (count : ℕ) (interfaces : List Interface) → Stops (simple_packet_at order count interfaces)
 Stops-simple order count interfaces =
@@ -112,7 +103,7 @@ Stops-content kinds.EnhancedPacket order count interfaces =
 Stops-content kinds.Other order count interfaces = Stops-gives contents.Other
 
 -- ---- a body that is read as a slice
-abbrev whole : List ℕ → Slice
+abbrev pub whole : List ℕ → Slice
 whole body = record { place = 0; end = Some (length body); octets = body }
 
 value-err : {A : Type 0} (r : Result (A × Source) Fault) (f : Fault) → value_of r ≡ Err f → r ≡ Err f
@@ -124,9 +115,12 @@ fault_of faults.Memory r fails = tt
 fault_of faults.Read r fails = fails
 fault_of (faults.Refused place why) r fails = ap value_of fails
 
-pub body_gives : {A : Type 0} (reader : Reader A) (body : List ℕ) (r : Result A FileFault) (s t : Slice) → s ≡ whole body → Follows (λ (value : A). value) r reader ⊥ (of_slice s) (of_slice t) → Gives (λ (value : A). value) r (in_body reader body)
-body_gives reader body (Ok value) s t is follows = rw (sym is) (ap value_of (known reader value s t follows))
-body_gives reader body (Err e) s t is follows = fault_of e (reader (ended (Some (length body))) (source_of body)) (subst (λ (x : Slice). Fails e (reader (ended x.end) (source_at x.place x.octets))) is (known_fault reader e s follows))
+pub body_gives : {A : Type 0} (reader : Reader A) (body : List ℕ) (r : Result A FileFault) (old : Held) (t : Slice) → old ≡ of_slice (whole body) → Follows (λ (value : A). value) r reader ⊥ old (of_slice t) → Gives (λ (value : A). value) r (in_body reader body)
+body_gives {A} reader body r old t is follows = by_cases r (subst (λ (held : Held). Follows (λ (value : A). value) r reader ⊥ held (of_slice t)) is follows)
+  where
+    by_cases : (x : Result A FileFault) → Follows (λ (value : A). value) x reader ⊥ (of_slice (whole body)) (of_slice t) → Gives (λ (value : A). value) x (in_body reader body)
+    by_cases (Ok value) read = ap value_of (known reader value (whole body) t read)
+    by_cases (Err e) fails = fault_of e (reader (ended (Some (length body))) (source_of body)) (known_fault reader e (whole body) fails)
 
 pub body_inside : {A : Type 0} (reader : Reader A) (body : List ℕ) (r : Result A FileFault) → Stops reader → Gives (λ (value : A). value) r (in_body reader body) → IfErr r (StandsIn body)
 body_inside reader body (Ok value) stops gives = search rules

@@ -1,5 +1,6 @@
 pub mod Bodies
 pub mod Clocks
+pub mod Heads
 pub mod Options
 pub mod Parsing
 pub mod Passing
@@ -7,3 +8,4 @@ pub mod Reaching
 pub mod Steps
 pub mod Stepwise
 pub mod Streams
+pub mod Told

@@ -8,6 +8,7 @@ use Rattle.krb_file.specs.declared.fault.FileFault.TheVariants as faults
 use Rattle.krb_packet.specs.declared.order.Order.{Order}
 use Rattle.krb_packet.specs.declared.interface.Options.{Options}
 use Rattle.krb_packet.specs.declared.interface.Setting.{Setting}
+use Rattle.krb_packet.specs.Numbers.{from_here}
 use Rattle.krb_packet.specs.Interfaces.{option_at, with_setting, after_setting, options_within}
 
 -- Reading on by the second reader gives what the first one gives from the beginning.
@@ -17,6 +18,9 @@ pub record Continues {A : Type 0} (first second : Reader A) (old new : Held) : T
 
 pub continues_here : {A : Type 0} (reader : Reader A) (held : Held) → Continues reader reader held held
 continues_here reader held = record { same_bounds = refl; from = λ rest there. (rest, there, refl) }
+
+pub continues_from : {A : Type 0} (reader : ℕ → Reader A) (held : Held) → Continues (from_here reader) (reader held.place) held held
+continues_from reader held = record { same_bounds = refl; from = λ rest there. (rest, there, refl) }
 
 pub continues_read : {A : Type 0} (first second : Reader A) (v : A) (old mid new : Held) → Continues first second old mid → HasRead second v mid new → HasRead first v old new
 continues_read first second v old mid new on read = record {
@@ -39,7 +43,7 @@ continues_fails first second (faults.Refused place why) MayFail old mid on fails
     let whose : second old.bounds s ≡ Err fault = subst (λ (k : Bounds). second k s ≡ Err fault) on.same_bounds fails.refused in
     record { octets = a.0; there = a.1; refused = a.2 ∙ whose }
 
-continues_then : {A B : Type 0} (first : Reader B) (one : Reader A) (next : A → Reader B) (v : A) (old mid new : Held) → Continues first (one >>= next) old mid → HasRead one v mid new → Continues first (next v) old new
+pub continues_then : {A B : Type 0} (first : Reader B) (one : Reader A) (next : A → Reader B) (v : A) (old mid new : Held) → Continues first (one >>= next) old mid → HasRead one v mid new → Continues first (next v) old new
 continues_then {A} {B} first one next v old mid new on read = record {
   same_bounds = read.same_bounds ∙ on.same_bounds;
   from = λ rest there.

@@ -2,7 +2,7 @@
 use Rattle.std.proofs.Common.{◌≡◌, ℕ, ◌+◌, ◌-◌, ◌≤◌, Option, Some, None, Result, Ok, Err, List, length, refl, ap, sym, ◌∙◌, subst, arith}
 use Rattle.std.specs.Int.{Width}
 use Rattle.krb_file.specs.Fields.{Source, Fault, Bounds, Reader}
-use Rattle.krb_file.specs.Fields.{onward as read_onward}
+use Rattle.krb_file.specs.Fields.{onward as read_onward, ◌>>=◌ as ◌then◌}
 use Rattle.krb_file.specs.FieldReaders.{Held, MayHave, HasRead, HasMet, FailsBy, Follows, source_at}
 use Rattle.krb_file.specs.declared.fault.FileWhy.{FileWhy}
 use Rattle.krb_file.specs.declared.fault.FileFault.{FileFault}
@@ -12,6 +12,8 @@ use Rattle.krb_packet.specs.declared.order.Order.{Order}
 use Rattle.krb_packet.specs.declared.field.CaptureField.{CaptureField}
 use Rattle.krb_packet.specs.declared.fault.CaptureFault.{CaptureFault}
 use Rattle.krb_packet.specs.Numbers.{number_in, telling, number_telling, told}
+use Rattle.krb_packet.specs.Numbers.{from_here as here}
+use Rattle.krb_packet.proofs.Options.{Continues}
 use Rattle.krb_packet.specs.Parsers.{Refusal, Parser, onward, ◌>>=◌, gives, from_here, naming, fields, named, HasParsed, HasRefused, FailsIn, Parses, in_field, offset_of}
 use Rattle.krb_packet.proofs.Reaching.{Passes}
 
@@ -42,6 +44,25 @@ module _ {A : Type 0} (w : Width) (order : Order) (tells : ℕ → Result A File
 
   pub telling_follows : (place : ℕ) (result : Result A FileFault) → place ≡ old.place → result ≡ told place (tells number) → Follows (λ (value : A). value) result (number_telling w order tells) MayFail old new
   telling_follows place result here is = rw (is, here) (told_so (tells number) refl)
+
+module _ {A : Type 0} (tells : Result A FileWhy) (MayFail : Type 0) (held : Held) where
+  told_here : (r : Result A FileWhy) → tells ≡ r → Follows (λ (value : A). value) (told held.place r) (here (λ place. telling place tells)) MayFail held held
+  told_here (Ok value) e = record { same_bounds = refl; from = λ rest there. (rest, there, ap (λ (r : Result A FileWhy). telling held.place r held.bounds (source_at held.place rest)) e) }
+  told_here (Err why) e =
+      let now = some_rest held in
+      record { octets = now.rest; there = now.there; refused = ap (λ (r : Result A FileWhy). telling held.place r held.bounds (source_at held.place now.rest)) e }
+
+  pub tells_follows : (place : ℕ) (result : Result A FileFault) → place ≡ held.place → result ≡ told place tells → Follows (λ (value : A). value) result (here (λ place. telling place tells)) MayFail held held
+  tells_follows place result is e = rw (e, is) (told_here tells refl)
+
+-- what follows fields that were read is refused where it says nothing
+pub told_fails : {A B : Type 0} (reader : Reader B) (place : ℕ) (tells : Result A FileWhy) (next : A → Reader B) (e : FileFault) (MayFail : Type 0) (old mid : Held) → told place tells ≡ Err e → Continues reader (telling place tells then next) old mid → FailsBy e reader MayFail old
+told_fails reader place (Ok value) next e MayFail old mid is on = absurd cc
+told_fails reader place (Err why) next e MayFail old mid is on =
+    let same : faults.Refused place why ≡ e = cc in
+    let now = some_rest mid in
+    let a = on.from now.rest now.there in
+    rw (sym same) (record { octets = a.0; there = a.1; refused = a.2 })
 
 -- ---- the fields that a reader reads
 module _ {A B : Type 0} (view : A → B) (reader : Reader B) (MayFail : Type 0) (old new : Held) where

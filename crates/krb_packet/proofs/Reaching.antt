@@ -9,7 +9,7 @@ use Rattle.krb_file.proofs.Fields.{ok_is, err_is, onward-ok, onward-err, piece-o
 use Rattle.krb_file.proofs.FieldReaders.{some_rest}
 use Rattle.krb_file.proofs.Steps.{Steps-piece, Steps-octets}
 use Rattle.krb_packet.specs.declared.order.Order.{Order}
-use Rattle.krb_packet.specs.Numbers.{in_order, number_in, telling, from_here, number_telling, refused_at}
+use Rattle.krb_packet.specs.Numbers.{in_order, number_in, telling, from_here, number_telling, moved_to, refused_at}
 
 -- ---- n octets at least are passed, and no more than there are
 pub record Passes {A : Type 0} (n : ℕ) (reader : Reader A) : Type 0 where
@@ -76,21 +76,14 @@ Passes-from_here n reader each = record { on = λ bounds s v t e. (each s.place)
 pub Passes-telling : {A : Type 0} (w : Width) (order : Order) (tells : ℕ → Result A FileWhy) → Passes (byte_len w + 0) (number_telling w order tells)
 Passes-telling w order tells = Passes-from_here (byte_len w + 0) _ (λ place. Passes-then (byte_len w) 0 (number_in w order) _ (Passes-number w order) (λ number. Passes-tells place (tells number)))
 
-moved-ok : {A : Type 0} (place : ℕ) (reader : Reader A) (bounds : Bounds) (s : Source) (r : Result (A × Source) Fault) (v : A) (t : Source) → reader bounds s ≡ r → refused_at place reader bounds s ≡ Ok (v, t) → r ≡ Ok (v, t)
-moved-ok {A} place reader bounds s (Ok read) v t is e =
-    let here : refused_at place reader bounds s ≡ Ok read = rw is refl in
-    let same : ◌≡◌ {A = Result (A × Source) Fault} (Ok read) (Ok (v, t)) = cc in
-    same
-moved-ok {A} place reader bounds s (Err fault) v t is e =
-    let moved : Fault = record { place = place; why = fault.why } in
-    let here : refused_at place reader bounds s ≡ Err moved = rw is refl in
-    let wrong : ◌≡◌ {A = Result (A × Source) Fault} (Err moved) (Ok (v, t)) = cc in
-    absurd cc
+moved-ok : {A : Type 0} (place : ℕ) (r : Result A Fault) (v : A) → moved_to place r ≡ Ok v → r ≡ Ok v
+moved-ok place (Ok read) v e = e
+moved-ok place (Err fault) v e = absurd cc
 
 pub Passes-refused : {A : Type 0} (n place : ℕ) (reader : Reader A) → Passes n reader → Passes n (refused_at place reader)
 Passes-refused n place reader p = record {
-  on = λ bounds s v t e. p.on bounds s v t (moved-ok place reader bounds s (reader bounds s) v t refl e);
-  same = λ bounds s v t e. p.same bounds s v t (moved-ok place reader bounds s (reader bounds s) v t refl e);
+  on = λ bounds s v t e. p.on bounds s v t (moved-ok place (reader bounds s) (v, t) e);
+  same = λ bounds s v t e. p.same bounds s v t (moved-ok place (reader bounds s) (v, t) e);
 }
 
 pub Passes-when : {A : Type 0} (n : ℕ) (test : Bool) (one two : Unit {0} → Reader A) → Passes n (one tt) → Passes n (two tt) → Passes n (when test one two)
@@ -154,20 +147,13 @@ Stops-telling w order tells = record {
       ];
 }
 
-moved-err : {A : Type 0} (place : ℕ) (reader : Reader A) (bounds : Bounds) (s : Source) (r : Result (A × Source) Fault) (f : Fault) → reader bounds s ≡ r → refused_at place reader bounds s ≡ Err f → f.place ≡ place
-moved-err {A} place reader bounds s (Ok read) f is e =
-    let here : refused_at place reader bounds s ≡ Ok read = rw is refl in
-    let wrong : ◌≡◌ {A = Result (A × Source) Fault} (Ok read) (Err f) = cc in
-    absurd cc
-moved-err {A} place reader bounds s (Err fault) f is e =
-    let moved : Fault = record { place = place; why = fault.why } in
-    let here : refused_at place reader bounds s ≡ Err moved = rw is refl in
-    let same : ◌≡◌ {A = Result (A × Source) Fault} (Err moved) (Err f) = cc in
-    ap (λ (x : Fault). x.place) (err_is (A × Source) f moved cc)
+moved-err : {A : Type 0} (place : ℕ) (r : Result A Fault) (f : Fault) → moved_to place r ≡ Err f → f.place ≡ place
+moved-err place (Ok read) f e = absurd cc
+moved-err {A} place (Err fault) f e = let moved : Fault = record { place = place; why = fault.why } in ap (λ (x : Fault). x.place) (err_is A f moved cc)
 
 -- one whose faults stand at its first octet
 pub Stops-whole : {A : Type 0} (reader : Reader A) → Passes 0 reader → Stops (from_here (λ place. refused_at place reader))
 Stops-whole reader p = record {
   passes = Passes-from_here 0 _ (λ place. Passes-refused 0 place reader p);
-  upto = λ bounds s f e. let here = moved-err s.place reader bounds s (reader bounds s) f refl e in omega (arith, here);
+  upto = λ bounds s f e. let here = moved-err s.place (reader bounds s) f e in omega (arith, here);
 }

@@ -22,10 +22,12 @@ use Rattle.krb_packet.specs.declared.format.Format.{Format}
 use Rattle.krb_packet.specs.declared.format.Format.TheVariants as formats
 use Rattle.krb_packet.specs.declared.format.Next.{Next}
 use Rattle.krb_packet.specs.declared.format.Next.TheVariants as nexts
+use Rattle.krb_packet.specs.declared.field.CaptureField.TheVariants as capture
+use Rattle.krb_packet.specs.declared.field.BlockField.TheVariants as block
 use Rattle.krb_packet.specs.Numbers.{in_order, number_in, telling, number_telling, refused_at}
 use Rattle.krb_packet.specs.Parsers.{Refusal, Parser, onward, ◌>>=◌, gives, fields, named, HasParsed}
 use Rattle.krb_packet.specs.Pcaps.{magic_of, magic_at, version, header_at, captured, packet_at, next_at}
-use Rattle.krb_packet.specs.Bodies.{byte_order, body_size, after_byte_order, section_head_at, block_head_at, head_at, same_length, next_kind_at, content_at, in_body, block_kind}
+use Rattle.krb_packet.specs.Bodies.{byte_order, body_size, after_byte_order, section_head_at, head_of, head_at, same_length, next_kind_at, content_at, in_body, block_kind}
 use Rattle.krb_packet.specs.Blocks.{head_in, skipped_body, told_in_body, read_body, body_in, block_in, after_content, block_after, after_kind, next_block}
 use Rattle.krb_packet.specs.Captures.{header_in, packet_in, after_magic, begin_in, after_packet, next_in, blocks_of}
 use Rattle.krb_packet.proofs.Reaching.{Passes, Passes-gives, Passes-then, Passes-fewer, Passes-made, Passes-piece, Passes-octets, Passes-skipped, Passes-number_at, Passes-number, Passes-tells, Passes-telling, Passes-from_here, Passes-refused}
@@ -77,11 +79,8 @@ next_kind_passes order bounds place (octet ∷ octets) kind t e =
     subst (λ (x : Source). (place + 4 ≤ x.place) × (x.place + length x.octets ≡ place + length (octet ∷ octets))) same
     (passed.on bounds s a.0.0 a.0.1 a.1, passed.same bounds s a.0.0 a.0.1 a.1)
 
-Passes-block_head : (order : Order) → Passes 0 (block_head_at order)
-Passes-block_head order =
-    Passes-from_here 0 _ (λ place.
-    Passes-then 0 0 (number_in w32 order) _ (Passes-fewer 4 _ (Passes-number w32 order)) (λ length.
-    Passes-made 0 (telling place (body_size length)) _ (Passes-tells place (body_size length))))
+Passes-block_head : (order : Order) → Passes 0 (number_telling w32 order (head_of order))
+Passes-block_head order = Passes-fewer 4 _ (Passes-telling w32 order (head_of order))
 
 Passes-section_head : Passes 0 section_head_at
 Passes-section_head =
@@ -163,12 +162,14 @@ kind_advances section count (Some kind) bounds s u v t passed e =
     let p = passed kind refl in
     block_advances (formats.Pcapng section) kind section count bounds s u v t refl p.0 p.1 e
 
+Onward-header : (form : Form) → Onward 0 (header_in form)
+Onward-header form = Onward-from_here 0 _ (λ begin. Onward-fields 0 _ (header_at form) (Passes-header form))
+
 magic_advances : (count : ℕ) (magic : Magic) (bounds : Bounds) (s u : Source) (v : Next) (t : Source) → s.place + 4 ≤ u.place → u.place + length u.octets ≡ s.place + length s.octets → after_magic count magic bounds u ≡ Ok (v, t) → Advances formats.Unknown v s t
 magic_advances count (magics.Pcap form) bounds s u v t on same e =
     let a = parsed-ok (header_in form bounds u) (λ x. gives (nexts.Passed (formats.Pcap x.0)) bounds x.1) (v, t) e in
-    let header = Onward-from_here 0 _ (λ begin. Onward-fields 0 _ (header_at form) (Passes-header form)) in
-    let goes = header.on bounds u a.0.0 a.0.1 a.1 in
-    let all = header.same bounds u a.0.0 a.0.1 a.1 in
+    let goes = (Onward-header form).on bounds u a.0.0 a.0.1 a.1 in
+    let all = (Onward-header form).same bounds u a.0.0 a.0.1 a.1 in
     subst (λ (p : Next × Source). Advances formats.Unknown p.0 s p.1) (parsed_is (nexts.Passed (formats.Pcap a.0.0), a.0.1) (v, t) a.2)
     (record { on = omega (arith, on, goes); same = all ∙ same; blocks = omega arith })
 magic_advances count magics.Pcapng bounds s u v t on same e =
@@ -176,8 +177,8 @@ magic_advances count magics.Pcapng bounds s u v t on same e =
 
 pub step_advances : (format : Format) (count : ℕ) (bounds : Bounds) (s : Source) (v : Next) (t : Source) → next_in format count bounds s ≡ Ok (v, t) → Advances format v s t
 step_advances formats.Unknown count bounds s v t e =
-    let first = Onward-fields 4 _ magic_at (Passes-telling w32 orders.BigEndian magic_of) in
-    let a = parsed-ok (named _ magic_at bounds s) (λ x. after_magic count x.0 bounds x.1) (v, t) e in
+    let first : Onward 4 (named capture.Magic magic_at) = Onward-fields 4 (λ place. capture.Magic) magic_at (Passes-telling w32 orders.BigEndian magic_of) in
+    let a = parsed-ok (named capture.Magic magic_at bounds s) (λ x. after_magic count x.0 bounds x.1) (v, t) e in
     magic_advances count a.0.0 bounds s a.0.1 v t (first.on bounds s a.0.0 a.0.1 a.1) (first.same bounds s a.0.0 a.0.1 a.1) a.2
 step_advances (formats.Pcap header) count bounds s v t e =
     let a = parsed-ok (packet_in header count bounds s) (λ x. gives (after_packet header x.0) bounds x.1) (v, t) e in
@@ -186,7 +187,7 @@ step_advances (formats.Pcap header) count bounds s v t e =
     (pcap_advances header a.0.0 s a.0.1 (λ p is.
     next_passes header count bounds s.place s.octets p a.0.1 (subst (λ (o : Option Packet). next_at header count bounds s ≡ Ok (o, a.0.1)) is read)))
 step_advances (formats.Pcapng section) count bounds s v t e =
-    let a = parsed-ok (named _ (next_kind_at section.order) bounds s) (λ x. after_kind section count x.0 bounds x.1) (v, t) e in
+    let a = parsed-ok (named (capture.Block section.blocks block.Type) (next_kind_at section.order) bounds s) (λ x. after_kind section count x.0 bounds x.1) (v, t) e in
     let read = naming-ok _ (next_kind_at section.order bounds s) a.0 a.1 in
     kind_advances section count a.0.0 bounds s a.0.1 v t
     (λ k is. next_kind_passes section.order bounds s.place s.octets k a.0.1 (subst (λ (o : Option BlockKind). next_kind_at section.order bounds s ≡ Ok (o, a.0.1)) is read))

@@ -81,11 +81,14 @@ abbrev pub body_in : BlockKind → Section → ℕ → ℕ → Head → Parser C
 body_in kinds.Other section count place head = skipped_body section.blocks head
 body_in kind section count place head = read_body kind section count place head
 
+abbrev pub end_in : ℕ → Head → Parser (Unit {0})
+end_in blocks head = named (capture.Block blocks block.LengthAgain) (number_telling w32 head.order (same_length head.length))
+
 abbrev pub block_in : BlockKind → Section → ℕ → Parser Content
 block_in kind section count = from_here (λ start. do
   head ← head_in kind section
   content ← body_in kind section count (start + 4) head
-  same ← named (capture.Block section.blocks block.LengthAgain) (number_telling w32 head.order (same_length head.length))
+  same ← end_in section.blocks head
   gives content)
 
 -- ---- what stands in a file with a block: a section header ends the interfaces of the section before

@@ -40,11 +40,12 @@ body_size length =
     when (nat_lt 16777216 length) (λ _. Err why.TooLong) (λ _.
     Ok (length - 12)))
 
-abbrev pub block_head_at : Order → Reader Head
-block_head_at order = from_here (λ place. do
-  length ← number_in w32 order
-  left ← telling place (body_size length)
-  gives (record { order = order; length = length; left = left }))
+abbrev pub whole_head : Order → ℕ → Result ℕ FileWhy → Result Head FileWhy
+whole_head order length (Ok size) = Ok (record { order = order; length = length; left = size })
+whole_head order length (Err reason) = Err reason
+
+abbrev pub head_of : Order → ℕ → Result Head FileWhy
+head_of order length = whole_head order length (body_size length)
 
 -- The body of a section header (4.1) begins with what tells the order of octets, of the length before it, too.
 abbrev pub byte_order : ℕ → Result Order FileWhy
@@ -66,7 +67,7 @@ section_head_at = from_here (λ place. do
 
 abbrev pub head_at : BlockKind → Order → Reader Head
 head_at kinds.Section order = section_head_at
-head_at kind order = block_head_at order
+head_at kind order = number_telling w32 order (head_of order)
 
 -- the length again, after the body
 abbrev pub same_length : ℕ → ℕ → Result (Unit {0}) FileWhy
@@ -117,9 +118,12 @@ abbrev pub most_octets_at : ℕ → Reader (List ℕ)
 most_octets_at most = λ bounds source. octets_at (min most (room bounds.end source.place)) bounds source
 
 -- of the first interface, without a time
+abbrev pub first_interface : List Interface → Reader Interface
+first_interface interfaces = from_here (λ place. telling place (announced interfaces 0))
+
 abbrev pub simple_packet_at : Order → ℕ → List Interface → Reader Packet
 simple_packet_at order count interfaces = do
-  interface ← from_here (λ place. telling place (announced interfaces 0))
+  interface ← first_interface interfaces
   original ← number_in w32 order
   octets ← most_octets_at (most_of interface.most original)
   gives (record { number = count + 1; time = None; link = interface.link; octets = octets; size = original })

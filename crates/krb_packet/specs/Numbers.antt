@@ -34,12 +34,12 @@ abbrev pub number_telling : {A : Type 0} → Width → Order → (ℕ → Result
 number_telling width order tells = from_here (λ place. number_in width order >>= λ number. telling place (tells number))
 
 -- a fault is told at a place
+abbrev pub moved_to : {A : Type 0} → ℕ → Result A Fault → Result A Fault
+moved_to place (Ok read) = Ok read
+moved_to place (Err fault) = Err (record { place = place; why = fault.why })
+
 abbrev pub refused_at : {A : Type 0} → ℕ → Reader A → Reader A
-refused_at place reader = λ bounds source. moved place (reader bounds source)
-  where
-    abbrev moved : {A : Type 0} → ℕ → Result (A × Source) Fault → Result (A × Source) Fault
-    moved place (Ok read) = Ok read
-    moved place (Err fault) = Err (record { place = place; why = fault.why })
+refused_at place reader = λ bounds source. moved_to place (reader bounds source)
 
 -- the same, as the code has it
 abbrev pub told : {A : Type 0} → ℕ → Result A FileWhy → Result A FileFault

@@ -6,7 +6,7 @@ ghost use Rattle.krb_file.specs.Fields.{octets_at};
 ghost use Rattle.krb_file.specs.FieldReaders.{Follows, Stays, Keeps};
 ghost use Rattle.krb_packet.specs.declared.order.Order.TheVariants as orders;
 ghost use Rattle.krb_packet.specs.Numbers.{number_telling, refused_at};
-ghost use Rattle.krb_packet.specs.Bodies.{block_kind, byte_order, body_size, after_byte_order, section_head_at, block_head_at, head_at, same_length, next_kind_at};
+ghost use Rattle.krb_packet.specs.Bodies.{block_kind, byte_order, body_size, after_byte_order, section_head_at, head_of, head_at, same_length, next_kind_at};
 
 use crate::interface::Interface;
 use crate::order::{Order, number32, told};
@@ -141,19 +141,28 @@ fn section_head<F: FieldReader>(reader: &mut F) -> Result<Head, FileFault>
     })
 }
 
+/// Returns the head of another block that has `length` octets.
+fn head_of(order: Order, length: u32) -> Result<Head, FileWhy>
+    ensures { result ≡ head_of order length }
+{
+    match body_size(length) {
+        Ok(left) => Ok(Head {
+            order,
+            length,
+            left,
+        }),
+        Err(why) => Err(why),
+    }
+}
+
 /// Reads the head of another block, after its type.
 fn block_head<F: FieldReader>(order: Order, reader: &mut F) -> Result<Head, FileFault>
-    ensures read { Follows (λ head. head) result (block_head_at order) F.MayFail (F.held reader.old) (F.held reader.new) }
+    ensures read { Follows (λ head. head) result (number_telling w32 order (head_of order)) F.MayFail (F.held reader.old) (F.held reader.new) }
     ensures keeps { Keeps (F.held reader.old) (F.held reader.new) }
 {
     let place = reader.place();
-    let length = number32(order, reader)?;
-    let left = told(place, body_size(length))?;
-    Ok(Head {
-        order,
-        length,
-        left,
-    })
+    let number = number32(order, reader)?;
+    told(place, head_of(order, number))
 }
 
 /// Reads the head of a block of a kind, after its type.

@@ -3,7 +3,7 @@
 ghost use Rattle.std.specs.Prelude.{◌≡◌, ◌++◌, ◌^◌, ◌<◌, ◌≤◌, [], ◌∷◌, IfOk, OnOk};
 ghost use Rattle.krb_file.specs.FieldReaders.{Stays, Keeps};
 ghost use Rattle.krb_packet.specs.Parsers.{Parses, offset_of};
-ghost use Rattle.krb_packet.specs.Blocks.{fault_from, head_in, skipped_body, read_body, block_in, after_content, block_after, next_block};
+ghost use Rattle.krb_packet.specs.Blocks.{fault_from, head_in, skipped_body, read_body, body_in, end_in, block_in, after_content, block_after, next_block};
 
 use crate::block::{BlockKind, Head, Section, body_octets, length_again, next_kind, read_head};
 use crate::body::{Content, body_content, body_field};
@@ -93,6 +93,35 @@ fn read_body<F: FieldReader>(
     }
 }
 
+/// Reads the rest of a body, which begins at `place`, or passes over it.
+fn body<F: FieldReader>(
+    alloc: Global,
+    kind: BlockKind,
+    section: &Section,
+    count: u64,
+    place: u64,
+    head: Head,
+    reader: &mut F,
+) -> Result<Content, CaptureFault>
+    requires { count < 2 ^ 63 }
+    ensures read { Parses (λ content. content) result (body_in kind section.now count place head) F.MayFail (F.held reader.old) (F.held reader.new) }
+    ensures keeps { Keeps (F.held reader.old) (F.held reader.new) }
+{
+    match kind {
+        BlockKind::Other => skip_body(section.blocks, head, reader),
+        _ => read_body(alloc, kind, section, count, place, head, reader),
+    }
+}
+
+/// Reads the length at the end of a block.
+fn end<F: FieldReader>(blocks: u64, head: Head, reader: &mut F) -> Result<(), CaptureFault>
+    ensures read { Parses (λ done. done) result (end_in blocks head) F.MayFail (F.held reader.old) (F.held reader.new) }
+    ensures keeps { Keeps (F.held reader.old) (F.held reader.new) }
+{
+    let field = CaptureField::Block(blocks, BlockField::LengthAgain);
+    in_field(field, length_again(head, reader))
+}
+
 /// Reads a block of a kind, after its type.
 fn block<F: FieldReader>(
     alloc: Global,
@@ -107,12 +136,8 @@ fn block<F: FieldReader>(
 {
     let place = reader.place() + 4;
     let head = head(kind, section, reader)?;
-    let content = match kind {
-        BlockKind::Other => skip_body(section.blocks, head, reader)?,
-        _ => read_body(alloc, kind, section, count, place, head, reader)?,
-    };
-    let field = CaptureField::Block(section.blocks, BlockField::LengthAgain);
-    in_field(field, length_again(head, reader))?;
+    let content = body(alloc, kind, section, count, place, head, reader)?;
+    end(section.blocks, head, reader)?;
     Ok(content)
 }
 

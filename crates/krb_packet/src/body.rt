@@ -5,7 +5,7 @@ ghost use Rattle.std.specs.Int.{w16, w32};
 ghost use Rattle.krb_file.specs.Fields.{Gives, StandsIn};
 ghost use Rattle.krb_file.specs.FieldReaders.{Follows, Keeps};
 ghost use Rattle.krb_packet.specs.Numbers.{number_telling};
-ghost use Rattle.krb_packet.specs.Bodies.{announced, section_version, timed_packet_at, enhanced_packet_at, old_packet_at, most_of, simple_packet_at, content_at, in_body};
+ghost use Rattle.krb_packet.specs.Bodies.{announced, section_version, timed_packet_at, enhanced_packet_at, old_packet_at, first_interface, most_of, simple_packet_at, content_at, in_body};
 ghost use Rattle.krb_packet.specs.Blocks.{body_field};
 
 use crate::block::{BlockKind, Section};
@@ -61,6 +61,44 @@ fn announced(interfaces: &[Interface], index: u32) -> Result<Interface, FileWhy>
     }
 }
 
+/// Reads what tells an interface in 32 bits.
+fn interface32<F: FieldReader>(
+    order: Order,
+    interfaces: &[Interface],
+    reader: &mut F,
+) -> Result<Interface, FileFault>
+    ensures read { Follows (λ interface. interface) result (number_telling w32 order (announced interfaces.now)) F.MayFail (F.held reader.old) (F.held reader.new) }
+    ensures keeps { Keeps (F.held reader.old) (F.held reader.new) }
+{
+    let place = reader.place();
+    let number = number32(order, reader)?;
+    told(place, announced(interfaces, number))
+}
+
+/// Reads what tells an interface in 16 bits.
+fn interface16<F: FieldReader>(
+    order: Order,
+    interfaces: &[Interface],
+    reader: &mut F,
+) -> Result<Interface, FileFault>
+    ensures read { Follows (λ interface. interface) result (number_telling w16 order (announced interfaces.now)) F.MayFail (F.held reader.old) (F.held reader.new) }
+    ensures keeps { Keeps (F.held reader.old) (F.held reader.new) }
+{
+    let place = reader.place();
+    let number = number16(order, reader)?;
+    told(place, announced(interfaces, u32::from(number)))
+}
+
+/// Returns the first interface.
+fn first_interface<F: FieldReader>(
+    interfaces: &[Interface],
+    reader: &F,
+) -> Result<Interface, FileFault>
+    ensures { Follows (λ interface. interface) result (first_interface interfaces.now) F.MayFail (F.held reader.now) (F.held reader.now) }
+{
+    told(reader.place(), announced(interfaces, 0))
+}
+
 /// Reads a packet of an interface after what tells the interface.
 fn timed_packet<F: FieldReader>(
     alloc: Global,
@@ -81,7 +119,7 @@ fn timed_packet<F: FieldReader>(
     reader.octets(alloc, u64::from(captured), &mut octets)?;
     Ok(Packet {
         number: count + 1,
-        time: interface.clock.time((u64::from(high) << 32) + u64::from(low)),
+        time: interface.clock.time(u64::from(high) * (1 << 32) + u64::from(low)),
         link: interface.link,
         octets: Octets::new(octets),
         size: captured.max(original),
@@ -100,9 +138,7 @@ fn enhanced_packet<F: FieldReader>(
     ensures read { Follows (λ packet. packet) result (enhanced_packet_at order count interfaces.now) F.MayFail (F.held reader.old) (F.held reader.new) }
     ensures keeps { Keeps (F.held reader.old) (F.held reader.new) }
 {
-    let place = reader.place();
-    let index = number32(order, reader)?;
-    let interface = told(place, announced(interfaces, index))?;
+    let interface = interface32(order, interfaces, reader)?;
     timed_packet(alloc, order, count, interface, reader)
 }
 
@@ -118,9 +154,7 @@ fn old_packet<F: FieldReader>(
     ensures read { Follows (λ packet. packet) result (old_packet_at order count interfaces.now) F.MayFail (F.held reader.old) (F.held reader.new) }
     ensures keeps { Keeps (F.held reader.old) (F.held reader.new) }
 {
-    let place = reader.place();
-    let index = number16(order, reader)?;
-    let interface = told(place, announced(interfaces, u32::from(index)))?;
+    let interface = interface16(order, interfaces, reader)?;
     number16(order, reader)?;
     timed_packet(alloc, order, count, interface, reader)
 }
@@ -149,7 +183,7 @@ fn simple_packet<F: FieldReader>(
     ensures read { Follows (λ packet. packet) result (simple_packet_at order count interfaces.now) F.MayFail (F.held reader.old) (F.held reader.new) }
     ensures keeps { Keeps (F.held reader.old) (F.held reader.new) }
 {
-    let interface = told(reader.place(), announced(interfaces, 0))?;
+    let interface = first_interface(interfaces, reader)?;
     let original = number32(order, reader)?;
     let captured = u64::from(most_of(interface.most, original)).min(room(reader));
     let mut octets = reader.room(alloc);

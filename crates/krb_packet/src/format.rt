@@ -3,7 +3,7 @@
 ghost use Rattle.std.specs.Prelude.{◌≡◌, ◌^◌, ◌<◌, ◌≤◌, OnOk, [], Ok};
 ghost use Rattle.krb_file.specs.FieldReaders.{Stays, Keeps};
 ghost use Rattle.krb_packet.specs.Parsers.{Parses};
-ghost use Rattle.krb_packet.specs.Captures.{blocks_of, magic_in, header_in, packet_in, begin_in, next_in};
+ghost use Rattle.krb_packet.specs.Captures.{blocks_of, header_in, packet_in, begin_in, next_in};
 
 use crate::block::{BlockKind, Section};
 use crate::blocks::{block_after, next_block};

@@ -7,5 +7,5 @@ use Rattle.krb_packet.proofs.pcap.captured_length.Goals as goal
 
 pub returns-clause-read : goal.returns-clause-read
 returns-clause-read g c =
-    telling_follows w32 c.args.order captured g.F.FieldReader.MayFail c.in_ok-number.number (g.F.FieldReader.held c.args.reader.now) (g.F.FieldReader.held c.number32-number.new.reader) c.in_ok-number.ensures.read
+    telling_follows w32 c.args.order captured g.F.FieldReader.MayFail c.in_ok-number.number (g.F.FieldReader.held c.args.reader.now) (g.F.FieldReader.held c.number32.new.reader) c.in_ok-number.ensures.read
     c.place-place.result c.told.result c.place-place.ensures.value (c.told.ensures ∙ ap (told c.place-place.result) c.captured.ensures)
