@@ -34,7 +34,7 @@ starts file known is = rw is (record {
   rest = λ octets there. (packets octets, refl, ap packets there);
 })
 
-abbrev opening : Held → Format → ℕ → Reading
+abbrev pub opening : Held → Format → ℕ → Reading
 opening held format count = record { held = held; state = states.Open format; count = count }
 
 -- a step without a packet was read
@@ -49,28 +49,37 @@ passed_read file count number format after old new reads read = record {
       let b = reads.rest a.0 a.1 in
       let s = source_at old.place a.0 in
       let t = source_at new.place octets in
-      let e : next_in format number limits s ≡ Ok (nexts.Passed after, t) = subst (λ (k : Bounds). next_in format number k s ≡ Ok (nexts.Passed after, t)) reads.bounds a.2 in
-      (packets_after after number t, refl, ap (before reads.given) (sym (b.1 ∙ after-passed format number s after t e)) ∙ b.2);
+      let whose : next_in format number limits s ≡ Ok (nexts.Passed after, t) = subst (λ (k : Bounds). next_in format number k s ≡ Ok (nexts.Passed after, t)) reads.bounds a.2 in
+      let e : next_in format count limits s ≡ Ok (nexts.Passed after, t) = subst (λ (n : ℕ). next_in format n limits s ≡ Ok (nexts.Passed after, t)) reads.same whose in
+      (packets_after after count t, refl, ap (before reads.given) (sym (b.1 ∙ after-passed format count s after t e)) ∙ b.2);
 }
 
 -- a packet was read
+next_packet : (file : List ℕ) (count number : ℕ) (format after : Format) (x : Packet) (old new : Held) (reads : Reads (opening old format number) file count) (rest octets : List ℕ)
+    → next_in format number old.bounds (source_at old.place octets) ≡ Ok (nexts.Packet x after, source_at new.place rest) → packets_after format count (source_at old.place octets) ≡ with_first x (packets_after after (suc count) (source_at new.place rest))
+next_packet file count number format after x old new reads rest octets read =
+    let s = source_at old.place octets in
+    let t = source_at new.place rest in
+    let whose : next_in format number limits s ≡ Ok (nexts.Packet x after, t) = subst (λ (k : Bounds). next_in format number k s ≡ Ok (nexts.Packet x after, t)) reads.bounds read in
+    let e : next_in format count limits s ≡ Ok (nexts.Packet x after, t) = subst (λ (n : ℕ). next_in format n limits s ≡ Ok (nexts.Packet x after, t)) reads.same whose in
+    let one : count + 1 ≡ suc count = omega arith in
+    after-packet format count s x after t e ∙ ap (λ (n : ℕ). with_first x (packets_after after n t)) one
+
 packet_read : (file : List ℕ) (count number more : ℕ) (format after : Format) (x : Packet) (old new : Held) → more ≡ number + 1 → Reads (opening old format number) file count → HasParsed (next_in format number) (nexts.Packet x after) old new → Reads (opening new after more) file (suc count)
-packet_read file count number more format after x old new next reads read = rw next (record {
+packet_read file count number more format after x old new next reads read = record {
   bounds = read.same_bounds ∙ reads.bounds;
-  same = omega (arith, reads.same);
+  same = omega (arith, next, reads.same);
   given = reads.given ++ x ∷ [];
   counted = omega (arith, length-append reads.given (x ∷ []), reads.counted);
   rest = λ octets there.
       let a = read.from octets there in
       let b = reads.rest a.0 a.1 in
-      let s = source_at old.place a.0 in
-      let t = source_at new.place octets in
-      let e : next_in format number limits s ≡ Ok (nexts.Packet x after, t) = subst (λ (k : Bounds). next_in format number k s ≡ Ok (nexts.Packet x after, t)) reads.bounds a.2 in (
-        packets_after after (number + 1) t,
+      let left = packets_after after (suc count) (source_at new.place octets) in (
+        left,
         refl,
-        sym (regroup reads.given x (packets_after after (number + 1) t)) ∙ ap (before reads.given) (sym (b.1 ∙ after-packet format number s x after t e)) ∙ b.2,
+        sym (regroup reads.given x left) ∙ ap (before reads.given) (sym (b.1 ∙ next_packet file count number format after x old new reads octets a.0 a.2)) ∙ b.2,
       );
-})
+}
 
 pub packet_given : (file : List ℕ) (count number more : ℕ) (format after : Format) (x : Packet) (old new : Held) → more ≡ number + 1 → Reads (opening old format number) file count → HasParsed (next_in format number) (nexts.Packet x after) old new
     → IsPacket (packets file) count x × Reads (opening new after more) file (suc count)
@@ -78,11 +87,8 @@ packet_given file count number more format after x old new next reads read =
     let now = some_rest new in
     let a = read.from now.rest now.there in
     let b = reads.rest a.0 a.1 in
-    let s = source_at old.place a.0 in
-    let t = source_at new.place now.rest in
-    let e : next_in format number limits s ≡ Ok (nexts.Packet x after, t) = subst (λ (k : Bounds). next_in format number k s ≡ Ok (nexts.Packet x after, t)) reads.bounds a.2 in
-    let left = packets_after after (number + 1) t in
-    let whole : before reads.given (with_first x left) ≡ packets file = ap (before reads.given) (sym (b.1 ∙ after-packet format number s x after t e)) ∙ b.2 in (
+    let left = packets_after after (suc count) (source_at new.place now.rest) in
+    let whole : before reads.given (with_first x left) ≡ packets file = ap (before reads.given) (sym (b.1 ∙ next_packet file count number format after x old new reads now.rest a.0 a.2)) ∙ b.2 in (
       record {
         front = reads.given;
         back = left.packets;
@@ -107,8 +113,9 @@ end_given file count number format old new reads read =
     let b = reads.rest a.0 a.1 in
     let s = source_at old.place a.0 in
     let t = source_at new.place now.rest in
-    let e : next_in format number limits s ≡ Ok (nexts.End, t) = subst (λ (k : Bounds). next_in format number k s ≡ Ok (nexts.End, t)) reads.bounds a.2 in
-    ends_so file count None reads.given b.0 reads.counted (b.1 ∙ after-end format number s t e) b.2
+    let whose : next_in format number limits s ≡ Ok (nexts.End, t) = subst (λ (k : Bounds). next_in format number k s ≡ Ok (nexts.End, t)) reads.bounds a.2 in
+    let e : next_in format count limits s ≡ Ok (nexts.End, t) = subst (λ (n : ℕ). next_in format n limits s ≡ Ok (nexts.End, t)) reads.same whose in
+    ends_so file count None reads.given b.0 reads.counted (b.1 ∙ after-end format count s t e) b.2
 
 pub fault_given : (file : List ℕ) (count number : ℕ) (format : Format) (e : FileFault) (field : CaptureField) (MayFail : Type 0) (old : Held) → Reads (opening old format number) file count → FailsIn e field (next_in format number) MayFail old → FailsAfter file count e field
 fault_given file count number format faults.Read field MayFail old reads fails = tt
@@ -117,8 +124,9 @@ fault_given file count number format (faults.Refused place why) field MayFail ol
     let refusal : Refusal = record { fault = record { place = place; why = why }; field = field } in
     let b = reads.rest fails.octets fails.there in
     let s = source_at old.place fails.octets in
-    let e : next_in format number limits s ≡ Err refusal = subst (λ (k : Bounds). next_in format number k s ≡ Err refusal) reads.bounds fails.refused in
-    ends_so file count (Some refusal) reads.given b.0 reads.counted (b.1 ∙ after-fault format number s refusal e) b.2
+    let whose : next_in format number limits s ≡ Err refusal = subst (λ (k : Bounds). next_in format number k s ≡ Err refusal) reads.bounds fails.refused in
+    let e : next_in format count limits s ≡ Err refusal = subst (λ (n : ℕ). next_in format n limits s ≡ Err refusal) reads.same whose in
+    ends_so file count (Some refusal) reads.given b.0 reads.counted (b.1 ∙ after-fault format count s refusal e) b.2
 
 pub not_done : (file : List ℕ) (count number : ℕ) (held : Held) → Reads (record { held = held; state = states.Done; count = number }) file count → ⊥
 not_done file count number held reads = let now = some_rest held in (reads.rest now.rest now.there).1

@@ -53,19 +53,20 @@ fn header<F: FieldReader>(form: Form, reader: &mut F) -> Result<Header, CaptureF
     }
 }
 
-/// Reads the next packet of a pcap, if the file has not ended.
+/// Reads the next packet of a pcap, if the file has not ended. The reader is at `start`.
 fn packet<F: FieldReader>(
     alloc: Global,
     header: Header,
     count: u64,
+    start: u64,
     reader: &mut F,
 ) -> Result<Option<Packet>, CaptureFault>
-    requires { count < 2 ^ 63 }
+    requires few { count < 2 ^ 63 }
+    requires place { start ≡ (F.held reader.old).place }
     ensures read { Parses (λ packet. packet) result (packet_in header count) F.MayFail (F.held reader.old) (F.held reader.new) }
     ensures stays { OnOk result (Stays (F.held reader.old) (F.held reader.new)) }
     ensures on { (F.held reader.old).place ≤ (F.held reader.new).place }
 {
-    let start = reader.place();
     match next_captured(alloc, header, count, reader) {
         Ok(packet) => Ok(packet),
         Err(fault) => {
@@ -106,15 +107,17 @@ pub(crate) fn next_step<F: FieldReader>(
     count: u64,
     reader: &mut F,
 ) -> Result<Next, CaptureFault>
-    requires packets { count < 2 ^ 63 }
-    requires blocks { blocks_of format < 2 ^ 63 }
+    requires packets { count ≤ (F.held reader.old).place }
+    requires blocks { blocks_of format ≤ (F.held reader.old).place }
+    ensures few { (F.held reader.old).place < 2 ^ 63 }
     ensures read { Parses (λ next. next) result (next_in format count) F.MayFail (F.held reader.old) (F.held reader.new) }
     ensures stays { OnOk result (Stays (F.held reader.old) (F.held reader.new)) }
     ensures on { (F.held reader.old).place ≤ (F.held reader.new).place }
 {
+    let start = reader.place();
     match format {
         Format::Unknown => begin(alloc, count, reader),
-        Format::Pcap(header) => match packet(alloc, header, count, reader) {
+        Format::Pcap(header) => match packet(alloc, header, count, start, reader) {
             Ok(Some(packet)) => Ok(Next::Packet(packet, Format::Pcap(header))),
             Ok(None) => Ok(Next::End),
             Err(fault) => Err(fault),
