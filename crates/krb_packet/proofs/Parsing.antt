@@ -25,10 +25,12 @@ module _ {A : Type 0} (w : Width) (order : Order) (tells : ℕ → Result A File
     from = λ rest there.
         let a = read.from rest there in
         let s = source_at old.place a.0 in
-        let t = source_at new.place rest in
-        (a.0, a.1,
+        let t = source_at new.place rest in (
+          a.0,
+          a.1,
           ap (λ (r : Result (ℕ × Source) Fault). read_onward r (λ p. telling old.place (tells p.0) old.bounds p.1)) a.2
-          ∙ ap (λ (r : Result A FileWhy). telling old.place r old.bounds t) e);
+              ∙ ap (λ (r : Result A FileWhy). telling old.place r old.bounds t) e,
+        );
   }
   told_so (Err why) e =
       let now = some_rest new in

@@ -112,9 +112,9 @@ Stops-then reader next first others = record {
       elim (onward-err (reader bounds s) (λ p. next p.0 bounds p.1) f e) [
         | inl a ↦ first.upto bounds s f a
         | inr a ↦
-          let there = (others a.0.0).upto bounds a.0.1 f a.2 in
-          let same = first.passes.same bounds s a.0.0 a.0.1 a.1 in
-          omega (arith, there, same)
+            let there = (others a.0.0).upto bounds a.0.1 f a.2 in
+            let same = first.passes.same bounds s a.0.0 a.0.1 a.1 in
+            omega (arith, there, same)
       ];
 }
 

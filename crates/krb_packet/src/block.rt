@@ -220,7 +220,10 @@ fn same_length(length: u32, again: u32) -> Result<(), FileWhy>
 }
 
 /// Reads the kind of the next block, if the file has not ended.
-pub(crate) fn next_kind<F: FieldReader>(order: Order, reader: &mut F) -> Result<Option<BlockKind>, FileFault>
+pub(crate) fn next_kind<F: FieldReader>(
+    order: Order,
+    reader: &mut F,
+) -> Result<Option<BlockKind>, FileFault>
     ensures read { Follows (λ kind. kind) result (next_kind_at order) F.MayFail (F.held reader.old) (F.held reader.new) }
     ensures stays { OnOk result (Stays (F.held reader.old) (F.held reader.new)) }
     ensures on { (F.held reader.old).place ≤ (F.held reader.new).place }

@@ -82,7 +82,14 @@ fn read_body<F: FieldReader>(
     let field = CaptureField::Block(section.blocks, BlockField::Body);
     let octets = in_field(field, body_octets(alloc, place, head.left, reader))?;
     let interfaces = section.interfaces.as_slice();
-    match body_content(alloc, kind, head.order, count, interfaces, octets.as_slice()) {
+    match body_content(
+        alloc,
+        kind,
+        head.order,
+        count,
+        interfaces,
+        octets.as_slice(),
+    ) {
         Ok(content) => Ok(content),
         Err(fault) => {
             let field = body_field(kind, interfaces, offset(fault, 0));

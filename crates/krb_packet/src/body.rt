@@ -119,7 +119,9 @@ fn timed_packet<F: FieldReader>(
     reader.octets(alloc, u64::from(captured), &mut octets)?;
     Ok(Packet {
         number: count + 1,
-        time: interface.clock.time(u64::from(high) * (1 << 32) + u64::from(low)),
+        time: interface
+            .clock
+            .time(u64::from(high) * (1 << 32) + u64::from(low)),
         link: interface.link,
         octets: Octets::new(octets),
         size: captured.max(original),

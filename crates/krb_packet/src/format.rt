@@ -78,11 +78,7 @@ fn packet<F: FieldReader>(
 }
 
 /// Reads what a file begins with: the header of a pcap, or the first block of a pcapng.
-fn begin<F: FieldReader>(
-    alloc: Global,
-    count: u64,
-    reader: &mut F,
-) -> Result<Next, CaptureFault>
+fn begin<F: FieldReader>(alloc: Global, count: u64, reader: &mut F) -> Result<Next, CaptureFault>
     requires { count < 2 ^ 63 }
     ensures read { Parses (λ next. next) result (begin_in count) F.MayFail (F.held reader.old) (F.held reader.new) }
     ensures keeps { Keeps (F.held reader.old) (F.held reader.new) }

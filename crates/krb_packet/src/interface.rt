@@ -116,9 +116,7 @@ fn value<F: FieldReader>(
     } else if code == TIME_OFFSET && size == 8 {
         let mut octets = [0; 8];
         reader.fill(&mut octets)?;
-        Ok(Setting::Offset(i64::from_be_bytes(
-            order.highest_first(octets),
-        )))
+        Ok(Setting::Offset(i64::from_be_bytes(order.highest_first(octets))))
     } else {
         reader.skip(padded(size))?;
         Ok(Setting::Other)
@@ -171,7 +169,11 @@ fn is_at_end<F: FieldReader>(reader: &F) -> bool
 }
 
 /// Reads options up to the one that ends them, or up to the end, but no more than `most`.
-fn read_options<F: FieldReader>(order: Order, most: u64, reader: &mut F) -> Result<Options, FileFault>
+fn read_options<F: FieldReader>(
+    order: Order,
+    most: u64,
+    reader: &mut F,
+) -> Result<Options, FileFault>
     ensures read { Follows (λ options. options) result (options_within most order no_options) F.MayFail (F.held reader.old) (F.held reader.new) }
     ensures keeps { Keeps (F.held reader.old) (F.held reader.new) }
 {

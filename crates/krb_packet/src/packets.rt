@@ -97,11 +97,7 @@ impl<R: Read> Packets<R> {
     }
 
     /// Returns the next packet of a file that was read so far.
-    fn next_open(
-        &mut self,
-        format: Format,
-        alloc: Global,
-    ) -> Result<Option<Packet>, CaptureFault>
+    fn next_open(&mut self, format: Format, alloc: Global) -> Result<Option<Packet>, CaptureFault>
         requires { blocks_of format ≤ self.old.held.place }
         ensures next { (file : List ℕ) (given : ℕ) → Reads (record self.old { state = states.Open format }) file given → GivesNext file given result self.new }
         ensures stays { OnOk result (Stays self.old.held self.new.held) }

@@ -121,10 +121,7 @@ fn read_version<F: FieldReader>(order: Order, reader: &mut F) -> Result<(), File
 }
 
 /// Reads the header of a pcap after its magic.
-pub(crate) fn read_header<F: FieldReader>(
-    form: Form,
-    reader: &mut F,
-) -> Result<Header, FileFault>
+pub(crate) fn read_header<F: FieldReader>(form: Form, reader: &mut F) -> Result<Header, FileFault>
     ensures read { Follows (λ header. header) result (header_at form) F.MayFail (F.held reader.old) (F.held reader.new) }
     ensures keeps { Keeps (F.held reader.old) (F.held reader.new) }
 {
