@@ -1,5 +1,12 @@
+pub mod Bodies
+pub mod Clocks
 pub mod Gathering
+pub mod Heads
+pub mod Options
+pub mod Parsing
 pub mod Passing
 pub mod Reaching
+pub mod Steps
 pub mod Stepwise
 pub mod Streams
+pub mod Told

@@ -1,44 +1,28 @@
--- How far the fields of a capture file go, and what a number that tells nothing does.
-use Rattle.std.proofs.Common.{◌≡◌, ℕ, ◌+◌, ◌≤◌, Option, Some, None, Result, Ok, List, [], ◌∷◌, length, refl, ap, ◌∙◌, subst, arith, length-drop}
-use Rattle.krb_file.specs.Fields.{Source, Fault, Bounds, Reader, onward, ◌>>=◌, gives, next_octets_at, octets_at}
-use Rattle.krb_file.specs.FieldReaders.{Held, HasRead, HasMet, source_at}
+-- How far the fields of a capture file go, and where their faults stand.
+use Rattle.std.proofs.Common.{◌≡◌, ℕ, zero, suc, ◌+◌, ◌≤◌, ◌⊎◌, inl, inr, Bool, true, false, Option, Some, None, Result, Ok, Err, List, length, refl, ap, ◌∙◌, subst, arith, length-drop}
+use Rattle.std.specs.Int.{Width, w8, w16, w32, w64, byte_len, from_be_bytes, cast_signed}
+use Rattle.krb_der.specs.Octets.{when}
+use Rattle.krb_file.specs.Fields.{Source, Fault, Bounds, Reader, onward, ◌>>=◌, gives, are_zero, next_octets_at, octets_at, number_at, room, is_at_end}
+use Rattle.krb_file.specs.FieldReaders.{Held, HasRead, source_at, skipped_at}
 use Rattle.krb_file.specs.declared.fault.FileWhy.{FileWhy}
-use Rattle.krb_file.specs.declared.fault.FileWhy.TheVariants as why
-use Rattle.krb_file.proofs.Fields.{at, ok_is, onward-ok, piece-ok}
+use Rattle.krb_file.proofs.Fields.{ok_is, err_is, onward-ok, onward-err, piece-ok}
 use Rattle.krb_file.proofs.FieldReaders.{some_rest}
-use Rattle.krb_file.proofs.Reaching.{goes_on}
-use Rattle.krb_packet.specs.declared.pcap.Order.{Order}
-use Rattle.krb_packet.specs.declared.pcap.Header.{Header}
-use Rattle.krb_packet.specs.declared.packet.Packet.{Packet}
-use Rattle.krb_packet.specs.Captures.{in_order, number_in, told, number_telling, is_captured, packet_at, next_at}
-
--- ---- a number that tells nothing is refused
-pub telling_refuses : {A : Type 0} (order : Order) (reason : FileWhy) (tells : ℕ → Option A) (number place : ℕ) (old new : Held)
-    → place ≡ old.place → HasRead (number_in order) number old new → tells number ≡ None → HasMet (number_telling order reason tells) (record { place = place; why = reason }) old
-telling_refuses {A} order reason tells number place old new here read none =
-    let now = some_rest new in
-    let a = read.from now.rest now.there in
-    let s = source_at old.place a.0 in
-    rw here (record {
-      octets = a.0;
-      there = a.1;
-      refused =
-          ap (λ (r : Result (ℕ × Source) Fault). onward r (λ p. told reason s p.1 (tells p.0))) a.2
-          ∙ ap (λ (o : Option A). told reason s (source_at new.place now.rest) o) none;
-    })
+use Rattle.krb_file.proofs.Steps.{Steps-piece, Steps-octets}
+use Rattle.krb_packet.specs.declared.order.Order.{Order}
+use Rattle.krb_packet.specs.Numbers.{in_order, number_in, telling, from_here, number_telling, moved_to, refused_at}
 
 -- ---- n octets at least are passed, and no more than there are
 pub record Passes {A : Type 0} (n : ℕ) (reader : Reader A) : Type 0 where
   pub on : (bounds : Bounds) (s : Source) (v : A) (t : Source) → reader bounds s ≡ Ok (v, t) → s.place + n ≤ t.place
   pub same : (bounds : Bounds) (s : Source) (v : A) (t : Source) → reader bounds s ≡ Ok (v, t) → t.place + length t.octets ≡ s.place + length s.octets
 
-Passes-gives : {A : Type 0} (value : A) → Passes 0 (gives value)
+pub Passes-gives : {A : Type 0} (value : A) → Passes 0 (gives value)
 Passes-gives {A} value = record {
   on = λ bounds s v t e. subst (λ (p : A × Source). s.place + 0 ≤ p.1.place) (ok_is (value, s) (v, t) e) (omega arith);
   same = λ bounds s v t e. subst (λ (p : A × Source). p.1.place + length p.1.octets ≡ s.place + length s.octets) (ok_is (value, s) (v, t) e) refl;
 }
 
-Passes-then : {A B : Type 0} (m n : ℕ) (reader : Reader A) (next : A → Reader B) → Passes m reader → ((value : A) → Passes n (next value)) → Passes (m + n) (reader >>= next)
+pub Passes-then : {A B : Type 0} (m n : ℕ) (reader : Reader A) (next : A → Reader B) → Passes m reader → ((value : A) → Passes n (next value)) → Passes (m + n) (reader >>= next)
 Passes-then m n reader next first others = record {
   on = λ bounds s v t e.
       let a = onward-ok (reader bounds s) (λ p. next p.0 bounds p.1) (v, t) e in
@@ -50,68 +34,126 @@ Passes-then m n reader next first others = record {
       (others a.0.0).same bounds a.0.1 v t a.2 ∙ first.same bounds s a.0.0 a.0.1 a.1;
 }
 
-Passes-piece : (limit : Option ℕ) (size : ℕ) → Passes size (next_octets_at limit size)
-Passes-piece limit size = record {
+pub Passes-fewer : {A : Type 0} (n : ℕ) (reader : Reader A) → Passes n reader → Passes 0 reader
+Passes-fewer n reader p = record { on = λ bounds s v t e. let q = p.on bounds s v t e in omega (arith, q); same = p.same }
+
+piece_passes : (limit : Option ℕ) (size : ℕ) → Passes size (next_octets_at limit size)
+piece_passes limit size = record {
   on = λ bounds s v t e. let p = piece-ok limit size bounds s t v e in rw p.source (omega arith);
   same = λ bounds s v t e. let p = piece-ok limit size bounds s t v e in rw p.source (omega (arith, length-drop size s.octets, p.long));
 }
 
-Passes-octets : (size : ℕ) → Passes size (octets_at size)
+pub Passes-piece : (size : ℕ) → Passes size (next_octets_at None size)
+Passes-piece size = piece_passes None size
+
+pub Passes-octets : (size : ℕ) → Passes size (octets_at size)
 Passes-octets size = record {
-  on = λ bounds s v t e. (Passes-piece bounds.limit size).on bounds s v t e;
-  same = λ bounds s v t e. (Passes-piece bounds.limit size).same bounds s v t e;
+  on = λ bounds s v t e. (piece_passes bounds.limit size).on bounds s v t e;
+  same = λ bounds s v t e. (piece_passes bounds.limit size).same bounds s v t e;
 }
 
-Passes-number : (order : Order) → Passes 4 (number_in order)
-Passes-number order = Passes-then 4 0 (next_octets_at None 4) _ (Passes-piece None 4) (λ octets. Passes-gives (in_order order octets))
+pub Passes-made : {A B : Type 0} (n : ℕ) (reader : Reader A) (make : A → B) → Passes n reader → Passes n (reader >>= λ x. gives (make x))
+Passes-made n reader make first =
+    let p = Passes-then n 0 reader (λ x. gives (make x)) first (λ x. Passes-gives (make x)) in
+    record { on = λ bounds s v t e. let q = p.on bounds s v t e in omega (arith, q); same = p.same }
 
-told-ok : {A : Type 0} (reason : FileWhy) (s rest : Source) (o : Option A) (v : A) (t : Source) → told reason s rest o ≡ Ok (v, t) → rest ≡ t
-told-ok reason s rest None v t e = absurd cc
-told-ok {A} reason s rest (Some x) v t e = ap (λ (p : A × Source). p.1) (ok_is (x, rest) (v, t) e)
+pub Passes-skipped : (size : ℕ) → Passes size (skipped_at size)
+Passes-skipped size = Passes-made size (next_octets_at None size) are_zero (Passes-piece size)
 
-Passes-telling : {A : Type 0} (order : Order) (reason : FileWhy) (tells : ℕ → Option A) → Passes 4 (number_telling order reason tells)
-Passes-telling order reason tells = record {
-  on = λ bounds s v t e.
-      let a = onward-ok (number_in order bounds s) (λ p. told reason s p.1 (tells p.0)) (v, t) e in
-      subst (λ (x : Source). s.place + 4 ≤ x.place) (told-ok reason s a.0.1 (tells a.0.0) v t a.2) ((Passes-number order).on bounds s a.0.0 a.0.1 a.1);
-  same = λ bounds s v t e.
-      let a = onward-ok (number_in order bounds s) (λ p. told reason s p.1 (tells p.0)) (v, t) e in
-      subst (λ (x : Source). x.place + length x.octets ≡ s.place + length s.octets) (told-ok reason s a.0.1 (tells a.0.0) v t a.2) ((Passes-number order).same bounds s a.0.0 a.0.1 a.1);
+pub Passes-number_at : (w : Width) → Passes (byte_len w) (number_at w)
+Passes-number_at w = Passes-made (byte_len w) (next_octets_at None (byte_len w)) (from_be_bytes w) (Passes-piece (byte_len w))
+
+pub Passes-number : (w : Width) (order : Order) → Passes (byte_len w) (number_in w order)
+Passes-number w order = Passes-made (byte_len w) (next_octets_at None (byte_len w)) (in_order w order) (Passes-piece (byte_len w))
+
+pub Passes-tells : {A : Type 0} (place : ℕ) (tells : Result A FileWhy) → Passes 0 (telling place tells)
+Passes-tells place (Ok value) = Passes-gives value
+Passes-tells place (Err why) = record { on = λ bounds s v t e. absurd cc; same = λ bounds s v t e. absurd cc }
+
+pub Passes-from_here : {A : Type 0} (n : ℕ) (reader : ℕ → Reader A) → ((place : ℕ) → Passes n (reader place)) → Passes n (from_here reader)
+Passes-from_here n reader each = record { on = λ bounds s v t e. (each s.place).on bounds s v t e; same = λ bounds s v t e. (each s.place).same bounds s v t e }
+
+pub Passes-telling : {A : Type 0} (w : Width) (order : Order) (tells : ℕ → Result A FileWhy) → Passes (byte_len w + 0) (number_telling w order tells)
+Passes-telling w order tells = Passes-from_here (byte_len w + 0) _ (λ place. Passes-then (byte_len w) 0 (number_in w order) _ (Passes-number w order) (λ number. Passes-tells place (tells number)))
+
+moved-ok : {A : Type 0} (place : ℕ) (r : Result A Fault) (v : A) → moved_to place r ≡ Ok v → r ≡ Ok v
+moved-ok place (Ok read) v e = e
+moved-ok place (Err fault) v e = absurd cc
+
+pub Passes-refused : {A : Type 0} (n place : ℕ) (reader : Reader A) → Passes n reader → Passes n (refused_at place reader)
+Passes-refused n place reader p = record {
+  on = λ bounds s v t e. p.on bounds s v t (moved-ok place (reader bounds s) (v, t) e);
+  same = λ bounds s v t e. p.same bounds s v t (moved-ok place (reader bounds s) (v, t) e);
 }
 
-Passes-data : (size : ℕ) (make : List ℕ → Packet) → Passes (size + 0) (octets_at size >>= λ octets. gives (make octets))
-Passes-data size make = Passes-then size 0 (octets_at size) _ (Passes-octets size) (λ octets. Passes-gives (make octets))
+pub Passes-when : {A : Type 0} (n : ℕ) (test : Bool) (one two : Unit {0} → Reader A) → Passes n (one tt) → Passes n (two tt) → Passes n (when test one two)
+Passes-when n true one two p q = p
+Passes-when n false one two p q = q
 
-Passes-fewer : {A : Type 0} (n : ℕ) (reader : Reader A) → Passes n reader → Passes 0 reader
-Passes-fewer n reader p = record { on = λ bounds s v t e. let q = p.on bounds s v t e in omega (arith, q); same = p.same }
-
-pub Passes-packet : (header : Header) (count : ℕ) → Passes 16 (packet_at header count)
-Passes-packet header count =
-    Passes-then 4 12 (number_in header.form.order) _ (Passes-number header.form.order) (λ seconds.
-    Passes-then 4 8 (number_in header.form.order) _ (Passes-number header.form.order) (λ fraction.
-    Passes-then 4 4 (number_telling header.form.order why.TooLong is_captured) _ (Passes-telling header.form.order why.TooLong is_captured) (λ captured.
-    Passes-then 4 0 (number_in header.form.order) _ (Passes-number header.form.order) (λ original.
-    Passes-fewer (captured + 0) _ (Passes-data captured _)))))
-
-pub packet_goes : (header : Header) (count : ℕ) (packet : Packet) (old new : Held) → HasRead (packet_at header count) packet old new → old.place + 16 ≤ new.place
-packet_goes header count packet old new read = goes_on 16 (packet_at header count) packet old new (record { goes = (Passes-packet header count).on }) read
-
--- ---- the next packet, if there is one
-pub next-passes : (header : Header) (count : ℕ) (bounds : Bounds) (place : ℕ) (octets : List ℕ) (packet : Packet) (t : Source) → next_at header count bounds (at place octets) ≡ Ok (Some packet, t)
-    → (place + 16 ≤ t.place) × (t.place + length t.octets ≡ place + length octets)
-next-passes header count bounds place [] packet t e =
-    let same : ◌≡◌ {A = Option Packet} None (Some packet) = ap (λ (p : Option Packet × Source). p.0) (ok_is (None, at place []) (Some packet, t) e) in
-    absurd cc
-next-passes header count bounds place (octet ∷ octets) packet t e =
-    let s = at place (octet ∷ octets) in
-    let a = onward-ok (packet_at header count bounds s) (λ p. Ok (Some p.0, p.1)) (Some packet, t) e in
-    let same : a.0.1 ≡ t = ap (λ (p : Option Packet × Source). p.1) (ok_is (Some a.0.0, a.0.1) (Some packet, t) a.2) in
-    let passed = Passes-packet header count in
-    subst (λ (x : Source). (place + 16 ≤ x.place) × (x.place + length x.octets ≡ place + length (octet ∷ octets))) same
-    (passed.on bounds s a.0.0 a.0.1 a.1, passed.same bounds s a.0.0 a.0.1 a.1)
-
-pub next_goes : (header : Header) (count : ℕ) (packet : Packet) (old new : Held) → HasRead (next_at header count) (Some packet) old new → old.place + 16 ≤ new.place
-next_goes header count packet old new read =
+-- ---- so of what a reader of fields still has
+pub read_goes : {A : Type 0} (n : ℕ) (reader : Reader A) (value : A) (old new : Held) → Passes n reader → HasRead reader value old new → old.place + n ≤ new.place
+read_goes n reader value old new passes read =
     let now = some_rest new in
     let a = read.from now.rest now.there in
-    (next-passes header count old.bounds old.place a.0 packet (source_at new.place now.rest) a.2).0
+    passes.on old.bounds (source_at old.place a.0) value (source_at new.place now.rest) a.2
+
+-- ---- a fault stands among the octets or at their end
+pub record Stops {A : Type 0} (reader : Reader A) : Type 0 where
+  pub passes : Passes 0 reader
+  pub upto : (bounds : Bounds) (s : Source) (f : Fault) → reader bounds s ≡ Err f → f.place ≤ s.place + length s.octets
+
+pub Stops-gives : {A : Type 0} (value : A) → Stops (gives value)
+Stops-gives value = record { passes = Passes-gives value; upto = λ bounds s f e. absurd cc }
+
+pub Stops-then : {A B : Type 0} (reader : Reader A) (next : A → Reader B) → Stops reader → ((value : A) → Stops (next value)) → Stops (reader >>= next)
+Stops-then reader next first others = record {
+  passes = Passes-then 0 0 reader next first.passes (λ value. (others value).passes);
+  upto = λ bounds s f e.
+      elim (onward-err (reader bounds s) (λ p. next p.0 bounds p.1) f e) [
+        | inl a ↦ first.upto bounds s f a
+        | inr a ↦
+            let there = (others a.0.0).upto bounds a.0.1 f a.2 in
+            let same = first.passes.same bounds s a.0.0 a.0.1 a.1 in
+            omega (arith, there, same)
+      ];
+}
+
+pub Stops-piece : (size : ℕ) → Stops (next_octets_at None size)
+Stops-piece size = record { passes = Passes-fewer size _ (Passes-piece size); upto = λ bounds s f e. ((Steps-piece size).faults bounds s f e).upto }
+
+pub Stops-octets : (size : ℕ) → Stops (octets_at size)
+Stops-octets size = record { passes = Passes-fewer size _ (Passes-octets size); upto = λ bounds s f e. ((Steps-octets size).faults bounds s f e).upto }
+
+pub Stops-number : (w : Width) (order : Order) → Stops (number_in w order)
+Stops-number w order = Stops-then (next_octets_at None (byte_len w)) _ (Stops-piece (byte_len w)) (λ octets. Stops-gives (in_order w order octets))
+
+telling-err : {A : Type 0} (place : ℕ) (tells : Result A FileWhy) (bounds : Bounds) (s : Source) (f : Fault) → telling place tells bounds s ≡ Err f → f.place ≡ place
+telling-err place (Ok value) bounds s f e = absurd cc
+telling-err {A} place (Err why) bounds s f e = ap (λ (x : Fault). x.place) (err_is (A × Source) f (record { place = place; why = why }) cc)
+
+pub Stops-tells : {A : Type 0} (tells : Result A FileWhy) → Stops (from_here (λ place. telling place tells))
+Stops-tells tells = record {
+  passes = Passes-from_here 0 _ (λ place. Passes-tells place tells);
+  upto = λ bounds s f e. let here = telling-err s.place tells bounds s f e in omega (arith, here);
+}
+
+pub Stops-telling : {A : Type 0} (w : Width) (order : Order) (tells : ℕ → Result A FileWhy) → Stops (number_telling w order tells)
+Stops-telling w order tells = record {
+  passes = Passes-fewer (byte_len w + 0) _ (Passes-telling w order tells);
+  upto = λ bounds s f e.
+      elim (onward-err (number_in w order bounds s) (λ p. telling s.place (tells p.0) bounds p.1) f e) [
+        | inl a ↦ (Stops-number w order).upto bounds s f a
+        | inr a ↦ let here = telling-err s.place (tells a.0.0) bounds a.0.1 f a.2 in omega (arith, here)
+      ];
+}
+
+moved-err : {A : Type 0} (place : ℕ) (r : Result A Fault) (f : Fault) → moved_to place r ≡ Err f → f.place ≡ place
+moved-err place (Ok read) f e = absurd cc
+moved-err {A} place (Err fault) f e = let moved : Fault = record { place = place; why = fault.why } in ap (λ (x : Fault). x.place) (err_is A f moved cc)
+
+-- one whose faults stand at its first octet
+pub Stops-whole : {A : Type 0} (reader : Reader A) → Passes 0 reader → Stops (from_here (λ place. refused_at place reader))
+Stops-whole reader p = record {
+  passes = Passes-from_here 0 _ (λ place. Passes-refused 0 place reader p);
+  upto = λ bounds s f e. let here = moved-err s.place (reader bounds s) f e in omega (arith, here);
+}

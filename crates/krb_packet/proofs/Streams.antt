@@ -1,18 +1,22 @@
 -- A capture file that is read one packet at a time: what each call makes of what is still to be given.
 use Rattle.std.proofs.Common.{◌≡◌, ℕ, suc, ◌+◌, Option, Some, None, Ok, Err, List, [], ◌∷◌, ◌++◌, length, refl, sym, ◌∙◌, ap, subst, arith, append_assoc, append-nil, length-append}
 use Rattle.krb_file.specs.Fields.{Fault, Bounds, limited}
-use Rattle.krb_file.specs.FieldReaders.{Held, source_at, HasRead, FailsBy}
+use Rattle.krb_file.specs.FieldReaders.{Held, source_at}
 use Rattle.krb_file.specs.declared.fault.FileFault.{FileFault}
 use Rattle.krb_file.specs.declared.fault.FileFault.TheVariants as faults
 use Rattle.krb_file.proofs.FieldReaders.{some_rest}
-use Rattle.krb_packet.specs.declared.pcap.Header.{Header}
 use Rattle.krb_packet.specs.declared.packet.Packet.{Packet}
-use Rattle.krb_packet.specs.declared.field.CaptureField.TheVariants as fields
-use Rattle.krb_packet.specs.declared.packets.CaptureFault.{CaptureFault}
+use Rattle.krb_packet.specs.declared.format.Format.{Format}
+use Rattle.krb_packet.specs.declared.format.Format.TheVariants as formats
+use Rattle.krb_packet.specs.declared.format.Next.TheVariants as nexts
+use Rattle.krb_packet.specs.declared.field.CaptureField.{CaptureField}
+use Rattle.krb_packet.specs.declared.fault.CaptureFault.{CaptureFault}
 use Rattle.krb_packet.specs.declared.packets.State.TheVariants as states
-use Rattle.krb_packet.specs.Captures.{most_captured, header_at, header_field, packet_field, header_refused, packet_refused, next_at, Refusal, Packets, with_first, no_packets, opened, packets_after, packets}
-use Rattle.krb_packet.specs.Streaming.{Reading, before, Reads, IsPacket, EndsBy, offset_of, FailsAfter}
-use Rattle.krb_packet.proofs.Stepwise.{after-packet, after-end, after-fault}
+use Rattle.krb_packet.specs.Parsers.{Refusal, HasParsed, FailsIn}
+use Rattle.krb_packet.specs.Pcaps.{most_captured}
+use Rattle.krb_packet.specs.Captures.{next_in, Packets, with_first, no_packets, packets_after, packets}
+use Rattle.krb_packet.specs.Streaming.{Reading, before, Reads, IsPacket, EndsBy, FailsAfter}
+use Rattle.krb_packet.proofs.Stepwise.{after-packet, after-passed, after-end, after-fault}
 
 abbrev limits : Bounds
 limits = limited (Some most_captured)
@@ -21,24 +25,21 @@ regroup : (given : List Packet) (x : Packet) (left : Packets) → before given (
 regroup given x left = ap (λ (xs : List Packet). let it : Packets = record { packets = xs; refusal = left.refusal } in it) (sym (append_assoc given (x ∷ []) left.packets))
 
 -- nothing was read
-pub starts : (file : List ℕ) (known : Option (List ℕ)) → known ≡ Some file → Reads (record { held = record { ahead = []; left = known; place = 0; bounds = limits }; state = states.Start; count = 0 }) file 0
+pub starts : (file : List ℕ) (known : Option (List ℕ)) → known ≡ Some file → Reads (record { held = record { ahead = []; left = known; place = 0; bounds = limits }; state = states.Open formats.Unknown; count = 0 }) file 0
 starts file known is = rw is (record {
   bounds = refl;
   same = refl;
   given = [];
   counted = refl;
-  rest = λ octets there. (packets octets, (refl, refl), ap packets there);
+  rest = λ octets there. (packets octets, refl, ap packets there);
 })
 
-abbrev opening : Held → Header → ℕ → Reading
-opening held header count = record { held = held; state = states.Open header; count = count }
+abbrev pub opening : Held → Format → ℕ → Reading
+opening held format count = record { held = held; state = states.Open format; count = count }
 
-abbrev starting : Held → ℕ → Reading
-starting held count = record { held = held; state = states.Start; count = count }
-
--- the header was read
-pub opens : (file : List ℕ) (count number : ℕ) (header : Header) (old new : Held) → Reads (starting old number) file count → HasRead header_at header old new → Reads (opening new header number) file count
-opens file count number header old new reads read = record {
+-- a step without a packet was read
+pub passed_read : (file : List ℕ) (count number : ℕ) (format after : Format) (old new : Held) → Reads (opening old format number) file count → HasParsed (next_in format number) (nexts.Passed after) old new → Reads (opening new after number) file count
+passed_read file count number format after old new reads read = record {
   bounds = read.same_bounds ∙ reads.bounds;
   same = reads.same;
   given = reads.given;
@@ -46,17 +47,26 @@ opens file count number header old new reads read = record {
   rest = λ octets there.
       let a = read.from octets there in
       let b = reads.rest a.0 a.1 in
-      let e : header_at limits (source_at old.place a.0) ≡ Ok (header, source_at new.place octets) = subst (λ (k : Bounds). header_at k (source_at old.place a.0) ≡ Ok (header, source_at new.place octets)) reads.bounds a.2 in
-      let none : packets_after header 0 (source_at new.place octets) ≡ packets_after header count (source_at new.place octets) = ap (λ (n : ℕ). packets_after header n (source_at new.place octets)) (sym b.1.0) in (
-        packets_after header count (source_at new.place octets),
-        refl,
-        ap (before reads.given) (sym (b.1.1 ∙ ap opened e ∙ none)) ∙ b.2,
-      );
+      let s = source_at old.place a.0 in
+      let t = source_at new.place octets in
+      let whose : next_in format number limits s ≡ Ok (nexts.Passed after, t) = subst (λ (k : Bounds). next_in format number k s ≡ Ok (nexts.Passed after, t)) reads.bounds a.2 in
+      let e : next_in format count limits s ≡ Ok (nexts.Passed after, t) = subst (λ (n : ℕ). next_in format n limits s ≡ Ok (nexts.Passed after, t)) reads.same whose in
+      (packets_after after count t, refl, ap (before reads.given) (sym (b.1 ∙ after-passed format count s after t e)) ∙ b.2);
 }
 
 -- a packet was read
-packet_read : (file : List ℕ) (count number more : ℕ) (header : Header) (x : Packet) (old new : Held) → more ≡ number + 1 → Reads (opening old header number) file count → HasRead (next_at header number) (Some x) old new → Reads (opening new header more) file (suc count)
-packet_read file count number more header x old new next reads read = record {
+next_packet : (file : List ℕ) (count number : ℕ) (format after : Format) (x : Packet) (old new : Held) (reads : Reads (opening old format number) file count) (rest octets : List ℕ)
+    → next_in format number old.bounds (source_at old.place octets) ≡ Ok (nexts.Packet x after, source_at new.place rest) → packets_after format count (source_at old.place octets) ≡ with_first x (packets_after after (suc count) (source_at new.place rest))
+next_packet file count number format after x old new reads rest octets read =
+    let s = source_at old.place octets in
+    let t = source_at new.place rest in
+    let whose : next_in format number limits s ≡ Ok (nexts.Packet x after, t) = subst (λ (k : Bounds). next_in format number k s ≡ Ok (nexts.Packet x after, t)) reads.bounds read in
+    let e : next_in format count limits s ≡ Ok (nexts.Packet x after, t) = subst (λ (n : ℕ). next_in format n limits s ≡ Ok (nexts.Packet x after, t)) reads.same whose in
+    let one : count + 1 ≡ suc count = omega arith in
+    after-packet format count s x after t e ∙ ap (λ (n : ℕ). with_first x (packets_after after n t)) one
+
+packet_read : (file : List ℕ) (count number more : ℕ) (format after : Format) (x : Packet) (old new : Held) → more ≡ number + 1 → Reads (opening old format number) file count → HasParsed (next_in format number) (nexts.Packet x after) old new → Reads (opening new after more) file (suc count)
+packet_read file count number more format after x old new next reads read = record {
   bounds = read.same_bounds ∙ reads.bounds;
   same = omega (arith, next, reads.same);
   given = reads.given ++ x ∷ [];
@@ -64,32 +74,28 @@ packet_read file count number more header x old new next reads read = record {
   rest = λ octets there.
       let a = read.from octets there in
       let b = reads.rest a.0 a.1 in
-      let s = source_at old.place a.0 in
-      let t = source_at new.place octets in
-      let whose : next_at header number limits s ≡ Ok (Some x, t) = subst (λ (k : Bounds). next_at header number k s ≡ Ok (Some x, t)) reads.bounds a.2 in
-      let e : next_at header count limits s ≡ Ok (Some x, t) = subst (λ (n : ℕ). next_at header n limits s ≡ Ok (Some x, t)) reads.same whose in
-      let one : count + 1 ≡ suc count = omega arith in
-      let here : packets_after header count s ≡ with_first x (packets_after header (suc count) t) = after-packet header count s t x e ∙ ap (λ (n : ℕ). with_first x (packets_after header n t)) one in (
-        packets_after header (suc count) t,
+      let left = packets_after after (suc count) (source_at new.place octets) in (
+        left,
         refl,
-        sym (regroup reads.given x (packets_after header (suc count) t)) ∙ ap (before reads.given) (sym (b.1 ∙ here)) ∙ b.2,
+        sym (regroup reads.given x left) ∙ ap (before reads.given) (sym (b.1 ∙ next_packet file count number format after x old new reads octets a.0 a.2)) ∙ b.2,
       );
 }
 
-pub packet_given : (file : List ℕ) (count number more : ℕ) (header : Header) (x : Packet) (old new : Held) → more ≡ number + 1 → Reads (opening old header number) file count → HasRead (next_at header number) (Some x) old new
-    → IsPacket (packets file) count x × Reads (opening new header more) file (suc count)
-unfolding packet_read
-packet_given file count number more header x old new next reads read =
-    let after = packet_read file count number more header x old new next reads read in
+pub packet_given : (file : List ℕ) (count number more : ℕ) (format after : Format) (x : Packet) (old new : Held) → more ≡ number + 1 → Reads (opening old format number) file count → HasParsed (next_in format number) (nexts.Packet x after) old new
+    → IsPacket (packets file) count x × Reads (opening new after more) file (suc count)
+packet_given file count number more format after x old new next reads read =
     let now = some_rest new in
-    let b = after.rest now.rest now.there in (
+    let a = read.from now.rest now.there in
+    let b = reads.rest a.0 a.1 in
+    let left = packets_after after (suc count) (source_at new.place now.rest) in
+    let whole : before reads.given (with_first x left) ≡ packets file = ap (before reads.given) (sym (b.1 ∙ next_packet file count number format after x old new reads now.rest a.0 a.2)) ∙ b.2 in (
       record {
         front = reads.given;
-        back = (b.0).packets;
+        back = left.packets;
         counted = reads.counted;
-        parts = sym (ap (λ (i : Packets). i.packets) b.2) ∙ append_assoc reads.given (x ∷ []) (b.0).packets;
+        parts = sym (ap (λ (i : Packets). i.packets) whole);
       },
-      after,
+      packet_read file count number more format after x old new next reads read,
     )
 
 ends_so : (file : List ℕ) (count : ℕ) (refusal : Option Refusal) (given : List Packet) (left : Packets) → length given ≡ count → left ≡ no_packets refusal → before given left ≡ packets file → EndsBy (packets file) count refusal
@@ -100,42 +106,27 @@ ends_so file count refusal given left counted is whole =
       is = ap (λ (i : Packets). i.refusal) all;
     }
 
-pub end_given : (file : List ℕ) (count number : ℕ) (header : Header) (old new : Held) → Reads (opening old header number) file count → HasRead (next_at header number) None old new → EndsBy (packets file) count None
-end_given file count number header old new reads read =
+pub end_given : (file : List ℕ) (count number : ℕ) (format : Format) (old new : Held) → Reads (opening old format number) file count → HasParsed (next_in format number) nexts.End old new → EndsBy (packets file) count None
+end_given file count number format old new reads read =
     let now = some_rest new in
     let a = read.from now.rest now.there in
     let b = reads.rest a.0 a.1 in
     let s = source_at old.place a.0 in
     let t = source_at new.place now.rest in
-    let whose : next_at header number limits s ≡ Ok (None, t) = subst (λ (k : Bounds). next_at header number k s ≡ Ok (None, t)) reads.bounds a.2 in
-    let e : next_at header count limits s ≡ Ok (None, t) = subst (λ (n : ℕ). next_at header n limits s ≡ Ok (None, t)) reads.same whose in
-    ends_so file count None reads.given b.0 reads.counted (b.1 ∙ after-end header count s t e) b.2
+    let whose : next_in format number limits s ≡ Ok (nexts.End, t) = subst (λ (k : Bounds). next_in format number k s ≡ Ok (nexts.End, t)) reads.bounds a.2 in
+    let e : next_in format count limits s ≡ Ok (nexts.End, t) = subst (λ (n : ℕ). next_in format n limits s ≡ Ok (nexts.End, t)) reads.same whose in
+    ends_so file count None reads.given b.0 reads.counted (b.1 ∙ after-end format count s t e) b.2
 
-pub fault_given : (file : List ℕ) (count number offset : ℕ) (header : Header) (e : FileFault) (MayFail : Type 0) (old : Held) → Reads (opening old header number) file count → FailsBy e (next_at header number) MayFail old
-    → offset ≡ offset_of e old.place → FailsAfter file count e (fields.Packet number (packet_field offset))
-fault_given file count number offset header faults.Read MayFail old reads fails field = tt
-fault_given file count number offset header faults.Memory MayFail old reads fails field = tt
-fault_given file count number offset header (faults.Refused place why) MayFail old reads fails field =
-    let fault : Fault = record { place = place; why = why } in
+pub fault_given : (file : List ℕ) (count number : ℕ) (format : Format) (e : FileFault) (field : CaptureField) (MayFail : Type 0) (old : Held) → Reads (opening old format number) file count → FailsIn e field (next_in format number) MayFail old → FailsAfter file count e field
+fault_given file count number format faults.Read field MayFail old reads fails = tt
+fault_given file count number format faults.Memory field MayFail old reads fails = tt
+fault_given file count number format (faults.Refused place why) field MayFail old reads fails =
+    let refusal : Refusal = record { fault = record { place = place; why = why }; field = field } in
     let b = reads.rest fails.octets fails.there in
     let s = source_at old.place fails.octets in
-    let whose : next_at header number limits s ≡ Err fault = subst (λ (k : Bounds). next_at header number k s ≡ Err fault) reads.bounds fails.refused in
-    let e : next_at header count limits s ≡ Err fault = subst (λ (n : ℕ). next_at header n limits s ≡ Err fault) reads.same whose in
-    let here = ends_so file count (Some (packet_refused count old.place fault)) reads.given b.0 reads.counted (b.1 ∙ after-fault header count s fault e) b.2 in
-    rw (field, reads.same) here
-
-pub header_fault_given : (file : List ℕ) (count number offset : ℕ) (e : FileFault) (MayFail : Type 0) (old : Held) → Reads (starting old number) file count → FailsBy e header_at MayFail old
-    → offset ≡ offset_of e 0 → FailsAfter file count e (header_field offset)
-header_fault_given file count number offset faults.Read MayFail old reads fails field = tt
-header_fault_given file count number offset faults.Memory MayFail old reads fails field = tt
-header_fault_given file count number offset (faults.Refused place why) MayFail old reads fails field =
-    let fault : Fault = record { place = place; why = why } in
-    let b = reads.rest fails.octets fails.there in
-    let s = source_at old.place fails.octets in
-    let e : header_at limits s ≡ Err fault = subst (λ (k : Bounds). header_at k s ≡ Err fault) reads.bounds fails.refused in
-    let here = ends_so file count (Some (header_refused fault)) reads.given b.0 reads.counted (b.1.1 ∙ ap opened e) b.2 in
-    let same : offset ≡ place = omega (arith, field) in
-    rw same here
+    let whose : next_in format number limits s ≡ Err refusal = subst (λ (k : Bounds). next_in format number k s ≡ Err refusal) reads.bounds fails.refused in
+    let e : next_in format count limits s ≡ Err refusal = subst (λ (n : ℕ). next_in format n limits s ≡ Err refusal) reads.same whose in
+    ends_so file count (Some refusal) reads.given b.0 reads.counted (b.1 ∙ after-fault format count s refusal e) b.2
 
 pub not_done : (file : List ℕ) (count number : ℕ) (held : Held) → Reads (record { held = held; state = states.Done; count = number }) file count → ⊥
 not_done file count number held reads = let now = some_rest held in (reads.rest now.rest now.there).1

@@ -9,6 +9,7 @@ use Rattle.krb_packet.specs.declared.packet.Packet.{Packet}
 use Rattle.krb_packet.specs.declared.packet.LinkType.TheVariants as links
 use Rattle.krb_packet.specs.declared.field.CaptureField.TheVariants as fields
 use Rattle.krb_packet.specs.declared.field.PacketField.TheVariants as packet_fields
+use Rattle.krb_packet.specs.declared.field.BlockField.TheVariants as block_fields
 use Rattle.krb_packet.specs.declared.contents.Contents.TheVariants as contents
 use Rattle.krb_packet.specs.declared.contents.Original.{Original}
 use Rattle.krb_packet.specs.declared.contents.Fragment.{Fragment}
@@ -16,7 +17,8 @@ use Rattle.krb_packet.specs.Payloads.{Captured, field, number8, number16, number
 use Rattle.krb_packet.specs.Contents.{datagram, segment, transport, announced, ipv4, options, extension, after_headers, ipv6, network, tag, ethernet, raw_ip, frame, contents_of}
 use Rattle.krb_packet.specs.Table.{Table}
 use Rattle.krb_packet.specs.Fragments.{no_fragments, step, unread}
-use Rattle.krb_packet.specs.Captures.{Refusal, Packets, packets}
+use Rattle.krb_packet.specs.Parsers.{Refusal}
+use Rattle.krb_packet.specs.Captures.{Packets, packets}
 
 -- ---- a capture with the first segment of a connection from 127.0.0.1:42700 to port 88
 abbrev header : List ℕ
@@ -41,6 +43,32 @@ one_is_read = refl
 none_is_read : packets header ≡ only []
 none_is_read = refl
 
+-- ---- a pcapng: a section header, an interface, and a packet of which two octets were not captured
+abbrev section : List ℕ
+section = hex (codes "0A0D0D0A 1C000000 4D3C2B1A 0100 0000 FFFFFFFFFFFFFFFF 1C000000")
+
+abbrev interface : List ℕ
+interface = hex (codes "01000000 14000000 0100 0000 00000400 14000000")
+
+abbrev block : List ℕ
+block = hex (codes "06000000 24000000 00000000 18610600E782232B 03000000 05000000 6B657300 24000000")
+
+abbrev in_block : Packet
+in_block = record { number = 1; time = Some (record { seconds = 1795606291; nanoseconds = 120871000 }); link = links.Ethernet; octets = hex (codes "6B6573"); size = 5 }
+
+block_is_read : packets (section ++ interface ++ block) ≡ only (in_block ∷ [])
+block_is_read = refl
+
+-- of an interface whose times are nanoseconds (9) after the first ten seconds of 1970 (14)
+abbrev clocked : List ℕ
+clocked = hex (codes "01000000 2C000000 0100 0000 00000400 0900 0100 09000000 0E00 0800 0A00000000000000 0000 0000 2C000000")
+
+abbrev timed : List ℕ
+timed = hex (codes "06000000 24000000 00000000 6646EB185872AB2E 03000000 05000000 6B657300 24000000")
+
+clock_is_read : packets (section ++ clocked ++ timed) ≡ only (in_block ∷ [])
+clock_is_read = refl
+
 -- ---- refusals: the first field at fault, and the packets before it
 abbrev refused : List Packet → Refusal → Packets
 refused found refusal = record { packets = found; refusal = Some refusal }
@@ -56,6 +84,12 @@ cut_packet_is_refused = refl
 
 long_packet_is_refused : packets (hex (codes "A1B2C3D4 0002 0004 00000000 00000000 00000400 00000065 00000001 00000000 01000001")) ≡ refused [] (record { fault = record { place = 32; why = why.TooLong }; field = fields.Packet 0 packet_fields.CapturedLength })
 long_packet_is_refused = refl
+
+interface_is_refused : packets (section ++ block) ≡ refused [] (record { fault = record { place = 36; why = why.Overrun }; field = fields.Block 1 block_fields.Interface })
+interface_is_refused = refl
+
+cut_block_is_refused : packets (section ++ interface ++ block ++ take 20 block) ≡ refused (in_block ∷ []) (record { fault = record { place = 92; why = why.Truncated }; field = fields.Block 3 block_fields.Body })
+cut_block_is_refused = refl
 
 -- ---- what a packet carries
 abbrev whole : List ℕ → Captured

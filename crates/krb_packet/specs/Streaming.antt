@@ -1,15 +1,17 @@
 -- A capture file read one packet at a time.
-use Rattle.std.specs.Prelude.{ℕ, suc, ◌-◌, ◌≡◌, List, ◌∷◌, ◌++◌, length, Option, Some, None, Result, Ok, Err}
+use Rattle.std.specs.Prelude.{ℕ, suc, ◌≡◌, List, ◌∷◌, ◌++◌, length, Option, Some, None, Result, Ok, Err}
 use Rattle.krb_file.specs.Fields.{Source, limited}
 use Rattle.krb_file.specs.FieldReaders.{Held, MayHave, source_at}
 use Rattle.krb_file.specs.declared.fault.FileFault.{FileFault}
 use Rattle.krb_file.specs.declared.fault.FileFault.TheVariants as faults
 use Rattle.krb_packet.specs.declared.packet.Packet.{Packet}
 use Rattle.krb_packet.specs.declared.field.CaptureField.{CaptureField}
-use Rattle.krb_packet.specs.declared.packets.CaptureFault.{CaptureFault}
+use Rattle.krb_packet.specs.declared.fault.CaptureFault.{CaptureFault}
 use Rattle.krb_packet.specs.declared.packets.State.{State}
 use Rattle.krb_packet.specs.declared.packets.State.TheVariants as states
-use Rattle.krb_packet.specs.Captures.{most_captured, Refusal, Packets, packets_after, opened_at, packets}
+use Rattle.krb_packet.specs.Parsers.{Refusal}
+use Rattle.krb_packet.specs.Pcaps.{most_captured}
+use Rattle.krb_packet.specs.Captures.{blocks_of, Packets, packets_after, packets}
 
 -- What a reader still has, what it came to, and how many packets it gave.
 pub record Reading : Type 0 where
@@ -17,14 +19,19 @@ pub record Reading : Type 0 where
   pub state : State
   pub count : ℕ
 
+-- how many blocks were read
+abbrev pub blocks_before : State → ℕ
+blocks_before (states.Open format) = blocks_of format
+blocks_before states.Done = 0
+blocks_before (states.Failed fault) = 0
+
 -- packets, and then what stands after them
 abbrev pub before : List Packet → Packets → Packets
 before given left = record { packets = given ++ left.packets; refusal = left.refusal }
 
--- the packets that are still to be given of what is left: of a whole file, or of one whose header was read
+-- the packets that are still to be given of what is left of a file that was read so far
 abbrev pub IsLeft : State → ℕ → Source → Packets → Type 0
-IsLeft states.Start count source left = (count ≡ 0) × (left ≡ opened_at source)
-IsLeft (states.Open header) count source left = left ≡ packets_after header count source
+IsLeft (states.Open format) count source left = left ≡ packets_after format count source
 IsLeft states.Done count source left = ⊥
 IsLeft (states.Failed fault) count source left = ⊥
 
@@ -47,12 +54,6 @@ pub record IsPacket (packets : Packets) (count : ℕ) (packet : Packet) : Type 0
 pub record EndsBy (packets : Packets) (count : ℕ) (refusal : Option Refusal) : Type 0 where
   pub counted : length packets.packets ≡ count
   pub is : packets.refusal ≡ refusal
-
--- how many octets after a place a field is refused
-abbrev pub offset_of : FileFault → ℕ → ℕ
-offset_of (faults.Refused place why) start = place - start
-offset_of faults.Read start = 0
-offset_of faults.Memory start = 0
 
 -- a fault of a file whose first `count` packets were given: where it is refused; else the device failed, or memory ran out
 abbrev pub FailsAfter : List ℕ → ℕ → FileFault → CaptureField → Type 0

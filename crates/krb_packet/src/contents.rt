@@ -4,7 +4,7 @@ use crate::payload::Payload;
 use std::net::IpAddr;
 
 /// Where octets come from or go to.
-#[derive(Clone, Copy, PartialEq, Eq, Hash)]
+#[derive(Clone, Copy, PartialEq, Eq, PartialOrd, Ord, Hash, Debug)]
 pub struct Endpoint {
     /// The address.
     pub address: IpAddr,

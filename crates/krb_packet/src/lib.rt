@@ -2,23 +2,32 @@
 //!
 //! The main calls:
 //!
-//! - [`Packets::next_packet`] reads one packet after another of a classic pcap file, in either
-//!   order of octets, from anything that can be read.
+//! - [`Packets::next_packet`] reads one packet after another of a pcap or a pcapng, in either order of
+//!   octets, from anything that can be read.
 //! - [`contents_of`] returns the UDP datagram or the TCP segment that a packet carries, whose
 //!   octets are borrowed, or a fragment of one, or that it is something else or cannot be read.
 //! - [`Fragments::take`] puts datagrams together from their fragments, in whatever order these come.
 //!
-//! Checksums are not checked, and pcapng is not read. Nothing here knows a TCP connection or a
-//! message: `krb_flow` puts directions of connections together.
+//! Checksums are not checked. Nothing here knows a TCP connection or a message: `krb_flow` puts
+//! directions of connections together.
 #![tactic(auto)]
 
 mod assembly;
+mod block;
+#[cfg(test)]
+mod block_tests;
+mod blocks;
+mod body;
 mod contents;
+mod fault;
 mod field;
+mod format;
 mod fragments;
+mod interface;
 mod internet;
 pub mod law;
 mod link;
+mod order;
 mod packet;
 mod packets;
 mod payload;
@@ -29,10 +38,15 @@ mod tests;
 mod tests_of_fragments;
 mod transport;
 
+pub use block::Section;
 pub use contents::{Contents, Datagram, Endpoint, Fragment, Original, Segment};
-pub use field::{CaptureField, PacketField};
+pub use fault::CaptureFault;
+pub use field::{BlockField, CaptureField, PacketField};
+pub use format::Format;
 pub use fragments::{Fragments, Reassembled};
+pub use interface::{Clock, Interface};
+pub use order::Order;
 pub use packet::{LinkType, Packet, Time, contents_of};
-pub use packets::{CaptureFault, Packets, State};
+pub use packets::{Packets, State};
 pub use payload::Payload;
-pub use pcap::{Form, Header, Order, Precision};
+pub use pcap::{Form, Header, Precision};

@@ -1,7 +1,7 @@
 //! Packets, as a capture file has them.
 
 ghost use Rattle.std.specs.Prelude.{◌≡◌, max, length};
-ghost use Rattle.krb_packet.specs.Captures.{link_type, time_of};
+ghost use Rattle.krb_packet.specs.Values.{link_type, time_at, time_of};
 ghost use Rattle.krb_packet.specs.Contents.{contents_of};
 
 use crate::contents::Contents;
@@ -64,18 +64,26 @@ pub struct Time {
 }
 
 impl Time {
-    /// Returns the time of so many nanoseconds, or `None` if its seconds are 0 or above 4294967295.
-    pub(crate) fn of(nanoseconds: u64) -> Option<Time>
-        ensures { result ≡ time_of nanoseconds }
+    /// Returns the time of so many seconds and nanoseconds, or `None` if the seconds are 0 or above
+    /// 4294967295.
+    pub(crate) fn at(seconds: u128, nanoseconds: u32) -> Option<Time>
+        ensures { result ≡ time_at seconds nanoseconds }
     {
-        let seconds = nanoseconds / NANOSECONDS;
         if seconds == 0 || seconds >= 1 << 32 {
             return None;
         }
         Some(Time {
             seconds: seconds as u32,
-            nanoseconds: (nanoseconds % NANOSECONDS) as u32,
+            nanoseconds,
         })
+    }
+
+    /// Returns the time of so many nanoseconds, or `None` if its seconds are 0 or above 4294967295.
+    pub(crate) fn of(nanoseconds: u64) -> Option<Time>
+        ensures { result ≡ time_of nanoseconds }
+    {
+        let seconds = nanoseconds / NANOSECONDS;
+        Time::at(u128::from(seconds), (nanoseconds % NANOSECONDS) as u32)
     }
 }
 

@@ -1,29 +1,20 @@
 //! Capture files, read one packet at a time.
 
-use crate::field::{CaptureField, header_field, packet_field};
+use crate::fault::CaptureFault;
+use crate::format::{Format, Next, next_step};
 use crate::packet::Packet;
-use crate::pcap::{Header, MOST_CAPTURED, file_header, next};
-use krb_file::{FieldLimit, FieldReader, FileFault, StreamReader};
+use crate::pcap::MOST_CAPTURED;
+use krb_file::{FieldLimit, StreamReader};
 use std::alloc::Global;
 use std::io::Read;
 use std::marker::Model;
-
-/// Why a capture file could not be read, and the field that was read then.
-#[derive(Clone, Copy, PartialEq, Eq, Debug)]
-pub struct CaptureFault {
-    /// The fault.
-    pub fault: FileFault,
-    /// The field.
-    pub field: CaptureField,
-}
+use std::mem::replace;
 
 /// What a reader of packets came to. Only contracts read it from outside.
-#[derive(Clone, Copy)]
+#[derive(Drop)]
 pub enum State {
-    /// Nothing was read.
-    Start,
-    /// The header was read, and any number of packets.
-    Open(Header),
+    /// The file was read so far.
+    Open(Format),
     /// The file ended.
     Done,
     /// A fault was met.
@@ -42,30 +33,21 @@ pub struct Packets<R: Read> {
 
 impl<R: Read> Model for Packets<R> {
     ghost use Rattle.std.specs.Prelude.{◌≤◌};
-    ghost use Rattle.krb_packet.specs.Streaming.{Reading};
+    ghost use Rattle.krb_packet.specs.Streaming.{Reading, blocks_before};
 
     ghost Value = { Reading };
 
     ghost view = { λ packets. record { held = packets.reader; state = packets.state; count = packets.count } };
 
-    ghost invariant = { λ packets. packets.count ≤ packets.reader.place };
+    ghost invariant = { λ packets. (packets.count ≤ packets.reader.place) × (blocks_before packets.state ≤ packets.reader.place) };
 }
 
-ghost use Rattle.std.specs.Prelude.{◌≡◌, ℕ, List, [], Some, None, Ok, Err, IfErr, OnOk};
+ghost use Rattle.std.specs.Prelude.{◌≡◌, ◌≤◌, ℕ, List, [], Some, None, Ok, Err, IfErr, OnOk};
 ghost use Rattle.krb_file.specs.FieldReaders.{Stays};
 ghost use Rattle.krb_packet.specs.declared.packets.State.TheVariants as states;
-ghost use Rattle.krb_packet.specs.declared.packets.CaptureFault.{CaptureFault as CaptureFaultValue};
-ghost use Rattle.krb_packet.specs.Streaming.{Reads, offset_of, GivesNext};
-
-/// Returns how many octets after a place a fault stands.
-fn offset(fault: FileFault, start: u64) -> u64
-    ensures { result ≡ offset_of fault start }
-{
-    match fault {
-        FileFault::Refused { place, .. } => place.saturating_sub(start),
-        FileFault::Read | FileFault::Memory => 0,
-    }
-}
+ghost use Rattle.krb_packet.specs.declared.fault.CaptureFault.{CaptureFault as CaptureFaultValue};
+ghost use Rattle.krb_packet.specs.Captures.{blocks_of};
+ghost use Rattle.krb_packet.specs.Streaming.{Reads, GivesNext};
 
 impl<R: Read> Packets<R> {
     /// Creates the reader of the packets of what a [`Read`] gives. Nothing is read yet.
@@ -77,15 +59,14 @@ impl<R: Read> Packets<R> {
         let limit = FieldLimit::new(MOST_CAPTURED).unwrap();
         Packets {
             reader: StreamReader::new(reader, limit),
-            state: State::Start,
+            state: State::Open(Format::Unknown),
             count: 0,
         }
     }
 
-    /// Reads the next packet, if the file has not ended. A file is refused at the first field at fault:
-    /// a magic that is none of a pcap, a version other than 2.4, more than 16777216 captured octets, or a
-    /// field that passes the end of the file. After a fault of any kind each call answers this fault,
-    /// and after the end each call answers the end; neither reads any more.
+    /// Reads the next packet, if the file has not ended. A file is refused at the first field at fault,
+    /// which the fault names. After a fault of any kind each call answers this fault, and after the
+    /// end each call answers the end; neither reads any more.
     pub fn next_packet(&mut self, alloc: Global) -> Result<Option<Packet>, CaptureFault>
         // The packets of a file that its reader tells, one after another, and then the end or the fault.
         ensures next { (file : List ℕ) (given : ℕ) → Reads self.old file given → GivesNext file given result self.new }
@@ -97,14 +78,13 @@ impl<R: Read> Packets<R> {
         ensures ended { self.old.state ≡ states.Done → (result ≡ Ok None) × (self.new ≡ self.old) }
         ensures failed { (fault : CaptureFaultValue) → self.old.state ≡ states.Failed fault → (result ≡ Err fault) × (self.new ≡ self.old) }
     {
-        match self.state {
-            State::Start => match file_header(&mut self.reader) {
-                Ok(header) => self.next_open(header, alloc),
-                Err(fault) => self.fail(fault, header_field(offset(fault, 0))),
-            },
-            State::Open(header) => self.next_open(header, alloc),
+        match replace(&mut self.state, State::Done) {
+            State::Open(format) => self.next_open(format, alloc),
             State::Done => Ok(None),
-            State::Failed(fault) => Err(fault),
+            State::Failed(fault) => {
+                self.state = State::Failed(fault);
+                Err(fault)
+            }
         }
     }
 
@@ -116,42 +96,32 @@ impl<R: Read> Packets<R> {
         self.reader.give_back(octets);
     }
 
-    /// Returns the next packet after the header.
-    fn next_open(&mut self, header: Header, alloc: Global) -> Result<Option<Packet>, CaptureFault>
-        ensures next { (file : List ℕ) (given : ℕ) → Reads (record self.old { state = states.Open header }) file given → GivesNext file given result self.new }
+    /// Returns the next packet of a file that was read so far.
+    fn next_open(&mut self, format: Format, alloc: Global) -> Result<Option<Packet>, CaptureFault>
+        requires { blocks_of format ≤ self.old.held.place }
+        ensures next { (file : List ℕ) (given : ℕ) → Reads (record self.old { state = states.Open format }) file given → GivesNext file given result self.new }
         ensures stays { OnOk result (Stays self.old.held self.new.held) }
         ensures ends { result ≡ Ok None → self.new.state ≡ states.Done }
         ensures fails { IfErr result (λ fault. self.new.state ≡ states.Failed fault) }
     {
-        let start = self.reader.place();
-        match next(alloc, header, self.count, &mut self.reader) {
-            Ok(Some(packet)) => {
-                self.state = State::Open(header);
-                self.count += 1;
-                Ok(Some(packet))
-            }
-            Ok(None) => {
-                self.state = State::Done;
-                Ok(None)
-            }
-            Err(fault) => {
-                let field = packet_field(offset(fault, start));
-                self.fail(fault, CaptureField::Packet(self.count, field))
+        let mut format = format;
+        'steps: loop {
+            match next_step(alloc, format, self.count, &mut self.reader) {
+                Ok(Next::Passed(passed)) => format = passed,
+                Ok(Next::Packet(packet, after)) => {
+                    self.state = State::Open(after);
+                    self.count += 1;
+                    return Ok(Some(packet));
+                }
+                Ok(Next::End) => {
+                    self.state = State::Done;
+                    return Ok(None);
+                }
+                Err(fault) => {
+                    self.state = State::Failed(fault);
+                    return Err(fault);
+                }
             }
         }
-    }
-
-    /// Keeps a fault, and returns it.
-    fn fail(
-        &mut self,
-        fault: FileFault,
-        field: CaptureField,
-    ) -> Result<Option<Packet>, CaptureFault>
-        ensures fails { result ≡ Err (record { fault = fault; field = field }) }
-        ensures state { self.new.state ≡ states.Failed (record { fault = fault; field = field }) }
-    {
-        let fault = CaptureFault { fault, field };
-        self.state = State::Failed(fault);
-        Err(fault)
     }
 }

@@ -1,24 +1,18 @@
-//! The fields of capture files, read.
+//! The fields of pcap files, read.
 
 ghost use Rattle.std.specs.Prelude.{◌≡◌, ◌+◌, ◌*◌, ◌^◌, ◌<◌, ◌≤◌, OnOk};
 ghost use Rattle.krb_file.specs.FieldReaders.{Follows, Stays, Keeps};
-ghost use Rattle.krb_file.specs.declared.fault.FileWhy.TheVariants as why;
-ghost use Rattle.krb_packet.specs.declared.pcap.Order.TheVariants as orders;
-ghost use Rattle.krb_packet.specs.Captures.{number_in, number_telling, form_of, is_version, header_at, unit, time_of, is_captured, packet_at, next_at};
+ghost use Rattle.std.specs.Int.{w32};
+ghost use Rattle.krb_packet.specs.Numbers.{number_telling};
+ghost use Rattle.krb_packet.specs.Values.{time_of};
+ghost use Rattle.krb_packet.specs.Pcaps.{pcap, magic_of, magic_at, version, header_at, unit, captured, packet_at, next_at};
 
+use crate::block::SECTION_HEADER;
+use crate::order::{Order, number32, told};
 use crate::packet::{LinkType, NANOSECONDS, Packet, Time};
 use krb_der::Octets;
 use krb_file::{FieldReader, FileFault, FileWhy};
 use std::alloc::Global;
-
-/// The order of the octets of a number.
-#[derive(Clone, Copy, PartialEq, Eq, Debug)]
-pub enum Order {
-    /// The highest octet first.
-    BigEndian,
-    /// The lowest octet first.
-    LittleEndian,
-}
 
 /// What the fractions of seconds count.
 #[derive(Clone, Copy, PartialEq, Eq, Debug)]
@@ -50,99 +44,92 @@ pub struct Header {
 /// The greatest number of octets of a packet that may be captured.
 pub(crate) const MOST_CAPTURED: u32 = 16_777_216;
 
-/// Reads a number of 32 bits.
-#[inline(always)]
-fn number<F: FieldReader>(order: Order, reader: &mut F) -> Result<u32, FileFault>
-    ensures read { Follows (λ number. number) result (number_in order) F.MayFail (F.held reader.old) (F.held reader.new) }
-    ensures keeps { Keeps (F.held reader.old) (F.held reader.new) }
+/// What the first four octets of a file tell.
+#[derive(Clone, Copy, PartialEq, Eq, Debug)]
+pub enum Magic {
+    /// A pcap.
+    Pcap(Form),
+    /// A pcapng, which begins with a block of the type of a section header.
+    Pcapng,
+}
+
+/// Returns the magic of a pcap.
+fn pcap(order: Order, precision: Precision) -> Result<Magic, FileWhy>
+    ensures { result ≡ pcap order precision }
 {
-    let mut octets = [0; 4];
-    reader.fill(&mut octets)?;
-    Ok(match order {
-        Order::BigEndian => u32::from_be_bytes(octets),
-        Order::LittleEndian => u32::from_le_bytes(octets),
-    })
+    Ok(Magic::Pcap(Form { order, precision }))
 }
 
 /// Returns what the magic of a file tells.
-fn form_of(magic: u32) -> Option<Form>
-    ensures { result ≡ form_of magic }
+fn magic_of(number: u32) -> Result<Magic, FileWhy>
+    ensures { result ≡ magic_of number }
 {
-    let (order, precision) = match magic {
-        0xA1B2_C3D4 => (Order::BigEndian, Precision::Microseconds),
-        0xD4C3_B2A1 => (Order::LittleEndian, Precision::Microseconds),
-        0xA1B2_3C4D => (Order::BigEndian, Precision::Nanoseconds),
-        0x4D3C_B2A1 => (Order::LittleEndian, Precision::Nanoseconds),
-        _ => return None,
-    };
-    Some(Form { order, precision })
+    match number {
+        0xA1B2_C3D4 => pcap(Order::BigEndian, Precision::Microseconds),
+        0xD4C3_B2A1 => pcap(Order::LittleEndian, Precision::Microseconds),
+        0xA1B2_3C4D => pcap(Order::BigEndian, Precision::Nanoseconds),
+        0x4D3C_B2A1 => pcap(Order::LittleEndian, Precision::Nanoseconds),
+        SECTION_HEADER => Ok(Magic::Pcapng),
+        _ => Err(FileWhy::Magic),
+    }
 }
 
-/// Returns whether a number is the version: 2 and 4, each of 16 bits.
-fn is_version(order: Order, number: u32) -> Option<()>
-    ensures { result ≡ is_version order number }
+/// Accepts the version of a pcap: 2 and 4, each of 16 bits.
+fn version(order: Order, number: u32) -> Result<(), FileWhy>
+    ensures { result ≡ version order number }
 {
-    let version = match order {
+    let known = match order {
         Order::BigEndian => 0x0002_0004,
         Order::LittleEndian => 0x0004_0002,
     };
-    if number == version { Some(()) } else { None }
+    if number == known {
+        Ok(())
+    } else {
+        Err(FileWhy::Version)
+    }
 }
 
-/// Returns how many octets of a packet were captured, unless these are too many.
-fn is_captured(size: u32) -> Option<u32>
-    ensures { result ≡ is_captured size }
+/// Accepts how many octets of a packet were captured, unless these are too many.
+fn captured(size: u32) -> Result<u32, FileWhy>
+    ensures { result ≡ captured size }
 {
     if size > MOST_CAPTURED {
-        None
+        Err(FileWhy::TooLong)
     } else {
-        Some(size)
+        Ok(size)
     }
 }
 
 /// Reads the magic of a file.
-fn magic<F: FieldReader>(reader: &mut F) -> Result<Form, FileFault>
-    ensures read { Follows (λ form. form) result (number_telling orders.BigEndian why.Magic form_of) F.MayFail (F.held reader.old) (F.held reader.new) }
+pub(crate) fn read_magic<F: FieldReader>(reader: &mut F) -> Result<Magic, FileFault>
+    ensures read { Follows (λ magic. magic) result magic_at F.MayFail (F.held reader.old) (F.held reader.new) }
     ensures keeps { Keeps (F.held reader.old) (F.held reader.new) }
 {
     let place = reader.place();
-    let number = number(Order::BigEndian, reader)?;
-    match form_of(number) {
-        Some(form) => Ok(form),
-        None => Err(FileFault::Refused {
-            place,
-            why: FileWhy::Magic,
-        }),
-    }
+    let number = number32(Order::BigEndian, reader)?;
+    told(place, magic_of(number))
 }
 
 /// Reads the version of a file.
-fn known_version<F: FieldReader>(order: Order, reader: &mut F) -> Result<(), FileFault>
-    ensures read { Follows (λ done. done) result (number_telling order why.Version (is_version order)) F.MayFail (F.held reader.old) (F.held reader.new) }
+fn read_version<F: FieldReader>(order: Order, reader: &mut F) -> Result<(), FileFault>
+    ensures read { Follows (λ done. done) result (number_telling w32 order (version order)) F.MayFail (F.held reader.old) (F.held reader.new) }
     ensures keeps { Keeps (F.held reader.old) (F.held reader.new) }
 {
     let place = reader.place();
-    let number = number(order, reader)?;
-    match is_version(order, number) {
-        Some(()) => Ok(()),
-        None => Err(FileFault::Refused {
-            place,
-            why: FileWhy::Version,
-        }),
-    }
+    let number = number32(order, reader)?;
+    told(place, version(order, number))
 }
 
-/// Reads the header of a file.
-pub(crate) fn file_header<F: FieldReader>(reader: &mut F) -> Result<Header, FileFault>
-    ensures read { Follows (λ header. header) result header_at F.MayFail (F.held reader.old) (F.held reader.new) }
+/// Reads the header of a pcap after its magic.
+pub(crate) fn read_header<F: FieldReader>(form: Form, reader: &mut F) -> Result<Header, FileFault>
+    ensures read { Follows (λ header. header) result (header_at form) F.MayFail (F.held reader.old) (F.held reader.new) }
     ensures keeps { Keeps (F.held reader.old) (F.held reader.new) }
 {
-    let form = magic(reader)?;
-    known_version(form.order, reader)?;
+    read_version(form.order, reader)?;
     reader.number32()?;
     reader.number32()?;
     reader.number32()?;
-    let link = number(form.order, reader)?;
+    let link = number32(form.order, reader)?;
     Ok(Header {
         form,
         link: LinkType::of(link % (1 << 28)),
@@ -162,18 +149,12 @@ fn time(precision: Precision, seconds: u32, fraction: u32) -> Option<Time>
 
 /// Reads how many octets of a packet were captured.
 fn captured_length<F: FieldReader>(order: Order, reader: &mut F) -> Result<u32, FileFault>
-    ensures read { Follows (λ size. size) result (number_telling order why.TooLong is_captured) F.MayFail (F.held reader.old) (F.held reader.new) }
+    ensures read { Follows (λ size. size) result (number_telling w32 order captured) F.MayFail (F.held reader.old) (F.held reader.new) }
     ensures keeps { Keeps (F.held reader.old) (F.held reader.new) }
 {
     let place = reader.place();
-    let number = number(order, reader)?;
-    match is_captured(number) {
-        Some(size) => Ok(size),
-        None => Err(FileFault::Refused {
-            place,
-            why: FileWhy::TooLong,
-        }),
-    }
+    let number = number32(order, reader)?;
+    told(place, captured(number))
 }
 
 /// Reads the packet after `count` others.
@@ -188,10 +169,10 @@ fn packet<F: FieldReader>(
     ensures keeps { Keeps (F.held reader.old) (F.held reader.new) }
 {
     let order = header.form.order;
-    let seconds = number(order, reader)?;
-    let fraction = number(order, reader)?;
+    let seconds = number32(order, reader)?;
+    let fraction = number32(order, reader)?;
     let captured = captured_length(order, reader)?;
-    let original = number(order, reader)?;
+    let original = number32(order, reader)?;
     let mut octets = reader.room(alloc);
     reader.octets(alloc, u64::from(captured), &mut octets)?;
     Ok(Packet {
@@ -207,7 +188,7 @@ fn packet<F: FieldReader>(
 const PACKET_HEADER: u64 = 16;
 
 /// Reads the packet after `count` others, if the file has not ended.
-pub(crate) fn next<F: FieldReader>(
+pub(crate) fn next_captured<F: FieldReader>(
     alloc: Global,
     header: Header,
     count: u64,

@@ -1,10 +1,11 @@
-use Rattle.std.proofs.Common.{sym, ◌∙◌}
-use Rattle.krb_file.specs.declared.fault.FileWhy.TheVariants as why
-use Rattle.krb_packet.specs.Captures.{is_captured}
-use Rattle.krb_packet.proofs.Reaching.{telling_refuses}
+use Rattle.std.proofs.Common.{◌∙◌, ap}
+use Rattle.std.specs.Int.{w32}
+use Rattle.krb_packet.specs.Numbers.{told}
+use Rattle.krb_packet.specs.Pcaps.{captured}
+use Rattle.krb_packet.proofs.Parsing.{telling_follows}
 use Rattle.krb_packet.proofs.pcap.captured_length.Goals as goal
 
-pub returns-in-None-clause-read : goal.returns-in-None-clause-read
-returns-in-None-clause-read g c =
-    telling_refuses c.args.order why.TooLong is_captured c.in_ok-number.number c.place-place.result (g.F.FieldReader.held c.args.reader.now) (g.F.FieldReader.held c.number.new.reader)
-    c.place-place.ensures.value c.in_ok-number.ensures.read (sym c.is_captured.ensures ∙ c.in-None.is)
+pub returns-clause-read : goal.returns-clause-read
+returns-clause-read g c =
+    telling_follows w32 c.args.order captured g.F.FieldReader.MayFail c.in_ok-number.number (g.F.FieldReader.held c.args.reader.now) (g.F.FieldReader.held c.number32.new.reader) c.in_ok-number.ensures.read
+    c.place-place.result c.told.result c.place-place.ensures.value (c.told.ensures ∙ ap (told c.place-place.result) c.captured.ensures)

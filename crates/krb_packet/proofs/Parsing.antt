@@ -1,0 +1,196 @@
+-- Parsers: what readers of fields give them, how far they go, and how they follow one another.
+use Rattle.std.proofs.Common.{◌≡◌, ℕ, ◌+◌, ◌-◌, ◌≤◌, Option, Some, None, Result, Ok, Err, List, length, refl, ap, sym, ◌∙◌, subst, arith}
+use Rattle.std.specs.Int.{Width}
+use Rattle.krb_file.specs.Fields.{Source, Fault, Bounds, Reader}
+use Rattle.krb_file.specs.Fields.{onward as read_onward, ◌>>=◌ as ◌then◌}
+use Rattle.krb_file.specs.FieldReaders.{Held, MayHave, HasRead, HasMet, FailsBy, Follows, source_at}
+use Rattle.krb_file.specs.declared.fault.FileWhy.{FileWhy}
+use Rattle.krb_file.specs.declared.fault.FileFault.{FileFault}
+use Rattle.krb_file.specs.declared.fault.FileFault.TheVariants as faults
+use Rattle.krb_file.proofs.FieldReaders.{some_rest}
+use Rattle.krb_packet.specs.declared.order.Order.{Order}
+use Rattle.krb_packet.specs.declared.field.CaptureField.{CaptureField}
+use Rattle.krb_packet.specs.declared.fault.CaptureFault.{CaptureFault}
+use Rattle.krb_packet.specs.Numbers.{number_in, telling, number_telling, told}
+use Rattle.krb_packet.specs.Numbers.{from_here as here}
+use Rattle.krb_packet.proofs.Options.{Continues}
+use Rattle.krb_packet.specs.Parsers.{Refusal, Parser, onward, ◌>>=◌, gives, from_here, naming, fields, named, HasParsed, HasRefused, FailsIn, Parses, in_field, offset_of}
+use Rattle.krb_packet.proofs.Reaching.{Passes}
+
+-- ---- a number that tells something, or nothing
+module _ {A : Type 0} (w : Width) (order : Order) (tells : ℕ → Result A FileWhy) (MayFail : Type 0) (number : ℕ) (old new : Held) (read : HasRead (number_in w order) number old new) where
+  told_so : (r : Result A FileWhy) → tells number ≡ r → Follows (λ (value : A). value) (told old.place r) (number_telling w order tells) MayFail old new
+  told_so (Ok value) e = record {
+    same_bounds = read.same_bounds;
+    from = λ rest there.
+        let a = read.from rest there in
+        let s = source_at old.place a.0 in
+        let t = source_at new.place rest in (
+          a.0,
+          a.1,
+          ap (λ (r : Result (ℕ × Source) Fault). read_onward r (λ p. telling old.place (tells p.0) old.bounds p.1)) a.2
+              ∙ ap (λ (r : Result A FileWhy). telling old.place r old.bounds t) e,
+        );
+  }
+  told_so (Err why) e =
+      let now = some_rest new in
+      let a = read.from now.rest now.there in
+      let t = source_at new.place now.rest in
+      record {
+        octets = a.0;
+        there = a.1;
+        refused =
+            ap (λ (r : Result (ℕ × Source) Fault). read_onward r (λ p. telling old.place (tells p.0) old.bounds p.1)) a.2
+            ∙ ap (λ (r : Result A FileWhy). telling old.place r old.bounds t) e;
+      }
+
+  pub telling_follows : (place : ℕ) (result : Result A FileFault) → place ≡ old.place → result ≡ told place (tells number) → Follows (λ (value : A). value) result (number_telling w order tells) MayFail old new
+  telling_follows place result here is = rw (is, here) (told_so (tells number) refl)
+
+module _ {A : Type 0} (tells : Result A FileWhy) (MayFail : Type 0) (held : Held) where
+  told_here : (r : Result A FileWhy) → tells ≡ r → Follows (λ (value : A). value) (told held.place r) (here (λ place. telling place tells)) MayFail held held
+  told_here (Ok value) e = record { same_bounds = refl; from = λ rest there. (rest, there, ap (λ (r : Result A FileWhy). telling held.place r held.bounds (source_at held.place rest)) e) }
+  told_here (Err why) e =
+      let now = some_rest held in
+      record { octets = now.rest; there = now.there; refused = ap (λ (r : Result A FileWhy). telling held.place r held.bounds (source_at held.place now.rest)) e }
+
+  pub tells_follows : (place : ℕ) (result : Result A FileFault) → place ≡ held.place → result ≡ told place tells → Follows (λ (value : A). value) result (here (λ place. telling place tells)) MayFail held held
+  tells_follows place result is e = rw (e, is) (told_here tells refl)
+
+-- what follows fields that were read is refused where it says nothing
+pub told_fails : {A B : Type 0} (reader : Reader B) (place : ℕ) (tells : Result A FileWhy) (next : A → Reader B) (e : FileFault) (MayFail : Type 0) (old mid : Held) → told place tells ≡ Err e → Continues reader (telling place tells then next) old mid → FailsBy e reader MayFail old
+told_fails reader place (Ok value) next e MayFail old mid is on = absurd cc
+told_fails reader place (Err why) next e MayFail old mid is on =
+    let same : faults.Refused place why ≡ e = cc in
+    let now = some_rest mid in
+    let a = on.from now.rest now.there in
+    rw (sym same) (record { octets = a.0; there = a.1; refused = a.2 })
+
+-- ---- the fields that a reader reads
+module _ {A B : Type 0} (view : A → B) (reader : Reader B) (MayFail : Type 0) (old new : Held) where
+  pub named_follows : (field : CaptureField) (r : Result A FileFault) (result : Result A CaptureFault) → result ≡ in_field field r → Follows view r reader MayFail old new → Parses view result (named field reader) MayFail old new
+  named_follows field (Ok value) result is follows = rw is (record {
+    same_bounds = follows.same_bounds;
+    from = λ rest there. let a = follows.from rest there in (a.0, a.1, ap (naming (λ place. field)) a.2);
+  })
+  named_follows field (Err (faults.Refused place why)) result is follows = rw is (record { octets = follows.octets; there = follows.there; refused = ap (naming (λ place. field)) follows.refused })
+  named_follows field (Err faults.Read) result is follows = rw is follows
+  named_follows field (Err faults.Memory) result is follows = rw is tt
+
+module _ {A : Type 0} (reader : Reader A) (MayFail : Type 0) (field_of : ℕ → CaptureField) where
+  abbrev placed_fields : Parser A
+  placed_fields = from_here (λ start. fields (λ place. field_of (place - start)) reader)
+
+  pub fields_read : (value : A) (old new : Held) → HasRead reader value old new → HasParsed placed_fields value old new
+  fields_read value old new read = record {
+    same_bounds = read.same_bounds;
+    from = λ rest there. let a = read.from rest there in (a.0, a.1, ap (naming (λ place. field_of (place - old.place))) a.2);
+  }
+
+  pub fields_fail : (e : FileFault) (start offset : ℕ) (field : CaptureField) (old : Held) → start ≡ old.place → offset ≡ offset_of e start → field ≡ field_of offset → FailsBy e reader MayFail old → FailsIn e field placed_fields MayFail old
+  fields_fail faults.Memory start offset field old here is named fails = tt
+  fields_fail faults.Read start offset field old here is named fails = fails
+  fields_fail (faults.Refused place why) start offset field old here is named fails =
+      let fault : Fault = record { place = place; why = why } in
+      let same : field_of (place - old.place) ≡ field = ap (λ (s : ℕ). field_of (place - s)) (sym here) ∙ ap field_of (sym is) ∙ sym named in
+      record {
+        octets = fails.octets;
+        there = fails.there;
+        refused =
+            ap (naming (λ p. field_of (p - old.place))) fails.refused
+            ∙ ap (λ (f : CaptureField). let it : Result (A × Source) Refusal = Err (record { fault = fault; field = f }) in it) same;
+      }
+
+-- ---- one parser after another
+module _ {A B : Type 0} (first : Parser A) (next : A → Parser B) (MayFail : Type 0) where
+  pub then_parsed : (v : A) (w : B) (old mid new : Held) → HasParsed first v old mid → HasParsed (next v) w mid new → HasParsed (first >>= next) w old new
+  then_parsed v w old mid new p q = record {
+    same_bounds = q.same_bounds ∙ p.same_bounds;
+    from = λ rest there.
+        let b = q.from rest there in
+        let a = p.from b.0 b.1 in
+        let s = source_at mid.place b.0 in
+        let whose : next v old.bounds s ≡ Ok (w, source_at new.place rest) = subst (λ (k : Bounds). next v k s ≡ Ok (w, source_at new.place rest)) p.same_bounds b.2 in
+        (a.0, a.1, ap (λ (r : Result (A × Source) Refusal). onward r (λ x. next x.0 old.bounds x.1)) a.2 ∙ whose);
+  }
+
+  pub first_fails : (e : FileFault) (field : CaptureField) (old : Held) → FailsIn e field first MayFail old → FailsIn e field (first >>= next) MayFail old
+  first_fails faults.Memory field old fails = tt
+  first_fails faults.Read field old fails = fails
+  first_fails (faults.Refused place why) field old fails = record {
+    octets = fails.octets;
+    there = fails.there;
+    refused = ap (λ (r : Result (A × Source) Refusal). onward r (λ x. next x.0 old.bounds x.1)) fails.refused;
+  }
+
+  pub next_fails : (v : A) (e : FileFault) (field : CaptureField) (old mid : Held) → HasParsed first v old mid → FailsIn e field (next v) MayFail mid → FailsIn e field (first >>= next) MayFail old
+  next_fails v faults.Memory field old mid p fails = tt
+  next_fails v faults.Read field old mid p fails = fails
+  next_fails v (faults.Refused place why) field old mid p fails =
+      let fault : Fault = record { place = place; why = why } in
+      let refusal : Refusal = record { fault = fault; field = field } in
+      let a = p.from fails.octets fails.there in
+      let s = source_at mid.place fails.octets in
+      let whose : next v old.bounds s ≡ Err refusal = subst (λ (k : Bounds). next v k s ≡ Err refusal) p.same_bounds fails.refused in
+      record {
+        octets = a.0;
+        there = a.1;
+        refused = ap (λ (r : Result (A × Source) Refusal). onward r (λ x. next x.0 old.bounds x.1)) a.2 ∙ whose;
+      }
+
+-- whatever the last one gives
+pub then_parses : {A B C : Type 0} (first : Parser A) (next : A → Parser B) (MayFail : Type 0) (view : C → B) (v : A) (result : Result C CaptureFault) (old mid new : Held) → HasParsed first v old mid → Parses view result (next v) MayFail mid new → Parses view result (first >>= next) MayFail old new
+then_parses first next MayFail view v (Ok w) old mid new p q = then_parsed first next MayFail v (view w) old mid new p q
+then_parses first next MayFail view v (Err error) old mid new p q = next_fails first next MayFail v error.fault error.field old mid p q
+
+-- ---- n octets at least are passed, and no more than there are
+pub record Onward {A : Type 0} (n : ℕ) (parser : Parser A) : Type 0 where
+  pub on : (bounds : Bounds) (s : Source) (v : A) (t : Source) → parser bounds s ≡ Ok (v, t) → s.place + n ≤ t.place
+  pub same : (bounds : Bounds) (s : Source) (v : A) (t : Source) → parser bounds s ≡ Ok (v, t) → t.place + length t.octets ≡ s.place + length s.octets
+
+abbrev parsed : {A : Type 0} → A → Result A Refusal
+parsed x = Ok x
+
+pub parsed_is : {A : Type 0} (x y : A) → parsed x ≡ parsed y → x ≡ y
+parsed_is x y e = cc
+
+pub parsed-ok : {A B : Type 0} (r : Result A Refusal) (f : A → Result B Refusal) (y : B) → onward r f ≡ Ok y → (x : A) × (r ≡ Ok x) × (f x ≡ Ok y)
+parsed-ok (Ok x) f y e = (x, refl, e)
+parsed-ok (Err d) f y e = absurd cc
+
+pub naming-ok : {A : Type 0} (field_of : ℕ → CaptureField) (r : Result A Fault) (y : A) → naming field_of r ≡ Ok y → r ≡ Ok y
+naming-ok field_of (Ok x) y e = ap (λ (z : _). Ok z) (parsed_is x y e)
+naming-ok field_of (Err fault) y e = absurd cc
+
+pub Onward-fields : {A : Type 0} (n : ℕ) (field_of : ℕ → CaptureField) (reader : Reader A) → Passes n reader → Onward n (fields field_of reader)
+Onward-fields n field_of reader p = record {
+  on = λ bounds s v t e. p.on bounds s v t (naming-ok field_of (reader bounds s) (v, t) e);
+  same = λ bounds s v t e. p.same bounds s v t (naming-ok field_of (reader bounds s) (v, t) e);
+}
+
+pub Onward-gives : {A : Type 0} (value : A) → Onward 0 (gives value)
+Onward-gives {A} value = record {
+  on = λ bounds s v t e. subst (λ (p : A × Source). s.place + 0 ≤ p.1.place) (parsed_is (value, s) (v, t) e) (omega arith);
+  same = λ bounds s v t e. subst (λ (p : A × Source). p.1.place + length p.1.octets ≡ s.place + length s.octets) (parsed_is (value, s) (v, t) e) refl;
+}
+
+pub Onward-then : {A B : Type 0} (m n : ℕ) (first : Parser A) (next : A → Parser B) → Onward m first → ((value : A) → Onward n (next value)) → Onward (m + n) (first >>= next)
+Onward-then m n first next p others = record {
+  on = λ bounds s v t e.
+      let a = parsed-ok (first bounds s) (λ x. next x.0 bounds x.1) (v, t) e in
+      let one = p.on bounds s a.0.0 a.0.1 a.1 in
+      let two = (others a.0.0).on bounds a.0.1 v t a.2 in
+      omega (arith, one, two);
+  same = λ bounds s v t e.
+      let a = parsed-ok (first bounds s) (λ x. next x.0 bounds x.1) (v, t) e in
+      (others a.0.0).same bounds a.0.1 v t a.2 ∙ p.same bounds s a.0.0 a.0.1 a.1;
+}
+
+pub Onward-from_here : {A : Type 0} (n : ℕ) (parser : ℕ → Parser A) → ((place : ℕ) → Onward n (parser place)) → Onward n (from_here parser)
+Onward-from_here n parser each = record { on = λ bounds s v t e. (each s.place).on bounds s v t e; same = λ bounds s v t e. (each s.place).same bounds s v t e }
+
+pub parsed_goes : {A : Type 0} (n : ℕ) (parser : Parser A) (value : A) (old new : Held) → Onward n parser → HasParsed parser value old new → old.place + n ≤ new.place
+parsed_goes n parser value old new goes read =
+    let now = some_rest new in
+    let a = read.from now.rest now.there in
+    goes.on old.bounds (source_at old.place a.0) value (source_at new.place now.rest) a.2

@@ -1,0 +1,147 @@
+-- The blocks of a pcapng that are read, but for the fields that each has (draft-ietf-opsawg-pcapng, 4).
+use Rattle.std.specs.Prelude.{ℕ, ◌+◌, ◌-◌, ◌*◌, ◌%◌, ◌^◌, min, max, not, ◌||◌, ◌==◌, nat_lt, Option, Some, None, Result, Ok, Err, List, length, slice_get}
+use Rattle.std.specs.Int.{w16, w32}
+use Rattle.krb_der.specs.Octets.{when}
+use Rattle.krb_file.specs.Fields.{Source, Fault, ended, source_of, Reader, ◌>>=◌, gives, next_octets_at, octets_at, room, is_empty}
+use Rattle.krb_file.specs.declared.fault.FileWhy.{FileWhy}
+use Rattle.krb_file.specs.declared.fault.FileWhy.TheVariants as why
+use Rattle.krb_packet.specs.declared.order.Order.{Order}
+use Rattle.krb_packet.specs.declared.order.Order.TheVariants as orders
+use Rattle.krb_packet.specs.declared.packet.Packet.{Packet}
+use Rattle.krb_packet.specs.declared.interface.Interface.{Interface}
+use Rattle.krb_packet.specs.declared.block.BlockKind.{BlockKind}
+use Rattle.krb_packet.specs.declared.block.BlockKind.TheVariants as kinds
+use Rattle.krb_packet.specs.declared.block.Head.{Head}
+use Rattle.krb_packet.specs.declared.body.Content.{Content}
+use Rattle.krb_packet.specs.declared.body.Content.TheVariants as contents
+use Rattle.krb_packet.specs.Numbers.{in_order, number_in, telling, from_here, number_telling}
+use Rattle.krb_packet.specs.Interfaces.{interface_at, clock_time}
+
+-- ---- what stands before a body (3.1): the type, and the length of the block, in fours
+
+abbrev pub block_kind : ℕ → BlockKind
+block_kind number =
+    when (number == 0x0A0D0D0A) (λ _. kinds.Section) (λ _.
+    when (number == 1) (λ _. kinds.Interface) (λ _.
+    when (number == 2) (λ _. kinds.OldPacket) (λ _.
+    when (number == 3) (λ _. kinds.SimplePacket) (λ _.
+    when (number == 6) (λ _. kinds.EnhancedPacket) (λ _.
+    kinds.Other)))))
+
+-- the type of the next block, if the file has not ended
+abbrev pub next_kind_at : Order → Reader (Option BlockKind)
+next_kind_at order = λ bounds source.
+    when (is_empty source.octets) (λ _. Ok (None, source)) (λ _. (number_in w32 order >>= λ number. gives (Some (block_kind number))) bounds source)
+
+-- the type and the length, which stands at the end, too, are no part of the body; a block has no more than 2^24 octets
+abbrev pub body_size : ℕ → Result ℕ FileWhy
+body_size length =
+    when (nat_lt length 12 || not (length % 4 == 0)) (λ _. Err why.Overrun) (λ _.
+    when (nat_lt 16777216 length) (λ _. Err why.TooLong) (λ _.
+    Ok (length - 12)))
+
+abbrev pub whole_head : Order → ℕ → Result ℕ FileWhy → Result Head FileWhy
+whole_head order length (Ok size) = Ok (record { order = order; length = length; left = size })
+whole_head order length (Err reason) = Err reason
+
+abbrev pub head_of : Order → ℕ → Result Head FileWhy
+head_of order length = whole_head order length (body_size length)
+
+-- The body of a section header (4.1) begins with what tells the order of octets, of the length before it, too.
+abbrev pub byte_order : ℕ → Result Order FileWhy
+byte_order number =
+    when (number == 0x1A2B3C4D) (λ _. Ok orders.BigEndian) (λ _.
+    when (number == 0x4D3C2B1A) (λ _. Ok orders.LittleEndian) (λ _.
+    Err why.Magic))
+
+abbrev pub after_byte_order : ℕ → Result ℕ FileWhy
+after_byte_order size = when (nat_lt size 4) (λ _. Err why.Overrun) (λ _. Ok (size - 4))
+
+abbrev pub section_head_at : Reader Head
+section_head_at = from_here (λ place. do
+  octets ← next_octets_at None 4
+  order ← number_telling w32 orders.BigEndian byte_order
+  size ← telling place (body_size (in_order w32 order octets))
+  left ← telling (place + 4) (after_byte_order size)
+  gives (record { order = order; length = in_order w32 order octets; left = left }))
+
+abbrev pub head_at : BlockKind → Order → Reader Head
+head_at kinds.Section order = section_head_at
+head_at kind order = number_telling w32 order (head_of order)
+
+-- the length again, after the body
+abbrev pub same_length : ℕ → ℕ → Result (Unit {0}) FileWhy
+same_length length again = when (again == length) (λ _. Ok tt) (λ _. Err why.Overrun)
+
+-- ---- bodies: that of a section header, after what tells the order of octets
+
+-- the major version; the minor one is not looked at
+abbrev pub section_version : ℕ → Result (Unit {0}) FileWhy
+section_version number = when (number == 1) (λ _. Ok tt) (λ _. Err why.Version)
+
+-- ---- those of packets (4.3, 4.4, A)
+
+-- the interface after so many others
+abbrev pub is_announced : Option Interface → Result Interface FileWhy
+is_announced None = Err why.Overrun
+is_announced (Some interface) = Ok interface
+
+abbrev pub announced : List Interface → ℕ → Result Interface FileWhy
+announced interfaces index = is_announced (slice_get interfaces index)
+
+abbrev pub timed_packet_at : Order → ℕ → Interface → Reader Packet
+timed_packet_at order count interface = do
+  high ← number_in w32 order
+  low ← number_in w32 order
+  captured ← number_in w32 order
+  original ← number_in w32 order
+  octets ← octets_at captured
+  gives (record { number = count + 1; time = clock_time interface.clock (high * 2 ^ 32 + low); link = interface.link; octets = octets; size = max captured original })
+
+abbrev pub enhanced_packet_at : Order → ℕ → List Interface → Reader Packet
+enhanced_packet_at order count interfaces = do
+  interface ← number_telling w32 order (announced interfaces)
+  timed_packet_at order count interface
+
+abbrev pub old_packet_at : Order → ℕ → List Interface → Reader Packet
+old_packet_at order count interfaces = do
+  interface ← number_telling w16 order (announced interfaces)
+  drops ← number_in w16 order
+  timed_packet_at order count interface
+
+-- what an interface captures of a packet: no more than its snaplen, if that is not 0
+abbrev pub most_of : ℕ → ℕ → ℕ
+most_of snaplen original = when (snaplen == 0) (λ _. original) (λ _. min original snaplen)
+
+-- as many octets, or as the body has
+abbrev pub most_octets_at : ℕ → Reader (List ℕ)
+most_octets_at most = λ bounds source. octets_at (min most (room bounds.end source.place)) bounds source
+
+-- of the first interface, without a time
+abbrev pub first_interface : List Interface → Reader Interface
+first_interface interfaces = from_here (λ place. telling place (announced interfaces 0))
+
+abbrev pub simple_packet_at : Order → ℕ → List Interface → Reader Packet
+simple_packet_at order count interfaces = do
+  interface ← first_interface interfaces
+  original ← number_in w32 order
+  octets ← most_octets_at (most_of interface.most original)
+  gives (record { number = count + 1; time = None; link = interface.link; octets = octets; size = original })
+
+-- ---- any body
+
+abbrev pub content_at : BlockKind → Order → ℕ → List Interface → Reader Content
+content_at kinds.Section order count interfaces = number_telling w16 order section_version >>= λ version. gives (contents.Section order)
+content_at kinds.Interface order count interfaces = interface_at order >>= λ interface. gives (contents.Interface interface)
+content_at kinds.OldPacket order count interfaces = old_packet_at order count interfaces >>= λ packet. gives (contents.Packet packet)
+content_at kinds.SimplePacket order count interfaces = simple_packet_at order count interfaces >>= λ packet. gives (contents.Packet packet)
+content_at kinds.EnhancedPacket order count interfaces = enhanced_packet_at order count interfaces >>= λ packet. gives (contents.Packet packet)
+content_at kinds.Other order count interfaces = gives contents.Other
+
+abbrev pub value_of : {A : Type 0} → Result (A × Source) Fault → Result A Fault
+value_of (Ok read) = Ok read.0
+value_of (Err fault) = Err fault
+
+-- fields that may not pass a body; places are counted from its first octet
+abbrev pub in_body : {A : Type 0} → Reader A → List ℕ → Result A Fault
+in_body reader body = value_of (reader (ended (Some (length body))) (source_of body))

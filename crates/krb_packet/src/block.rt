@@ -1,0 +1,237 @@
+//! The blocks of a pcapng, read.
+
+ghost use Rattle.std.specs.Prelude.{◌≡◌, ◌≤◌, OnOk};
+ghost use Rattle.std.specs.Int.{w32};
+ghost use Rattle.krb_file.specs.Fields.{octets_at};
+ghost use Rattle.krb_file.specs.FieldReaders.{Follows, Stays, Keeps};
+ghost use Rattle.krb_packet.specs.declared.order.Order.TheVariants as orders;
+ghost use Rattle.krb_packet.specs.Numbers.{number_telling, refused_at};
+ghost use Rattle.krb_packet.specs.Bodies.{block_kind, byte_order, body_size, after_byte_order, section_head_at, head_of, head_at, same_length, next_kind_at};
+
+use crate::interface::Interface;
+use crate::order::{Order, number32, told};
+use crate::pcap::MOST_CAPTURED;
+use krb_der::Many;
+use krb_file::{FieldReader, FileFault, FileWhy};
+use std::alloc::Global;
+
+/// The type of a section header, which is the same in either order of octets.
+pub(crate) const SECTION_HEADER: u32 = 0x0A0D_0D0A;
+
+/// The fewest octets that a block has: its type, and its length twice.
+pub(crate) const LEAST_BLOCK: u32 = 12;
+
+/// What a block is.
+#[derive(Clone, Copy, PartialEq, Eq, Debug)]
+pub enum BlockKind {
+    /// The header of a section, which ends the section before.
+    Section,
+    /// An interface that packets are captured from.
+    Interface,
+    /// A packet, as it was written once.
+    OldPacket,
+    /// A packet without a time.
+    SimplePacket,
+    /// A packet.
+    EnhancedPacket,
+    /// Another one, which is passed over.
+    Other,
+}
+
+impl BlockKind {
+    /// Returns the kind of a block of a type.
+    pub(crate) fn of(number: u32) -> BlockKind
+        ensures { result ≡ block_kind number }
+    {
+        match number {
+            SECTION_HEADER => BlockKind::Section,
+            1 => BlockKind::Interface,
+            2 => BlockKind::OldPacket,
+            3 => BlockKind::SimplePacket,
+            6 => BlockKind::EnhancedPacket,
+            _ => BlockKind::Other,
+        }
+    }
+}
+
+/// What was read of a section.
+#[derive(Drop, Debug)]
+pub struct Section {
+    /// The order of the octets of numbers.
+    pub order: Order,
+    /// The interfaces, in order.
+    pub interfaces: Many<Interface>,
+    /// How many blocks of the file were read.
+    pub blocks: u64,
+}
+
+/// What stands before the body of a block.
+#[derive(Clone, Copy, PartialEq, Eq, Debug)]
+pub struct Head {
+    /// The order of the octets of numbers.
+    pub order: Order,
+    /// How many octets the block has.
+    pub length: u32,
+    /// How many octets of the body are still to be read.
+    pub left: u32,
+}
+
+/// Returns the order of octets that a number tells.
+fn byte_order(number: u32) -> Result<Order, FileWhy>
+    ensures { result ≡ byte_order number }
+{
+    match number {
+        0x1A2B_3C4D => Ok(Order::BigEndian),
+        0x4D3C_2B1A => Ok(Order::LittleEndian),
+        _ => Err(FileWhy::Magic),
+    }
+}
+
+/// Returns how many octets the body of a block of `length` octets has.
+fn body_size(length: u32) -> Result<u32, FileWhy>
+    ensures { result ≡ body_size length }
+{
+    if length < LEAST_BLOCK || length % 4 != 0 {
+        Err(FileWhy::Overrun)
+    } else if length > MOST_CAPTURED {
+        Err(FileWhy::TooLong)
+    } else {
+        Ok(length - LEAST_BLOCK)
+    }
+}
+
+/// Returns how many octets of a body of `size` octets stand after what tells the order of octets.
+fn after_byte_order(size: u32) -> Result<u32, FileWhy>
+    ensures { result ≡ after_byte_order size }
+{
+    if size < 4 {
+        Err(FileWhy::Overrun)
+    } else {
+        Ok(size - 4)
+    }
+}
+
+/// Reads what tells the order of octets.
+fn read_byte_order<F: FieldReader>(reader: &mut F) -> Result<Order, FileFault>
+    ensures read { Follows (λ order. order) result (number_telling w32 orders.BigEndian byte_order) F.MayFail (F.held reader.old) (F.held reader.new) }
+    ensures keeps { Keeps (F.held reader.old) (F.held reader.new) }
+{
+    let place = reader.place();
+    let number = number32(Order::BigEndian, reader)?;
+    told(place, byte_order(number))
+}
+
+/// Reads the head of a section header, after its type. What tells the order of octets stands after the
+/// length, which is read in that order.
+fn section_head<F: FieldReader>(reader: &mut F) -> Result<Head, FileFault>
+    ensures read { Follows (λ head. head) result section_head_at F.MayFail (F.held reader.old) (F.held reader.new) }
+    ensures keeps { Keeps (F.held reader.old) (F.held reader.new) }
+{
+    let place = reader.place();
+    let mut octets = [0; 4];
+    reader.fill(&mut octets)?;
+    let order = read_byte_order(reader)?;
+    let length = u32::from_be_bytes(order.highest_first(octets));
+    let size = told(place, body_size(length))?;
+    let left = told(place + 4, after_byte_order(size))?;
+    Ok(Head {
+        order,
+        length,
+        left,
+    })
+}
+
+/// Returns the head of another block that has `length` octets.
+fn head_of(order: Order, length: u32) -> Result<Head, FileWhy>
+    ensures { result ≡ head_of order length }
+{
+    match body_size(length) {
+        Ok(left) => Ok(Head {
+            order,
+            length,
+            left,
+        }),
+        Err(why) => Err(why),
+    }
+}
+
+/// Reads the head of another block, after its type.
+fn block_head<F: FieldReader>(order: Order, reader: &mut F) -> Result<Head, FileFault>
+    ensures read { Follows (λ head. head) result (number_telling w32 order (head_of order)) F.MayFail (F.held reader.old) (F.held reader.new) }
+    ensures keeps { Keeps (F.held reader.old) (F.held reader.new) }
+{
+    let place = reader.place();
+    let number = number32(order, reader)?;
+    told(place, head_of(order, number))
+}
+
+/// Reads the head of a block of a kind, after its type.
+pub(crate) fn read_head<F: FieldReader>(
+    kind: BlockKind,
+    order: Order,
+    reader: &mut F,
+) -> Result<Head, FileFault>
+    ensures read { Follows (λ head. head) result (head_at kind order) F.MayFail (F.held reader.old) (F.held reader.new) }
+    ensures keeps { Keeps (F.held reader.old) (F.held reader.new) }
+{
+    match kind {
+        BlockKind::Section => section_head(reader),
+        _ => block_head(order, reader),
+    }
+}
+
+/// Reads the octets of a body that are left. If the file ends before, the body is refused at `place`.
+pub(crate) fn body_octets<F: FieldReader>(
+    alloc: Global,
+    place: u64,
+    left: u32,
+    reader: &mut F,
+) -> Result<Vec<u8>, FileFault>
+    ensures read { Follows (λ octets. octets.items) result (refused_at place (octets_at left)) F.MayFail (F.held reader.old) (F.held reader.new) }
+    ensures keeps { Keeps (F.held reader.old) (F.held reader.new) }
+{
+    let mut octets = reader.room(alloc);
+    match reader.octets(alloc, u64::from(left), &mut octets) {
+        Ok(()) => Ok(octets),
+        Err(FileFault::Refused { why, .. }) => Err(FileFault::Refused { place, why }),
+        Err(fault) => Err(fault),
+    }
+}
+
+/// Reads the length at the end of a block, which is the same as the one before.
+pub(crate) fn length_again<F: FieldReader>(head: Head, reader: &mut F) -> Result<(), FileFault>
+    ensures read { Follows (λ done. done) result (number_telling w32 head.order (same_length head.length)) F.MayFail (F.held reader.old) (F.held reader.new) }
+    ensures keeps { Keeps (F.held reader.old) (F.held reader.new) }
+{
+    let place = reader.place();
+    let number = number32(head.order, reader)?;
+    told(place, same_length(head.length, number))
+}
+
+/// Accepts a length that is the same as another.
+fn same_length(length: u32, again: u32) -> Result<(), FileWhy>
+    ensures { result ≡ same_length length again }
+{
+    if again == length {
+        Ok(())
+    } else {
+        Err(FileWhy::Overrun)
+    }
+}
+
+/// Reads the kind of the next block, if the file has not ended.
+pub(crate) fn next_kind<F: FieldReader>(
+    order: Order,
+    reader: &mut F,
+) -> Result<Option<BlockKind>, FileFault>
+    ensures read { Follows (λ kind. kind) result (next_kind_at order) F.MayFail (F.held reader.old) (F.held reader.new) }
+    ensures stays { OnOk result (Stays (F.held reader.old) (F.held reader.new)) }
+    ensures on { (F.held reader.old).place ≤ (F.held reader.new).place }
+{
+    reader.look_ahead(4)?;
+    if reader.is_empty()? {
+        return Ok(None);
+    }
+    let number = number32(order, reader)?;
+    Ok(Some(BlockKind::of(number)))
+}

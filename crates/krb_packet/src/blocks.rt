@@ -1,0 +1,255 @@
+//! The blocks of a pcapng, one after another, with the fields at fault.
+
+ghost use Rattle.std.specs.Prelude.{◌≡◌, ◌++◌, ◌^◌, ◌<◌, ◌≤◌, [], ◌∷◌, IfOk, OnOk};
+ghost use Rattle.krb_file.specs.FieldReaders.{Stays, Keeps};
+ghost use Rattle.krb_packet.specs.Parsers.{Parses, offset_of};
+ghost use Rattle.krb_packet.specs.Blocks.{fault_from, head_in, skipped_body, read_body, body_in, end_in, block_in, after_content, block_after, next_block};
+
+use crate::block::{BlockKind, Head, Section, body_octets, length_again, next_kind, read_head};
+use crate::body::{Content, body_content, body_field};
+use crate::fault::{CaptureFault, in_field, offset};
+use crate::field::{BlockField, CaptureField, head_field};
+use crate::format::{Format, Next};
+use crate::interface::Interface;
+use krb_der::Many;
+use krb_file::{FieldReader, FileFault};
+use std::alloc::{AllocError, Global};
+
+/// Reads the head of a block of a kind, after its type.
+fn head<F: FieldReader>(
+    kind: BlockKind,
+    section: &Section,
+    reader: &mut F,
+) -> Result<Head, CaptureFault>
+    ensures read { Parses (λ head. head) result (head_in kind section.now) F.MayFail (F.held reader.old) (F.held reader.new) }
+    ensures keeps { Keeps (F.held reader.old) (F.held reader.new) }
+{
+    let start = reader.place();
+    match read_head(kind, section.order, reader) {
+        Ok(head) => Ok(head),
+        Err(fault) => {
+            let field = head_field(offset(fault, start));
+            let field = CaptureField::Block(section.blocks, field);
+            Err(CaptureFault { fault, field })
+        }
+    }
+}
+
+/// Passes over the rest of a body.
+fn skip_body<F: FieldReader>(
+    blocks: u64,
+    head: Head,
+    reader: &mut F,
+) -> Result<Content, CaptureFault>
+    ensures read { Parses (λ content. content) result (skipped_body blocks head) F.MayFail (F.held reader.old) (F.held reader.new) }
+    ensures keeps { Keeps (F.held reader.old) (F.held reader.new) }
+{
+    let field = CaptureField::Block(blocks, BlockField::Body);
+    in_field(field, reader.skip(u64::from(head.left)))?;
+    Ok(Content::Other)
+}
+
+/// Returns a fault whose place is counted from another one.
+fn fault_from(begin: u64, fault: FileFault) -> FileFault
+    requires begins { begin < 2 ^ 63 }
+    requires near { offset_of fault 0 < 2 ^ 63 }
+    ensures { result ≡ fault_from begin fault }
+{
+    match fault {
+        FileFault::Refused { place, why } => FileFault::Refused {
+            place: begin + place,
+            why,
+        },
+        fault => fault,
+    }
+}
+
+/// Reads the rest of a body, which begins at `place`.
+fn read_body<F: FieldReader>(
+    alloc: Global,
+    kind: BlockKind,
+    section: &Section,
+    count: u64,
+    place: u64,
+    head: Head,
+    reader: &mut F,
+) -> Result<Content, CaptureFault>
+    requires { count < 2 ^ 63 }
+    ensures read { Parses (λ content. content) result (read_body kind section.now count place head) F.MayFail (F.held reader.old) (F.held reader.new) }
+    ensures keeps { Keeps (F.held reader.old) (F.held reader.new) }
+{
+    let begin = reader.place();
+    let field = CaptureField::Block(section.blocks, BlockField::Body);
+    let octets = in_field(field, body_octets(alloc, place, head.left, reader))?;
+    let interfaces = section.interfaces.as_slice();
+    match body_content(
+        alloc,
+        kind,
+        head.order,
+        count,
+        interfaces,
+        octets.as_slice(),
+    ) {
+        Ok(content) => Ok(content),
+        Err(fault) => {
+            let field = body_field(kind, interfaces, offset(fault, 0));
+            let field = CaptureField::Block(section.blocks, field);
+            let fault = fault_from(begin, fault);
+            Err(CaptureFault { fault, field })
+        }
+    }
+}
+
+/// Reads the rest of a body, which begins at `place`, or passes over it.
+fn body<F: FieldReader>(
+    alloc: Global,
+    kind: BlockKind,
+    section: &Section,
+    count: u64,
+    place: u64,
+    head: Head,
+    reader: &mut F,
+) -> Result<Content, CaptureFault>
+    requires { count < 2 ^ 63 }
+    ensures read { Parses (λ content. content) result (body_in kind section.now count place head) F.MayFail (F.held reader.old) (F.held reader.new) }
+    ensures keeps { Keeps (F.held reader.old) (F.held reader.new) }
+{
+    match kind {
+        BlockKind::Other => skip_body(section.blocks, head, reader),
+        _ => read_body(alloc, kind, section, count, place, head, reader),
+    }
+}
+
+/// Reads the length at the end of a block.
+fn end<F: FieldReader>(blocks: u64, head: Head, reader: &mut F) -> Result<(), CaptureFault>
+    ensures read { Parses (λ done. done) result (end_in blocks head) F.MayFail (F.held reader.old) (F.held reader.new) }
+    ensures keeps { Keeps (F.held reader.old) (F.held reader.new) }
+{
+    let field = CaptureField::Block(blocks, BlockField::LengthAgain);
+    in_field(field, length_again(head, reader))
+}
+
+/// Reads a block of a kind, after its type.
+fn block<F: FieldReader>(
+    alloc: Global,
+    kind: BlockKind,
+    section: &Section,
+    count: u64,
+    reader: &mut F,
+) -> Result<Content, CaptureFault>
+    requires { count < 2 ^ 63 }
+    ensures read { Parses (λ content. content) result (block_in kind section.now count) F.MayFail (F.held reader.old) (F.held reader.new) }
+    ensures keeps { Keeps (F.held reader.old) (F.held reader.new) }
+{
+    let place = reader.place() + 4;
+    let head = head(kind, section, reader)?;
+    let content = body(alloc, kind, section, count, place, head, reader)?;
+    end(section.blocks, head, reader)?;
+    Ok(content)
+}
+
+/// Returns interfaces and one more.
+fn with_interface(
+    interfaces: Many<Interface>,
+    interface: Interface,
+) -> Result<Many<Interface>, AllocError>
+    ensures { IfOk result (λ all. all ≡ interfaces ++ interface ∷ []) }
+{
+    let mut interfaces = interfaces.into_vec();
+    interfaces.push(interface)?;
+    Ok(Many::new(interfaces))
+}
+
+/// Returns no interfaces, in the vector of some.
+fn no_interfaces(interfaces: Many<Interface>) -> Many<Interface>
+    ensures { result ≡ [] }
+{
+    let mut interfaces = interfaces.into_vec();
+    interfaces.clear();
+    Many::new(interfaces)
+}
+
+/// Returns what stands in a file with a block of this content.
+fn after_content(section: Section, content: Content) -> Result<Next, AllocError>
+    requires { section.blocks < 2 ^ 63 }
+    ensures { IfOk result (λ next. next ≡ after_content section content) }
+{
+    let Section {
+        order,
+        interfaces,
+        blocks,
+    } = section;
+    let blocks = blocks + 1;
+    match content {
+        Content::Section(order) => Ok(Next::Passed(Format::Pcapng(Section {
+            order,
+            interfaces: no_interfaces(interfaces),
+            blocks,
+        }))),
+        Content::Interface(interface) => Ok(Next::Passed(Format::Pcapng(Section {
+            order,
+            interfaces: with_interface(interfaces, interface)?,
+            blocks,
+        }))),
+        Content::Packet(packet) => {
+            let section = Section {
+                order,
+                interfaces,
+                blocks,
+            };
+            Ok(Next::Packet(packet, Format::Pcapng(section)))
+        }
+        Content::Other => Ok(Next::Passed(Format::Pcapng(Section {
+            order,
+            interfaces,
+            blocks,
+        }))),
+    }
+}
+
+/// Reads a block of a kind, after its type, and returns what stands in the file with it.
+pub(crate) fn block_after<F: FieldReader>(
+    alloc: Global,
+    kind: BlockKind,
+    section: Section,
+    count: u64,
+    reader: &mut F,
+) -> Result<Next, CaptureFault>
+    requires packets { count < 2 ^ 63 }
+    requires blocks { section.blocks < 2 ^ 63 }
+    ensures read { Parses (λ next. next) result (block_after kind section count) F.MayFail (F.held reader.old) (F.held reader.new) }
+    ensures keeps { Keeps (F.held reader.old) (F.held reader.new) }
+{
+    let field = CaptureField::Block(section.blocks, BlockField::Body);
+    match block(alloc, kind, &section, count, reader) {
+        Ok(content) => match after_content(section, content) {
+            Ok(next) => Ok(next),
+            Err(_) => Err(CaptureFault {
+                fault: FileFault::Memory,
+                field,
+            }),
+        },
+        Err(fault) => Err(fault),
+    }
+}
+
+/// Reads the next block, if the file has not ended.
+pub(crate) fn next_block<F: FieldReader>(
+    alloc: Global,
+    section: Section,
+    count: u64,
+    reader: &mut F,
+) -> Result<Next, CaptureFault>
+    requires packets { count < 2 ^ 63 }
+    requires blocks { section.blocks < 2 ^ 63 }
+    ensures read { Parses (λ next. next) result (next_block section count) F.MayFail (F.held reader.old) (F.held reader.new) }
+    ensures stays { OnOk result (Stays (F.held reader.old) (F.held reader.new)) }
+    ensures on { (F.held reader.old).place ≤ (F.held reader.new).place }
+{
+    let field = CaptureField::Block(section.blocks, BlockField::Type);
+    match in_field(field, next_kind(section.order, reader)) {
+        Ok(Some(kind)) => block_after(alloc, kind, section, count, reader),
+        Ok(None) => Ok(Next::End),
+        Err(fault) => Err(fault),
+    }
+}

@@ -1,0 +1,274 @@
+//! The bodies of blocks of a pcapng, read.
+
+ghost use Rattle.std.specs.Prelude.{◌≡◌, ◌^◌, ◌<◌, IfErr};
+ghost use Rattle.std.specs.Int.{w16, w32};
+ghost use Rattle.krb_file.specs.Fields.{Gives, StandsIn};
+ghost use Rattle.krb_file.specs.FieldReaders.{Follows, Keeps};
+ghost use Rattle.krb_packet.specs.Numbers.{number_telling};
+ghost use Rattle.krb_packet.specs.Bodies.{announced, section_version, timed_packet_at, enhanced_packet_at, old_packet_at, first_interface, most_of, simple_packet_at, content_at, in_body};
+ghost use Rattle.krb_packet.specs.Blocks.{body_field};
+
+use crate::block::{BlockKind, Section};
+use crate::field::{BlockField, interface_field, packet_block_field};
+use crate::interface::{Interface, read_interface, room};
+use crate::order::{Order, number16, number32, told};
+use crate::packet::Packet;
+use krb_der::Octets;
+use krb_file::{FieldReader, FileFault, FileWhy, SliceReader};
+use std::alloc::Global;
+
+/// What a block has.
+#[derive(Drop)]
+pub enum Content {
+    /// The header of a section, and the order of the octets of its numbers.
+    Section(Order),
+    /// An interface.
+    Interface(Interface),
+    /// A packet.
+    Packet(Packet),
+    /// Nothing that is read.
+    Other,
+}
+
+/// Accepts the version of a section.
+fn section_version(number: u16) -> Result<(), FileWhy>
+    ensures { result ≡ section_version number }
+{
+    if number == 1 {
+        Ok(())
+    } else {
+        Err(FileWhy::Version)
+    }
+}
+
+/// Reads the version of a section.
+fn read_version<F: FieldReader>(order: Order, reader: &mut F) -> Result<(), FileFault>
+    ensures read { Follows (λ done. done) result (number_telling w16 order section_version) F.MayFail (F.held reader.old) (F.held reader.new) }
+    ensures keeps { Keeps (F.held reader.old) (F.held reader.new) }
+{
+    let place = reader.place();
+    let number = number16(order, reader)?;
+    told(place, section_version(number))
+}
+
+/// Returns the interface after so many others.
+fn announced(interfaces: &[Interface], index: u32) -> Result<Interface, FileWhy>
+    ensures { result ≡ announced interfaces.now index }
+{
+    match interfaces.get(index as usize) {
+        Some(interface) => Ok(*interface),
+        None => Err(FileWhy::Overrun),
+    }
+}
+
+/// Reads what tells an interface in 32 bits.
+fn interface32<F: FieldReader>(
+    order: Order,
+    interfaces: &[Interface],
+    reader: &mut F,
+) -> Result<Interface, FileFault>
+    ensures read { Follows (λ interface. interface) result (number_telling w32 order (announced interfaces.now)) F.MayFail (F.held reader.old) (F.held reader.new) }
+    ensures keeps { Keeps (F.held reader.old) (F.held reader.new) }
+{
+    let place = reader.place();
+    let number = number32(order, reader)?;
+    told(place, announced(interfaces, number))
+}
+
+/// Reads what tells an interface in 16 bits.
+fn interface16<F: FieldReader>(
+    order: Order,
+    interfaces: &[Interface],
+    reader: &mut F,
+) -> Result<Interface, FileFault>
+    ensures read { Follows (λ interface. interface) result (number_telling w16 order (announced interfaces.now)) F.MayFail (F.held reader.old) (F.held reader.new) }
+    ensures keeps { Keeps (F.held reader.old) (F.held reader.new) }
+{
+    let place = reader.place();
+    let number = number16(order, reader)?;
+    told(place, announced(interfaces, u32::from(number)))
+}
+
+/// Returns the first interface.
+fn first_interface<F: FieldReader>(
+    interfaces: &[Interface],
+    reader: &F,
+) -> Result<Interface, FileFault>
+    ensures { Follows (λ interface. interface) result (first_interface interfaces.now) F.MayFail (F.held reader.now) (F.held reader.now) }
+{
+    told(reader.place(), announced(interfaces, 0))
+}
+
+/// Reads a packet of an interface after what tells the interface.
+fn timed_packet<F: FieldReader>(
+    alloc: Global,
+    order: Order,
+    count: u64,
+    interface: Interface,
+    reader: &mut F,
+) -> Result<Packet, FileFault>
+    requires { count < 2 ^ 63 }
+    ensures read { Follows (λ packet. packet) result (timed_packet_at order count interface) F.MayFail (F.held reader.old) (F.held reader.new) }
+    ensures keeps { Keeps (F.held reader.old) (F.held reader.new) }
+{
+    let high = number32(order, reader)?;
+    let low = number32(order, reader)?;
+    let captured = number32(order, reader)?;
+    let original = number32(order, reader)?;
+    let mut octets = reader.room(alloc);
+    reader.octets(alloc, u64::from(captured), &mut octets)?;
+    Ok(Packet {
+        number: count + 1,
+        time: interface
+            .clock
+            .time(u64::from(high) * (1 << 32) + u64::from(low)),
+        link: interface.link,
+        octets: Octets::new(octets),
+        size: captured.max(original),
+    })
+}
+
+/// Reads the body of an enhanced packet.
+fn enhanced_packet<F: FieldReader>(
+    alloc: Global,
+    order: Order,
+    count: u64,
+    interfaces: &[Interface],
+    reader: &mut F,
+) -> Result<Packet, FileFault>
+    requires { count < 2 ^ 63 }
+    ensures read { Follows (λ packet. packet) result (enhanced_packet_at order count interfaces.now) F.MayFail (F.held reader.old) (F.held reader.new) }
+    ensures keeps { Keeps (F.held reader.old) (F.held reader.new) }
+{
+    let interface = interface32(order, interfaces, reader)?;
+    timed_packet(alloc, order, count, interface, reader)
+}
+
+/// Reads the body of a packet as it was written once.
+fn old_packet<F: FieldReader>(
+    alloc: Global,
+    order: Order,
+    count: u64,
+    interfaces: &[Interface],
+    reader: &mut F,
+) -> Result<Packet, FileFault>
+    requires { count < 2 ^ 63 }
+    ensures read { Follows (λ packet. packet) result (old_packet_at order count interfaces.now) F.MayFail (F.held reader.old) (F.held reader.new) }
+    ensures keeps { Keeps (F.held reader.old) (F.held reader.new) }
+{
+    let interface = interface16(order, interfaces, reader)?;
+    number16(order, reader)?;
+    timed_packet(alloc, order, count, interface, reader)
+}
+
+/// Returns the most octets of a packet that were captured, if an interface captures `most` of each, or
+/// any number if that is 0.
+fn most_of(most: u32, original: u32) -> u32
+    ensures { result ≡ most_of most original }
+{
+    if most == 0 {
+        original
+    } else {
+        original.min(most)
+    }
+}
+
+/// Reads the body of a simple packet, which is one of the first interface.
+fn simple_packet<F: FieldReader>(
+    alloc: Global,
+    order: Order,
+    count: u64,
+    interfaces: &[Interface],
+    reader: &mut F,
+) -> Result<Packet, FileFault>
+    requires { count < 2 ^ 63 }
+    ensures read { Follows (λ packet. packet) result (simple_packet_at order count interfaces.now) F.MayFail (F.held reader.old) (F.held reader.new) }
+    ensures keeps { Keeps (F.held reader.old) (F.held reader.new) }
+{
+    let interface = first_interface(interfaces, reader)?;
+    let original = number32(order, reader)?;
+    let captured = u64::from(most_of(interface.most, original)).min(room(reader));
+    let mut octets = reader.room(alloc);
+    reader.octets(alloc, captured, &mut octets)?;
+    Ok(Packet {
+        number: count + 1,
+        time: None,
+        link: interface.link,
+        octets: Octets::new(octets),
+        size: original,
+    })
+}
+
+/// Reads the body of a block of a kind.
+fn read_content<F: FieldReader>(
+    alloc: Global,
+    kind: BlockKind,
+    order: Order,
+    count: u64,
+    interfaces: &[Interface],
+    reader: &mut F,
+) -> Result<Content, FileFault>
+    requires { count < 2 ^ 63 }
+    ensures read { Follows (λ content. content) result (content_at kind order count interfaces.now) F.MayFail (F.held reader.old) (F.held reader.new) }
+    ensures keeps { Keeps (F.held reader.old) (F.held reader.new) }
+{
+    match kind {
+        BlockKind::Section => {
+            read_version(order, reader)?;
+            Ok(Content::Section(order))
+        }
+        BlockKind::Interface => {
+            let interface = read_interface(order, reader)?;
+            Ok(Content::Interface(interface))
+        }
+        BlockKind::OldPacket => {
+            let packet = old_packet(alloc, order, count, interfaces, reader)?;
+            Ok(Content::Packet(packet))
+        }
+        BlockKind::SimplePacket => {
+            let packet = simple_packet(alloc, order, count, interfaces, reader)?;
+            Ok(Content::Packet(packet))
+        }
+        BlockKind::EnhancedPacket => {
+            let packet = enhanced_packet(alloc, order, count, interfaces, reader)?;
+            Ok(Content::Packet(packet))
+        }
+        BlockKind::Other => Ok(Content::Other),
+    }
+}
+
+/// Reads a body, whose fields may not pass it. The places of its faults are counted from its first octet.
+pub(crate) fn body_content(
+    alloc: Global,
+    kind: BlockKind,
+    order: Order,
+    count: u64,
+    interfaces: &[Interface],
+    body: &[u8],
+) -> Result<Content, FileFault>
+    requires { count < 2 ^ 63 }
+    ensures read { Gives (λ content. content) result (in_body (content_at kind order count interfaces.now) body.now) }
+    ensures inside { IfErr result (StandsIn body.now) }
+{
+    let mut reader = SliceReader::new(body);
+    reader.set_end(Some(body.len() as u64));
+    read_content(alloc, kind, order, count, interfaces, &mut reader)
+}
+
+/// Returns the field that begins after so many octets of a body.
+pub(crate) fn body_field(kind: BlockKind, interfaces: &[Interface], offset: u64) -> BlockField
+    ensures { result ≡ body_field kind interfaces.now offset }
+{
+    match kind {
+        BlockKind::Section => BlockField::Version,
+        BlockKind::Interface => interface_field(offset),
+        BlockKind::SimplePacket => {
+            if interfaces.is_empty() {
+                BlockField::Interface
+            } else {
+                BlockField::OriginalLength
+            }
+        }
+        _ => packet_block_field(offset),
+    }
+}

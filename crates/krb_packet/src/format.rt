@@ -1,0 +1,123 @@
+//! The formats of capture files, which the first four octets tell apart.
+
+ghost use Rattle.std.specs.Prelude.{◌≡◌, ◌^◌, ◌<◌, ◌≤◌, OnOk, [], Ok};
+ghost use Rattle.krb_file.specs.FieldReaders.{Stays, Keeps};
+ghost use Rattle.krb_packet.specs.Parsers.{Parses};
+ghost use Rattle.krb_packet.specs.Captures.{blocks_of, header_in, packet_in, begin_in, next_in};
+
+use crate::block::{BlockKind, Section};
+use crate::blocks::{block_after, next_block};
+use crate::fault::{CaptureFault, in_field, offset};
+use crate::field::{CaptureField, header_field, packet_field};
+use crate::order::Order;
+use crate::packet::Packet;
+use crate::pcap::{Form, Header, Magic, next_captured, read_header, read_magic};
+use krb_der::Many;
+use krb_file::FieldReader;
+use std::alloc::Global;
+
+/// What was read of a file.
+#[derive(Drop)]
+pub enum Format {
+    /// Nothing.
+    Unknown,
+    /// The header of a pcap, and any number of packets.
+    Pcap(Header),
+    /// Blocks of a pcapng.
+    Pcapng(Section),
+}
+
+/// What stands next in a file.
+#[derive(Drop)]
+pub enum Next {
+    /// A packet, and what was read with it.
+    Packet(Packet, Format),
+    /// No packet, and what was read.
+    Passed(Format),
+    /// The end.
+    End,
+}
+
+/// Reads the header of a pcap after its magic.
+fn header<F: FieldReader>(form: Form, reader: &mut F) -> Result<Header, CaptureFault>
+    ensures read { Parses (λ header. header) result (header_in form) F.MayFail (F.held reader.old) (F.held reader.new) }
+    ensures keeps { Keeps (F.held reader.old) (F.held reader.new) }
+{
+    let start = reader.place();
+    match read_header(form, reader) {
+        Ok(header) => Ok(header),
+        Err(fault) => {
+            let field = header_field(offset(fault, start));
+            Err(CaptureFault { fault, field })
+        }
+    }
+}
+
+/// Reads the next packet of a pcap, if the file has not ended. The reader is at `start`.
+fn packet<F: FieldReader>(
+    alloc: Global,
+    header: Header,
+    count: u64,
+    start: u64,
+    reader: &mut F,
+) -> Result<Option<Packet>, CaptureFault>
+    requires few { count < 2 ^ 63 }
+    requires place { start ≡ (F.held reader.old).place }
+    ensures read { Parses (λ packet. packet) result (packet_in header count) F.MayFail (F.held reader.old) (F.held reader.new) }
+    ensures stays { OnOk result (Stays (F.held reader.old) (F.held reader.new)) }
+    ensures on { (F.held reader.old).place ≤ (F.held reader.new).place }
+{
+    match next_captured(alloc, header, count, reader) {
+        Ok(packet) => Ok(packet),
+        Err(fault) => {
+            let field = packet_field(offset(fault, start));
+            let field = CaptureField::Packet(count, field);
+            Err(CaptureFault { fault, field })
+        }
+    }
+}
+
+/// Reads what a file begins with: the header of a pcap, or the first block of a pcapng.
+fn begin<F: FieldReader>(alloc: Global, count: u64, reader: &mut F) -> Result<Next, CaptureFault>
+    requires { count < 2 ^ 63 }
+    ensures read { Parses (λ next. next) result (begin_in count) F.MayFail (F.held reader.old) (F.held reader.new) }
+    ensures keeps { Keeps (F.held reader.old) (F.held reader.new) }
+{
+    match in_field(CaptureField::Magic, read_magic(reader))? {
+        Magic::Pcap(form) => Ok(Next::Passed(Format::Pcap(header(form, reader)?))),
+        Magic::Pcapng => {
+            let section = Section {
+                order: Order::BigEndian,
+                interfaces: Many::new(Vec::new(alloc)),
+                blocks: 0,
+            };
+            block_after(alloc, BlockKind::Section, section, count, reader)
+        }
+    }
+}
+
+/// Reads on after `count` packets: up to the next packet, or less.
+pub(crate) fn next_step<F: FieldReader>(
+    alloc: Global,
+    format: Format,
+    count: u64,
+    reader: &mut F,
+) -> Result<Next, CaptureFault>
+    requires packets { count ≤ (F.held reader.old).place }
+    requires blocks { blocks_of format ≤ (F.held reader.old).place }
+    ensures few { (F.held reader.old).place < 2 ^ 63 }
+    ensures read { Parses (λ next. next) result (next_in format count) F.MayFail (F.held reader.old) (F.held reader.new) }
+    ensures stays { OnOk result (Stays (F.held reader.old) (F.held reader.new)) }
+    ensures on { (F.held reader.old).place ≤ (F.held reader.new).place }
+{
+    let start = reader.place();
+    match format {
+        Format::Unknown => begin(alloc, count, reader),
+        Format::Pcap(header) => match packet(alloc, header, count, start, reader) {
+            Ok(Some(packet)) => Ok(Next::Packet(packet, Format::Pcap(header))),
+            Ok(None) => Ok(Next::End),
+            Err(fault) => Err(fault),
+        },
+        Format::Pcapng(section) => next_block(alloc, section, count, reader),
+    }
+}

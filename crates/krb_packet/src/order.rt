@@ -1,0 +1,62 @@
+//! The order of the octets of numbers, and numbers of either order, read.
+
+ghost use Rattle.std.specs.Prelude.{◌≡◌};
+ghost use Rattle.std.specs.Int.{w16, w32};
+ghost use Rattle.krb_file.specs.FieldReaders.{Follows, Keeps};
+ghost use Rattle.krb_packet.specs.Numbers.{highest_first, number_in, told};
+
+use krb_file::{FieldReader, FileFault, FileWhy};
+
+/// The order of the octets of a number.
+#[derive(Clone, Copy, PartialEq, Eq, Debug)]
+pub enum Order {
+    /// The highest octet first.
+    BigEndian,
+    /// The lowest octet first.
+    LittleEndian,
+}
+
+impl Order {
+    /// Returns the octets of a number with the highest one first.
+    pub(crate) fn highest_first<const N: usize>(self, octets: [u8; N]) -> [u8; N]
+        ensures { result ≡ highest_first self octets.entry }
+    {
+        let mut octets = octets;
+        match self {
+            Order::BigEndian => {}
+            Order::LittleEndian => octets.reverse(),
+        }
+        octets
+    }
+}
+
+/// Reads a number of 16 bits.
+pub(crate) fn number16<F: FieldReader>(order: Order, reader: &mut F) -> Result<u16, FileFault>
+    ensures read { Follows (λ number. number) result (number_in w16 order) F.MayFail (F.held reader.old) (F.held reader.new) }
+    ensures keeps { Keeps (F.held reader.old) (F.held reader.new) }
+{
+    let mut octets = [0; 2];
+    reader.fill(&mut octets)?;
+    Ok(u16::from_be_bytes(order.highest_first(octets)))
+}
+
+/// Reads a number of 32 bits.
+#[inline(always)]
+pub(crate) fn number32<F: FieldReader>(order: Order, reader: &mut F) -> Result<u32, FileFault>
+    ensures read { Follows (λ number. number) result (number_in w32 order) F.MayFail (F.held reader.old) (F.held reader.new) }
+    ensures keeps { Keeps (F.held reader.old) (F.held reader.new) }
+{
+    let mut octets = [0; 4];
+    reader.fill(&mut octets)?;
+    Ok(u32::from_be_bytes(order.highest_first(octets)))
+}
+
+/// Returns what a field tells, or refuses it at its place.
+pub(crate) fn told<T>(place: u64, tells: Result<T, FileWhy>) -> Result<T, FileFault>
+    ensures { result ≡ told place tells }
+{
+    match tells {
+        Ok(value) => Ok(value),
+        Err(why) => Err(FileFault::Refused { place, why }),
+    }
+}
