@@ -132,8 +132,14 @@ const ORDERS: [(&str, &str); 37] = [
     ("ccache --file a --now 4294967295", "ccache 4294967295, a"),
     ("capture", "capture 16777216 88, -"),
     ("capture --port 750 a b", "capture 16777216 750, a, b"),
-    ("capture --limit 30 --port=65535 --json", "capture 30 65535 json, -"),
-    ("capture --names --port +0001", "capture 16777216 1 named, -"),
+    (
+        "capture --limit 30 --port=65535 --json",
+        "capture 30 65535 json, -",
+    ),
+    (
+        "capture --names --port +0001",
+        "capture 16777216 1 named, -",
+    ),
     ("capture -h", "Lists the messages in a capture"),
     (
         "--help",
