@@ -67,13 +67,14 @@ fuzz: build
 	tests/marks
 	tests/fuzz 100000 1
 
-# Octets per second: of the listing of streams, of a keytab and of a cache, and of messages judged, scanned, parsed
-# and encoded.
+# Octets per second: of the listing of streams, of a keytab, of a cache and of captures, and of messages judged, scanned,
+# parsed and encoded.
 bench: build
 	cd crates/krb_roundtrip && rt run < stdin > /dev/null
 	bench/stream
 	bench/keytab
 	bench/ccache
+	bench/capture
 
 clean:
 	rm -rf bin crates/*/out

@@ -10,38 +10,13 @@ import subprocess
 import sys
 import tempfile
 
+from frames import real_frames, repeated
 from timing import best_of, best_run, best_runs, rate
 
 KRBLS = ["bash", "-c", "ulimit -v 8192; exec bin/krbls stream"]
 AGAIN = "crates/krb_roundtrip/out/krb_roundtrip"
 MIXED_OCTETS = 64 << 20
 CACHED_OCTETS = 1 << 20
-LARGE_OCTETS = 8192
-
-
-def repeated(frames, count):
-    """A file of this many times some frames."""
-    stream = tempfile.NamedTemporaryFile()
-    piece = max(1, (1 << 20) // len(frames))
-    for done in range(0, count, piece):
-        stream.write(frames * min(piece, count - done))
-    stream.flush()
-    return stream
-
-
-def mixed_frames():
-    """The real messages of tests/streams that are no AP-REPs, one after another, and how many they
-    are. The few large ones, which are almost all cipher, are left out."""
-    frames, messages = b"", 0
-    for path in sorted(pathlib.Path("tests/streams").glob("*.stream")):
-        if path.name.startswith("worked-"):
-            continue
-        lines = path.with_suffix(".want").read_text().splitlines()
-        if lines[1:] == ["end messages=1", "status 0"] and not lines[0].startswith("AP-REP"):
-            if path.stat().st_size < LARGE_OCTETS:
-                frames += path.read_bytes()
-                messages += 1
-    return frames, messages
 
 
 def copy_seconds(size):
@@ -111,8 +86,9 @@ def time_judging(name, frames, messages, count):
 
 def main():
     messages = int(sys.argv[1])
-    frames, kinds = mixed_frames()
-    mixed = ("mixed messages", frames, kinds, MIXED_OCTETS // len(frames))
+    frames = real_frames()
+    octets = b"".join(frames)
+    mixed = ("mixed messages", octets, len(frames), MIXED_OCTETS // len(octets))
     ap_rep = pathlib.Path("examples/ap-rep.stream").read_bytes()
     as_rep = pathlib.Path("examples/as-rep.stream").read_bytes()
     time_listing(*mixed)

@@ -2,11 +2,11 @@
 _krbls() {
     local word=${COMP_WORDS[COMP_CWORD]} before=${COMP_WORDS[COMP_CWORD-1]} command=${COMP_WORDS[1]}
     if [ "$COMP_CWORD" -eq 1 ]; then
-        COMPREPLY=($(compgen -W "stream message keytab ccache --help --version" -- "$word"))
+        COMPREPLY=($(compgen -W "stream message keytab ccache capture --help --version" -- "$word"))
         return
     fi
     case $before in
-        --limit|--now) return ;;
+        --limit|--now|--port) return ;;
         --file)
             compopt -o filenames
             mapfile -t COMPREPLY < <(compgen -f -- "$word")
@@ -19,6 +19,7 @@ _krbls() {
                 stream) options="--limit --keep-going --strict $options" ;;
                 message) options="--strict $options" ;;
                 ccache) options="--now $options" ;;
+                capture) options="--limit --port $options" ;;
             esac
             COMPREPLY=($(compgen -W "$options" -- "$word")) ;;
         *)

@@ -2,7 +2,8 @@
 
 A table is one of the kinds that the heading before it names, or has the kind of a record in its first column.
 Each of its rows has fields and their values, and a kind may have several tables: the end of a stream and that of
-a keytab have other fields.
+a keytab have other fields. The table of the heading Origin has the fields that stand before those of its kind in a
+record of a capture.
 """
 
 import pathlib
@@ -53,6 +54,8 @@ is_flags = members(bits=is_number, hex=is_hex, names=list_of(is_text))
 is_sealed = members(etype=is_number, etype_name=is_name, kvno=or_null(is_number), size=is_number)
 is_refused_ticket = members(refused=members(place=is_number, why=is_number, why_name=is_text))
 
+is_endpoint = members(address=is_text, port=is_number)
+
 # The type of the member that a value has.
 SHAPES = {
     "number": is_number,
@@ -67,6 +70,8 @@ SHAPES = {
     "file name": is_text,
     "time": spelled("[0-9]{14}Z"),
     "date": or_null(spelled("[0-9]{4}(-[0-9]{2}){2}T[0-9]{2}(:[0-9]{2}){2}Z")),
+    "instant": spelled("[0-9]{4}(-[0-9]{2}){2}T[0-9]{2}(:[0-9]{2}){2}[.][0-9]{9}Z"),
+    "flow": members(over=spelled("udp|tcp"), source=is_endpoint, target=is_endpoint),
     "yes or no": is_truth,
     "flags": is_flags,
     "ticket flags": is_flags,
@@ -132,6 +137,7 @@ def kinds_of_records():
 
 
 KINDS = kinds_of_records()
+[ORIGIN] = KINDS.pop("Origin")
 
 
 def members_after_kind(fields, record):
@@ -147,7 +153,8 @@ def members_after_kind(fields, record):
 
 def is_as_listed(record):
     """Whether an object has the members of its kind, in their order and of their types."""
+    before = ORIGIN if "packet" in record else []
     return any(
-        members(kind=is_text, **dict(members_after_kind(fields, record)))(record)
+        members(kind=is_text, **dict(members_after_kind(before + fields, record)))(record)
         for fields in KINDS.get(record["kind"], [])
     )

@@ -42,12 +42,12 @@ class Direction:
     def take(self, segment):
         """What is found with one more segment."""
         place = self.place(segment.sequence_number + segment.syn)
-        if place > self.due + MOST_AHEAD or self.frames.is_over():
+        if place > self.due + MOST_AHEAD:
             return
         self.keep(place, segment)
         yield from self.frames.take(self.taken())
         is_whole = self.fin is not None and self.fin <= self.due
-        if not self.frames.is_over() and (is_whole or len(self.waiting) > MOST_AHEAD):
+        if is_whole or len(self.waiting) > MOST_AHEAD:
             yield from self.end()
 
     def keep(self, place, segment):
@@ -70,7 +70,7 @@ class Direction:
         return bytes(octets)
 
     def end(self):
-        """What is found at the end of the direction."""
+        """What is found at the end of the direction: nothing after a frame whose length is not known."""
         self.has_ended = True
         if self.frames.is_over():
             return []

@@ -31,7 +31,7 @@ fn first_line(text: &str) -> &str {
     text.lines().next().unwrap_or("")
 }
 
-/// Returns a short name of a job, and its number, if it has one.
+/// Returns a short name of a job, and its limit or time, if it has one.
 fn named(job: &Job) -> (&str, Option<u32>) {
     match job {
         Job::Stream(limit, profile, after) => (stream_name(*profile, *after), Some(limit.get())),
@@ -39,8 +39,17 @@ fn named(job: &Job) -> (&str, Option<u32>) {
         Job::Message(Profile::Strict) => ("strict message", None),
         Job::Keytab => ("keytab", None),
         Job::Ccache(now) => ("ccache", *now),
+        Job::Capture(limit, _) => ("capture", Some(limit.get())),
         Job::Help(text) => (first_line(text.as_str()), None),
         Job::Version(text) => (first_line(text.as_str()), None),
+    }
+}
+
+/// Returns the port of a job, if it has one.
+fn port_of(job: &Job) -> Option<u16> {
+    match job {
+        Job::Capture(_, port) => Some(*port),
+        _ => None,
     }
 }
 
@@ -68,6 +77,10 @@ fn shown_order(alloc: Global, order: &Order) -> Result<String, Fail> {
         Some(number) => format!(in alloc; "{name} {number}")?,
         None => String::from_str(alloc, name)?,
     };
+    if let Some(port) = port_of(&order.job) {
+        let text = format!(in alloc; " {port}")?;
+        shown.push_str(text.as_str())?;
+    }
     shown.push_str(form_name(order.form))?;
     for source in &order.sources {
         shown.push_str(", ")?;
@@ -90,8 +103,8 @@ fn shown(alloc: Global, line: &str) -> Result<String, Fail> {
     }
 }
 
-/// Words, and what they ask for: the job with its number, the form, and the sources.
-const ORDERS: [(&str, &str); 32] = [
+/// Words, and what they ask for: the job with its numbers, the form, and the sources.
+const ORDERS: [(&str, &str); 37] = [
     ("stream", "stream 16777216, -"),
     ("stream --limit 30 --file a", "stream 30, a"),
     ("stream --limit=5", "stream 5, -"),
@@ -117,9 +130,20 @@ const ORDERS: [(&str, &str); 32] = [
     ("ccache", "ccache, -"),
     ("ccache --now 0", "ccache 0, -"),
     ("ccache --file a --now 4294967295", "ccache 4294967295, a"),
+    ("capture", "capture 16777216 88, -"),
+    ("capture --port 750 a b", "capture 16777216 750, a, b"),
+    (
+        "capture --limit 30 --port=65535 --json",
+        "capture 30 65535 json, -",
+    ),
+    (
+        "capture --names --port +0001",
+        "capture 16777216 1 named, -",
+    ),
+    ("capture -h", "Lists the messages in a capture"),
     (
         "--help",
-        "Lists Kerberos V5 messages, keytabs and credential caches",
+        "Lists Kerberos V5 messages, keytabs, credential caches and captures",
     ),
     ("stream -h", "Lists framed messages"),
     ("--version", "krbls 1.0.0"),
@@ -132,7 +156,7 @@ const ORDERS: [(&str, &str); 32] = [
     ("stream -- -x --file", "stream 16777216, -x, --file"),
 ];
 
-const WRONG: [&str; 29] = [
+const WRONG: [&str; 37] = [
     "",
     "stream --limit 0",
     "stream --limit 2147483648",
@@ -152,6 +176,14 @@ const WRONG: [&str; 29] = [
     "stream --strict --strict",
     "stream --keep-going --keep-going",
     "message --keep-going",
+    "capture --port 0",
+    "capture --port 65536",
+    "capture --port -1",
+    "capture --port 88 --port 88",
+    "capture --strict",
+    "capture --keep-going",
+    "capture --now 5",
+    "stream --port 88",
     "-- keytab",
     "keytab a --now 1",
     "list",

@@ -14,6 +14,7 @@
 //! record is said by `krb_list`.
 #![tactic(auto)]
 
+mod capture_run;
 mod fault_path;
 mod file_run;
 mod going_on;
@@ -26,6 +27,7 @@ mod sources;
 mod stream_run;
 mod transfer;
 
+pub use capture_run::run_capture;
 pub use going_on::run_stream_going_on;
 pub use krb_der::Profile;
 pub use krb_frame::Limit;

@@ -51,6 +51,7 @@ no_text (jobs.Stream limit chosen after) text = text
 no_text (jobs.Message chosen) text = text
 no_text jobs.Keytab text = text
 no_text (jobs.Ccache now) text = text
+no_text (jobs.Capture limit port) text = text
 no_text (jobs.Help help) text = cc
 no_text (jobs.Version version) text = cc
 

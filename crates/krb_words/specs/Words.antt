@@ -29,12 +29,15 @@ option name = record (new_rule name) { long = Some name; action = Some Set; valu
 abbrev pub number_option : Text → ValueParser → Rule
 number_option name taken = record (option name) { parser = Some taken }
 
--- a length of a frame, and a number of 32 bits
+-- a length of a frame, a number of 32 bits, and a port
 abbrev pub limit_option : Rule
 limit_option = number_option (codes "limit") (parser.Signed (pos 1) (pos 2147483647))
 
 abbrev pub now_option : Rule
 now_option = number_option (codes "now") (parser.Signed (pos 0) (pos 4294967295))
+
+abbrev pub port_option : Rule
+port_option = number_option (codes "port") (parser.Signed (pos 1) (pos 65535))
 
 abbrev pub file_option : Rule
 file_option = option (codes "file")
@@ -79,12 +82,15 @@ keytab_app = with_files (with_output (new_app (codes "keytab")))
 abbrev pub ccache_app : App
 ccache_app = with_files (with_output (with_rule (new_app (codes "ccache")) now_option))
 
+abbrev pub capture_app : App
+capture_app = with_files (with_output (with_rule (with_rule (new_app (codes "capture")) limit_option) port_option))
+
 -- the words have no program's name before them, `help` is no command, one is wanted, and `--version` is known
 abbrev pub krbls_top : App
 krbls_top = on_top (λ s. record s { no_binary_name = true; disable_help_subcommand = true; subcommand_required = true; has_version = true }) (new_app (codes "krbls"))
 
 abbrev pub krbls : App
-krbls = with_subcommand (with_subcommand (with_subcommand (with_subcommand krbls_top stream_app.top) message_app.top) keytab_app.top) ccache_app.top
+krbls = with_subcommand (with_subcommand (with_subcommand (with_subcommand (with_subcommand krbls_top stream_app.top) message_app.top) keytab_app.top) ccache_app.top) capture_app.top
 
 -- ---- the order
 -- a text spells a number of 32 bits, as `u32` reads it
@@ -128,6 +134,7 @@ IsJob name rows (job.Stream limit chosen refused) = (name ≡ codes "stream") ×
 IsJob name rows (job.Message chosen) = (name ≡ codes "message") × IsProfile (first_of (codes "strict") rows) chosen
 IsJob name rows job.Keytab = name ≡ codes "keytab"
 IsJob name rows (job.Ccache now) = (name ≡ codes "ccache") × IsNumber (one_of (codes "now") rows) now
+IsJob name rows (job.Capture limit port) = (name ≡ codes "capture") × IsNumberOr 16777216 (one_of (codes "limit") rows) limit × IsNumberOr 88 (one_of (codes "port") rows) port
 IsJob name rows (job.Help text) = ⊥
 IsJob name rows (job.Version text) = ⊥
 

@@ -3,7 +3,7 @@
 ghost use Rattle.std.specs.Prelude.{◌≡◌, false, codes, map, string_bytes, [], IfOk};
 ghost use Rattle.clap.specs.Words.{app_of, new_app, found_of, kind_of, rows_of, rule_of, subcommand_rows_of, first_of, one_of};
 ghost use Rattle.clap.specs.declared.builder.command.Command.TheViews.{out-Command};
-ghost use Rattle.krb_words.specs.Words.{file_option, file_names, with_output, with_files, number_option, flag, strict_flag, keep_going_flag, names_flag, json_flag, stream_app, message_app, keytab_app, ccache_app, krbls, IsTextBy, IsJob, IsProfile, IsAfter, IsForm, IsGiven, IsOrderOf, IsOrderIn, IsNumber, IsNumberOr};
+ghost use Rattle.krb_words.specs.Words.{file_option, file_names, with_output, with_files, number_option, limit_option, flag, strict_flag, keep_going_flag, names_flag, json_flag, stream_app, message_app, keytab_app, ccache_app, capture_app, krbls, IsTextBy, IsJob, IsProfile, IsAfter, IsForm, IsGiven, IsOrderOf, IsOrderIn, IsNumber, IsNumberOr};
 
 use crate::sources::{Source, sources_of};
 use clap::builder::ValueParser;
@@ -36,6 +36,8 @@ pub enum Job {
     /// A credential cache, and the time at which credentials may have expired, in seconds since
     /// 1970.
     Ccache(Option<u32>),
+    /// A capture, with frames of at most the limit's octets, and the port of Kerberos.
+    Capture(Limit, u16),
     /// Nothing: this help is to be printed.
     Help(String),
     /// Nothing: this line with the name and the version of the program is to be printed.
@@ -69,6 +71,9 @@ impl From<AllocError> for WordsFault {
     }
 }
 
+/// The port of Kerberos if none is given (RFC 4120, 7.2).
+const USUAL_PORT: u16 = 88;
+
 /// The version of the program.
 pub const VERSION: &str = "1.0.0";
 
@@ -90,7 +95,7 @@ struct CommandHelp {
 }
 
 const KRBLS_HELP: CommandHelp = CommandHelp {
-    about: "Lists Kerberos V5 messages, keytabs and credential caches",
+    about: "Lists Kerberos V5 messages, keytabs, credential caches and captures",
     usage: "krbls <COMMAND> [OPTIONS] [FILE]...",
     below: "\
 Reads files or the standard input, and prints a line for each message, record or
@@ -101,7 +106,7 @@ No octet of a key is shown.
 
 Exit status, the greatest of those of all files:
   0  all was read
-  1  something was refused
+  1  something was refused, or of a capture lost or unread
   2  the command line is wrong
   3  a read, a write or an allocation failed
 
@@ -169,6 +174,26 @@ credential or configuration entry, and then `end credentials=N`, or
 Example:
   printf '\\5\\4\\0\\0\\0\\0\\0\\1\\0\\0\\0\\1\\0\\0\\0\\1A\\0\\0\\0\\1u' |
     krbls ccache --now \"$(date +%s)\"",
+};
+
+const CAPTURE_HELP: CommandHelp = CommandHelp {
+    about: "Lists the messages in a capture",
+    usage: "krbls capture [OPTIONS] [FILE]...",
+    below: "\
+Reads a pcap or a pcapng, as tcpdump, dumpcap and Wireshark write them, from a
+file or a pipe. Lists the messages that UDP and TCP carry from or to the port,
+and those of port 464, by which passwords are changed. Prints a line for each,
+as `krbls stream` does, with `packet=N t=TIME flow=SOURCE>TARGET` before it: the
+packet that completes it, its time, and who sent it to whom. There are such
+lines also for what is refused and for octets that were not captured. The last
+line is `end packets=N messages=N refused=N lost=N unread=N`; if the file is at
+fault, it begins with `refused` and ends with `place=P why=REASON`.
+
+Example:
+  perl -e 'print pack \"H*\", \"a1b2c3d40002000400000000000000000004000000000065\" .
+    \"6b029b1e000000000000003b0000003b4500003b00000000401100007f0000017f000001\" .
+    \"a0000058002700006f1d301ba003020105a10302010fa20f300d\" .
+    \"a003020112a2060404deadbeef\"' | krbls capture",
 };
 
 /// Returns a command with its help and no options yet.
@@ -279,6 +304,20 @@ fn number_option<'a>(
         .help(help)
 }
 
+/// Returns the option `--limit OCTETS`.
+fn limit_option<'a>(alloc: Global) -> Arg<'a>
+    ensures rule { rule_of result ≡ limit_option }
+    ensures local { result.global ≡ false }
+{
+    number_option(
+        alloc,
+        "limit",
+        value_parser!(u32).range(1..=2147483647),
+        "OCTETS",
+        "Greatest length of a frame, 1 to 2147483647 [16777216]",
+    )
+}
+
 /// Returns a command whose records may be printed with names and as JSON.
 fn with_output<'a>(alloc: Global, command: Command<'a>) -> Result<Command<'a>, AllocError>
     requires local { (out-Command command).has_globals ≡ false }
@@ -299,15 +338,8 @@ fn with_files<'a>(alloc: Global, command: Command<'a>) -> Result<Command<'a>, Al
 fn stream_command<'a>(alloc: Global) -> Result<Command<'a>, AllocError>
     ensures { IfOk result (λ c. (app_of c ≡ stream_app) × ((out-Command c).has_globals ≡ false)) }
 {
-    let limit = number_option(
-        alloc,
-        "limit",
-        value_parser!(u32).range(1..=2147483647),
-        "OCTETS",
-        "Greatest length of a frame, 1 to 2147483647 [16777216]",
-    );
     let command = new_command(alloc, "stream", &STREAM_HELP)
-        .arg(limit)?
+        .arg(limit_option(alloc))?
         .arg(keep_going_flag(alloc))?
         .arg(strict_flag(alloc))?;
     with_files(alloc, with_output(alloc, command)?)
@@ -344,6 +376,23 @@ fn ccache_command<'a>(alloc: Global) -> Result<Command<'a>, AllocError>
     with_files(alloc, with_output(alloc, command)?)
 }
 
+/// Returns the command `capture`.
+fn capture_command<'a>(alloc: Global) -> Result<Command<'a>, AllocError>
+    ensures { IfOk result (λ c. (app_of c ≡ capture_app) × ((out-Command c).has_globals ≡ false)) }
+{
+    let port = number_option(
+        alloc,
+        "port",
+        value_parser!(u16).range(1..),
+        "PORT",
+        "Port of Kerberos, 1 to 65535 [88]",
+    );
+    let command = new_command(alloc, "capture", &CAPTURE_HELP)
+        .arg(limit_option(alloc))?
+        .arg(port)?;
+    with_files(alloc, with_output(alloc, command)?)
+}
+
 /// Returns the command `krbls`, which `clap` calls simple.
 fn krbls_command<'a>(alloc: Global) -> Result<Command<'a>, AllocError>
     ensures { IfOk result (λ c. app_of c ≡ krbls) }
@@ -356,7 +405,8 @@ fn krbls_command<'a>(alloc: Global) -> Result<Command<'a>, AllocError>
         .subcommand(stream_command(alloc)?)?
         .subcommand(message_command(alloc)?)?
         .subcommand(keytab_command(alloc)?)?
-        .subcommand(ccache_command(alloc)?)
+        .subcommand(ccache_command(alloc)?)?
+        .subcommand(capture_command(alloc)?)
 }
 
 /// Returns the fault of words that `clap` takes and that give no order. There are no such words.
@@ -386,6 +436,19 @@ fn limit_of(alloc: Global, found: &ArgMatches<'_>) -> Result<Limit, WordsFault>
         Some(octets) => match Limit::new(octets) {
             Some(limit) => Ok(limit),
             None => Err(not_read(alloc)),
+        },
+    }
+}
+
+/// Returns the port that is given, or else the usual one.
+fn port_of(alloc: Global, found: &ArgMatches<'_>) -> Result<u16, WordsFault>
+    ensures { IfOk result (IsNumberOr 88 (one_of (codes "port") (rows_of (found_of found.now)))) }
+{
+    match number_of(alloc, found, "port")? {
+        None => Ok(USUAL_PORT),
+        Some(number) => match u16::try_from(number) {
+            Ok(port) => Ok(port),
+            Err(_) => Err(not_read(alloc)),
         },
     }
 }
@@ -459,6 +522,7 @@ fn job_of(alloc: Global, name: &str, found: &ArgMatches<'_>) -> Result<Job, Word
         "message" => Ok(Job::Message(profile_of(found))),
         "keytab" => Ok(Job::Keytab),
         "ccache" => Ok(Job::Ccache(number_of(alloc, found, "now")?)),
+        "capture" => Ok(Job::Capture(limit_of(alloc, found)?, port_of(alloc, found)?)),
         _ => Err(not_read(alloc)),
     }
 }

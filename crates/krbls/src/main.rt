@@ -1,12 +1,12 @@
-//! `krbls` lists streams of Kerberos V5 messages (RFC 4120), single messages, keytabs and
-//! credential caches, without trusting an octet: a line or an object of JSON for each message,
+//! `krbls` lists streams of Kerberos V5 messages (RFC 4120), single messages, keytabs, credential
+//! caches and captures, without trusting an octet: a line or an object of JSON for each message,
 //! record or credential, or a numbered refusal at an exact place.
 //!
 //! `krbls stream` reads framed messages, `krbls message` one message in hexadecimal, `krbls keytab`
-//! a keytab, and `krbls ccache` a cache, each from files or from the standard input. The status is
-//! the greatest of those of all files: 0 if all was read, 1 if something was refused, 2 if the
-//! command line is wrong, and 3 if a read, a write or an allocation failed. The standard error has
-//! a line for each fault.
+//! a keytab, `krbls ccache` a cache, and `krbls capture` a pcap or a pcapng, each from files or from
+//! the standard input. The status is the greatest of those of all files: 0 if all was read, 1 if
+//! something was refused, or of a capture lost or unread, 2 if the command line is wrong, and 3 if a
+//! read, a write or an allocation failed. The standard error has a line for each fault.
 //!
 //! The command line is read by `krb_words`, and `krb_tool` lists what a reader reads. What is here
 //! opens the files and reports the faults, and contracts see little of that.
@@ -19,8 +19,8 @@ ghost use Rattle.krb_words.specs.Sources.{path_of};
 
 use krb_list::FileName;
 use krb_tool::{
-    Form, ListSource, RunEnd, RunFault, run_ccache_in, run_keytab_in, run_message_in, run_sources,
-    run_stream_going_on, run_stream_in,
+    Form, ListSource, RunEnd, RunFault, run_capture, run_ccache_in, run_keytab_in, run_message_in,
+    run_sources, run_stream_going_on, run_stream_in,
 };
 use krb_words::{AfterRefusal, Job, NOT_UTF8, Order, Source, WordsFault, read_words};
 use std::alloc::Global;
@@ -108,6 +108,7 @@ impl Lister<'_> {
             Job::Message(profile) => run_message_in(alloc, form, *profile, reader, writer),
             Job::Keytab => run_keytab_in(alloc, form, reader, writer),
             Job::Ccache(now) => run_ccache_in(alloc, form, reader, writer, *now),
+            Job::Capture(limit, port) => run_capture(alloc, form, reader, writer, *limit, *port),
             Job::Help(_) | Job::Version(_) => Ok(RunEnd::Clean),
         }
     }
