@@ -5,7 +5,8 @@
 //!
 //! - [`parse`] returns the message that octets are, or a refusal at an exact octet; [`parse_in`]
 //!   does so by a profile. [`parse_ticket`] and [`parse_method_data`] return a Ticket (5.3) or
-//!   METHOD-DATA (5.9.1) alone, and [`read_ticket`] a Ticket whose octets are borrowed.
+//!   METHOD-DATA (5.9.1) alone. [`read_message`] and [`read_ticket`] return a message and a Ticket
+//!   whose octets are borrowed.
 //! - [`judge`] returns what the first octets of a message decide: nothing yet, that it is whole, or
 //!   a refusal.
 //! - [`path`] returns the name of the field in which octets were refused, such as
@@ -13,7 +14,7 @@
 //!
 //! Each call looks at its octets from the first one on: `krb_scan` judges octets as they come, and
 //! `krb_frame` the frames of a stream. No cipher is decrypted, and what a field means is not
-//! checked. [`judge`] and [`read_ticket`] allocate nothing.
+//! checked. [`judge`], [`read_message`] and [`read_ticket`] allocate nothing.
 //!
 //! `specs/Parses` says what the parsers promise, and [`law`] that each refusal is inside the
 //! octets.
@@ -28,5 +29,6 @@ pub use judging::{judge, judge_in};
 pub use krb_der::{Profile, Refusal, Verdict, Why};
 pub use locating::path;
 pub use parsing::{
-    ParseFault, parse, parse_in, parse_method_data, parse_ticket, parse_ticket_in, read_ticket,
+    ParseFault, parse, parse_in, parse_method_data, parse_ticket, parse_ticket_in, read_message,
+    read_ticket,
 };

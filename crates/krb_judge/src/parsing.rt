@@ -168,6 +168,16 @@ pub fn parse_method_data(alloc: Global, octets: &[u8]) -> Result<Vec<PaData>, Pa
     }
 }
 
+/// Returns the message that octets are, where it stands, or why they are none, by the lenient
+/// profile, as [`parse`] has it. It takes no memory.
+pub fn read_message(octets: &[u8]) -> Result<MessageView<'_>, Refusal>
+    ensures message { IfOk result (IsMessageView octets.now) }
+    ensures whole { IfOk result (λ _. refusal_in Profile.Lenient octets.now ≡ None) }
+    ensures refused { (r : Refusal) → IsErrOf result r ↔ (refusal_in Profile.Lenient octets.now ≡ Some r) }
+{
+    read_in(Profile::Lenient, octets)
+}
+
 /// Returns the message of a profile that octets are, where it stands, or why they are none.
 fn read_in(profile: Profile, octets: &[u8]) -> Result<MessageView<'_>, Refusal>
     ensures message { IfOk result (IsMessageView octets.now) }

@@ -8,3 +8,4 @@ pub mod Messages
 pub mod Sources
 pub mod inner
 pub mod Laws
+pub mod Captures

@@ -5,3 +5,4 @@ pub mod CountingListers
 pub mod Transfers
 pub mod FileRuns
 pub mod RecordRuns
+pub mod CaptureRuns

@@ -1,19 +1,132 @@
-//! A stand-in for the run over captures.
+//! The run over a capture.
 
+ghost use Rattle.std.specs.Prelude.{◌≡◌, ℕ, List, Some, IfErr, IfOk, string_bytes};
+ghost use Rattle.std.specs.Option.{option_map};
+ghost use Rattle.krb_packet.specs.FieldNames.{capture_field_text};
+ghost use Rattle.krb_list.specs.Refusals.{path_in};
+ghost use Rattle.krb_tool.specs.Captures.{capture_listing};
+ghost use Rattle.krb_tool.specs.Faults.{IsWrite};
+ghost use Rattle.krb_tool.specs.Files.{ListsRecords};
+ghost use Rattle.krb_tool.specs.inner.CaptureRuns.{AddsCaptureEnd, AddsFileRefusal, IsCaptureLeft};
+
+use crate::record_run::{RecordLines, Watch, Watched, in_pieces, list_records};
 use crate::run::{RunEnd, RunFault};
+use krb_capture::Capture;
+use krb_file::FileFault;
 use krb_frame::Limit;
 use krb_list::Form;
+use krb_packet::{CaptureFault, CaptureField, Packets};
 use std::alloc::Global;
 use std::io::{Read, Write};
 
-/// Writes nothing.
+/// The records of a capture.
+#[derive(Drop)]
+struct CaptureLines<'a, R: Read> {
+    packets: Packets<R>,
+    capture: Capture,
+    form: Form,
+    watch: &'a Watch,
+}
+
+/// Returns the path of a field, if records of the form show it.
+fn path_of(alloc: Global, form: Form, field: CaptureField) -> Result<Option<String>, RunFault>
+    ensures path { IfOk result (λ path. path_in form (option_map string_bytes path) ≡ path_in form (Some (capture_field_text field))) }
+    ensures fault { IfErr result (λ e. e ≡ RunFault.Memory) }
+{
+    if form == Form::Lines {
+        return Ok(None);
+    }
+    Ok(Some(format!(in alloc; "{field}")?))
+}
+
+/// Appends the records of the end of a file.
+fn put_end(capture: &mut Capture, text: &mut String) -> Result<Option<RunEnd>, RunFault>
+    ensures put { IfOk result (AddsCaptureEnd capture.old (string_bytes text.old) (string_bytes text.new)) }
+    ensures fault { IfErr result (λ e. e ≡ RunFault.Memory) }
+{
+    if capture.finish(text)? {
+        Ok(Some(RunEnd::Clean))
+    } else {
+        Ok(Some(RunEnd::Refused))
+    }
+}
+
+impl<R: Read> CaptureLines<'_, R> {
+    /// Appends the record of a fault of the file, which ends the run. Faults of the reader have none.
+    fn put_fault(
+        &mut self,
+        alloc: Global,
+        fault: CaptureFault,
+        text: &mut String,
+    ) -> Result<Option<RunEnd>, RunFault>
+        ensures put { IfOk result (AddsFileRefusal fault.fault fault.field self.old.capture self.old.form (string_bytes text.old) (string_bytes text.new)) }
+        ensures fault { IfErr result (λ e. IsWrite e → ⊥) }
+    {
+        match fault.fault {
+            FileFault::Refused { place, why, .. } => {
+                let path = path_of(alloc, self.form, fault.field)?;
+                let path = match &path {
+                    None => None,
+                    Some(path) => Some(path.as_str()),
+                };
+                self.capture.refuse(place, why, path, text)?;
+                Ok(Some(RunEnd::Refused))
+            }
+            FileFault::Read => Err(RunFault::Read(self.watch.error())),
+            FileFault::Memory => Err(RunFault::Memory),
+        }
+    }
+}
+
+impl<R: Read> RecordLines for CaptureLines<'_, R> {
+    ghost IsLeft = { λ lines. IsCaptureLeft lines.packets lines.capture lines.form };
+
+    fn put_next(
+        &mut self,
+        alloc: Global,
+        _count: u64,
+        text: &mut String,
+    ) -> Result<Option<RunEnd>, RunFault> {
+        match self.packets.next_packet(alloc) {
+            Ok(Some(packet)) => {
+                self.capture.take(&packet, text)?;
+                self.packets.give_back(packet);
+                Ok(None)
+            }
+            Ok(None) => put_end(&mut self.capture, text),
+            Err(fault) => self.put_fault(alloc, fault, text),
+        }
+    }
+}
+
+/// Lists the Kerberos messages of a capture, a pcap or a pcapng, in a form: writes the records that are
+/// due with each packet, and at the end those that are due then and the totals, or the refusal of the
+/// file. Frames of more than `limit` octets are refused, and `port` is the one of KDCs. Reads and writes
+/// as [`run_keytab_in`](crate::run_keytab_in) does.
 pub fn run_capture<R: Read, W: Write>(
-    _alloc: Global,
-    _form: Form,
-    _reader: &mut R,
-    _writer: &mut W,
-    _limit: Limit,
-    _port: u16,
-) -> Result<RunEnd, RunFault> {
-    Ok(RunEnd::Clean)
+    alloc: Global,
+    form: Form,
+    reader: &mut R,
+    writer: &mut W,
+    limit: Limit,
+    port: u16,
+) -> Result<RunEnd, RunFault>
+    ensures listed { (file : List ℕ) → R.remaining reader.old ≡ Some file → ListsRecords (capture_listing (record { form = form; limit = limit; port = port }) file) (W.contents writer.old) (W.contents writer.new) result }
+{
+    let watch = Watch::new();
+    let watch = &watch;
+    let reader = in_pieces(alloc, Watched { reader, watch })?;
+    let mut text = String::new(alloc);
+    list_records(
+        alloc,
+        &mut CaptureLines {
+            packets: Packets::new(reader),
+            capture: Capture::new(alloc, form, limit, port),
+            form,
+            watch,
+        },
+        &mut text,
+        watch,
+        writer,
+    )
 }

@@ -23,7 +23,7 @@ use std::io::{BufReader, Read, Write};
 
 /// What is known of a reader.
 #[derive(Drop)]
-struct Watch {
+pub(crate) struct Watch {
     /// Whether its last read gave all the octets that it was asked for, as that of a fast file
     /// does.
     is_fast: Cell<bool>,
@@ -33,7 +33,7 @@ struct Watch {
 
 impl Watch {
     /// Returns what is known of a reader that was not asked yet.
-    fn new() -> Watch {
+    pub(crate) fn new() -> Watch {
         Watch {
             is_fast: Cell::new(true),
             error: Cell::new(None),
@@ -41,7 +41,7 @@ impl Watch {
     }
 
     /// Returns why the reader can be read no further.
-    fn error(&self) -> io::Error {
+    pub(crate) fn error(&self) -> io::Error {
         match self.error.get() {
             Some(error) => error,
             None => too_many_reads(),
@@ -51,9 +51,9 @@ impl Watch {
 
 /// A reader that is watched.
 #[derive(Drop)]
-struct Watched<'a, R> {
-    reader: &'a mut R,
-    watch: &'a Watch,
+pub(crate) struct Watched<'a, R> {
+    pub(crate) reader: &'a mut R,
+    pub(crate) watch: &'a Watch,
 }
 
 impl<R: Read> Read for Watched<'_, R> {
@@ -74,7 +74,7 @@ impl<R: Read> Read for Watched<'_, R> {
 }
 
 /// Returns a reader that asks this one for large pieces.
-fn in_pieces<R: Read + Drop>(alloc: Global, reader: R) -> Result<BufReader<R>, RunFault>
+pub(crate) fn in_pieces<R: Read + Drop>(alloc: Global, reader: R) -> Result<BufReader<R>, RunFault>
     ensures same { IfOk result (λ made. (file : List ℕ) → R.remaining reader ≡ Some file → reader_remaining R.remaining made ≡ Some file) }
     ensures fault { IfErr result (λ e. e ≡ RunFault.Memory) }
 {
@@ -95,7 +95,7 @@ fn field_limit() -> FieldLimit
 }
 
 /// A file that is listed a line for each record.
-trait RecordLines {
+pub(crate) trait RecordLines {
     /// What is left to be listed after a number of records.
     ghost IsLeft: { Self → ℕ → RecordListing → Type 0 };
 
@@ -286,7 +286,7 @@ fn write_early<W: Write>(writer: &mut W, text: &mut String, is_due: bool) -> Res
 
 /// Lists a file after a text that is not written yet. Lines are written before the next record is
 /// read, but those of a fast file are kept until they have 64 KiB.
-fn list_records<L: RecordLines, W: Write>(
+pub(crate) fn list_records<L: RecordLines, W: Write>(
     alloc: Global,
     lines: &mut L,
     text: &mut String,

@@ -1,0 +1,71 @@
+-- What a capture keeps after what is found is listed.
+use Rattle.std.proofs.Common.{◌≡◌, ℕ, List, ◌++◌, Option, Some, None, refl, sym, ◌∙◌, ap, subst, append_assoc}
+use Rattle.krb_packet.specs.Fragments.{unread}
+use Rattle.krb_packet.specs.declared.contents.Datagram.{Datagram}
+use Rattle.krb_packet.specs.declared.contents.Segment.{Segment}
+use Rattle.krb_list.specs.Captures.{capture_end_line}
+use Rattle.krb_list.specs.declared.capture.CaptureCounts.{CaptureCounts}
+use Rattle.krb_list.specs.declared.origin.Origin.{Origin}
+use Rattle.krb_list.specs.declared.origin.Transport.TheVariants as transports
+use Rattle.krb_capture.specs.Captures.{Finding, HasFollowed, Progress, Settings, and_counted, counted_each, datagram_taken, end_text, lines_of, over_tcp, over_udp, segment_taken, with_each}
+use Rattle.krb_capture.specs.Datagrams.{datagram_found}
+use Rattle.krb_capture.specs.Directions.{HoldsTable, Table, followed, last_of}
+use Rattle.krb_capture.specs.Flows.{origin_of, service_of}
+use Rattle.krb_capture.specs.Found.{Written, totals, with_all}
+use Rattle.krb_capture.specs.declared.capture.Capture.{Capture}
+use Rattle.krb_capture.specs.declared.directions.Directions.{Directions}
+use Rattle.krb_capture.specs.declared.flow.Service.{Service}
+use Rattle.krb_capture.proofs.Written.{counts-each, form-each, text-each, with_each-datagram}
+
+-- findings are listed and counted
+pub record Steps (old new : Capture) (settings : Settings) (found : List Finding) (progress : Progress) : Type 0 where
+  pub followed : HasFollowed new settings progress
+  pub listed : new.listing.text ≡ old.listing.text ++ lines_of settings.form found
+
+pub steps : (old new : Capture) (settings : Settings) (progress : Progress) (found : List Finding) (table : Table) → HasFollowed old settings progress → HoldsTable new.directions settings.limit table → new.listing ≡ with_each found old.listing → new.port ≡ old.port → new.fragments ≡ old.fragments → new.last ≡ old.last → Steps old new settings found (record { fragments = progress.fragments; table = table; last = progress.last; counts = counted_each found progress.counts })
+steps old new settings progress found table h t e p g l = record {
+  followed = record {
+    port = p ∙ h.port;
+    fragments = g ∙ h.fragments;
+    form = ap (λ w. w.form) e ∙ form-each found old.listing ∙ h.form;
+    table = t;
+    last = l ∙ h.last;
+    counts = ap (λ w. w.counts) e ∙ counts-each found old.listing ∙ ap (λ x. counted_each found x) h.counts;
+  };
+  listed = ap (λ w. w.text) e ∙ text-each found old.listing ∙ ap (λ f. old.listing.text ++ lines_of f found) h.form;
+}
+
+pub datagram-steps : (old new : Capture) (settings : Settings) (progress : Progress) (service : Service) (datagram : Datagram) (origin : Origin) → HasFollowed old settings progress → service_of old.port datagram.source datagram.target ≡ Some service → origin ≡ origin_of old.last transports.Udp datagram.source datagram.target → new.listing ≡ with_all origin (datagram_found service datagram.payload) old.listing → new.port ≡ old.port → new.fragments ≡ old.fragments → new.directions ≡ old.directions → new.last ≡ old.last → Steps old new settings (datagram_taken (service_of settings.port datagram.source datagram.target) datagram progress).found (and_counted (datagram_taken (service_of settings.port datagram.source datagram.target) datagram progress)).progress
+datagram-steps old new settings progress service datagram origin h s o l p g d t =
+    let found = datagram_found service datagram.payload in
+    subst (λ x. Steps old new settings (datagram_taken x datagram progress).found (and_counted (datagram_taken x datagram progress)).progress) (sym (ap (λ n. service_of n datagram.source datagram.target) (sym h.port) ∙ s))
+    (steps old new settings progress (over_udp progress.last datagram found) progress.table h
+    (subst (λ x. HoldsTable x settings.limit progress.table) (sym d) h.table)
+    (l ∙ ap (λ x. with_all x found old.listing) (o ∙ ap (λ x. origin_of x transports.Udp datagram.source datagram.target) h.last) ∙ sym (with_each-datagram progress.last datagram found old.listing))
+    p g t)
+
+pub segment-steps : (old new : Capture) (settings : Settings) (progress : Progress) (service : Service) (segment : Segment) → HasFollowed old settings progress → service_of old.port segment.source segment.target ≡ Some service → HoldsTable new.directions settings.limit (followed settings.limit old.last.packet service segment progress.table).table → new.listing ≡ with_each (over_tcp old.last (followed settings.limit old.last.packet service segment progress.table).found) old.listing → new.port ≡ old.port → new.fragments ≡ old.fragments → new.last ≡ old.last → Steps old new settings (segment_taken settings.limit (service_of settings.port segment.source segment.target) segment progress).found (and_counted (segment_taken settings.limit (service_of settings.port segment.source segment.target) segment progress)).progress
+segment-steps old new settings progress service segment h s t l p g e =
+    subst (λ x. Steps old new settings (segment_taken settings.limit x segment progress).found (and_counted (segment_taken settings.limit x segment progress)).progress) (sym (ap (λ n. service_of n segment.source segment.target) (sym h.port) ∙ s))
+    (steps old new settings progress (over_tcp progress.last (followed settings.limit progress.last.packet service segment progress.table).found) (followed settings.limit progress.last.packet service segment progress.table).table h
+    (subst (λ x. HoldsTable new.directions settings.limit (followed settings.limit x.packet service segment progress.table).table) h.last t)
+    (l ∙ ap (λ x. with_each (over_tcp x (followed settings.limit x.packet service segment progress.table).found) old.listing) h.last)
+    p g e)
+
+-- ---- the end of the file
+pub end-counts : (old : Capture) (settings : Settings) (progress : Progress) (written : Written) (shown : CaptureCounts) → HasFollowed old settings progress → written ≡ with_each (over_tcp old.last (last_of settings.limit progress.table.active)) old.listing → shown ≡ totals (unread old.fragments) written.counts → shown ≡ totals (unread progress.fragments) (counted_each (over_tcp progress.last (last_of settings.limit progress.table.active)) progress.counts)
+end-counts old settings progress written shown h l t =
+    let last = last_of settings.limit progress.table.active in
+    t ∙ ap (λ x. totals (unread x) written.counts) h.fragments ∙ ap (λ x. totals (unread progress.fragments) x) (ap (λ w. w.counts) l ∙ counts-each (over_tcp old.last last) old.listing ∙ ap (λ x. counted_each (over_tcp x last) old.listing.counts) h.last ∙ ap (λ x. counted_each (over_tcp progress.last last) x) h.counts)
+
+pub end-listed : (old : Capture) (settings : Settings) (progress : Progress) (written ended : Written) (shown : CaptureCounts) → HasFollowed old settings progress → written ≡ with_each (over_tcp old.last (last_of settings.limit progress.table.active)) old.listing → shown ≡ totals (unread old.fragments) written.counts → ended ≡ record written { text = written.text ++ capture_end_line written.form shown } → ended.text ≡ old.listing.text ++ end_text settings progress
+unfolding end_text
+end-listed old settings progress written ended shown h l t e =
+    let last = last_of settings.limit progress.table.active in
+    let form = ap (λ w. w.form) l ∙ form-each (over_tcp old.last last) old.listing ∙ h.form in
+    let text = ap (λ w. w.text) l ∙ text-each (over_tcp old.last last) old.listing ∙ ap (λ x. old.listing.text ++ lines_of x (over_tcp old.last last)) h.form ∙ ap (λ x. old.listing.text ++ lines_of settings.form (over_tcp x last)) h.last in
+    ap (λ w. w.text) e
+    ∙ ap (λ x. x ++ capture_end_line written.form shown) text
+    ∙ ap (λ x. (old.listing.text ++ lines_of settings.form (over_tcp progress.last last)) ++ capture_end_line x shown) form
+    ∙ ap (λ x. (old.listing.text ++ lines_of settings.form (over_tcp progress.last last)) ++ capture_end_line settings.form x) (end-counts old settings progress written shown h l t)
+    ∙ append_assoc old.listing.text (lines_of settings.form (over_tcp progress.last last)) (capture_end_line settings.form (totals (unread progress.fragments) (counted_each (over_tcp progress.last last) progress.counts)))

@@ -1,0 +1,78 @@
+-- What is written of several findings, and what a path and a place of a finding have to do with it.
+use Rattle.std.proofs.Common.{◌≡◌, ℕ, ◌<◌, ◌≤◌, ◌^◌, inl, inr, Bool, true, false, List, [], ◌∷◌, ◌++◌, length, Some, None, refl, sym, ◌∙◌, ap, arith}
+use Rattle.std.specs.Prelude.{Option, pos, codes, nat_lt, ◌==◌, if◌then◌else◌, take, drop}
+use Rattle.std.proofs.lemmas.Bool.{cases_lt, lt-ltb}
+use Rattle.krb_der.specs.Octets.{number}
+use Rattle.krb_der.specs.Reasons.{reason_number, reason_name}
+use Rattle.krb_der.specs.declared.profile.Profile.TheVariants.{Lenient}
+use Rattle.krb_der.specs.declared.verdict.Refusal.{Refusal}
+use Rattle.krb_der.specs.declared.verdict.Verdict.{Verdict}
+use Rattle.krb_der.specs.declared.verdict.Verdict.TheVariants as verdict
+use Rattle.krb_der.specs.declared.why.Why.TheVariants as why
+use Rattle.krb_list.specs.Captures.{captured_line, lost_line}
+use Rattle.krb_list.specs.Refusals.{path_in}
+use Rattle.krb_list.specs.Values.{Field, Number, Reason, printed, the}
+use Rattle.krb_list.specs.declared.form.Form.{Form}
+use Rattle.krb_list.specs.declared.origin.Origin.{Origin}
+use Rattle.krb_msg.specs.Grammar.{messages}
+use Rattle.krb_msg.specs.Judgement.{judgement}
+use Rattle.krb_msg.proofs.Grammars.{refusal_is_final}
+use Rattle.krb_judge.specs.Parses.{refused, refusal_of}
+use Rattle.krb_judge.specs.Paths.{message_path}
+use Rattle.krb_frame.specs.GoingOn.{Fault}
+use Rattle.krb_capture.specs.Found.{Found, Faulty, Missing, Written, counted, with_all, with_found}
+use Rattle.krb_capture.specs.Messages.{most_octets, path_of}
+use Rattle.krb_capture.specs.Streams.{entry_found, frame_path}
+
+pub with_all-append : (origin : Origin) (xs ys : List Found) (w : Written) → with_all origin (xs ++ ys) w ≡ with_all origin ys (with_all origin xs w)
+with_all-append origin [] ys w = refl
+with_all-append origin (x ∷ xs) ys w = with_all-append origin xs ys (with_found origin x w)
+
+-- a message is refused at a place of 31 bits
+no_refusal : (r : Refusal) → None ≡ Some r → ⊥
+no_refusal r e = cc
+
+refused_few : (v : Verdict) (r : Refusal) → ((p : Refusal) → v ≡ verdict.Refused p → p.place < 2 ^ 31) → refused v ≡ Some r → r.place < 2 ^ 31
+refused_few verdict.Open r few e = absurd (no_refusal r e)
+refused_few verdict.Whole r few e = absurd (no_refusal r e)
+refused_few (verdict.Refused p) r few e = let same : p ≡ r = cc in omega (arith, few p refl, ap (λ (x : Refusal). x.place) same)
+
+chosen_few : (long none : Bool) (first second : Refusal) (v : Verdict) (r : Refusal) → first.place ≡ 0 → second.place ≡ 0 → (long ≡ false → (p : Refusal) → v ≡ verdict.Refused p → p.place < 2 ^ 31) → (if long then Some first else if none then Some second else refused v) ≡ Some r → r.place < 2 ^ 31
+chosen_few true none first second v r f s few e = let same : first ≡ r = cc in omega (arith, f, ap (λ (x : Refusal). x.place) same)
+chosen_few false true first second v r f s few e = let same : second ≡ r = cc in omega (arith, s, ap (λ (x : Refusal). x.place) same)
+chosen_few false false first second v r f s few e = refused_few v r (few refl) e
+
+no_true : true ≡ false → ⊥
+no_true e = cc
+
+pub place_few : (octets : List ℕ) (r : Refusal) → refusal_of Lenient octets ≡ Some r → r.place < 2 ^ 31
+place_few octets r e =
+    chosen_few (nat_lt 2147483647 (length octets)) (length octets == 0) (record { place = 0; why = why.TooLong }) (record { place = 0; why = why.Empty }) (judgement Lenient (length octets) octets) r refl refl few e
+  where
+    few : nat_lt 2147483647 (length octets) ≡ false → (p : Refusal) → judgement Lenient (length octets) octets ≡ verdict.Refused p → p.place < 2 ^ 31
+    few s p j = elim (cases_lt 2147483647 (length octets)) [
+      | inl h ↦ absurd (no_true (sym (lt-ltb 2147483647 (length octets) h) ∙ s))
+      | inr h ↦ omega (arith, h, (refusal_is_final (messages Lenient) (length octets) octets p.place p.why (omega arith) j).within)
+    ]
+
+-- ---- paths
+-- there is none in the octets of a length
+none_either : (b : Bool) → ◌≡◌ {A = Option (List ℕ)} (if b then None else None) None
+none_either true = refl
+none_either false = refl
+
+pub no_path : (octets : List ℕ) → drop 4 octets ≡ [] → frame_path octets ≡ None
+unfolding path_of
+no_path octets e = ap (λ l. if nat_lt most_octets (number (take 4 octets)) then None else message_path Lenient (number (take 4 octets)) l) e ∙ none_either (nat_lt most_octets (number (take 4 octets)))
+
+-- paths that a form shows as the same
+pub same_path : (origin : Origin) (refusal : Refusal) (p q : Option (List ℕ)) (w : Written) → path_in w.form p ≡ path_in w.form q → with_found origin (Faulty refusal p) w ≡ with_found origin (Faulty refusal q) w
+same_path origin refusal p q w e =
+    ap
+    (λ (fields : List Field). record { form = w.form; text = w.text ++ captured_line w.form origin (printed (codes "refused") (the (codes "place") (Number (pos refusal.place)) ∷ the (codes "why") (Reason (reason_number refusal.why) (reason_name refusal.why)) ∷ fields)); counts = counted (Faulty refusal p) w.counts }) e
+
+pub refused_listed : (origin : Origin) (refusal : Refusal) (octets : List ℕ) (form : Form) (shown path : Option (List ℕ)) (before after : Written) → form ≡ before.form → path_in form shown ≡ path_in form (frame_path octets) → path ≡ shown → after ≡ with_found origin (Faulty refusal path) before → after ≡ with_found origin (entry_found (Fault refusal.place refusal.why octets)) before
+refused_listed origin refusal octets form shown path before after f e p l =
+    l
+    ∙ ap (λ q. with_found origin (Faulty refusal q) before) p
+    ∙ same_path origin refusal shown (frame_path octets) before (ap (λ n. path_in n shown) (sym f) ∙ e ∙ ap (λ n. path_in n (frame_path octets)) f)

@@ -1,0 +1,138 @@
+-- What is found in the frames of messages, by what is known of their decoder.
+use Rattle.std.proofs.Common.{◌≡◌, ℕ, ◌+◌, ◌-◌, ◌^◌, ◌<◌, ◌≤◌, inl, inr, Bool, true, false, List, [], ◌∷◌, ◌++◌, length, map, take, drop, Some, None, refl, sym, ◌∙◌, ap, ap₂, subst, arith, append_assoc, append-nil, drop_at}
+use Rattle.std.specs.Prelude.{Option, cond, not, ◌&&◌, ◌||◌, nat_le, nat_lt, if◌then◌else◌}
+use Rattle.std.specs.List.{AllByRecursion, filter, list_any}
+use Rattle.std.proofs.lemmas.Bool.{cases_lt, lt-leb, le-leb, lt-ltb, le-ltb}
+use Rattle.std.proofs.lemmas.List.{map-append}
+use Rattle.krb_der.specs.Octets.{number}
+use Rattle.krb_der.specs.declared.profile.Profile.TheVariants.{Lenient}
+use Rattle.krb_der.specs.declared.verdict.Refusal.{Refusal}
+use Rattle.krb_der.specs.declared.why.Why.TheVariants as why
+use Rattle.krb_msg.specs.Grammar.{messages}
+use Rattle.krb_msg.specs.Stream.{End, Boundary, Within, Refused}
+use Rattle.krb_frame.specs.Decoding.{Decoding, found, status_at, status_of, AreOfOne}
+use Rattle.krb_frame.specs.GoingOn.{Entry, Contents, Fault, Skipping, GoesOn, entries, last_entry, rest_of, rest_at, rest_to_come}
+use Rattle.krb_frame.specs.declared.decoder.Status.TheVariants as status
+use Rattle.krb_frame.proofs.Ends.{refused_end}
+use Rattle.krb_frame.proofs.Skips.{IsLast, entries-waiting, entries-last}
+use Rattle.krb_capture.specs.Found.{Found}
+use Rattle.krb_capture.specs.Streams.{Framed, before_frames, cut_octets, entry_found, found_with, framed, framed_entries, is_cut, is_unknown, no_frames}
+use Rattle.krb_capture.specs.Taken.{IsDone, Waits}
+use Rattle.krb_capture.specs.declared.flow.Service.{Service}
+use Rattle.krb_capture.specs.declared.flow.Service.TheVariants as services
+
+-- ---- found with more octets
+pub found_with-of : (service : Service) (limit : ℕ) (stream more : List ℕ) (xs ys : List Found) → (framed service limit stream).found ≡ xs → (framed service limit (stream ++ more)).found ≡ xs ++ ys → found_with service limit stream more ≡ ys
+unfolding found_with
+found_with-of service limit stream more xs ys e f = ap₂ (λ a b. drop (length a) b) e f ∙ drop_at xs ys (length xs) refl
+
+-- ---- frames that are whole, or refused with a known length
+pub all_done : (xs ys : List Entry) → AllByRecursion IsDone xs → AllByRecursion IsDone ys → AllByRecursion IsDone (xs ++ ys)
+all_done [] ys d e = e
+all_done (x ∷ xs) ys d e = (d.0, all_done xs ys d.1 e)
+
+one_done : (x : Entry) (l : List Entry) → is_cut x ≡ false → is_unknown x ≡ false → framed_entries (x ∷ l) ≡ before_frames (entry_found x ∷ []) (framed_entries l)
+one_done (Contents contents) l c u = refl
+one_done (Fault place reason front) l c u = λ i. record {
+  found = map entry_found (cond (not (c i)) (Fault place reason front ∷ filter (λ entry. not (is_cut entry)) l) (filter (λ entry. not (is_cut entry)) l));
+  partial = if c i then front else cut_octets l;
+  over = u i || list_any is_unknown l;
+}
+
+pub framed-before : (xs ys : List Entry) → AllByRecursion IsDone xs → framed_entries (xs ++ ys) ≡ before_frames (map entry_found xs) (framed_entries ys)
+framed-before [] ys d = refl
+framed-before (x ∷ xs) ys d = one_done x (xs ++ ys) d.0.0 d.0.1 ∙ ap (before_frames (entry_found x ∷ [])) (framed-before xs ys d.1)
+
+-- ---- a decoder that waits
+cut_frame : (octets : List ℕ) (present : ℕ) → length octets ≡ present → framed_entries (Fault present why.Truncated octets ∷ []) ≡ no_frames octets
+cut_frame octets present one =
+    let c : nat_le (length octets) present ≡ true = le-leb (length octets) present (omega (arith, one)) in
+    let u : nat_lt present (length octets) ≡ false = le-ltb present (length octets) (omega (arith, one)) in
+    λ i. record {
+      found = map entry_found (cond (not (c i)) (Fault present why.Truncated octets ∷ []) []);
+      partial = if c i then octets else [];
+      over = (u i && nat_le (2 ^ 31) (number (take 4 octets))) || false;
+    }
+
+last_cut : (octets : List ℕ) (contents : List (List ℕ)) (end : End) → AreOfOne octets contents end → status_at contents end ≡ status.More → framed_entries (last_entry end octets) ≡ no_frames octets
+last_cut octets [] Boundary one e = λ i. record { found = []; partial = sym one i; over = false }
+last_cut octets [] (Within present) one e = cut_frame octets present one
+last_cut octets [] (Refused place reason) one e = absurd cc
+last_cut octets (first ∷ others) end one e = absurd cc
+
+pub framed-waiting : (limit : ℕ) (s : Skipping) (stream : List ℕ) (w : Waits s stream) → s.current.limit ≡ limit → framed services.Kerberos limit stream ≡ before_frames (map entry_found w.before) (no_frames s.current.octets)
+unfolding framed found
+framed-waiting limit s stream w l =
+    let f = found (messages Lenient) s.current in
+    ap (λ n. framed_entries (entries (messages Lenient) n stream)) (sym l)
+    ∙ ap framed_entries (entries-waiting (messages Lenient) s stream w.before w.goes_on w.waits)
+    ∙ framed-before w.before (last_entry f.end s.current.octets) w.done
+    ∙ ap (before_frames (map entry_found w.before)) (last_cut s.current.octets f.contents f.end w.goes_on.one w.waits)
+
+pub found-waiting : (limit : ℕ) (s : Skipping) (stream : List ℕ) (w : Waits s stream) → s.current.limit ≡ limit → (framed services.Kerberos limit stream).found ≡ map entry_found w.before
+found-waiting limit s stream w l = ap (λ (f : Framed). f.found) (framed-waiting limit s stream w l) ∙ append-nil (map entry_found w.before)
+
+-- whatever follows
+pub found-more : (limit : ℕ) (s : Skipping) (stream : List ℕ) (w : Waits s stream) → s.current.limit ≡ limit → (more : List ℕ) → (framed services.Kerberos limit (stream ++ more)).found ≡ map entry_found w.before ++ (framed services.Kerberos limit (s.current.octets ++ drop s.skipped more)).found
+unfolding framed
+found-more limit s stream w l more =
+    ap (λ n. (framed_entries (entries (messages Lenient) n (stream ++ more))).found) (sym l)
+    ∙ ap (λ e. (framed_entries e).found) (w.goes_on.goes_on more)
+    ∙ ap (λ (f : Framed). f.found) (framed-before w.before (entries (messages Lenient) s.current.limit (s.current.octets ++ drop s.skipped more)) w.done)
+    ∙ ap (λ n. map entry_found w.before ++ (framed_entries (entries (messages Lenient) n (s.current.octets ++ drop s.skipped more))).found) l
+
+-- ---- a frame whose length is not known
+unknown_big : (size used : ℕ) → rest_of size used ≡ None → 2 ^ 31 ≤ size
+unknown_big size used e = elim (cases_lt size (2 ^ 31)) [
+  | inl h ↦ absurd (no (sym (rw (lt-leb (2 ^ 31) size h) refl) ∙ e))
+  | inr h ↦ h
+]
+  where
+    no : Some (4 + size - used) ≡ None → ⊥
+    no e = cc
+
+abbrev entry_at : End → List ℕ → Entry
+entry_at Boundary octets = Fault 0 why.Truncated octets
+entry_at (Within present) octets = Fault present why.Truncated octets
+entry_at (Refused place reason) octets = Fault place reason octets
+
+last_frame : (octets : List ℕ) → length octets ≡ 3 + 1 → 2 ^ 31 ≤ number (take 4 octets) → framed_entries (Fault 3 why.HighBit octets ∷ []) ≡ record { found = entry_found (Fault 3 why.HighBit octets) ∷ []; partial = []; over = true }
+last_frame octets four big =
+    let c : nat_le (length octets) 3 ≡ false = lt-leb (length octets) 3 (omega (arith, four)) in
+    let u : nat_lt 3 (length octets) ≡ true = lt-ltb 3 (length octets) (omega (arith, four)) in
+    let b : nat_le (2 ^ 31) (number (take 4 octets)) ≡ true = le-leb (2 ^ 31) (number (take 4 octets)) big in
+    λ i. record {
+      found = map entry_found (cond (not (c i)) (Fault 3 why.HighBit octets ∷ []) []);
+      partial = if c i then octets else [];
+      over = (u i && b i) || false;
+    }
+
+abbrev pub last_framed : List Entry → Refusal → List ℕ → Framed
+last_framed before refusal octets = before_frames (map entry_found before) (record { found = entry_found (Fault refusal.place refusal.why octets) ∷ []; partial = []; over = true })
+
+pub framed-last : (limit : ℕ) (s : Skipping) (stream : List ℕ) (before : List Entry) (refusal : Refusal) → s.current.limit ≡ limit → AllByRecursion IsDone before → GoesOn (messages Lenient) s stream before → status_of (messages Lenient) s.current ≡ status.Refused refusal → rest_to_come (messages Lenient) s.current ≡ None → (more : List ℕ) → framed services.Kerberos limit (stream ++ more) ≡ last_framed before refusal s.current.octets
+unfolding framed found
+framed-last limit s stream before refusal l done g st none more =
+    ap (λ n. framed_entries (entries (messages Lenient) n (stream ++ more))) (sym l)
+    ∙ ap framed_entries (last.last more)
+    ∙ framed-before before (Fault 3 why.HighBit octets ∷ []) done
+    ∙ ap (before_frames (map entry_found before)) (last_frame octets four big)
+    ∙ ap (λ e. before_frames (map entry_found before) (record { found = entry_found e ∷ []; partial = []; over = true })) same
+  where
+    octets : List ℕ
+    octets = s.current.octets
+
+    last : IsLast (messages Lenient) s stream before
+    last = entries-last (messages Lenient) s stream before refusal g st none
+
+    ended : ((found (messages Lenient) s.current).contents ≡ []) × ((found (messages Lenient) s.current).end ≡ Refused refusal.place refusal.why)
+    ended = refused_end (found (messages Lenient) s.current).contents (found (messages Lenient) s.current).end refusal st
+
+    same : Fault 3 why.HighBit octets ≡ Fault refusal.place refusal.why octets
+    same = ap (λ e. entry_at e octets) (sym last.end ∙ ended.1)
+
+    four : length octets ≡ 3 + 1
+    four = subst (λ c. AreOfOne octets c (Refused 3 why.HighBit)) ended.0 (subst (AreOfOne octets (found (messages Lenient) s.current).contents) last.end g.one)
+
+    big : 2 ^ 31 ≤ number (take 4 octets)
+    big = unknown_big (number (take 4 octets)) (length octets) (sym (ap (λ t. rest_at t octets) st) ∙ none)

@@ -1,0 +1,17 @@
+mod Ends
+mod Extends
+mod Feeding
+mod Following
+mod Found
+mod Framed
+mod Listed
+mod Octets
+mod Over
+mod Parts
+mod Passed
+mod PasswordEnds
+mod Sendings
+mod Tables
+mod Taken
+mod Whole
+mod Written

@@ -1,0 +1,188 @@
+-- Frames listed one after another.
+use Rattle.std.proofs.Common.{◌≡◌, ℕ, ◌+◌, ◌^◌, ◌<◌, ◌≤◌, inl, inr, Bool, true, false, List, [], ◌∷◌, ◌++◌, length, map, take, drop, Some, None, refl, sym, ◌∙◌, ap, ap₂, subst, arith, append_assoc, append-nil, take-append-drop}
+use Rattle.std.specs.Prelude.{Option, is_some, ◌&&◌, nat_le, nat_lt, if◌then◌else◌}
+use Rattle.std.specs.List.{AllByRecursion}
+use Rattle.std.proofs.lemmas.Bool.{cases_lt, lt-leb, le-leb}
+use Rattle.std.proofs.lemmas.List.{drop_all, map-append}
+use Rattle.krb_der.specs.Octets.{number}
+use Rattle.krb_der.specs.declared.verdict.Refusal.{Refusal}
+use Rattle.krb_msg.specs.Grammar.{messages}
+use Rattle.krb_msg.specs.Reading.{message_read}
+use Rattle.krb_msg.specs.Seen.{IsMessageView, message_seen}
+use Rattle.krb_msg.specs.Stream.{Refused}
+use Rattle.krb_msg.specs.declared.message_view.MessageView.{MessageView}
+use Rattle.krb_frame.specs.Decoding.{AreOfOne, Decoding, borrowed, found, status_of}
+use Rattle.krb_frame.specs.GoingOn.{Entry, Contents, Fault, Skipping, GoesOn, FeedsAfter, ClearsEntry, GivesUp, Skips, rest_of, rest_at, rest_to_come}
+use Rattle.krb_frame.specs.declared.decoder.Fed.{Fed}
+use Rattle.krb_frame.specs.declared.decoder.Status.TheVariants as status
+use Rattle.krb_frame.proofs.Ends.{refused_end}
+use Rattle.krb_frame.proofs.Founds.{more-nothing}
+use Rattle.krb_list.specs.declared.origin.Origin.{Origin}
+use Rattle.krb_capture.specs.Found.{Whole, Written, with_all, with_found}
+use Rattle.krb_capture.specs.Listed.{IsStopped, Lists, ListsFront, ListsLast, ListsOne, ListsRefused, status_in}
+use Rattle.krb_capture.specs.Streams.{entry_found}
+use Rattle.krb_capture.specs.Taken.{IsDone}
+use Rattle.krb_capture.proofs.Found.{with_all-append}
+use Rattle.krb_capture.proofs.Framed.{all_done}
+
+-- ---- none
+pub lists-none : (s : Skipping) (origin : Origin) (w : Written) → Lists s s [] origin w w
+lists-none s origin w = record {
+  frames = [];
+  done = λ stream first g. tt;
+  listed = refl;
+  profile = refl;
+  limit = refl;
+  goes_on = λ stream first g. subst (λ l. GoesOn (messages s.current.profile) s l (first ++ [])) (sym (append-nil stream)) (subst (GoesOn (messages s.current.profile) s stream) (sym (append-nil first)) g);
+}
+
+pub lists-fed : (old new : Skipping) (piece : List ℕ) (fed : Fed) (origin : Origin) (w : Written) → FeedsAfter (messages old.current.profile) old piece new fed → Lists old new (take fed.used piece) origin w w
+lists-fed old new piece fed origin w f = record {
+  frames = [];
+  done = λ stream first g. tt;
+  listed = refl;
+  profile = f.others.same_profile;
+  limit = f.others.same_limit;
+  goes_on = λ stream first g. subst (GoesOn (messages old.current.profile) new (stream ++ take fed.used piece)) (sym (append-nil first)) (f.goes_on stream first g);
+}
+
+-- ---- some and then others
+pub lists-both : (a b c : Skipping) (xs ys : List ℕ) (origin : Origin) (u v w : Written) → Lists a b xs origin u v → Lists b c ys origin v w → Lists a c (xs ++ ys) origin u w
+lists-both a b c xs ys origin u v w l m = record {
+  frames = l.frames ++ m.frames;
+  done = λ stream first g. all_done l.frames m.frames (l.done stream first g) (m.done (stream ++ xs) (first ++ l.frames) (between stream first g));
+  listed =
+      m.listed
+      ∙ ap (with_all origin (map entry_found m.frames)) l.listed
+      ∙ sym (with_all-append origin (map entry_found l.frames) (map entry_found m.frames) u)
+      ∙ ap (λ x. with_all origin x u) (sym (map-append entry_found l.frames m.frames));
+  profile = m.profile ∙ l.profile;
+  limit = m.limit ∙ l.limit;
+  goes_on = λ stream first g.
+      subst (λ s. GoesOn (messages a.current.profile) c s (first ++ (l.frames ++ m.frames))) (append_assoc stream xs ys)
+      (subst (GoesOn (messages a.current.profile) c ((stream ++ xs) ++ ys)) (append_assoc first l.frames m.frames)
+      (subst (λ p. GoesOn (messages p) c ((stream ++ xs) ++ ys) ((first ++ l.frames) ++ m.frames)) l.profile (m.goes_on (stream ++ xs) (first ++ l.frames) (between stream first g))));
+}
+  where
+    between : (stream : List ℕ) (first : List Entry) → GoesOn (messages a.current.profile) a stream first → GoesOn (messages b.current.profile) b (stream ++ xs) (first ++ l.frames)
+    between stream first g = subst (λ p. GoesOn (messages p) b (stream ++ xs) (first ++ l.frames)) (sym l.profile) (l.goes_on stream first g)
+
+pub front-start : (s : Skipping) (piece : List ℕ) (origin : Origin) (w : Written) → ListsFront s s piece piece origin w w
+front-start s piece origin w = record { used = []; parts = refl; lists = lists-none s origin w }
+
+pub front-more : (a b c : Skipping) (piece rest : List ℕ) (n : ℕ) (origin : Origin) (u v w : Written) → ListsFront a b piece rest origin u v → Lists b c (take n rest) origin v w → ListsFront a c piece (drop n rest) origin u w
+front-more a b c piece rest n origin u v w l m = record {
+  used = l.used ++ take n rest;
+  parts = l.parts ∙ ap (λ x. l.used ++ x) (sym (take-append-drop n rest)) ∙ sym (append_assoc l.used (take n rest) (drop n rest));
+  lists = lists-both a b c l.used (take n rest) origin u v w l.lists m;
+}
+
+-- one frame after octets
+pub front-one : (a b c : Skipping) (piece rest : List ℕ) (origin : Origin) (u v w : Written) → ListsFront a b piece rest origin u v → ListsOne b c origin v w → ListsFront a c piece rest origin u w
+front-one a b c piece rest origin u v w l m = record {
+  used = l.used;
+  parts = l.parts;
+  lists = subst (λ x. Lists a c x origin u w) (append-nil l.used) (lists-both a b c l.used [] origin u v w l.lists m.lists);
+}
+
+-- all of a piece
+pub front-all : (a b : Skipping) (piece rest : List ℕ) (n : ℕ) (origin : Origin) (u v : Written) → ListsFront a b piece (drop n rest) origin u v → length rest ≤ n → Lists a b piece origin u v
+front-all a b piece rest n origin u v l h = subst (λ x. Lists a b x origin u v) (sym (l.parts ∙ ap (λ x. l.used ++ x) (drop_all n rest h) ∙ append-nil l.used)) l.lists
+
+-- ---- the frame that is ready
+cleared_is : (old new : Skipping) (answer : Bool) (contents : List ℕ) → ClearsEntry (messages old.current.profile) old new answer → borrowed (messages old.current.profile) old.current ≡ Some contents → new.current ≡ record old.current { octets = []; room = new.current.room }
+cleared_is old new answer contents c e = c.clears.left ∙ ap (λ (o : Option (List ℕ)). if is_some o then record old.current { octets = []; room = new.current.room } else old.current) e
+
+left_waits : (old new : Skipping) → new.current ≡ record old.current { octets = []; room = new.current.room } → status_in new ≡ status.More
+left_waits old new e = ap (λ (d : Decoding). status_of (messages d.profile) d) e ∙ more-nothing (messages old.current.profile) old.current.profile old.current.limit old.current.looks new.current.room
+
+pub lists-ready : (old new : Skipping) (answer : Bool) (contents : List ℕ) (view : MessageView) (origin : Origin) (before after : Written) → borrowed (messages old.current.profile) old.current ≡ Some contents → ClearsEntry (messages old.current.profile) old new answer → IsMessageView contents view → after ≡ with_found origin (Whole (message_seen view)) before → ListsOne old new origin before after
+lists-ready old new answer contents view origin before after b c v l =
+    let left = cleared_is old new answer contents c b in
+    record {
+      lists = record {
+        frames = Contents contents ∷ [];
+        done = λ stream first g. ((refl, refl), tt);
+        listed = l ∙ ap (λ m. with_found origin (Whole m) before) v.read;
+        profile = ap (λ (d : Decoding). d.profile) left;
+        limit = ap (λ (d : Decoding). d.limit) left;
+        goes_on = λ stream first g. subst (λ s. GoesOn (messages old.current.profile) new s (first ++ Contents contents ∷ [])) (sym (append-nil stream)) (c.goes_on stream contents first g b);
+      };
+      waits = left_waits old new left;
+    }
+
+-- ---- a frame that is refused
+no_rest : (n : ℕ) → is_some (Some n) ≡ false → ⊥
+no_rest n e = cc
+
+no_some : (o : Option ℕ) → o ≡ None → true ≡ is_some o → ⊥
+no_some o e s = no (s ∙ ap is_some e)
+  where
+    no : true ≡ false → ⊥
+    no e = cc
+
+none_of : (o : Option ℕ) → false ≡ is_some o → o ≡ None
+none_of None e = refl
+none_of (Some n) e = absurd (no_rest n (sym e))
+
+some_of : (o : Option ℕ) → true ≡ is_some o → (n : ℕ) × (o ≡ Some n)
+some_of (Some n) e = (n, refl)
+some_of None e = absurd cc
+
+and_false : (b c : Bool) → c ≡ false → (b && c) ≡ false
+and_false true c e = e
+and_false false c e = refl
+
+known_length : (size used : ℕ) → true ≡ is_some (rest_of size used) → nat_le (2 ^ 31) size ≡ false
+known_length size used s = elim (cases_lt size (2 ^ 31)) [
+  | inl h ↦ lt-leb (2 ^ 31) size h
+  | inr h ↦ absurd (no_some (rest_of size used) (rw (le-leb (2 ^ 31) size h) refl) s)
+]
+
+refused_done : (old : Skipping) (refusal : Refusal) (stream : List ℕ) (first : List Entry) → status_in old ≡ status.Refused refusal → true ≡ is_some (rest_to_come (messages old.current.profile) old.current) → GoesOn (messages old.current.profile) old stream first → IsDone (Fault refusal.place refusal.why old.current.octets)
+unfolding found
+refused_done old refusal stream first st s g = (cut, and_false (nat_lt refusal.place (length octets)) (nat_le (2 ^ 31) (number (take 4 octets))) known)
+  where
+    octets : List ℕ
+    octets = old.current.octets
+
+    ended : ((found (messages old.current.profile) old.current).contents ≡ []) × ((found (messages old.current.profile) old.current).end ≡ Refused refusal.place refusal.why)
+    ended = refused_end (found (messages old.current.profile) old.current).contents (found (messages old.current.profile) old.current).end refusal st
+
+    one : length octets ≡ refusal.place + 1
+    one = subst (λ c. AreOfOne octets c (Refused refusal.place refusal.why)) ended.0 (subst (AreOfOne octets (found (messages old.current.profile) old.current).contents) ended.1 g.one)
+
+    cut : nat_le (length octets) refusal.place ≡ false
+    cut = lt-leb (length octets) refusal.place (omega (arith, one))
+
+    known : nat_le (2 ^ 31) (number (take 4 octets)) ≡ false
+    known = known_length (number (take 4 octets)) (length octets) (s ∙ ap (λ t. is_some (rest_at t octets)) st)
+
+pub lists-refused : (old new : Skipping) (refusal : Refusal) (skipped : Bool) (origin : Origin) (before after : Written) → status_in old ≡ status.Refused refusal → Skips (messages old.current.profile) old new skipped → after ≡ with_found origin (entry_found (Fault refusal.place refusal.why old.current.octets)) before → ListsRefused skipped old refusal new origin before after
+lists-refused old new refusal false origin before after st s l =
+    let none = none_of (rest_to_come (messages old.current.profile) old.current) s.is_known in
+    (s.none none, record { refused = st; unknown = none; listed = l })
+lists-refused old new refusal true origin before after st s l =
+    let o = some_of (rest_to_come (messages old.current.profile) old.current) s.is_known in
+    let left : new.current ≡ record old.current { octets = []; room = new.current.room } = (subst (GivesUp (messages old.current.profile) old.current new.current) o.1 s.gives_up).left in
+    record {
+      lists = record {
+        frames = Fault refusal.place refusal.why old.current.octets ∷ [];
+        done = λ stream first g. (refused_done old refusal stream first st s.is_known g, tt);
+        listed = l;
+        profile = ap (λ (d : Decoding). d.profile) left;
+        limit = ap (λ (d : Decoding). d.limit) left;
+        goes_on = λ stream first g. subst (λ t. GoesOn (messages old.current.profile) new t (first ++ Fault refusal.place refusal.why old.current.octets ∷ [])) (sym (append-nil stream)) (s.goes_on stream first refusal.place refusal.why g st refl);
+      };
+      waits = left_waits old new left;
+    }
+
+-- ---- what becomes of a frame that is refused
+pub one-of : (old new : Skipping) (origin : Origin) (before after : Written) (refusal : Refusal) (skipped : Bool) → skipped ≡ true → ListsRefused skipped old refusal new origin before after → ListsOne old new origin before after
+one-of old new origin before after refusal true e l = l
+one-of old new origin before after refusal false e l = absurd cc
+
+pub last-of : (a b c : Skipping) (piece rest : List ℕ) (origin : Origin) (u v w : Written) (refusal : Refusal) (skipped : Bool) → ListsFront a b piece rest origin u v → skipped ≡ false → ListsRefused skipped b refusal c origin v w → ListsLast a c piece origin u w
+last-of a b c piece rest origin u v w refusal true front e l = absurd cc
+last-of a b c piece rest origin u v w refusal false front e l =
+    subst (λ d. ListsLast a d piece origin u w) (sym l.0) (record { rest = rest; between = v; refusal = refusal; front = front; stopped = l.1 })

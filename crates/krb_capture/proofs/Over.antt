@@ -1,0 +1,72 @@
+-- What the frames of messages answer at the end.
+use Rattle.std.proofs.Common.{◌≡◌, ℕ, ◌+◌, Bool, true, false, List, [], ◌∷◌, ◌++◌, length, map, Some, refl, sym, ◌∙◌, ap, ap₂, subst, arith, append-nil}
+use Rattle.std.specs.Result.{result_err}
+use Rattle.krb_der.specs.declared.profile.Profile.TheVariants.{Lenient}
+use Rattle.krb_der.specs.declared.verdict.Refusal.{Refusal}
+use Rattle.krb_der.specs.declared.why.Why.TheVariants as why
+use Rattle.krb_msg.specs.Grammar.{messages}
+use Rattle.krb_msg.specs.Stream.{Frames, End, Boundary, Within, Refused, ends, frames}
+use Rattle.krb_msg.proofs.Fronts.{frames-nil}
+use Rattle.krb_frame.specs.Decoding.{Decoding, Room, AreOfOne, finish_at, finish_of, found, status_at, status_of}
+use Rattle.krb_frame.specs.GoingOn.{GoesOn, Skipping}
+use Rattle.krb_frame.specs.declared.decoder.Status.TheVariants as status
+use Rattle.krb_frame.proofs.Founds.{more-nothing}
+use Rattle.krb_capture.specs.Streams.{Framed, cut_refusal, entry_found, framed}
+use Rattle.krb_capture.specs.Taken.{IsOver, TookMessages, Waits, WaitsUnless}
+use Rattle.krb_capture.specs.declared.flow.Service.TheVariants as services
+use Rattle.krb_capture.specs.declared.message_frames.MessageFrames.{MessageFrames}
+use Rattle.krb_capture.proofs.Framed.{framed-waiting}
+
+-- of a direction of which nothing came
+pub took-new : (decoder : Decoding) (s : Skipping) (limit looks : ℕ) (room : Room) → decoder ≡ record { profile = Lenient; limit = limit; octets = []; looks = looks; room = room } → s ≡ record { current = decoder; skipped = 0 } → (decoder.octets ≡ [] → GoesOn (messages decoder.profile) s [] []) → TookMessages (record { decoder = s; is_over = false }) limit []
+took-new decoder s limit looks room e f g =
+    let same : s.current ≡ decoder = ap (λ (t : Skipping). t.current) f in
+    record {
+      profile = ap (λ (d : Decoding). d.profile) (same ∙ e);
+      limit_is = ap (λ (d : Decoding). d.limit) (same ∙ e);
+      state = record {
+        before = [];
+        done = tt;
+        goes_on = subst (λ p. GoesOn (messages p) s [] []) (ap (λ (d : Decoding). d.profile) e) (g (ap (λ (d : Decoding). d.octets) e));
+        waits = ap (λ d. status_of (messages Lenient) d) (same ∙ e) ∙ more-nothing (messages Lenient) Lenient limit looks room;
+      };
+    }
+
+-- whether nothing follows
+pub over-is : (taker : MessageFrames) (limit : ℕ) (stream : List ℕ) → TookMessages taker limit stream → taker.is_over ≡ (framed services.Kerberos limit stream).over
+over-is taker limit stream t = by taker.is_over refl
+  where
+    by : (b : Bool) → taker.is_over ≡ b → taker.is_over ≡ (framed services.Kerberos limit stream).over
+    by true e =
+        let o : IsOver limit stream = subst (λ b. WaitsUnless b taker.decoder limit stream) e t.state in
+        e ∙ sym (o []).1 ∙ ap (λ s. (framed services.Kerberos limit s).over) (append-nil stream)
+    by false e =
+        let w : Waits taker.decoder stream = subst (λ b. WaitsUnless b taker.decoder limit stream) e t.state in
+        e ∙ ap (λ (f : Framed). f.over) (sym (framed-waiting limit taker.decoder stream w t.limit_is))
+
+-- the octets of the frame that is not whole
+pub partial-is : (taker : MessageFrames) (limit : ℕ) (stream : List ℕ) → TookMessages taker limit stream → taker.is_over ≡ false → taker.decoder.current.octets ≡ (framed services.Kerberos limit stream).partial
+partial-is taker limit stream t e = ap (λ (f : Framed). f.partial) (sym (framed-waiting limit taker.decoder stream (subst (λ b. WaitsUnless b taker.decoder limit stream) e t.state) t.limit_is))
+
+-- why it is refused
+cut_at : (octets : List ℕ) (f : Frames) → (octets ≡ [] → f ≡ ends Boundary) → AreOfOne octets f.contents f.end → status_at f.contents f.end ≡ status.More → result_err (finish_at f.end) ≡ cut_refusal octets
+cut_at octets f nil one e = by octets f.contents f.end (λ z. ap (λ (g : Frames). g.end) (nil z)) one e
+  where
+    by : (octets : List ℕ) (contents : List (List ℕ)) (end : End) → (octets ≡ [] → end ≡ Boundary) → AreOfOne octets contents end → status_at contents end ≡ status.More → result_err (finish_at end) ≡ cut_refusal octets
+    by octets (first ∷ others) end nil one e = absurd cc
+    by octets [] Boundary nil one e = ap cut_refusal (sym one)
+    by [] [] (Within present) nil one e = absurd (no (nil refl))
+      where
+        no : Within present ≡ Boundary → ⊥
+        no e = cc
+    by (octet ∷ octets) [] (Within present) nil one e = ap (λ n. Some (record { place = n; why = why.Truncated })) (sym one)
+    by octets [] (Refused place reason) nil one e = absurd cc
+
+pub cut-is : (s : Skipping) (stream : List ℕ) → Waits s stream → result_err (finish_of (messages Lenient) s.current) ≡ cut_refusal s.current.octets
+unfolding found
+cut-is s stream w = cut_at s.current.octets (frames (messages Lenient) s.current.limit s.current.octets) (λ z. ap (frames (messages Lenient) s.current.limit) z ∙ frames-nil (messages Lenient) s.current.limit) w.goes_on.one w.waits
+
+pub finish-is : (taker : MessageFrames) (limit : ℕ) (stream : List ℕ) → TookMessages taker limit stream → taker.is_over ≡ false → result_err (finish_of (messages taker.decoder.current.profile) taker.decoder.current) ≡ cut_refusal taker.decoder.current.octets
+finish-is taker limit stream t e =
+    ap (λ p. result_err (finish_of (messages p) taker.decoder.current)) t.profile
+    ∙ cut-is taker.decoder stream (subst (λ b. WaitsUnless b taker.decoder limit stream) e t.state)

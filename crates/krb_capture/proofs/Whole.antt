@@ -1,0 +1,92 @@
+-- What becomes of a frame whose length is there.
+use Rattle.std.proofs.Common.{◌≡◌, ℕ, ◌+◌, ◌^◌, ◌<◌, ◌≤◌, ◌⊎◌, inl, inr, Bool, true, false, List, [], ◌∷◌, ◌++◌, length, take, drop, Some, None, refl, sym, ◌∙◌, ap, subst, arith}
+use Rattle.std.specs.Prelude.{Option, nat_lt, if◌then◌else◌}
+use Rattle.std.proofs.lemmas.Bool.{cases_lt, ltb-true, ltb-false, lt-ltb, le-ltb}
+use Rattle.krb_der.specs.Octets.{number}
+use Rattle.krb_der.specs.declared.why.Why.TheVariants as why
+use Rattle.krb_list.specs.declared.origin.Origin.{Origin}
+use Rattle.krb_capture.specs.Found.{Written, with_all, with_found}
+use Rattle.krb_capture.specs.Passed.{Holds, ListsContents, ListsContentsIf, ListsNext, PassesOver, frame_length}
+use Rattle.krb_capture.specs.Passwords.{password_found}
+use Rattle.krb_capture.specs.Streams.{length_found}
+use Rattle.krb_capture.specs.Taken.{IsAllowed}
+use Rattle.krb_capture.specs.declared.password_frames.PasswordFrames.{PasswordFrames}
+use Rattle.krb_capture.proofs.Passed.{next-empty, next-high, next-kept, next-long, next-passed, next-stopped, next-whole}
+
+-- ---- the length
+length_by : (b : Bool) (size n : ℕ) → (if b then None else Some size) ≡ Some n → (b ≡ false) × (size ≡ n)
+length_by true size n e = absurd cc
+length_by false size n e = (refl, cc)
+
+pub length_four : (octets : List ℕ) (n : ℕ) → frame_length octets ≡ Some n → 4 ≤ length octets
+length_four octets n e = ltb-false (length octets) 4 (length_by (nat_lt (length octets) 4) (number (take 4 octets)) n e).0
+
+pub length_is : (octets : List ℕ) (n : ℕ) → frame_length octets ≡ Some n → number (take 4 octets) ≡ n
+length_is octets n e = (length_by (nat_lt (length octets) 4) (number (take 4 octets)) n e).1
+
+none_by : (b : Bool) (size : ℕ) → (if b then None else Some size) ≡ None → b ≡ true
+none_by true size e = refl
+none_by false size e = absurd cc
+
+pub length_none : (octets : List ℕ) → frame_length octets ≡ None → length octets < 4
+length_none octets e = ltb-true (length octets) 4 (none_by (nat_lt (length octets) 4) (number (take 4 octets)) e)
+
+module _ (old new : PasswordFrames) (n : ℕ) (origin : Origin) (before after : Written) (e : frame_length old.octets.items ≡ Some n) (stream : List ℕ) (h : Holds old stream) where
+  abbrev pub octets : List ℕ
+  octets = old.octets.items
+
+  four : 4 ≤ length octets
+  four = length_four octets n e
+
+  -- of a frame that is refused for its length nothing else came
+  alone : (IsAllowed old.limit n → ⊥) → length octets ≡ 4
+  alone never = by h.few
+    where
+      by : (length octets ≤ 4) ⊎ (IsAllowed old.limit (number (take 4 octets)) × (length octets ≤ 4 + number (take 4 octets))) → length octets ≡ 4
+      by (inl few) = omega (arith, few, four)
+      by (inr p) = absurd (never (subst (IsAllowed old.limit) (length_is octets n e) p.0))
+
+  pub whole-high : 2 ^ 31 ≤ n → new.limit ≡ old.limit → new.is_over ≡ true → after ≡ with_found origin (length_found why.HighBit) before → ListsNext old new stream h origin before after
+  whole-high big l o w = next-stopped old stream h origin before new (length_found why.HighBit) after l o (λ more. next-high old.limit octets four more (omega (arith, big, length_is octets n e))) w
+
+  pub whole-long : n < 2 ^ 31 → old.limit < n → PassesOver old n new → after ≡ with_found origin (length_found why.TooLong) before → ListsNext old new stream h origin before after
+  whole-long short long p w =
+      let size : number (take 4 octets) ≡ n = length_is octets n e in
+      let none : length octets ≡ 4 = alone (λ a. absurd (omega (arith, a.within, long))) in
+      next-passed old stream h origin before new (length_found why.TooLong ∷ []) (number (take 4 octets)) after p.limit (p.is_over ∙ h.goes) (p.skipped ∙ sym size) p.octets (λ more. next-long old.limit octets four more none (omega (arith, size, short)) (omega (arith, size, long))) w
+
+  pub whole-empty : n ≡ 0 → PassesOver old n new → after ≡ with_found origin (length_found why.Empty) before → ListsNext old new stream h origin before after
+  whole-empty z p w =
+      let size : number (take 4 octets) ≡ n = length_is octets n e in
+      let none : length octets ≡ 4 = alone (λ a. absurd (omega (arith, a.some, z))) in
+      next-passed old stream h origin before new (length_found why.Empty ∷ []) (number (take 4 octets)) after p.limit (p.is_over ∙ h.goes) (p.skipped ∙ sym size) p.octets (λ more. next-empty old.limit octets four more none (omega (arith, size, z))) w
+
+  pub whole-contents : IsAllowed old.limit n → ListsContents old n new origin before after → ListsNext old new stream h origin before after
+  whole-contents a c = by (nat_lt (length octets) (4 + n)) refl c
+    where
+      size : number (take 4 octets) ≡ n
+      size = length_is octets n e
+
+      allowed : IsAllowed old.limit (number (take 4 octets))
+      allowed = subst (IsAllowed old.limit) (sym size) a
+
+      most : (length octets ≤ 4) ⊎ (IsAllowed old.limit (number (take 4 octets)) × (length octets ≤ 4 + number (take 4 octets))) → length octets ≤ 4 + n
+      most (inl few) = omega (arith, few)
+      most (inr p) = omega (arith, p.1, size)
+
+      by : (b : Bool) → nat_lt (length octets) (4 + n) ≡ b → ListsContentsIf b old new origin before after → ListsNext old new stream h origin before after
+      by true t l =
+          let open_at : length octets < 4 + number (take 4 octets) = omega (arith, ltb-true (length octets) (4 + n) t, size) in
+          let kept : ListsNext old old stream h origin before before = next-kept old stream h origin before (inr (allowed, four, open_at)) in
+          subst (λ w. ListsNext old new stream h origin before w) (sym l.1) (subst (λ t. ListsNext old t stream h origin before before) (sym l.0) kept)
+      by false t l =
+          let all : length octets ≡ 4 + number (take 4 octets) = omega (arith, ltb-false (length octets) (4 + n) t, most h.few, size) in
+          next-passed old stream h origin before new (password_found 4 (drop 4 octets)) 0 after l.passes.limit (l.passes.is_over ∙ h.goes) l.passes.skipped l.passes.octets (λ more. next-whole old.limit octets four more allowed all) l.listed
+
+-- none of it came
+pub whole-none : (old : PasswordFrames) (origin : Origin) (w : Written) → frame_length old.octets.items ≡ None → (stream : List ℕ) (h : Holds old stream) → ListsNext old old stream h origin w w
+whole-none old origin w e stream h = next-kept old stream h origin w (inl (length_none old.octets.items e))
+
+pub is_none : (o : Option ℕ) → ((n : ℕ) → o ≡ Some n → ⊥) → o ≡ None
+is_none None never = refl
+is_none (Some n) never = absurd (never n refl)

@@ -1,0 +1,14 @@
+use Rattle.std.proofs.Common.{refl, sym, ◌∙◌}
+use Rattle.krb_capture.proofs.Following.{datagram-steps}
+use Rattle.krb_capture.proofs.Written.{on_ok-map}
+use Rattle.krb_capture.proofs.capture.Capture.take_datagram.Goals as goal
+
+pub returns-clause-followed : goal.returns-clause-followed
+returns-clause-followed c = on_ok-map c.list_datagram.result
+    (λ k settings progress h. (datagram-steps c.args.self.now _ settings progress c.in-Some.service c.args.datagram.now c.over_udp-origin.result h (sym c.between.ensures ∙ c.in-Some.is) c.over_udp-origin.ensures k refl refl refl refl).followed)
+    c.list_datagram.ensures
+
+pub returns-clause-listed : goal.returns-clause-listed
+returns-clause-listed c = on_ok-map c.list_datagram.result
+    (λ k settings progress h. (datagram-steps c.args.self.now (record { port = c.args.self.now.port; fragments = c.args.self.now.fragments; directions = c.args.self.now.directions; listing = c.list_datagram.new.listing; last = c.args.self.now.last }) settings progress c.in-Some.service c.args.datagram.now c.over_udp-origin.result h (sym c.between.ensures ∙ c.in-Some.is) c.over_udp-origin.ensures k refl refl refl refl).listed)
+    c.list_datagram.ensures

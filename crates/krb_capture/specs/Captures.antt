@@ -1,0 +1,149 @@
+-- What is found in the packets of a capture, one after another.
+use Rattle.std.specs.Prelude.{ℕ, ◌≡◌, ◌==◌, ◌&&◌, Bool, true, false, if◌then◌else◌, List, [], ◌∷◌, ◌++◌, length, map, max, Option, Some, None}
+use Rattle.krb_packet.specs.Contents.{contents_of}
+use Rattle.krb_packet.specs.declared.contents.Contents.{Contents}
+use Rattle.krb_packet.specs.declared.contents.Contents.TheVariants as contents
+use Rattle.krb_packet.specs.declared.contents.Datagram.{Datagram}
+use Rattle.krb_packet.specs.declared.contents.Fragment.{Fragment}
+use Rattle.krb_packet.specs.declared.fragments.Reassembled.{Reassembled}
+use Rattle.krb_packet.specs.Fragments.{contents_of_whole, no_fragments, step, unread}
+use Rattle.krb_packet.specs.Table.{Table as Fragments}
+use Rattle.krb_packet.specs.declared.contents.Segment.{Segment}
+use Rattle.krb_packet.specs.declared.packet.Packet.{Packet}
+use Rattle.krb_list.specs.Captures.{capture_end_line, capture_refused_line}
+use Rattle.krb_list.specs.declared.capture.CaptureCounts.{CaptureCounts}
+use Rattle.krb_list.specs.declared.form.Form.{Form}
+use Rattle.krb_list.specs.declared.origin.Origin.{Origin}
+use Rattle.krb_list.specs.declared.origin.Transport.TheVariants as transports
+use Rattle.krb_capture.specs.Datagrams.{datagram_found}
+use Rattle.krb_capture.specs.Directions.{Followed, HoldsTable, Table, followed, last_of, no_directions}
+use Rattle.krb_capture.specs.Flows.{due_with, origin_of, service_of}
+use Rattle.krb_capture.specs.Found.{Found, Written, and_more, counted, found_line, totals, with_found}
+use Rattle.krb_capture.specs.declared.capture.Capture.{Capture}
+use Rattle.krb_capture.specs.declared.flow.Due.{Due}
+use Rattle.krb_capture.specs.declared.flow.Flow.{Flow}
+use Rattle.krb_capture.specs.declared.flow.Service.{Service}
+
+-- how a capture is listed: the form, the greatest length of a frame, and the port of KDCs
+pub record Settings : Type 0 where
+  pub form : Form
+  pub limit : ℕ
+  pub port : ℕ
+
+-- what the packets that came leave: the fragments of datagrams that are not whole, the directions, the packet that came last, and the counts
+pub record Progress : Type 0 where
+  pub fragments : Fragments
+  pub table : Table
+  pub last : Due
+  pub counts : CaptureCounts
+
+abbrev pub no_counts : CaptureCounts
+no_counts = record { packets = 0; messages = 0; refused = 0; lost = 0; unread = 0 }
+
+abbrev pub at_first : Progress
+at_first = record { fragments = no_fragments; table = no_directions; last = record { packet = 0; time = None }; counts = no_counts }
+
+-- ---- what is found, each with its origin
+abbrev pub Finding : Type 0
+Finding = Origin × Found
+
+abbrev pub lines_of : Form → List Finding → List ℕ
+lines_of form [] = []
+lines_of form (first ∷ others) = found_line form first.0 first.1 ++ lines_of form others
+
+abbrev pub counted_each : List Finding → CaptureCounts → CaptureCounts
+counted_each [] counts = counts
+counted_each (first ∷ others) counts = counted_each others (counted first.1 counts)
+
+abbrev pub with_each : List Finding → Written → Written
+with_each [] written = written
+with_each (first ∷ others) written = with_each others (with_found first.0 first.1 written)
+
+abbrev pub over_tcp : Due → List (Flow × Found) → List Finding
+over_tcp due found = map (λ one. (origin_of due transports.Tcp one.0.source one.0.target, one.1)) found
+
+abbrev pub over_udp : Due → Datagram → List Found → List Finding
+over_udp due datagram found = map (λ one. (origin_of due transports.Udp datagram.source datagram.target, one)) found
+
+-- ---- packets
+-- what is found with one, and what is left
+pub record Taken : Type 0 where
+  pub found : List Finding
+  pub progress : Progress
+
+abbrev pub nothing_in : Progress → Taken
+nothing_in progress = record { found = []; progress = progress }
+
+abbrev pub datagram_taken : Option Service → Datagram → Progress → Taken
+datagram_taken None datagram progress = nothing_in progress
+datagram_taken (Some service) datagram progress = record { found = over_udp progress.last datagram (datagram_found service datagram.payload); progress = progress }
+
+abbrev pub with_followed : Followed → Progress → Taken
+with_followed followed progress = record { found = over_tcp progress.last followed.found; progress = record progress { table = followed.table } }
+
+abbrev pub segment_taken : ℕ → Option Service → Segment → Progress → Taken
+segment_taken limit None segment progress = nothing_in progress
+segment_taken limit (Some service) segment progress = with_followed (followed limit progress.last.packet service segment progress.table) progress
+
+-- a packet whose headers cannot be read
+abbrev pub with_unread : Progress → Progress
+with_unread progress = record progress { counts = record progress.counts { unread = and_more progress.counts.unread 1 } }
+
+-- what is all there
+abbrev pub whole_taken : Settings → Contents → Progress → Taken
+whole_taken settings (contents.Datagram datagram) progress = datagram_taken (service_of settings.port datagram.source datagram.target) datagram progress
+whole_taken settings (contents.Segment segment) progress = segment_taken settings.limit (service_of settings.port segment.source segment.target) segment progress
+whole_taken settings (contents.Fragment fragment) progress = nothing_in progress
+whole_taken settings contents.Other progress = nothing_in progress
+whole_taken settings contents.Unread progress = nothing_in (with_unread progress)
+
+abbrev pub completed : Settings → Option Reassembled → Progress → Taken
+completed settings None progress = nothing_in progress
+completed settings (Some whole) progress = whole_taken settings (contents_of_whole whole) progress
+
+-- a fragment, which may complete a datagram
+abbrev pub fragment_taken : Settings → Fragment → Progress → Taken
+fragment_taken settings fragment progress =
+    let stepped = step progress.fragments fragment in completed settings stepped.0 (record progress { fragments = stepped.1 })
+
+abbrev pub contents_taken : Settings → Contents → Progress → Taken
+contents_taken settings (contents.Datagram datagram) progress = whole_taken settings (contents.Datagram datagram) progress
+contents_taken settings (contents.Segment segment) progress = whole_taken settings (contents.Segment segment) progress
+contents_taken settings (contents.Fragment fragment) progress = fragment_taken settings fragment progress
+contents_taken settings contents.Other progress = whole_taken settings contents.Other progress
+contents_taken settings contents.Unread progress = whole_taken settings contents.Unread progress
+
+-- a packet came, which is the last one from then on
+abbrev pub with_packet : Packet → Progress → Progress
+with_packet packet progress = record progress { last = due_with packet; counts = record progress.counts { packets = and_more progress.counts.packets 1 } }
+
+-- what is found is counted
+abbrev pub and_counted : Taken → Taken
+and_counted taken = record { found = taken.found; progress = record taken.progress { counts = counted_each taken.found taken.progress.counts } }
+
+unfoldable pub packet_taken : Settings → Packet → Progress → Taken
+packet_taken settings packet progress =
+    and_counted (contents_taken settings (contents_of packet.link (record { octets = packet.octets; size = max packet.size (length packet.octets) })) (with_packet packet progress))
+
+-- ---- at the end of the file: how the directions end that are open, and the totals
+abbrev pub end_taken : Settings → Progress → Taken
+end_taken settings progress = and_counted (record { found = over_tcp progress.last (last_of settings.limit progress.table.active); progress = progress })
+
+abbrev pub all_counts : Progress → CaptureCounts
+all_counts progress = totals (unread progress.fragments) progress.counts
+
+unfoldable pub end_text : Settings → Progress → List ℕ
+end_text settings progress =
+    let taken = end_taken settings progress in lines_of settings.form taken.found ++ capture_end_line settings.form (all_counts taken.progress)
+
+abbrev pub is_clean : CaptureCounts → Bool
+is_clean counts = (counts.refused == 0 && counts.lost == 0) && counts.unread == 0
+
+-- ---- what a capture keeps stands for its progress
+pub record HasFollowed (capture : Capture) (settings : Settings) (progress : Progress) : Type 0 where
+  pub port : capture.port ≡ settings.port
+  pub form : capture.listing.form ≡ settings.form
+  pub fragments : capture.fragments ≡ progress.fragments
+  pub table : HoldsTable capture.directions settings.limit progress.table
+  pub last : capture.last ≡ progress.last
+  pub counts : capture.listing.counts ≡ progress.counts

@@ -1,0 +1,135 @@
+-- The directions of TCP connections that are kept, by their flows. Each has the number of the packet that began it, so that they are in the order in which they began.
+use Rattle.std.specs.Prelude.{ℕ, ◌≡◌, ◌&&◌, ◌||◌, not, nat_lt, Bool, if◌then◌else◌, List, [], ◌∷◌, ◌++◌, length, map, Option, Some, None}
+use Rattle.std.specs.Ordering.{nat_cmp}
+use Rattle.std.specs.Map.{lookup, remove_entry}
+use Rattle.std.specs.BTreeMap.{insert_entry, is_at}
+use Rattle.std.specs.declared.cmp.Ordering.{Ordering}
+use Rattle.krb_packet.specs.declared.contents.Segment.{Segment}
+use Rattle.krb_capture.specs.contracts.flow.FlowOrd.TheImpl as flow_order
+use Rattle.krb_capture.specs.Found.{Found}
+use Rattle.krb_capture.specs.Sending.{Sent, StandsFor, after_segment, last_found, nothing_sent, segment_found, step_of}
+use Rattle.krb_capture.specs.declared.directions.Directions.{Directions}
+use Rattle.krb_capture.specs.declared.flow.Flow.{Flow}
+use Rattle.krb_capture.specs.declared.flow.Service.{Service}
+use Rattle.krb_capture.specs.declared.sending.Sending.{Sending}
+use Rattle.krb_capture.specs.declared.sending.Step.{Step}
+
+-- flows are ordered by their source and then by their target
+abbrev pub flow_cmp : Flow → Flow → Ordering
+flow_cmp = flow_order.ghosts.cmp
+
+-- the number of the direction of each flow; the directions that have not ended; and the flows of those that have
+pub record Table : Type 0 where
+  pub numbers : List (Flow × ℕ)
+  pub active : List (ℕ × Sent)
+  pub ended : List (ℕ × Flow)
+
+abbrev pub no_directions : Table
+no_directions = record { numbers = []; active = []; ended = [] }
+
+-- what is found in flows, and what is kept then
+pub record Followed : Type 0 where
+  pub found : List (Flow × Found)
+  pub table : Table
+
+abbrev pub nothing_found : Table → Followed
+nothing_found table = record { found = []; table = table }
+
+abbrev pub in_flow : Flow → List Found → List (Flow × Found)
+in_flow flow found = map (λ one. (flow, one)) found
+
+abbrev pub flow_of : Segment → Flow
+flow_of segment = record { source = segment.source; target = segment.target }
+
+-- ---- a direction is kept by its number, or that it ended
+abbrev pub kept : Flow → ℕ → Step → Sent → Table → Table
+kept flow number step sent table = record {
+  numbers = if step.began then insert_entry flow_cmp table.numbers flow number else table.numbers;
+  active = if step.ended then table.active else insert_entry nat_cmp table.active number sent;
+  ended = if step.ended then insert_entry nat_cmp table.ended number flow else table.ended;
+}
+
+-- one of which nothing came, with the packet
+abbrev pub begun : ℕ → ℕ → Service → Segment → Table → Followed
+begun limit packet service segment table =
+    let sent = nothing_sent (flow_of segment) service in
+    record {
+      found = in_flow (flow_of segment) (segment_found limit sent segment);
+      table = kept (flow_of segment) packet (step_of sent.state segment) (after_segment sent segment) table;
+    }
+
+abbrev pub without : ℕ → Table → Table
+without number table = record table { active = remove_entry (is_at (nat_cmp number)) table.active }
+
+-- one that has not ended: if it begins anew it is the last one from then on
+abbrev pub gone_on : ℕ → ℕ → ℕ → Sent → Segment → Table → Followed
+gone_on limit packet number sent segment table =
+    let step = step_of sent.state segment in
+    record {
+      found = in_flow sent.flow (segment_found limit sent segment);
+      table = kept sent.flow (if step.began then packet else number) step (after_segment sent segment) (without number table);
+    }
+
+-- ---- room for one more: of at most 65536 the one that began first is forgotten among those that ended; if none has ended the one that began first ends
+abbrev pub forgotten : Flow → Table → Table
+forgotten flow table = record table { numbers = remove_entry (is_at (flow_cmp flow)) table.numbers }
+
+abbrev pub with_one_less : ℕ → List (ℕ × Flow) → List (ℕ × Sent) → Table → Followed
+with_one_less limit (first ∷ others) active table = nothing_found (forgotten first.1 (record table { ended = others }))
+with_one_less limit [] (first ∷ others) table = record { found = in_flow first.1.flow (last_found limit first.1); table = forgotten first.1.flow (record table { active = others }) }
+with_one_less limit [] [] table = nothing_found table
+
+abbrev pub with_room : ℕ → Table → Followed
+with_room limit table = if nat_lt (length table.numbers) 65536 then nothing_found table else with_one_less limit table.ended table.active table
+
+-- ---- a segment
+-- a SYN begins a direction, and so do data if nothing came before
+abbrev pub begins : Segment → Bool
+begins segment = not segment.rst && (segment.syn || nat_lt 0 segment.payload.size)
+
+abbrev pub after_found : List (Flow × Found) → Followed → Followed
+after_found found followed = record followed { found = found ++ followed.found }
+
+-- of a flow of which nothing came
+abbrev pub of_new : ℕ → ℕ → Service → Segment → Table → Followed
+of_new limit packet service segment table =
+    if begins segment
+    then (let room = with_room limit table in after_found room.found (begun limit packet service segment room.table))
+    else nothing_found table
+
+-- of one whose direction ended: a SYN begins it anew
+abbrev pub of_ended : ℕ → ℕ → ℕ → Service → Segment → Table → Followed
+of_ended limit packet number service segment table =
+    if segment.syn && not segment.rst
+    then begun limit packet service segment (record table { ended = remove_entry (is_at (nat_cmp number)) table.ended })
+    else nothing_found table
+
+abbrev pub of_known : ℕ → ℕ → ℕ → Option Sent → Service → Segment → Table → Followed
+of_known limit packet number (Some sent) service segment table = gone_on limit packet number sent segment table
+of_known limit packet number None service segment table = of_ended limit packet number service segment table
+
+abbrev pub by_number : ℕ → ℕ → Option ℕ → Service → Segment → Table → Followed
+by_number limit packet (Some number) service segment table = of_known limit packet number (lookup (is_at (nat_cmp number)) table.active) service segment table
+by_number limit packet None service segment table = of_new limit packet service segment table
+
+-- what is found with a segment of a packet, in frames of at most n octets
+unfoldable pub followed : ℕ → ℕ → Service → Segment → Table → Followed
+followed limit packet service segment table = by_number limit packet (lookup (is_at (flow_cmp (flow_of segment))) table.numbers) service segment table
+
+-- ---- at the end of the file
+abbrev pub last_of : ℕ → List (ℕ × Sent) → List (Flow × Found)
+last_of limit [] = []
+last_of limit (first ∷ others) = in_flow first.1.flow (last_found limit first.1) ++ last_of limit others
+
+-- ---- what is kept stands for a table, with frames of at most n octets
+abbrev pub AllStand : ℕ → List (ℕ × Sending) → List (ℕ × Sent) → Type 0
+AllStand limit [] [] = Unit {0}
+AllStand limit [] (first ∷ others) = ⊥
+AllStand limit (first ∷ others) [] = ⊥
+AllStand limit (first ∷ others) (sent ∷ rest) = (first.0 ≡ sent.0) × StandsFor first.1 limit sent.1 × AllStand limit others rest
+
+pub record HoldsTable (directions : Directions) (limit : ℕ) (table : Table) : Type 0 where
+  pub limit_is : directions.limit ≡ limit
+  pub numbers : directions.numbers.entries ≡ table.numbers
+  pub active : AllStand limit directions.active.entries table.active
+  pub ended : directions.ended.entries ≡ table.ended

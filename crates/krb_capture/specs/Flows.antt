@@ -1,0 +1,22 @@
+-- Flows, what they carry, and the packets with which records are due.
+use Rattle.std.specs.Prelude.{ℕ, ◌||◌, ◌==◌, if◌then◌else◌, Option, Some, None}
+use Rattle.krb_packet.specs.declared.contents.Endpoint.{Endpoint}
+use Rattle.krb_packet.specs.declared.packet.Packet.{Packet}
+use Rattle.krb_list.specs.declared.origin.Origin.{Origin}
+use Rattle.krb_list.specs.declared.origin.Transport.{Transport}
+use Rattle.krb_capture.specs.declared.flow.Due.{Due}
+use Rattle.krb_capture.specs.declared.flow.Service.{Service}
+use Rattle.krb_capture.specs.declared.flow.Service.TheVariants as services
+
+-- A flow is of Kerberos if one of its ports is that of KDCs, and else of changes of passwords if one is 464.
+abbrev pub service_of : ℕ → Endpoint → Endpoint → Option Service
+service_of port source target =
+    if source.port == port || target.port == port then Some services.Kerberos
+    else if source.port == 464 || target.port == 464 then Some services.Passwords
+    else None
+
+abbrev pub due_with : Packet → Due
+due_with packet = record { packet = packet.number; time = packet.time }
+
+abbrev pub origin_of : Due → Transport → Endpoint → Endpoint → Origin
+origin_of due transport from to = record { packet = due.packet; time = due.time; transport = transport; source = from; target = to }

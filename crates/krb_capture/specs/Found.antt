@@ -1,0 +1,55 @@
+-- What is found in a flow, and what is written of it.
+use Rattle.std.specs.Prelude.{ℕ, ◌+◌, ◌-◌, ◌^◌, min, List, [], ◌∷◌, ◌++◌, Option}
+use Rattle.krb_der.specs.declared.verdict.Refusal.{Refusal}
+use Rattle.krb_msg.specs.declared.message.Message.{Message}
+use Rattle.krb_list.specs.Captures.{captured_message_line, captured_refused_line, joined_line, lost_line, password_line}
+use Rattle.krb_list.specs.declared.capture.CaptureCounts.{CaptureCounts}
+use Rattle.krb_list.specs.declared.form.Form.{Form}
+use Rattle.krb_list.specs.declared.origin.Origin.{Origin}
+
+-- A message; a message or a frame that is refused, and the path of the field at fault; that a direction begins without its SYN; octets that are not in the capture, and the path of the field that has the first of them; a message that changes a password, with the lengths of its parts.
+pub data Found : Type 0 where
+  Whole : (message : Message) → Found
+  Faulty : (refusal : Refusal) → (path : Option (List ℕ)) → Found
+  Joined : Found
+  Missing : (place : ℕ) → (octets : ℕ) → (path : Option (List ℕ)) → Found
+  Password : (version : ℕ) → (ap : ℕ) → (rest : ℕ) → Found
+
+abbrev pub found_line : Form → Origin → Found → List ℕ
+found_line form origin (Whole message) = captured_message_line form origin message
+found_line form origin (Faulty refusal path) = captured_refused_line form origin refusal path
+found_line form origin Joined = joined_line form origin
+found_line form origin (Missing place octets path) = lost_line form origin place octets path
+found_line form origin (Password version ap rest) = password_line form origin version ap rest
+
+-- counts stop at the greatest number of 64 bits
+abbrev pub and_more : ℕ → ℕ → ℕ
+and_more count more = min (count + more) (2 ^ 64 - 1)
+
+abbrev pub counted : Found → CaptureCounts → CaptureCounts
+counted (Whole message) counts = record counts { messages = and_more counts.messages 1 }
+counted (Faulty refusal path) counts = record counts { refused = and_more counts.refused 1 }
+counted Joined counts = counts
+counted (Missing place octets path) counts = record counts { lost = and_more counts.lost 1 }
+counted (Password version ap rest) counts = counts
+
+-- what is written of a capture, in a form, and what was counted in it
+pub record Written : Type 0 where
+  pub form : Form
+  pub text : List ℕ
+  pub counts : CaptureCounts
+
+abbrev pub with_found : Origin → Found → Written → Written
+with_found origin found written = record { form = written.form; text = written.text ++ found_line written.form origin found; counts = counted found written.counts }
+
+abbrev pub with_all : Origin → List Found → Written → Written
+with_all origin [] written = written
+with_all origin (first ∷ others) written = with_all origin others (with_found origin first written)
+
+-- of a capture of which no packet came
+abbrev pub nothing_written : Form → Written
+nothing_written form = record { form = form; text = []; counts = record { packets = 0; messages = 0; refused = 0; lost = 0; unread = 0 } }
+
+-- with the fragments that no whole datagram came of
+abbrev pub totals : ℕ → CaptureCounts → CaptureCounts
+totals fragments counts = record counts { unread = and_more counts.unread fragments }

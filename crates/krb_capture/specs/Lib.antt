@@ -1,0 +1,12 @@
+pub mod Flows
+pub mod Found
+pub mod Messages
+pub mod Passwords
+pub mod Datagrams
+pub mod Streams
+pub mod Taken
+pub mod Listed
+pub mod Passed
+pub mod Sending
+pub mod Directions
+pub mod Captures

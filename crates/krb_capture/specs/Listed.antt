@@ -1,0 +1,67 @@
+-- What is listed of the frames of messages, one after another, as their octets come.
+use Rattle.std.specs.Prelude.{ℕ, ◌≡◌, Bool, true, false, List, [], ◌∷◌, ◌++◌, map, None}
+use Rattle.std.specs.List.{AllByRecursion}
+use Rattle.krb_der.specs.declared.verdict.Refusal.{Refusal}
+use Rattle.krb_msg.specs.Grammar.{messages}
+use Rattle.krb_frame.specs.Decoding.{status_of}
+use Rattle.krb_frame.specs.GoingOn.{Entry, Fault, Skipping, GoesOn, rest_to_come}
+use Rattle.krb_frame.specs.declared.decoder.Status.{Status}
+use Rattle.krb_frame.specs.declared.decoder.Status.TheVariants as status
+use Rattle.krb_list.specs.declared.origin.Origin.{Origin}
+use Rattle.krb_capture.specs.Found.{Written, with_all, with_found}
+use Rattle.krb_capture.specs.Streams.{entry_found}
+use Rattle.krb_capture.specs.Taken.{IsDone}
+
+-- Octets were used; the frames that are whole with them or refused were listed, and cleared or skipped.
+pub record Lists (old new : Skipping) (octets : List ℕ) (origin : Origin) (before after : Written) : Type 0 where
+  pub frames : List Entry
+  pub listed : after ≡ with_all origin (map entry_found frames) before
+  pub profile : new.current.profile ≡ old.current.profile
+  pub limit : new.current.limit ≡ old.current.limit
+  pub done : (stream : List ℕ) (first : List Entry) → GoesOn (messages old.current.profile) old stream first → AllByRecursion IsDone frames
+  pub goes_on : (stream : List ℕ) (first : List Entry) → GoesOn (messages old.current.profile) old stream first → GoesOn (messages old.current.profile) new (stream ++ octets) (first ++ frames)
+
+abbrev pub status_in : Skipping → Status
+status_in decoder = status_of (messages decoder.current.profile) decoder.current
+
+-- the same of the octets of a piece before the rest
+pub record ListsFront (old new : Skipping) (piece rest : List ℕ) (origin : Origin) (before after : Written) : Type 0 where
+  pub used : List ℕ
+  pub parts : piece ≡ used ++ rest
+  pub lists : Lists old new used origin before after
+
+-- one frame was listed, and the next one is due
+pub record ListsOne (old new : Skipping) (origin : Origin) (before after : Written) : Type 0 where
+  pub lists : Lists old new [] origin before after
+  pub waits : status_in new ≡ status.More
+
+-- a frame is refused whose length is not known
+pub record IsStopped (decoder : Skipping) (refusal : Refusal) (origin : Origin) (before after : Written) : Type 0 where
+  pub refused : status_in decoder ≡ status.Refused refusal
+  pub unknown : rest_to_come (messages decoder.current.profile) decoder.current ≡ None
+  pub listed : after ≡ with_found origin (entry_found (Fault refusal.place refusal.why decoder.current.octets)) before
+
+-- a frame that is refused was listed; if its length is known it was skipped
+abbrev pub ListsRefused : Bool → Skipping → Refusal → Skipping → Origin → Written → Written → Type 0
+ListsRefused true old refusal new origin before after = ListsOne old new origin before after
+ListsRefused false old refusal new origin before after = (new ≡ old) × IsStopped old refusal origin before after
+
+-- the last frame of a piece is refused, and its length is not known
+pub record ListsLast (old new : Skipping) (piece : List ℕ) (origin : Origin) (before after : Written) : Type 0 where
+  pub rest : List ℕ
+  pub between : Written
+  pub refusal : Refusal
+  pub front : ListsFront old new piece rest origin before between
+  pub stopped : IsStopped new refusal origin between after
+
+-- the frames of a piece were listed, and more can follow, or none
+abbrev pub ListsPiece : Bool → Skipping → Skipping → List ℕ → Origin → Written → Written → Type 0
+ListsPiece true old new piece origin before after = Lists old new piece origin before after × (status_in new ≡ status.More)
+ListsPiece false old new piece origin before after = ListsLast old new piece origin before after
+
+-- one more if the decoder has a frame that is to be cleared or skipped
+abbrev pub frames_due : Status → ℕ
+frames_due status.More = 0
+frames_due status.Ready = 1
+frames_due status.Memory = 1
+frames_due (status.Refused refusal) = 1

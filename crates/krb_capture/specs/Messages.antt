@@ -1,0 +1,44 @@
+-- Octets that are one message, whole or cut by the capture.
+use Rattle.std.specs.Prelude.{ℕ, ◌+◌, ◌-◌, nat_lt, if◌then◌else◌, List, length, take, Option, Some, None}
+use Rattle.krb_der.specs.declared.profile.Profile.TheVariants.{Lenient}
+use Rattle.krb_der.specs.declared.verdict.Refusal.{Refusal}
+use Rattle.krb_der.specs.declared.why.Why.TheVariants as why
+use Rattle.krb_msg.specs.Judgement.{judgement}
+use Rattle.krb_msg.specs.Reading.{message_read}
+use Rattle.krb_judge.specs.Parses.{refused, refusal_of}
+use Rattle.krb_judge.specs.Paths.{message_path}
+use Rattle.krb_capture.specs.Found.{Found, Whole, Faulty, Missing}
+
+-- the greatest number of octets of a message
+abbrev pub most_octets : ℕ
+most_octets = 2147483647
+
+-- the path of the field that has the last of these octets of a message of n octets
+unfoldable pub path_of : ℕ → List ℕ → Option (List ℕ)
+path_of size front = if nat_lt most_octets size then None else message_path Lenient size front
+
+-- a message of n octets that stands after others, and of which these are there, is refused
+abbrev pub refused_found : ℕ → ℕ → List ℕ → Refusal → Found
+refused_found before size octets refusal =
+    Faulty (record { place = before + refusal.place; why = refusal.why }) (path_of size (take (refusal.place + 1) octets))
+
+abbrev pub found_unless : Option Refusal → ℕ → List ℕ → Found
+found_unless None before octets = Whole (message_read octets)
+found_unless (Some refusal) before octets = refused_found before (length octets) octets refusal
+
+-- octets that are all there, after others
+unfoldable pub message_found : ℕ → List ℕ → Found
+message_found before octets = found_unless (refusal_of Lenient octets) before octets
+
+-- why the first octets of a message of n octets are refused, if they are
+abbrev pub front_refusal : ℕ → List ℕ → Option Refusal
+front_refusal size octets =
+    if nat_lt most_octets size then Some (record { place = 0; why = why.TooLong }) else refused (judgement Lenient size octets)
+
+abbrev pub missing_unless : Option Refusal → ℕ → List ℕ → Found
+missing_unless None size octets = Missing (length octets) (size - length octets) (path_of size octets)
+missing_unless (Some refusal) size octets = refused_found 0 size octets refusal
+
+-- the first octets of a message of n octets, of which the others are not in the capture
+unfoldable pub cut_found : ℕ → List ℕ → Found
+cut_found size octets = missing_unless (front_refusal size octets) size octets

@@ -1,0 +1,56 @@
+-- What is listed of the frames of messages that change passwords, as their octets come.
+use Rattle.std.specs.Prelude.{ℕ, ◌≡◌, ◌⊎◌, ◌+◌, ◌≤◌, nat_lt, if◌then◌else◌, Bool, true, false, List, [], ◌++◌, length, take, drop, Option, Some, None}
+use Rattle.krb_der.specs.Octets.{number}
+use Rattle.krb_list.specs.declared.origin.Origin.{Origin}
+use Rattle.krb_capture.specs.Found.{Found, Written, with_all}
+use Rattle.krb_capture.specs.Passwords.{password_found}
+use Rattle.krb_capture.specs.Streams.{before_frames, found_with}
+use Rattle.krb_capture.specs.Taken.{IsAllowed, KeepsUnless, TookPasswords, passwords}
+use Rattle.krb_capture.specs.declared.flow.Service.TheVariants as services
+use Rattle.krb_capture.specs.declared.password_frames.PasswordFrames.{PasswordFrames}
+
+-- octets were taken, and the frames that are whole with them or refused were listed
+pub record TakesPasswords (old new : PasswordFrames) (octets : List ℕ) (origin : Origin) (before after : Written) : Type 0 where
+  pub took : (limit : ℕ) (stream : List ℕ) → TookPasswords old limit stream → TookPasswords new limit (stream ++ octets)
+  pub listed : (limit : ℕ) (stream : List ℕ) → TookPasswords old limit stream → after ≡ with_all origin (found_with services.Passwords limit stream octets) before
+
+-- The octets of the next frame are kept: at most those of its length, or at most all of it; what was found before it was listed.
+pub record Holds (taker : PasswordFrames) (stream : List ℕ) : Type 0 where
+  pub goes : taker.is_over ≡ false
+  pub none_skipped : taker.skipped ≡ 0
+  pub before : List Found
+  pub goes_on : (more : List ℕ) → passwords taker.limit (stream ++ more) ≡ before_frames before (passwords taker.limit (taker.octets.items ++ more))
+  pub few : (length taker.octets.items ≤ 4) ⊎ (IsAllowed taker.limit (number (take 4 taker.octets.items)) × (length taker.octets.items ≤ 4 + number (take 4 taker.octets.items)))
+
+-- that frame was listed if it is whole or refused
+pub record ListsNext (old new : PasswordFrames) (stream : List ℕ) (h : Holds old stream) (origin : Origin) (before after : Written) : Type 0 where
+  pub limit : new.limit ≡ old.limit
+  pub state : KeepsUnless new.is_over new stream
+  pub listed : after ≡ with_all origin (drop (length h.before) (passwords old.limit stream).found) before
+
+abbrev pub ListsWhole : PasswordFrames → PasswordFrames → Origin → Written → Written → Type 0
+ListsWhole old new origin before after = (stream : List ℕ) (h : Holds old stream) → ListsNext old new stream h origin before after
+
+-- the length of a frame, if its octets are there
+abbrev pub frame_length : List ℕ → Option ℕ
+frame_length octets = if nat_lt (length octets) 4 then None else Some (number (take 4 octets))
+
+-- nothing of the next frame is kept, and octets before it are skipped
+pub record PassesOver (old : PasswordFrames) (count : ℕ) (new : PasswordFrames) : Type 0 where
+  pub limit : new.limit ≡ old.limit
+  pub is_over : new.is_over ≡ old.is_over
+  pub skipped : new.skipped ≡ count
+  pub octets : new.octets.items ≡ []
+
+-- the contents of a frame that is whole were listed
+pub record ListsContentsOf (old new : PasswordFrames) (origin : Origin) (before after : Written) : Type 0 where
+  pub passes : PassesOver old 0 new
+  pub listed : after ≡ with_all origin (password_found 4 (drop 4 old.octets.items)) before
+
+-- if it is not whole nothing changes
+abbrev pub ListsContentsIf : Bool → PasswordFrames → PasswordFrames → Origin → Written → Written → Type 0
+ListsContentsIf true old new origin before after = (new ≡ old) × (after ≡ before)
+ListsContentsIf false old new origin before after = ListsContentsOf old new origin before after
+
+abbrev pub ListsContents : PasswordFrames → ℕ → PasswordFrames → Origin → Written → Written → Type 0
+ListsContents old n new origin before after = ListsContentsIf (nat_lt (length old.octets.items) (4 + n)) old new origin before after

@@ -1,0 +1,77 @@
+-- What is found with the segments of one direction of a TCP connection, and what is kept of it.
+use Rattle.std.specs.Prelude.{ℕ, ◌≡◌, Bool, List, [], ◌∷◌, ◌++◌, Option, Some, None, is_some, if◌then◌else◌}
+use Rattle.krb_packet.specs.declared.contents.Segment.{Segment}
+use Rattle.krb_flow.specs.Directions.{Outcome, end_of, step}
+use Rattle.krb_flow.specs.declared.direction.Beginning.{Beginning}
+use Rattle.krb_flow.specs.declared.direction.Beginning.TheVariants as beginnings
+use Rattle.krb_flow.specs.declared.direction.State.{State}
+use Rattle.krb_flow.specs.declared.direction.State.TheVariants as states
+use Rattle.krb_flow.specs.declared.stream.End.{End}
+use Rattle.krb_capture.specs.Found.{Found, Joined}
+use Rattle.krb_capture.specs.Streams.{end_found, found_with}
+use Rattle.krb_capture.specs.Taken.{Took, service_of}
+use Rattle.krb_capture.specs.declared.flow.Flow.{Flow}
+use Rattle.krb_capture.specs.declared.flow.Service.{Service}
+use Rattle.krb_capture.specs.declared.sending.Sending.{Sending}
+use Rattle.krb_capture.specs.declared.sending.Step.{Step}
+
+-- A direction: its flow, what that carries, what its segments came to, and the octets that were taken since it began.
+pub record Sent : Type 0 where
+  pub flow : Flow
+  pub service : Service
+  pub state : State
+  pub stream : List ℕ
+
+abbrev pub nothing_sent : Flow → Service → Sent
+nothing_sent flow service = record { flow = flow; service = service; state = states.Fresh; stream = [] }
+
+-- at an end, if it is one
+abbrev pub end_if : Service → ℕ → List ℕ → Option End → List Found
+end_if service limit stream None = []
+end_if service limit stream (Some end) = end_found service limit stream end
+
+-- data that no SYN comes before
+abbrev pub beginning_found : Option Beginning → List Found
+beginning_found None = []
+beginning_found (Some beginnings.Syn) = []
+beginning_found (Some beginnings.Joined) = Joined ∷ []
+
+-- the octets before those that are taken: none of a direction that begins
+abbrev pub stream_at : Option Beginning → List ℕ → List ℕ
+stream_at None stream = stream
+stream_at (Some beginning) stream = []
+
+-- in order: how what was there ends, how the direction begins, the frames that are whole or refused with the octets that are taken, and how it ends
+abbrev pub outcome_found : Service → ℕ → List ℕ → Outcome → List Found
+outcome_found service limit stream outcome =
+    end_if service limit stream outcome.before
+    ++ (beginning_found outcome.begins
+    ++ (found_with service limit (stream_at outcome.begins stream) outcome.octets
+    ++ end_if service limit (stream_at outcome.begins stream ++ outcome.octets) outcome.end))
+
+abbrev pub segment_found : ℕ → Sent → Segment → List Found
+segment_found limit sent segment = outcome_found sent.service limit sent.stream (step sent.state segment).0
+
+abbrev pub after_segment : Sent → Segment → Sent
+after_segment sent segment =
+    let stepped = step sent.state segment in
+    record sent { state = stepped.1; stream = stream_at stepped.0.begins sent.stream ++ stepped.0.octets }
+
+-- what became of it
+abbrev pub step_of : State → Segment → Step
+step_of state segment =
+    let outcome = (step state segment).0 in
+    record { began = is_some outcome.begins; ended = is_some outcome.end }
+
+-- at the end of the file, or of its place in the table
+abbrev pub last_found : ℕ → Sent → List Found
+last_found limit sent = end_if sent.service limit sent.stream (end_of sent.state)
+
+-- what is kept of a direction, with frames of at most n octets
+pub record StandsFor (kept : Sending) (limit : ℕ) (sent : Sent) : Type 0 where
+  pub limit_is : kept.limit ≡ limit
+  pub flow : kept.flow ≡ sent.flow
+  pub service : kept.service ≡ sent.service
+  pub frames : service_of kept.frames ≡ sent.service
+  pub state : kept.direction.state ≡ sent.state
+  pub took : Took kept.frames limit sent.stream

@@ -1,0 +1,173 @@
+//! A capture, followed packet by packet.
+
+ghost use Rattle.std.specs.Prelude.{◌≡◌, ℕ, ◌++◌, IfOk, OnOk, string_bytes};
+ghost use Rattle.std.specs.Option.{option_copied};
+ghost use Rattle.krb_list.specs.Captures.{capture_refused_line};
+ghost use Rattle.krb_packet.specs.Fragments.{unread};
+ghost use Rattle.krb_capture.specs.Captures.{HasFollowed, Progress, Settings, all_counts, and_counted, at_first, contents_taken, datagram_taken, end_taken, end_text, fragment_taken, is_clean, lines_of, packet_taken, segment_taken, whole_taken};
+ghost use Rattle.krb_capture.specs.Flows.{service_of};
+ghost use Rattle.krb_capture.specs.Found.{totals};
+
+use crate::datagram::list_datagram;
+use crate::directions::Directions;
+use crate::flow::{Due, Service};
+use crate::listing::Listing;
+use krb_der::Memory;
+use krb_file::FileWhy;
+use krb_frame::Limit;
+use krb_list::{CaptureCounts, Form};
+use krb_packet::{Contents, Datagram, Fragment, Fragments, Packet, Segment, contents_of};
+use std::alloc::Global;
+
+/// What was found in the packets of a capture so far. It takes memory for the fragments of datagrams that
+/// are not whole, and of each direction of a connection for its last frame and the octets that came early.
+#[derive(Drop)]
+pub struct Capture {
+    port: u16,
+    fragments: Fragments,
+    directions: Directions,
+    listing: Listing,
+    /// The packet that came last.
+    last: Due,
+}
+
+impl Capture {
+    /// Creates a capture of which no packet came. Its records are listed in a form, frames of more than
+    /// `limit` octets are refused, and `port` is the one of KDCs.
+    pub fn new(alloc: Global, form: Form, limit: Limit, port: u16) -> Capture
+        ensures { let settings : Settings = record { form = form; limit = limit; port = port } in HasFollowed result settings at_first }
+    {
+        Capture {
+            port,
+            fragments: Fragments::new(alloc),
+            directions: Directions::new(alloc, limit),
+            listing: Listing::new(alloc, form),
+            last: Due {
+                packet: 0,
+                time: None,
+            },
+        }
+    }
+
+    /// Takes the next packet, and appends the records that are due with it to a text.
+    pub fn take(&mut self, packet: &Packet, text: &mut String) -> Result<(), Memory>
+        ensures followed { OnOk result ((settings : Settings) (progress : Progress) → HasFollowed self.old settings progress → HasFollowed self.new settings (packet_taken settings packet.now progress).progress) }
+        ensures listed { OnOk result ((settings : Settings) (progress : Progress) → HasFollowed self.old settings progress → string_bytes text.new ≡ string_bytes text.old ++ lines_of settings.form (packet_taken settings packet.now progress).found) }
+    {
+        self.listing.swap_text(text);
+        self.last = Due::with(packet);
+        self.listing.count_packet();
+        let taken = self.take_contents(contents_of(packet));
+        self.listing.swap_text(text);
+        taken
+    }
+
+    /// Lists what a packet carries.
+    fn take_contents(&mut self, contents: Contents<'_>) -> Result<(), Memory>
+        ensures followed { OnOk result ((settings : Settings) (progress : Progress) → HasFollowed self.old settings progress → HasFollowed self.new settings (and_counted (contents_taken settings contents.entry progress)).progress) }
+        ensures listed { OnOk result ((settings : Settings) (progress : Progress) → HasFollowed self.old settings progress → self.new.listing.text ≡ self.old.listing.text ++ lines_of settings.form (contents_taken settings contents.entry progress).found) }
+    {
+        match &contents {
+            Contents::Fragment(fragment) => self.take_fragment(fragment),
+            _ => self.take_whole(&contents),
+        }
+    }
+
+    /// Lists what a datagram carries that a fragment completes.
+    fn take_fragment(&mut self, fragment: &Fragment<'_>) -> Result<(), Memory>
+        ensures followed { OnOk result ((settings : Settings) (progress : Progress) → HasFollowed self.old settings progress → HasFollowed self.new settings (and_counted (fragment_taken settings fragment.now progress)).progress) }
+        ensures listed { OnOk result ((settings : Settings) (progress : Progress) → HasFollowed self.old settings progress → self.new.listing.text ≡ self.old.listing.text ++ lines_of settings.form (fragment_taken settings fragment.now progress).found) }
+    {
+        match self.fragments.take(fragment)? {
+            Some(whole) => self.take_whole(&whole.contents()),
+            None => Ok(()),
+        }
+    }
+
+    /// Lists what is all there.
+    fn take_whole(&mut self, contents: &Contents<'_>) -> Result<(), Memory>
+        ensures followed { OnOk result ((settings : Settings) (progress : Progress) → HasFollowed self.old settings progress → HasFollowed self.new settings (and_counted (whole_taken settings contents.now progress)).progress) }
+        ensures listed { OnOk result ((settings : Settings) (progress : Progress) → HasFollowed self.old settings progress → self.new.listing.text ≡ self.old.listing.text ++ lines_of settings.form (whole_taken settings contents.now progress).found) }
+    {
+        match contents {
+            Contents::Datagram(datagram) => self.take_datagram(datagram),
+            Contents::Segment(segment) => self.take_segment(segment),
+            Contents::Fragment(_) | Contents::Other => Ok(()),
+            Contents::Unread => {
+                self.listing.count_unread();
+                Ok(())
+            }
+        }
+    }
+
+    /// Lists a datagram of UDP, if it is of Kerberos.
+    fn take_datagram(&mut self, datagram: &Datagram<'_>) -> Result<(), Memory>
+        ensures followed { OnOk result ((settings : Settings) (progress : Progress) → HasFollowed self.old settings progress → HasFollowed self.new settings (and_counted (datagram_taken (service_of settings.port datagram.now.source datagram.now.target) datagram.now progress)).progress) }
+        ensures listed { OnOk result ((settings : Settings) (progress : Progress) → HasFollowed self.old settings progress → self.new.listing.text ≡ self.old.listing.text ++ lines_of settings.form (datagram_taken (service_of settings.port datagram.now.source datagram.now.target) datagram.now progress).found) }
+    {
+        let Some(service) = Service::between(self.port, datagram.source, datagram.target) else {
+            return Ok(());
+        };
+        let origin = self.last.over_udp(datagram.source, datagram.target);
+        list_datagram(service, &datagram.payload, &origin, &mut self.listing)
+    }
+
+    /// Lists what is found with a segment of TCP, if it is of Kerberos.
+    fn take_segment(&mut self, segment: &Segment<'_>) -> Result<(), Memory>
+        ensures followed { OnOk result ((settings : Settings) (progress : Progress) → HasFollowed self.old settings progress → HasFollowed self.new settings (and_counted (segment_taken settings.limit (service_of settings.port segment.now.source segment.now.target) segment.now progress)).progress) }
+        ensures listed { OnOk result ((settings : Settings) (progress : Progress) → HasFollowed self.old settings progress → self.new.listing.text ≡ self.old.listing.text ++ lines_of settings.form (segment_taken settings.limit (service_of settings.port segment.now.source segment.now.target) segment.now progress).found) }
+    {
+        let Some(service) = Service::between(self.port, segment.source, segment.target) else {
+            return Ok(());
+        };
+        self.directions.take(segment, service, self.last, &mut self.listing)
+    }
+
+    /// Returns how many packets came, and how many records of each kind were listed.
+    fn totals(&self) -> CaptureCounts
+        ensures { result ≡ totals (unread self.now.fragments) self.now.listing.counts }
+    {
+        self.listing.totals(self.fragments.unread())
+    }
+
+    /// Appends the records that are due at the end of the file to a text, and the last one. Returns whether
+    /// nothing is refused, lost or unread.
+    pub fn finish(&mut self, text: &mut String) -> Result<bool, Memory>
+        ensures listed { OnOk result ((settings : Settings) (progress : Progress) → HasFollowed self.old settings progress → string_bytes text.new ≡ string_bytes text.old ++ end_text settings progress) }
+        ensures clean { IfOk result (λ clean. (settings : Settings) (progress : Progress) → HasFollowed self.old settings progress → clean ≡ is_clean (all_counts (end_taken settings progress).progress)) }
+    {
+        self.listing.swap_text(text);
+        let finished = self.put_end();
+        self.listing.swap_text(text);
+        finished
+    }
+
+    /// Lists the end of the file.
+    fn put_end(&mut self) -> Result<bool, Memory>
+        ensures listed { OnOk result ((settings : Settings) (progress : Progress) → HasFollowed self.old settings progress → self.new.listing.text ≡ self.old.listing.text ++ end_text settings progress) }
+        ensures clean { IfOk result (λ clean. (settings : Settings) (progress : Progress) → HasFollowed self.old settings progress → clean ≡ is_clean (all_counts (end_taken settings progress).progress)) }
+    {
+        self.directions.finish(self.last, &mut self.listing)?;
+        let totals = self.totals();
+        self.listing.put_end(&totals)?;
+        Ok((totals.refused == 0) & (totals.lost == 0) & (totals.unread == 0))
+    }
+
+    /// Appends the last record of a file that is itself at fault to a text: why and at which place it is
+    /// refused, and the path of the field at fault.
+    pub fn refuse(
+        &mut self,
+        place: u64,
+        why: FileWhy,
+        path: Option<&str>,
+        text: &mut String,
+    ) -> Result<(), Memory>
+        ensures { OnOk result ((settings : Settings) (progress : Progress) → HasFollowed self.old settings progress → string_bytes text.new ≡ string_bytes text.old ++ capture_refused_line settings.form (all_counts progress) place why (option_copied path.entry)) }
+    {
+        let totals = self.totals();
+        self.listing.swap_text(text);
+        let refused = self.listing.put_file_refusal(&totals, place, why, path);
+        self.listing.swap_text(text);
+        refused
+    }
+}

@@ -1,0 +1,87 @@
+//! Flows, and what they carry.
+
+ghost use Rattle.std.specs.Prelude.{◌≡◌};
+ghost use Rattle.krb_list.specs.declared.origin.Transport.TheVariants as transports;
+ghost use Rattle.krb_capture.specs.Flows.{due_with, origin_of, service_of};
+
+use krb_list::{Origin, Transport};
+use krb_packet::{Endpoint, Packet};
+
+/// The port of changes of passwords (RFC 3244, 2).
+const PASSWORD_PORT: u16 = 464;
+
+/// A flow of TCP: what one end of a connection sends to the other.
+#[derive(Clone, Copy, PartialEq, Eq, PartialOrd, Ord, Debug)]
+pub(crate) struct Flow {
+    pub(crate) source: Endpoint,
+    pub(crate) target: Endpoint,
+}
+
+/// What a flow carries.
+#[derive(Clone, Copy, PartialEq, Eq, Debug)]
+pub(crate) enum Service {
+    /// Messages of Kerberos.
+    Kerberos,
+    /// Messages that change passwords.
+    Passwords,
+}
+
+impl Service {
+    /// Returns what a flow carries, by its ports, if that is of Kerberos: `port` is the one of KDCs.
+    pub(crate) fn between(port: u16, source: Endpoint, target: Endpoint) -> Option<Service>
+        ensures { result ≡ service_of port source target }
+    {
+        if (source.port == port) | (target.port == port) {
+            Some(Service::Kerberos)
+        } else if (source.port == PASSWORD_PORT) | (target.port == PASSWORD_PORT) {
+            Some(Service::Passwords)
+        } else {
+            None
+        }
+    }
+}
+
+/// The packet with which records are due.
+#[derive(Clone, Copy)]
+pub(crate) struct Due {
+    pub(crate) packet: u64,
+    pub(crate) time: Option<krb_packet::Time>,
+}
+
+impl Due {
+    /// Returns what is due with a packet.
+    pub(crate) fn with(packet: &Packet) -> Due
+        ensures { result ≡ due_with packet.now }
+    {
+        Due {
+            packet: packet.number,
+            time: packet.time,
+        }
+    }
+
+    /// Returns the origin of records of a flow of UDP.
+    pub(crate) fn over_udp(self, source: Endpoint, target: Endpoint) -> Origin
+        ensures { result ≡ origin_of self transports.Udp source target }
+    {
+        Origin {
+            packet: self.packet,
+            time: self.time,
+            transport: Transport::Udp,
+            source,
+            target,
+        }
+    }
+
+    /// Returns the origin of records of a flow of TCP.
+    pub(crate) fn over_tcp(self, flow: Flow) -> Origin
+        ensures { result ≡ origin_of self transports.Tcp flow.source flow.target }
+    {
+        Origin {
+            packet: self.packet,
+            time: self.time,
+            transport: Transport::Tcp,
+            source: flow.source,
+            target: flow.target,
+        }
+    }
+}

@@ -1,0 +1,116 @@
+//! The frames of a stream (RFC 4120, 7.2.2), by what they carry.
+
+ghost use Rattle.std.specs.Prelude.{◌≡◌, ℕ, false, List, [], ◌++◌, OnOk};
+ghost use Rattle.krb_capture.specs.Found.{Missing, with_all, with_found};
+ghost use Rattle.krb_capture.specs.Streams.{cut_refusal, end_found, found_with, framed, open_path, refusal_found};
+ghost use Rattle.krb_capture.specs.Taken.{Took, kept_in, over_in, service_of};
+
+use crate::flow::Service;
+use crate::listing::{Listing, text_of};
+use crate::message_frames::MessageFrames;
+use crate::password_frames::PasswordFrames;
+use krb_der::Memory;
+use krb_flow::{End, Lost};
+use krb_frame::Limit;
+use krb_list::Origin;
+use std::alloc::Global;
+
+/// The frames that one end of a connection sends.
+#[derive(Drop)]
+pub(crate) enum Frames {
+    /// Those of messages of Kerberos.
+    Messages(MessageFrames),
+    /// Those of messages that change passwords.
+    Passwords(PasswordFrames),
+}
+
+impl Frames {
+    /// Creates those of a direction of which nothing came.
+    pub(crate) fn new(alloc: Global, limit: Limit, service: Service) -> Frames
+        ensures took { Took result limit [] }
+        ensures service { service_of result ≡ service }
+    {
+        match service {
+            Service::Kerberos => Frames::Messages(MessageFrames::new(alloc, limit)),
+            Service::Passwords => Frames::Passwords(PasswordFrames::new(alloc, limit)),
+        }
+    }
+
+    /// Takes the next octets, and lists the frames that are whole with them or refused. The frame
+    /// after one that is refused begins where that one ends, unless its length is not known: then
+    /// all that follows is passed over.
+    pub(crate) fn take(
+        &mut self,
+        octets: &[u8],
+        origin: &Origin,
+        listing: &mut Listing,
+    ) -> Result<(), Memory>
+        ensures service { OnOk result (service_of self.new ≡ service_of self.old) }
+        ensures took { OnOk result ((limit : ℕ) (stream : List ℕ) → Took self.old limit stream → Took self.new limit (stream ++ octets.now)) }
+        ensures listed { OnOk result ((limit : ℕ) (stream : List ℕ) → Took self.old limit stream → listing.new ≡ with_all origin.now (found_with (service_of self.old) limit stream octets.now) listing.old) }
+    {
+        match self {
+            Frames::Messages(frames) => frames.take(octets, origin, listing),
+            Frames::Passwords(frames) => frames.take(octets, origin, listing),
+        }
+    }
+
+    /// Lists what is known at the end of the direction: octets that are missing, or the refusal of a
+    /// frame that is not whole.
+    pub(crate) fn end(&self, end: End, origin: &Origin, listing: &mut Listing) -> Result<(), Memory>
+        ensures { OnOk result ((limit : ℕ) (stream : List ℕ) → Took self.now limit stream → listing.new ≡ with_all origin.now (end_found (service_of self.now) limit stream end) listing.old) }
+    {
+        if self.is_over() {
+            return Ok(());
+        }
+        match end {
+            End::Lost(lost) => self.list_lost(lost, origin, listing),
+            End::Complete => self.list_cut(origin, listing),
+        }
+    }
+
+    /// Returns whether all that follows is passed over.
+    fn is_over(&self) -> bool
+        ensures flag { result ≡ over_in self.now }
+        ensures over { (limit : ℕ) (stream : List ℕ) → Took self.now limit stream → result ≡ (framed (service_of self.now) limit stream).over }
+    {
+        match self {
+            Frames::Messages(frames) => frames.is_over(),
+            Frames::Passwords(frames) => frames.is_over(),
+        }
+    }
+
+    /// Lists octets that are missing.
+    fn list_lost(&self, lost: Lost, origin: &Origin, listing: &mut Listing) -> Result<(), Memory>
+        ensures { OnOk result (listing.new ≡ with_found origin.now (Missing lost.place lost.octets (open_path (service_of self.now) (kept_in self.now))) listing.old) }
+    {
+        match self {
+            Frames::Messages(frames) => {
+                let path = frames.path(listing.allocator(), listing.form())?;
+                listing.put_lost(origin, lost, text_of(&path))
+            }
+            Frames::Passwords(frames) => listing.put_lost(origin, lost, frames.path()),
+        }
+    }
+
+    /// Lists the refusal of the frame that is not whole, if there is one.
+    fn list_cut(&self, origin: &Origin, listing: &mut Listing) -> Result<(), Memory>
+        ensures { OnOk result ((limit : ℕ) (stream : List ℕ) → Took self.now limit stream → over_in self.now ≡ false → listing.new ≡ with_all origin.now (refusal_found (service_of self.now) (kept_in self.now) (cut_refusal (kept_in self.now))) listing.old) }
+    {
+        match self {
+            Frames::Messages(frames) => {
+                let Some(refusal) = frames.finish() else {
+                    return Ok(());
+                };
+                let path = frames.path(listing.allocator(), listing.form())?;
+                listing.put_refusal(origin, refusal, text_of(&path))
+            }
+            Frames::Passwords(frames) => {
+                let Some(refusal) = frames.finish() else {
+                    return Ok(());
+                };
+                listing.put_refusal(origin, refusal, frames.path())
+            }
+        }
+    }
+}

@@ -1,0 +1,212 @@
+//! What is listed of a capture.
+
+ghost use Rattle.std.specs.Prelude.{◌≡◌, ◌++◌, OnOk, string_bytes};
+ghost use Rattle.std.specs.Option.{option_copied, option_map};
+ghost use Rattle.krb_msg.specs.Seen.{MessageLists, message_seen};
+ghost use Rattle.krb_list.specs.Captures.{capture_end_line, capture_refused_line};
+ghost use Rattle.krb_capture.specs.Found.{Whole, Faulty, Joined, Missing, Password, and_more, nothing_written, totals, with_found};
+
+use krb_der::{Memory, Refusal};
+use krb_file::FileWhy;
+use krb_flow::Lost;
+use krb_list::{
+    CaptureCounts, Form, Origin, put_capture_end, put_capture_refusal, put_captured_message,
+    put_captured_refusal, put_joined, put_lost, put_password,
+};
+use krb_msg::MessageView;
+use std::alloc::Global;
+use std::marker::Model;
+use std::mem::swap;
+
+/// The records of a capture that are not written yet, in a form, and how many of each kind there were
+/// in all.
+#[derive(Drop)]
+pub(crate) struct Listing {
+    pub(crate) alloc: Global,
+    pub(crate) form: Form,
+    text: String,
+    counts: CaptureCounts,
+}
+
+impl Model for Listing {
+    ghost use Rattle.std.specs.Prelude.{string_bytes};
+    ghost use Rattle.krb_capture.specs.Found.{Written};
+
+    ghost Value = { Written };
+
+    ghost view = { λ listing. record { form = listing.form; text = string_bytes listing.text; counts = listing.counts } };
+}
+
+/// Returns a count with more, or the greatest one that there is.
+fn and_more(count: u64, more: u64) -> u64
+    ensures { result ≡ and_more count more }
+{
+    count.saturating_add(more)
+}
+
+/// Returns a text where it stands, if there is one.
+pub(crate) fn text_of(text: &Option<String>) -> Option<&str>
+    ensures { option_copied result ≡ option_map string_bytes text.now }
+{
+    match text {
+        None => None,
+        Some(text) => Some(text.as_str()),
+    }
+}
+
+impl Listing {
+    /// Creates a listing of which nothing was found.
+    pub(crate) fn new(alloc: Global, form: Form) -> Listing
+        ensures { result ≡ nothing_written form }
+    {
+        Listing {
+            alloc,
+            form,
+            text: String::new(alloc),
+            counts: CaptureCounts {
+                packets: 0,
+                messages: 0,
+                refused: 0,
+                lost: 0,
+                unread: 0,
+            },
+        }
+    }
+
+    /// Returns what allocates for the listing.
+    pub(crate) fn allocator(&self) -> Global {
+        self.alloc
+    }
+
+    /// Returns the form of the records.
+    pub(crate) fn form(&self) -> Form
+        ensures { result ≡ self.now.form }
+    {
+        self.form
+    }
+
+    /// Exchanges the text of the records and another one.
+    pub(crate) fn swap_text(&mut self, text: &mut String)
+        ensures listing { self.new ≡ record self.old { text = string_bytes text.old } }
+        ensures text { string_bytes text.new ≡ self.old.text }
+    {
+        swap(&mut self.text, text);
+    }
+
+    /// Adds a message.
+    pub(crate) fn put_message(
+        &mut self,
+        origin: &Origin,
+        view: &MessageView<'_>,
+    ) -> Result<(), Memory>
+        requires { MessageLists view.now }
+        ensures { OnOk result (self.new ≡ with_found origin.now (Whole (message_seen view.now)) self.old) }
+    {
+        put_captured_message(&mut self.text, self.form, origin, view)?;
+        self.counts.messages = and_more(self.counts.messages, 1);
+        Ok(())
+    }
+
+    /// Adds a refusal, and the path of the field at fault.
+    pub(crate) fn put_refusal(
+        &mut self,
+        origin: &Origin,
+        refusal: Refusal,
+        path: Option<&str>,
+    ) -> Result<(), Memory>
+        ensures { OnOk result (self.new ≡ with_found origin.now (Faulty refusal (option_copied path.entry)) self.old) }
+    {
+        put_captured_refusal(&mut self.text, self.form, origin, refusal, path)?;
+        self.counts.refused = and_more(self.counts.refused, 1);
+        Ok(())
+    }
+
+    /// Adds that a direction began without its SYN.
+    pub(crate) fn put_joined(&mut self, origin: &Origin) -> Result<(), Memory>
+        ensures { OnOk result (self.new ≡ with_found origin.now Joined self.old) }
+    {
+        put_joined(&mut self.text, self.form, origin)?;
+        Ok(())
+    }
+
+    /// Adds octets that are missing, and the path of the field that has the first of them.
+    pub(crate) fn put_lost(
+        &mut self,
+        origin: &Origin,
+        lost: Lost,
+        path: Option<&str>,
+    ) -> Result<(), Memory>
+        ensures { OnOk result (self.new ≡ with_found origin.now (Missing lost.place lost.octets (option_copied path.entry)) self.old) }
+    {
+        put_lost(
+            &mut self.text,
+            self.form,
+            origin,
+            lost.place,
+            lost.octets,
+            path,
+        )?;
+        self.counts.lost = and_more(self.counts.lost, 1);
+        Ok(())
+    }
+
+    /// Adds a message that changes a password: its version, and how many octets its AP-REQ or AP-REP
+    /// has, and what follows that.
+    pub(crate) fn put_password(
+        &mut self,
+        origin: &Origin,
+        version: u16,
+        ap: u16,
+        rest: u64,
+    ) -> Result<(), Memory>
+        ensures { OnOk result (self.new ≡ with_found origin.now (Password version ap rest) self.old) }
+    {
+        put_password(&mut self.text, self.form, origin, version, ap, rest)?;
+        Ok(())
+    }
+
+    /// Counts a packet.
+    pub(crate) fn count_packet(&mut self)
+        ensures { self.new ≡ record self.old { counts = record self.old.counts { packets = and_more self.old.counts.packets 1 } } }
+    {
+        self.counts.packets = and_more(self.counts.packets, 1);
+    }
+
+    /// Counts a packet that could not be read.
+    pub(crate) fn count_unread(&mut self)
+        ensures { self.new ≡ record self.old { counts = record self.old.counts { unread = and_more self.old.counts.unread 1 } } }
+    {
+        self.counts.unread = and_more(self.counts.unread, 1);
+    }
+
+    /// Returns the counts, with the fragments that no whole datagram came of.
+    pub(crate) fn totals(&self, fragments: u64) -> CaptureCounts
+        ensures { result ≡ totals fragments self.now.counts }
+    {
+        let mut counts = self.counts;
+        counts.unread = and_more(counts.unread, fragments);
+        counts
+    }
+
+    /// Adds the last record of a file that was read to its end.
+    pub(crate) fn put_end(&mut self, totals: &CaptureCounts) -> Result<(), Memory>
+        ensures { OnOk result (self.new ≡ record self.old { text = self.old.text ++ capture_end_line self.old.form totals.now }) }
+    {
+        put_capture_end(&mut self.text, self.form, totals)?;
+        Ok(())
+    }
+
+    /// Adds the last record of a file that is refused.
+    pub(crate) fn put_file_refusal(
+        &mut self,
+        totals: &CaptureCounts,
+        place: u64,
+        why: FileWhy,
+        path: Option<&str>,
+    ) -> Result<(), Memory>
+        ensures { OnOk result (self.new ≡ record self.old { text = self.old.text ++ capture_refused_line self.old.form totals.now place why (option_copied path.entry) }) }
+    {
+        put_capture_refusal(&mut self.text, self.form, totals, place, why, path)?;
+        Ok(())
+    }
+}

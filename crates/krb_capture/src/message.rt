@@ -1,0 +1,140 @@
+//! Octets that are one message.
+
+ghost use Rattle.std.specs.Prelude.{◌≡◌, ◌+◌, ◌-◌, ◌^◌, ◌<◌, ◌≤◌, length, take, IfOk, OnOk, string_bytes};
+ghost use Rattle.std.specs.Option.{option_map};
+ghost use Rattle.krb_list.specs.Refusals.{path_in};
+ghost use Rattle.krb_capture.specs.Found.{Missing, with_found};
+ghost use Rattle.krb_capture.specs.Messages.{cut_found, front_refusal, message_found, path_of, refused_found};
+
+use crate::listing::{Listing, text_of};
+use krb_der::{Memory, Profile, Refusal, Verdict, Why};
+use krb_flow::Lost;
+use krb_judge::{judge, path, read_message};
+use krb_list::{Form, Origin};
+use std::alloc::Global;
+
+/// The greatest number of octets of a message.
+const MOST_OCTETS: u64 = 2147483647;
+
+/// Returns the path of the field that has the last of these octets of a message of `size` octets, if
+/// records of the form show it.
+#[tactic(auto, unfolding(crate::specs::Messages::path_of))]
+pub(crate) fn path_of(
+    alloc: Global,
+    form: Form,
+    size: u64,
+    front: &[u8],
+) -> Result<Option<String>, Memory>
+    requires present { length front.now ≤ size }
+    ensures { IfOk result (λ path. path_in form (option_map string_bytes path) ≡ path_in form (path_of size front.now)) }
+{
+    if (form == Form::Lines) | (size > MOST_OCTETS) {
+        return Ok(None);
+    }
+    path(alloc, Profile::Lenient, size as u32, front)
+}
+
+/// Returns the first `count` octets, or all if there are no more.
+fn first(octets: &[u8], count: usize) -> &[u8]
+    ensures { result.now ≡ take count octets.now }
+{
+    &octets[..octets.len().min(count)]
+}
+
+/// Lists octets that are refused as a message of `size` octets, which stands after `before` others.
+pub(crate) fn list_refused(
+    octets: &[u8],
+    size: u64,
+    before: u32,
+    refusal: Refusal,
+    origin: &Origin,
+    listing: &mut Listing,
+) -> Result<(), Memory>
+    requires present { length octets.now ≤ size }
+    requires fits { before + refusal.place < 2 ^ 32 }
+    ensures { OnOk result (listing.new ≡ with_found origin.now (refused_found before size octets.now refusal) listing.old) }
+{
+    let front = first(octets, refusal.place as usize + 1);
+    let path = path_of(listing.allocator(), listing.form(), size, front)?;
+    let place = before + refusal.place;
+    let why = refusal.why;
+    listing.put_refusal(origin, Refusal { place, why }, text_of(&path))
+}
+
+/// Lists octets that stand after `before` others, as a message that is all there.
+#[tactic(auto, unfolding(crate::specs::Messages::message_found))]
+pub(crate) fn list_message(
+    octets: &[u8],
+    before: u32,
+    origin: &Origin,
+    listing: &mut Listing,
+) -> Result<(), Memory>
+    requires { before < 2 ^ 31 }
+    ensures { OnOk result (listing.new ≡ with_found origin.now (message_found before octets.now) listing.old) }
+{
+    match read_message(octets) {
+        Ok(message) => listing.put_message(origin, &message),
+        Err(refusal) => {
+            list_refused(
+                octets,
+                octets.len() as u64,
+                before,
+                refusal,
+                origin,
+                listing,
+            )
+        }
+    }
+}
+
+/// Returns why the first octets of a message of `size` octets are refused, if they are.
+fn front_refusal(octets: &[u8], size: u64) -> Option<Refusal>
+    requires some { 0 < size }
+    requires present { length octets.now ≤ size }
+    ensures { result ≡ front_refusal size octets.now }
+{
+    if size > MOST_OCTETS {
+        return Some(Refusal {
+            place: 0,
+            why: Why::TooLong,
+        });
+    }
+    match judge(size as u32, octets) {
+        Verdict::Refused(refusal) => Some(refusal),
+        Verdict::Open | Verdict::Whole => None,
+    }
+}
+
+/// Lists the first octets of a message of `size` octets, of which the others are not there.
+#[tactic(auto, unfolding(crate::specs::Messages::cut_found))]
+pub(crate) fn list_cut_message(
+    octets: &[u8],
+    size: u64,
+    origin: &Origin,
+    listing: &mut Listing,
+) -> Result<(), Memory>
+    requires some { 0 < size }
+    requires present { length octets.now ≤ size }
+    ensures { OnOk result (listing.new ≡ with_found origin.now (cut_found size octets.now) listing.old) }
+{
+    match front_refusal(octets, size) {
+        Some(refusal) => list_refused(octets, size, 0, refusal, origin, listing),
+        None => list_missing(octets, size, origin, listing),
+    }
+}
+
+/// Lists that octets of a message of `size` octets are not there after these.
+fn list_missing(
+    octets: &[u8],
+    size: u64,
+    origin: &Origin,
+    listing: &mut Listing,
+) -> Result<(), Memory>
+    requires present { length octets.now ≤ size }
+    ensures { OnOk result (listing.new ≡ with_found origin.now (Missing (length octets.now) (size - length octets.now) (path_of size octets.now)) listing.old) }
+{
+    let path = path_of(listing.allocator(), listing.form(), size, octets)?;
+    let place = octets.len() as u64;
+    let octets = size - place;
+    listing.put_lost(origin, Lost { place, octets }, text_of(&path))
+}

@@ -1,0 +1,180 @@
+//! Frames whose contents are messages that change passwords.
+
+ghost use Rattle.std.specs.Prelude.{◌≡◌, ◌≤◌, ℕ, false, List, [], ◌∷◌, ◌++◌, length, OnOk};
+ghost use Rattle.std.specs.Option.{option_copied};
+ghost use Rattle.krb_capture.specs.Found.{with_all, with_found};
+ghost use Rattle.krb_capture.specs.Streams.{cut_refusal, found_with, framed, length_found, open_path};
+ghost use Rattle.krb_capture.specs.Passed.{ListsContents, ListsWhole, PassesOver, TakesPasswords, frame_length};
+ghost use Rattle.krb_capture.specs.Taken.{TookPasswords};
+ghost use Rattle.krb_capture.specs.declared.flow.Service.TheVariants as services;
+
+use crate::listing::Listing;
+use crate::password::list_password;
+use krb_der::{Memory, Refusal, Why};
+use krb_frame::Limit;
+use krb_list::Origin;
+use std::alloc::Global;
+
+/// How many octets a frame's length has.
+const LENGTH: usize = 4;
+
+/// The frames of messages that change passwords. It keeps the octets of the frame that is not whole
+/// yet: a message is looked at once it is.
+#[derive(Drop)]
+pub(crate) struct PasswordFrames {
+    limit: Limit,
+    /// The octets of the frame that is not whole yet, its length first.
+    octets: Vec<u8>,
+    /// How many octets of a frame that was refused are to come.
+    skipped: u32,
+    is_over: bool,
+}
+
+impl PasswordFrames {
+    /// Creates those of a direction of which nothing came.
+    pub(crate) fn new(alloc: Global, limit: Limit) -> PasswordFrames
+        ensures { TookPasswords result limit [] }
+    {
+        PasswordFrames {
+            limit,
+            octets: Vec::new(alloc),
+            skipped: 0,
+            is_over: false,
+        }
+    }
+
+    /// Takes the next octets, and lists the frames that are whole with them or refused.
+    pub(crate) fn take(
+        &mut self,
+        octets: &[u8],
+        origin: &Origin,
+        listing: &mut Listing,
+    ) -> Result<(), Memory>
+        ensures took { OnOk result ((limit : ℕ) (stream : List ℕ) → TookPasswords self.old limit stream → TookPasswords self.new limit (stream ++ octets.now)) }
+        ensures listed { OnOk result ((limit : ℕ) (stream : List ℕ) → TookPasswords self.old limit stream → listing.new ≡ with_all origin.now (found_with services.Passwords limit stream octets.now) listing.old) }
+    {
+        for octet in octets {
+            self.take_octet(*octet, origin, listing)?;
+        }
+        Ok(())
+    }
+
+    /// Takes the next octet, and lists the frame that is whole with it or refused.
+    fn take_octet(
+        &mut self,
+        octet: u8,
+        origin: &Origin,
+        listing: &mut Listing,
+    ) -> Result<(), Memory>
+        ensures { OnOk result (TakesPasswords self.old self.new (octet ∷ []) origin.now listing.old listing.new) }
+    {
+        if self.is_over {
+            return Ok(());
+        }
+        if self.skipped > 0 {
+            self.skipped -= 1;
+            return Ok(());
+        }
+        self.octets.push(octet)?;
+        self.list_whole(origin, listing)
+    }
+
+    /// Lists the frame if it is whole or refused, and begins the next one.
+    fn list_whole(&mut self, origin: &Origin, listing: &mut Listing) -> Result<(), Memory>
+        ensures { OnOk result (ListsWhole self.old self.new origin.now listing.old listing.new) }
+    {
+        let Some(length) = self.length() else {
+            return Ok(());
+        };
+        if length >= 1 << 31 {
+            self.is_over = true;
+            return list_refused(Why::HighBit, origin, listing);
+        }
+        if length > self.limit.get() {
+            self.pass_over(length);
+            return list_refused(Why::TooLong, origin, listing);
+        }
+        if length == 0 {
+            self.pass_over(length);
+            return list_refused(Why::Empty, origin, listing);
+        }
+        self.list_contents(length, origin, listing)
+    }
+
+    /// Lists the frame, whose contents are `size` octets, if it is whole, and begins the next one.
+    fn list_contents(
+        &mut self,
+        size: u32,
+        origin: &Origin,
+        listing: &mut Listing,
+    ) -> Result<(), Memory>
+        requires { 4 ≤ length self.old.octets.items }
+        ensures { OnOk result (ListsContents self.old size self.new origin.now listing.old listing.new) }
+    {
+        if self.octets.len() < LENGTH + size as usize {
+            return Ok(());
+        }
+        list_password(&self.octets[LENGTH..], LENGTH as u32, origin, listing)?;
+        self.pass_over(0);
+        Ok(())
+    }
+
+    /// Returns the length of the frame, once its octets are there.
+    fn length(&self) -> Option<u32>
+        ensures { result ≡ frame_length self.now.octets.items }
+    {
+        match self.octets.as_slice() {
+            [a, b, c, d, ..] => Some(u32::from_be_bytes([*a, *b, *c, *d])),
+            _ => None,
+        }
+    }
+
+    /// Begins the next frame, which comes after octets that are not kept, and gives the memory of the
+    /// last one back.
+    fn pass_over(&mut self, count: u32)
+        ensures { PassesOver self.old count self.new }
+    {
+        self.skipped = count;
+        self.octets = Vec::new(*self.octets.allocator());
+    }
+
+    /// Returns whether all that follows is passed over.
+    pub(crate) fn is_over(&self) -> bool
+        ensures flag { result ≡ self.now.is_over }
+        ensures over { (limit : ℕ) (stream : List ℕ) → TookPasswords self.now limit stream → result ≡ (framed services.Passwords limit stream).over }
+    {
+        self.is_over
+    }
+
+    /// Returns the path in the frame that is not whole: there is none in its length.
+    pub(crate) fn path(&self) -> Option<&'static str>
+        ensures { option_copied result ≡ open_path services.Passwords self.now.octets.items }
+    {
+        if self.octets.len() < LENGTH {
+            None
+        } else {
+            Some("KPASSWD")
+        }
+    }
+
+    /// Returns why a frame is refused that is not whole at the end, if there is one.
+    pub(crate) fn finish(&self) -> Option<Refusal>
+        ensures { (limit : ℕ) (stream : List ℕ) → TookPasswords self.now limit stream → self.now.is_over ≡ false → (result ≡ cut_refusal self.now.octets.items) × (self.now.octets.items ≡ (framed services.Passwords limit stream).partial) }
+    {
+        if self.octets.is_empty() {
+            return None;
+        }
+        let place = u32::try_from(self.octets.len()).ok()?;
+        Some(Refusal {
+            place,
+            why: Why::Truncated,
+        })
+    }
+}
+
+/// Lists a frame that is refused for its length.
+fn list_refused(why: Why, origin: &Origin, listing: &mut Listing) -> Result<(), Memory>
+    ensures { OnOk result (listing.new ≡ with_found origin.now (length_found why) listing.old) }
+{
+    listing.put_refusal(origin, Refusal { place: 3, why }, None)
+}

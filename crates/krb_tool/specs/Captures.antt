@@ -1,0 +1,45 @@
+-- The listing of a capture.
+use Rattle.std.specs.Prelude.{ℕ, Bool, true, false, List, [], ◌∷◌, ◌++◌, Option, Some, None}
+use Rattle.krb_packet.specs.Captures.{packets}
+use Rattle.krb_packet.specs.FieldNames.{capture_field_text}
+use Rattle.krb_packet.specs.Parsers.{Refusal}
+use Rattle.krb_packet.specs.declared.packet.Packet.{Packet}
+use Rattle.krb_list.specs.Captures.{capture_refused_line}
+use Rattle.krb_capture.specs.Captures.{Progress, Settings, all_counts, at_first, end_taken, end_text, is_clean, lines_of, packet_taken}
+use Rattle.krb_tool.specs.Files.{RecordListing}
+use Rattle.krb_tool.specs.declared.run.RunEnd.{RunEnd}
+use Rattle.krb_tool.specs.declared.run.RunEnd.TheVariants as run
+
+-- the records that are due with packets, after others that left this
+abbrev pub lines_from : Settings → List Packet → Progress → List ℕ
+lines_from settings [] progress = []
+lines_from settings (first ∷ others) progress =
+    let taken = packet_taken settings first progress in lines_of settings.form taken.found ++ lines_from settings others taken.progress
+
+-- what packets leave
+abbrev pub after_packets : Settings → List Packet → Progress → Progress
+after_packets settings [] progress = progress
+after_packets settings (first ∷ others) progress = after_packets settings others (packet_taken settings first progress).progress
+
+-- the records of the end, or that of the refusal of the file
+abbrev pub last_records : Settings → Option Refusal → Progress → List ℕ
+last_records settings None progress = end_text settings progress
+last_records settings (Some refusal) progress = capture_refused_line settings.form (all_counts progress) refusal.fault.place refusal.fault.why (Some (capture_field_text refusal.field))
+
+abbrev pub run_end : Bool → RunEnd
+run_end true = run.Clean
+run_end false = run.Refused
+
+-- a run is clean if the file was read to its end, and nothing is refused, lost or unread
+abbrev pub capture_run_end : Settings → Option Refusal → Progress → RunEnd
+capture_run_end settings None progress = run_end (is_clean (all_counts (end_taken settings progress).progress))
+capture_run_end settings (Some refusal) progress = run.Refused
+
+-- of packets, and the refusal of the file after them
+abbrev pub listing_from : Settings → List Packet → Option Refusal → Progress → RecordListing
+listing_from settings left refusal progress =
+    let last = after_packets settings left progress in
+    record { lines = lines_from settings left progress; last = last_records settings refusal last; end = capture_run_end settings refusal last }
+
+unfoldable pub capture_listing : Settings → List ℕ → RecordListing
+capture_listing settings file = listing_from settings (packets file).packets (packets file).refusal at_first

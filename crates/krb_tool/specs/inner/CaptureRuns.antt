@@ -1,0 +1,39 @@
+-- What the parts of a run on a capture promise each other.
+use Rattle.std.specs.Prelude.{ℕ, ◌≡◌, List, ◌++◌, drop, Option, Some}
+use Rattle.krb_file.specs.declared.fault.FileFault.{FileFault}
+use Rattle.krb_file.specs.declared.fault.FileFault.TheVariants as faults
+use Rattle.krb_packet.specs.Captures.{packets}
+use Rattle.krb_packet.specs.FieldNames.{capture_field_text}
+use Rattle.krb_packet.specs.Streaming.{Reading, Reads}
+use Rattle.krb_packet.specs.declared.field.CaptureField.{CaptureField}
+use Rattle.krb_list.specs.Captures.{capture_refused_line}
+use Rattle.krb_list.specs.declared.form.Form.{Form}
+use Rattle.krb_capture.specs.Captures.{HasFollowed, Progress, Settings, all_counts, end_text}
+use Rattle.krb_capture.specs.declared.capture.Capture.{Capture}
+use Rattle.krb_tool.specs.Captures.{capture_run_end, listing_from}
+use Rattle.krb_tool.specs.Files.{RecordListing}
+use Rattle.krb_tool.specs.declared.run.RunEnd.{RunEnd}
+use Rattle.krb_tool.specs.declared.run.RunEnd.TheVariants as run
+use Rattle.std.specs.Prelude.{None}
+
+-- A reader gave the first `count` packets of a file, they were followed, and this is left of its listing.
+pub record IsCaptureLeft (reading : Reading) (capture : Capture) (form : Form) (count : ℕ) (left : RecordListing) : Type 0 where
+  pub file : List ℕ
+  pub settings : Settings
+  pub progress : Progress
+  pub reads : Reads reading file count
+  pub followed : HasFollowed capture settings progress
+  pub form_is : form ≡ settings.form
+  pub is : left ≡ listing_from settings (drop count (packets file).packets) (packets file).refusal progress
+
+-- the records of the end were added
+abbrev pub AddsCaptureEnd : Capture → List ℕ → List ℕ → Option RunEnd → Type 0
+AddsCaptureEnd capture old new ended =
+    (settings : Settings) (progress : Progress) → HasFollowed capture settings progress → (ended ≡ Some (capture_run_end settings None progress)) × (new ≡ old ++ end_text settings progress)
+
+-- the record of a refused file was added; other faults have none
+abbrev pub AddsFileRefusal : FileFault → CaptureField → Capture → Form → List ℕ → List ℕ → Option RunEnd → Type 0
+AddsFileRefusal (faults.Refused place why) field capture form old new ended =
+    (settings : Settings) (progress : Progress) → HasFollowed capture settings progress → form ≡ settings.form → (ended ≡ Some run.Refused) × (new ≡ old ++ capture_refused_line settings.form (all_counts progress) place why (Some (capture_field_text field)))
+AddsFileRefusal faults.Read field capture form old new ended = ⊥
+AddsFileRefusal faults.Memory field capture form old new ended = ⊥
