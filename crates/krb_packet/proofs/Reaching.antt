@@ -14,7 +14,7 @@ use Rattle.krb_packet.specs.Captures.{in_order, number_in, told, number_telling,
 
 -- ---- a number that tells nothing is refused
 pub telling_refuses : {A : Type 0} (order : Order) (reason : FileWhy) (tells : ℕ → Option A) (number place : ℕ) (old new : Held)
-    → place ≡ old.place → HasRead (number_in order) number old new → tells number ≡ None → HasMet (number_telling order reason tells) (record { place = place; why = reason }) old
+    → place ≡ old.place → HasRead (number_in order) number old new → tells number ≡ None → HasMet (number_telling order reason tells) (record { place = place; why = reason; field = None }) old
 telling_refuses {A} order reason tells number place old new here read none =
     let now = some_rest new in
     let a = read.from now.rest now.there in

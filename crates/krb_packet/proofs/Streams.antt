@@ -115,8 +115,8 @@ pub fault_given : (file : List ℕ) (count number offset : ℕ) (header : Header
     → offset ≡ offset_of e old.place → FailsAfter file count e (fields.Packet number (packet_field offset))
 fault_given file count number offset header faults.Read MayFail old reads fails field = tt
 fault_given file count number offset header faults.Memory MayFail old reads fails field = tt
-fault_given file count number offset header (faults.Refused place why) MayFail old reads fails field =
-    let fault : Fault = record { place = place; why = why } in
+fault_given file count number offset header (faults.Refused place why unnamed) MayFail old reads fails field =
+    let fault : Fault = record { place = place; why = why; field = unnamed } in
     let b = reads.rest fails.octets fails.there in
     let s = source_at old.place fails.octets in
     let whose : next_at header number limits s ≡ Err fault = subst (λ (k : Bounds). next_at header number k s ≡ Err fault) reads.bounds fails.refused in
@@ -128,8 +128,8 @@ pub header_fault_given : (file : List ℕ) (count number offset : ℕ) (e : File
     → offset ≡ offset_of e 0 → FailsAfter file count e (header_field offset)
 header_fault_given file count number offset faults.Read MayFail old reads fails field = tt
 header_fault_given file count number offset faults.Memory MayFail old reads fails field = tt
-header_fault_given file count number offset (faults.Refused place why) MayFail old reads fails field =
-    let fault : Fault = record { place = place; why = why } in
+header_fault_given file count number offset (faults.Refused place why unnamed) MayFail old reads fails field =
+    let fault : Fault = record { place = place; why = why; field = unnamed } in
     let b = reads.rest fails.octets fails.there in
     let s = source_at old.place fails.octets in
     let e : header_at limits s ≡ Err fault = subst (λ (k : Bounds). header_at k s ≡ Err fault) reads.bounds fails.refused in

@@ -112,6 +112,7 @@ fn magic<F: FieldReader>(reader: &mut F) -> Result<Form, FileFault>
         None => Err(FileFault::Refused {
             place,
             why: FileWhy::Magic,
+            field: None,
         }),
     }
 }
@@ -128,6 +129,7 @@ fn known_version<F: FieldReader>(order: Order, reader: &mut F) -> Result<(), Fil
         None => Err(FileFault::Refused {
             place,
             why: FileWhy::Version,
+            field: None,
         }),
     }
 }
@@ -172,6 +174,7 @@ fn captured_length<F: FieldReader>(order: Order, reader: &mut F) -> Result<u32, 
         None => Err(FileFault::Refused {
             place,
             why: FileWhy::TooLong,
+            field: None,
         }),
     }
 }

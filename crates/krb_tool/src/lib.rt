@@ -15,6 +15,7 @@
 #![tactic(auto)]
 
 mod fault_path;
+mod file_path;
 mod file_run;
 mod going_on;
 pub mod law;

@@ -14,4 +14,4 @@ returns-in-Ok-Done-clause-line g c = λ left is_left.
 
 pub returns-in-Err-clause-line : goal.returns-in-Err-clause-line
 returns-in-Err-clause-line g c = λ left is_left.
-    refusal_added c.args.self.now.form c.args.self.now.records.reader c.next_record.new.self.reader c.args.self.now.records.state c.next_record.new.self.state c.args.count left (string_bytes c.args.text.now) (string_bytes c.put_fault.new.text) is_left c.in-Err.fault c.put_fault.result c.in-Err.ensures.next c.put_fault.ensures.refused
+    refusal_added c.args.self.now.form c.args.self.now.records.reader c.next_record.new.self.reader c.args.self.now.records.state c.next_record.new.self.state c.args.count left (string_bytes c.args.text.now) (string_bytes c.put_keytab_fault.new.text) is_left c.in-Err.fault c.put_keytab_fault.result c.in-Err.ensures.next c.put_keytab_fault.ensures.refused
