@@ -76,9 +76,9 @@ fn typed<F: FieldReader>(
 }
 
 /// An address.
-struct Address;
+struct AddressItem;
 
-impl Field for Address {
+impl Field for AddressItem {
     type Value = Typed;
 
     ghost reads = { λ index. in_part (parts.Address index) typed_at };
@@ -89,9 +89,9 @@ impl Field for Address {
 }
 
 /// An element of authorization data.
-struct Authdata;
+struct AuthdataItem;
 
-impl Field for Authdata {
+impl Field for AuthdataItem {
     type Value = Typed;
 
     ghost reads = { λ index. in_part (parts.Authdata index) typed_at };
@@ -108,7 +108,7 @@ fn addresses<F: FieldReader>(alloc: Global, reader: &mut F) -> Result<Many<Typed
 {
     let count = reader.field32(FieldName::AddressCount)?;
     let mut list = Vec::new(alloc);
-    read_many::<Address, F>(alloc, count, reader, &mut list)?;
+    read_many::<AddressItem, F>(alloc, count, reader, &mut list)?;
     Ok(Many::new(list))
 }
 
@@ -119,7 +119,7 @@ fn authdata<F: FieldReader>(alloc: Global, reader: &mut F) -> Result<Many<Typed>
 {
     let count = reader.field32(FieldName::AuthdataCount)?;
     let mut list = Vec::new(alloc);
-    read_many::<Authdata, F>(alloc, count, reader, &mut list)?;
+    read_many::<AuthdataItem, F>(alloc, count, reader, &mut list)?;
     Ok(Many::new(list))
 }
 

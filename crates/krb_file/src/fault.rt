@@ -111,7 +111,7 @@ impl FileFault {
 
 /// Returns what was read, or the fault of the field of this name.
 #[inline(always)]
-pub fn called<T>(name: FieldName, read: Result<T, FileFault>) -> Result<T, FileFault>
+pub(crate) fn called<T>(name: FieldName, read: Result<T, FileFault>) -> Result<T, FileFault>
     ensures { result ≡ fails_at (named name) read }
 {
     match read {

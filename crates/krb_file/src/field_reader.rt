@@ -397,7 +397,7 @@ pub fn read_many<K: Field, F: FieldReader>(
     ensures read { Follows (λ _. values.new.items) result (times count K.reads) F.MayFail (F.held reader.old) (F.held reader.new) }
     ensures keeps { Keeps (F.held reader.old) (F.held reader.new) }
 {
-    for index in 0..count {
+    'items: for index in 0..count {
         values.push(K::read(alloc, index, reader)?)?;
     }
     Ok(())
