@@ -21,9 +21,8 @@ impl fmt::Display for KeytabPath {
 
     fn fmt<W: fmt::Write>(&self, f: &mut fmt::Formatter<W>) -> fmt::Result {
         match self.field.name {
-            FieldName::Magic | FieldName::Version => {}
-            _ => write!(f, "record[{}].", self.records)?,
+            FieldName::Magic | FieldName::Version => write!(f, "{}", self.field),
+            _ => write!(f, "record[{}].{}", self.records, self.field),
         }
-        write!(f, "{}", self.field)
     }
 }
