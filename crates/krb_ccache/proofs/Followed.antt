@@ -88,6 +88,21 @@ module _ {A : Type 0} (kept : Credential → ℕ → A) (version : ℕ) where
       go true test e = absurd (not_err (found None s) f e)
       go false test e = (test, refused (onward-err (one b s) (λ p. Ok (Some p.0, p.1)) f e))
 
+-- ---- a value was read, and then a fault was met
+pub then-fails : {A B : Type 0} (first : Reader A) (next : A → Reader B) (v : A) (old mid : Held) (e : FileFault) (MayFail : Type 0) → HasRead first v old mid → FailsBy e (next v) MayFail mid → FailsBy e (first >>= next) MayFail old
+then-fails first next v old mid faults.Memory MayFail read fails = tt
+then-fails first next v old mid faults.Read MayFail read fails = fails
+then-fails {A} {B} first next v old mid (faults.Refused place why field) MayFail read fails =
+    let fault : Fault = record { place = place; why = why; field = field } in
+    let a = read.from fails.octets fails.there in
+    record {
+      octets = a.0;
+      there = a.1;
+      refused =
+          ap (λ (r : Result (A × Source) Fault). onward r (λ p. next p.0 old.bounds p.1)) a.2
+          ∙ subst (λ (k : Bounds). next v k (source_at mid.place fails.octets) ≡ Err fault) read.same_bounds fails.refused;
+    }
+
 -- ---- the fields of a header, as a loop reads them
 abbrev pub field_at : ℕ → Reader HeaderField
 field_at index = in_part (parts.Header index) header_field_at

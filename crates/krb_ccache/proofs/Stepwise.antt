@@ -33,7 +33,7 @@ Shortens-number w some = record {
       subst (λ (x : Source). length x.octets < length s.octets) (sym p.source ∙ same) (omega (arith, length-drop (byte_len w) s.octets, p.long, some));
 }
 
-pub -- the same reader, but what it refuses is another field
+-- the same reader, but what it refuses is another field
 Shortens-at : {A : Type 0} (other : Option FileField → Option FileField) (reader : Reader A) → Shortens reader → Shortens (at_field other reader)
 Shortens-at other reader one = record { shorter = λ bounds s v t e. one.shorter bounds s v t (refused_at-ok other (reader bounds s) (v, t) e) }
 
