@@ -15,7 +15,9 @@ use crate::value::{
     Cache3, Ccache, Credential, Credential3, FilePrincipal, Header, HeaderField, Typed,
 };
 use krb_der::{KString, Many, Octets};
-use krb_file::{Field, FieldName, FieldReader, FileFault, FilePart, SliceReader, in_part, read_many};
+use krb_file::{
+    Field, FieldName, FieldReader, FileFault, FilePart, SliceReader, in_part, read_many,
+};
 use std::alloc::Global;
 
 /// Reads the fields of a principal.
@@ -64,11 +66,7 @@ fn typed_fields<F: FieldReader>(alloc: Global, reader: &mut F) -> Result<Typed, 
 }
 
 /// Reads the address, or the element of authorization data, that is this part.
-fn typed<F: FieldReader>(
-    alloc: Global,
-    part: FilePart,
-    reader: &mut F,
-) -> Result<Typed, FileFault>
+fn typed<F: FieldReader>(alloc: Global, part: FilePart, reader: &mut F) -> Result<Typed, FileFault>
     ensures read { Follows (λ typed. typed) result (in_part part typed_at) F.MayFail (F.held reader.old) (F.held reader.new) }
     ensures keeps { Keeps (F.held reader.old) (F.held reader.new) }
 {

@@ -161,9 +161,7 @@ impl<R: Read> RecordLines for KeytabLines<'_, R> {
                 Ok(None)
             }
             Ok(Next::Done(stop)) => put_stop(text, self.form, count, &stop),
-            Err(fault) => {
-                put_keytab_fault(alloc, text, self.form, count, fault, self.watch)
-            }
+            Err(fault) => { put_keytab_fault(alloc, text, self.form, count, fault, self.watch) }
         }
     }
 }
@@ -338,9 +336,7 @@ impl<R: Read + Drop> RecordLines for CredentialLines<'_, R> {
                 Ok(None)
             }
             Ok(None) => put_end(text, self.form, count),
-            Err(fault) => {
-                put_credential_fault(alloc, text, self.form, count, fault, self.watch)
-            }
+            Err(fault) => { put_credential_fault(alloc, text, self.form, count, fault, self.watch) }
         }
     }
 }
