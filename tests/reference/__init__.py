@@ -36,7 +36,7 @@ RECORDS = {
 }
 
 # The commands whose refusals krbls prints with the path of the field at fault, `in`. Of the others it prints none.
-COMMANDS_WITH_PATHS = ("stream", "message", "capture")
+COMMANDS_WITH_PATHS = ("stream", "message", "keytab", "ccache", "capture")
 
 PATH_IN_LINE = re.compile(r" in=\S+$")
 PATH_IN_OBJECT = re.compile(r',"in":(?:null|"[^"]*")(?=}$)')

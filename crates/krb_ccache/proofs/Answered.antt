@@ -26,7 +26,7 @@ module _ {A : Type 0} (read_as : List ℕ → Result A Fault) (Spells : A → Li
   refused_of file (Ok v) gives = tt
   refused_of file (Err faults.Memory) gives = tt
   refused_of file (Err faults.Read) gives = absurd gives
-  refused_of file (Err (faults.Refused place why)) gives = fault file (record { place = place; why = why }) gives
+  refused_of file (Err (faults.Refused place why field)) gives = fault file (record { place = place; why = why; field = field }) gives
 
 read-fault : (file : List ℕ) (f : Fault) → read file ≡ Err f → (f.place ≤ length file) × (f.why ≡ why.TooLong → ⊥)
 read-fault file f e = file-fault once 4 file f (made-fault (read_in once 4 file) ccache_of f e)

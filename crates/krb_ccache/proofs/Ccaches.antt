@@ -4,6 +4,7 @@ use Rattle.std.specs.List.{flat_map, AllByRecursion}
 use Rattle.std.specs.Int.{w8, to_be_bytes}
 use Rattle.krb_der.specs.Octets.{AreOctets}
 use Rattle.krb_file.specs.Fields.{Source, source_of, Fault, limited, onward, version_at}
+use Rattle.krb_file.specs.declared.field_name.FilePart.TheVariants as parts
 use Rattle.krb_file.proofs.Fields.{at, done, ok_is, onward-ok, Took, Took-then, Reads, version-one, version-again}
 use Rattle.krb_ccache.specs.declared.value.Cache3.{Cache3}
 use Rattle.krb_ccache.specs.declared.value.Ccache.{Ccache}
@@ -13,8 +14,8 @@ use Rattle.krb_ccache.specs.declared.value.FilePrincipal.{FilePrincipal}
 use Rattle.krb_ccache.specs.declared.value.Header.{Header}
 use Rattle.krb_ccache.specs.declared.reading.Start.{Start}
 use Rattle.krb_ccache.specs.Spelling.{header, HeaderFits, principal, PrincipalFits, credential, CredentialFits, ccache, CcacheFits, CcacheSpells, credential3, Credential3Fits, cache3, Cache3Fits, Spells3, no_header}
-use Rattle.krb_ccache.specs.Reading.{principal_at, credential_at, once, twice, header_at, header_in, started, credentials_after, read_in, read, read3}
-use Rattle.krb_ccache.proofs.Parts.{Reads-principal, Reads-credential, Reads-credential3}
+use Rattle.krb_ccache.specs.Reading.{principal_in, credential_at, once, twice, header_at, header_in, started, credentials_after, read_in, read, read3}
+use Rattle.krb_ccache.proofs.Parts.{Reads-principal_in, Reads-credential, Reads-credential3}
 use Rattle.krb_ccache.proofs.Headers.{inside_file, header-sound, header-again}
 use Rattle.krb_ccache.proofs.Items.{all-sound, all-again}
 
@@ -23,7 +24,7 @@ abbrev pub start_of : ℕ → Header → FilePrincipal → Start
 start_of version h p = record { version = version; header = h; principal = p }
 
 abbrev after_version : ℕ → Source → Result (Start × Source) Fault
-after_version version s = onward (header_in version (limited None) s) (λ p. onward (principal_at (limited None) p.1) (λ q. done (start_of version p.0 q.0, q.1)))
+after_version version s = onward (header_in version (limited None) s) (λ p. onward (principal_in parts.Principal (limited None) p.1) (λ q. done (start_of version p.0 q.0, q.1)))
 
 pub record VersionRead (version : ℕ) (file : List ℕ) (st : Start) (t : Source) : Type 0 where
   pub after : Source
@@ -48,10 +49,10 @@ start-sound : (file : List ℕ) (st : Start) (t : Source) → AreOctets file →
 start-sound file st t fits e =
     let s = source_of file in
     let v = version-read 4 file st t fits e in
-    let b = onward-ok (header_at (limited None) v.after) (λ p. onward (principal_at (limited None) p.1) (λ q. done (start_of 4 p.0 q.0, q.1))) (st, t) v.goes_on in
+    let b = onward-ok (header_at (limited None) v.after) (λ p. onward (principal_in parts.Principal (limited None) p.1) (λ q. done (start_of 4 p.0 q.0, q.1))) (st, t) v.goes_on in
     let h = header-sound None v.after b.0.1 b.0.0 v.took.fits b.1 in
-    let c = onward-ok (principal_at (limited None) b.0.1) (λ q. done (start_of 4 b.0.0 q.0, q.1)) (st, t) b.2 in
-    let p = Reads-principal.sound (limited None) b.0.1 c.0.1 c.0.0 h.0.fits (inside_file None b.0.1.place) c.1 in
+    let c = onward-ok (principal_in parts.Principal (limited None) b.0.1) (λ q. done (start_of 4 b.0.0 q.0, q.1)) (st, t) b.2 in
+    let p = (Reads-principal_in parts.Principal).sound (limited None) b.0.1 c.0.1 c.0.0 h.0.fits (inside_file None b.0.1.place) c.1 in
     let two = Took-then (limited None) (5 ∷ 4 ∷ []) (header b.0.0) s v.after b.0.1 v.took h.0 in
     let three = Took-then (limited None) (5 ∷ 4 ∷ header b.0.0) (principal c.0.0) s b.0.1 c.0.1 two p.0 in
     subst (λ (x : Start × Source). Took (limited None) (front4 x.0) s x.1 × Fits4 x.0) (ok_is (start_of 4 b.0.0 c.0.0, c.0.1) (st, t) c.2) (three, (h.1, p.1, refl))
@@ -62,8 +63,8 @@ start-again st rest fits =
     let p = principal st.principal in
     ap (λ (x : List ℕ). started 4 (5 ∷ 4 ∷ x)) (append_assoc h p rest)
     ∙ ap (λ (r : Result (ℕ × Source) Fault). onward r (λ q. after_version q.0 q.1)) (version-again (4 ∷ []) (limited None) (h ++ (p ++ rest)) 4 (omega arith) refl refl)
-    ∙ ap (λ (r : Result (Header × Source) Fault). onward r (λ x. onward (principal_at (limited None) x.1) (λ q. done (start_of 4 x.0 q.0, q.1)))) (header-again st.header 2 (p ++ rest) fits.0)
-    ∙ ap (λ (r : Result (FilePrincipal × Source) Fault). onward r (λ q. done (start_of 4 st.header q.0, q.1))) (Reads-principal.again (limited None) (2 + length h) rest st.principal fits.1 refl (inside_file None _))
+    ∙ ap (λ (r : Result (Header × Source) Fault). onward r (λ x. onward (principal_in parts.Principal (limited None) x.1) (λ q. done (start_of 4 x.0 q.0, q.1)))) (header-again st.header 2 (p ++ rest) fits.0)
+    ∙ ap (λ (r : Result (FilePrincipal × Source) Fault). onward r (λ q. done (start_of 4 st.header q.0, q.1))) ((Reads-principal_in parts.Principal).again (limited None) (2 + length h) rest st.principal fits.1 refl (inside_file None _))
     ∙ ap (λ (n : ℕ). done (start_of n st.header st.principal, at ((2 + length h) + length p) rest)) (sym fits.2)
     ∙ ap (λ (k : ℕ). done (st, at k rest)) (omega (arith, length-append h p))
 
@@ -78,8 +79,8 @@ start3-sound : (file : List ℕ) (st : Start) (t : Source) → AreOctets file �
 start3-sound file st t fits e =
     let s = source_of file in
     let v = version-read 3 file st t fits e in
-    let c = onward-ok (principal_at (limited None) v.after) (λ q. done (start_of 3 no_header q.0, q.1)) (st, t) v.goes_on in
-    let p = Reads-principal.sound (limited None) v.after c.0.1 c.0.0 v.took.fits (inside_file None v.after.place) c.1 in
+    let c = onward-ok (principal_in parts.Principal (limited None) v.after) (λ q. done (start_of 3 no_header q.0, q.1)) (st, t) v.goes_on in
+    let p = (Reads-principal_in parts.Principal).sound (limited None) v.after c.0.1 c.0.0 v.took.fits (inside_file None v.after.place) c.1 in
     let two = Took-then (limited None) (5 ∷ 3 ∷ []) (principal c.0.0) s v.after c.0.1 v.took p.0 in
     subst (λ (x : Start × Source). Took (limited None) (front3 x.0) s x.1 × Fits3 x.0) (ok_is (start_of 3 no_header c.0.0, c.0.1) (st, t) c.2) (two, (p.1, refl))
 
@@ -87,7 +88,7 @@ start3-again : (st : Start) (rest : List ℕ) → Fits3 st → started 3 (front3
 start3-again st rest fits =
     let p = principal st.principal in
     ap (λ (r : Result (ℕ × Source) Fault). onward r (λ q. after_version q.0 q.1)) (version-again (3 ∷ []) (limited None) (p ++ rest) 3 (omega arith) refl refl)
-    ∙ ap (λ (r : Result (FilePrincipal × Source) Fault). onward r (λ q. done (start_of 3 no_header q.0, q.1))) (Reads-principal.again (limited None) 2 rest st.principal fits.0 refl (inside_file None _))
+    ∙ ap (λ (r : Result (FilePrincipal × Source) Fault). onward r (λ q. done (start_of 3 no_header q.0, q.1))) ((Reads-principal_in parts.Principal).again (limited None) 2 rest st.principal fits.0 refl (inside_file None _))
     ∙ ap (λ (x : Start). done (x, at (2 + length p) rest)) fits.1
     ∙ ap (λ (k : ℕ). done (st, at k rest)) (omega arith)
 

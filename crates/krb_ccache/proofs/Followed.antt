@@ -1,10 +1,11 @@
 -- What readers of fields read of a cache, one item after another.
 use Rattle.std.proofs.Common.{◌≡◌, ℕ, ◌+◌, ◌-◌, ◌<◌, ◌≤◌, ◌⊎◌, inl, inr, Bool, true, false, Option, Some, None, Result, Ok, Err, List, [], ◌∷◌, ◌++◌, length, refl, sym, ◌∙◌, ap, subst, arith}
 use Rattle.krb_der.specs.Octets.{when}
-use Rattle.krb_file.specs.Fields.{Source, Fault, Bounds, Reader, onward, ◌>>=◌, gives, is_empty, within, Fails}
+use Rattle.krb_file.specs.Fields.{Source, Fault, Bounds, Reader, onward, ◌>>=◌, gives, in_part, is_empty, within, Fails}
 use Rattle.krb_file.specs.FieldReaders.{Held, MayHave, source_at, HasRead, FailsBy, bounded}
 use Rattle.krb_file.specs.declared.fault.FileFault.{FileFault}
 use Rattle.krb_file.specs.declared.fault.FileFault.TheVariants as faults
+use Rattle.krb_file.specs.declared.field_name.FilePart.TheVariants as parts
 use Rattle.krb_file.proofs.Fields.{done, ok_is, onward-ok, onward-err}
 use Rattle.krb_file.proofs.FieldReaders.{SomeRest, some_rest}
 use Rattle.krb_file.proofs.Loops.{with_front}
@@ -87,11 +88,29 @@ module _ {A : Type 0} (kept : Credential → ℕ → A) (version : ℕ) where
       go true test e = absurd (not_err (found None s) f e)
       go false test e = (test, refused (onward-err (one b s) (λ p. Ok (Some p.0, p.1)) f e))
 
+-- ---- a value was read, and then a fault was met
+pub then-fails : {A B : Type 0} (first : Reader A) (next : A → Reader B) (v : A) (old mid : Held) (e : FileFault) (MayFail : Type 0) → HasRead first v old mid → FailsBy e (next v) MayFail mid → FailsBy e (first >>= next) MayFail old
+then-fails first next v old mid faults.Memory MayFail read fails = tt
+then-fails first next v old mid faults.Read MayFail read fails = fails
+then-fails {A} {B} first next v old mid (faults.Refused place why field) MayFail read fails =
+    let fault : Fault = record { place = place; why = why; field = field } in
+    let a = read.from fails.octets fails.there in
+    record {
+      octets = a.0;
+      there = a.1;
+      refused =
+          ap (λ (r : Result (A × Source) Fault). onward r (λ p. next p.0 old.bounds p.1)) a.2
+          ∙ subst (λ (k : Bounds). next v k (source_at mid.place fails.octets) ≡ Err fault) read.same_bounds fails.refused;
+    }
+
 -- ---- the fields of a header, as a loop reads them
+abbrev pub field_at : ℕ → Reader HeaderField
+field_at index = in_part (parts.Header index) header_field_at
+
 -- Those in front were read; the rest of what may be left tells the others.
 pub record HaveFront (size end : ℕ) (front : List HeaderField) (s t : Held) : Type 0 where
   pub same_bounds : t.bounds ≡ s.bounds
-  pub from : (rest : List ℕ) → MayHave t rest → (octets : List ℕ) × MayHave s octets × (with_front front (header_fields_at (size - length front) s.bounds (source_at t.place rest)) ≡ header_fields_at size s.bounds (source_at s.place octets))
+  pub from : (rest : List ℕ) → MayHave t rest → (octets : List ℕ) × MayHave s octets × (with_front front (header_fields_at (size - length front) (length front) s.bounds (source_at t.place rest)) ≡ header_fields_at size 0 s.bounds (source_at s.place octets))
   pub few : length front + (end - t.place) ≤ size
 
 module _ (size : ℕ) (h : Held) where
@@ -106,10 +125,10 @@ module _ (size : ℕ) (h : Held) where
   whole_front (Ok (fields, s)) = refl
   whole_front (Err f) = refl
 
-  all_left : (rest : List ℕ) → with_front [] (header_fields_at (size - 0) inside.bounds (source_at inside.place rest)) ≡ header_fields_at size inside.bounds (source_at inside.place rest)
+  all_left : (rest : List ℕ) → with_front [] (header_fields_at (size - 0) 0 inside.bounds (source_at inside.place rest)) ≡ header_fields_at size 0 inside.bounds (source_at inside.place rest)
   all_left rest =
       let e : size - 0 ≡ size = omega arith in
-      rw e (whole_front (header_fields_at size inside.bounds (source_at inside.place rest)))
+      rw e (whole_front (header_fields_at size 0 inside.bounds (source_at inside.place rest)))
 
   pub front-none : HaveFront size header_end [] inside inside
   front-none = record {
@@ -118,47 +137,47 @@ module _ (size : ℕ) (h : Held) where
     few = omega arith;
   }
 
-  pub front-more : (front : List HeaderField) (t u : Held) (f : HeaderField) → t.place < header_end → HaveFront size header_end front inside t → HasRead header_field_at f t u → HaveFront size header_end (front ++ f ∷ []) inside u
+  pub front-more : (front : List HeaderField) (t u : Held) (f : HeaderField) → t.place < header_end → HaveFront size header_end front inside t → HasRead (field_at (length front)) f t u → HaveFront size header_end (front ++ f ∷ []) inside u
   front-more front t u f lt before item = record {
     same_bounds = item.same_bounds ∙ before.same_bounds;
     from = λ rest there.
         let b = item.from rest there in
         let a = before.from b.0 b.1 in
-        (a.0, a.1, field-goes_on h.bounds.limit size header_end front (source_at t.place b.0) (source_at u.place rest) f (header_fields_at size inside.bounds (source_at inside.place a.0)) lt before.few (read rest there) a.2);
+        (a.0, a.1, field-goes_on h.bounds.limit size header_end front (source_at t.place b.0) (source_at u.place rest) f (header_fields_at size 0 inside.bounds (source_at inside.place a.0)) lt before.few (read rest there) a.2);
     few = field-few h.bounds.limit size header_end front (source_at t.place (item.from now.rest now.there).0) (source_at u.place now.rest) f lt before.few (read now.rest now.there);
   }
     where
       now : SomeRest u
       now = some_rest u
 
-      read : (rest : List ℕ) (there : MayHave u rest) → header_field_at inside.bounds (source_at t.place (item.from rest there).0) ≡ Ok (f, source_at u.place rest)
-      read rest there = subst (λ (k : Bounds). header_field_at k (source_at t.place (item.from rest there).0) ≡ Ok (f, source_at u.place rest)) before.same_bounds (item.from rest there).2
+      read : (rest : List ℕ) (there : MayHave u rest) → field_at (length front) inside.bounds (source_at t.place (item.from rest there).0) ≡ Ok (f, source_at u.place rest)
+      read rest there = subst (λ (k : Bounds). field_at (length front) k (source_at t.place (item.from rest there).0) ≡ Ok (f, source_at u.place rest)) before.same_bounds (item.from rest there).2
 
-  pub front-less : (front : List HeaderField) (t u : Held) (f : HeaderField) → t.place < header_end → HaveFront size header_end front inside t → HasRead header_field_at f t u → header_end - u.place < header_end - t.place
+  pub front-less : (front : List HeaderField) (t u : Held) (f : HeaderField) → t.place < header_end → HaveFront size header_end front inside t → HasRead (field_at (length front)) f t u → header_end - u.place < header_end - t.place
   front-less front t u f lt before item =
       let now = some_rest u in
       let a = item.from now.rest now.there in
-      field-less header_end t.bounds (source_at t.place a.0) (source_at u.place now.rest) f lt a.2
+      field-less (length front) header_end t.bounds (source_at t.place a.0) (source_at u.place now.rest) f lt a.2
 
-  pub front-fails : (e : FileFault) (MayFail : Type 0) (front : List HeaderField) (t : Held) → t.place < header_end → HaveFront size header_end front inside t → FailsBy e header_field_at MayFail t → FailsBy e (within size (header_fields_at size)) MayFail h
+  pub front-fails : (e : FileFault) (MayFail : Type 0) (front : List HeaderField) (t : Held) → t.place < header_end → HaveFront size header_end front inside t → FailsBy e (field_at (length front)) MayFail t → FailsBy e (within size (header_fields_at size 0)) MayFail h
   front-fails faults.Memory MayFail front t lt before fails = tt
   front-fails faults.Read MayFail front t lt before fails = fails
-  front-fails (faults.Refused place why) MayFail front t lt before fails =
-      let fault : Fault = record { place = place; why = why } in
+  front-fails (faults.Refused place why field) MayFail front t lt before fails =
+      let fault : Fault = record { place = place; why = why; field = field } in
       let a = before.from fails.octets fails.there in
       record {
         octets = a.0;
         there = a.1;
-        refused = field-fails h.bounds.limit fault size header_end front (source_at t.place fails.octets) (header_fields_at size inside.bounds (source_at inside.place a.0)) lt before.few
-            (subst (λ (k : Bounds). header_field_at k (source_at t.place fails.octets) ≡ Err fault) before.same_bounds fails.refused) a.2;
+        refused = field-fails h.bounds.limit fault size header_end front (source_at t.place fails.octets) (header_fields_at size 0 inside.bounds (source_at inside.place a.0)) lt before.few
+            (subst (λ (k : Bounds). field_at (length front) k (source_at t.place fails.octets) ≡ Err fault) before.same_bounds fails.refused) a.2;
       }
 
-  pub front-done : (front : List HeaderField) (t : Held) → header_end ≤ t.place → HaveFront size header_end front inside t → HasRead (within size (header_fields_at size)) front h (bounded h.bounds.end t)
+  pub front-done : (front : List HeaderField) (t : Held) → header_end ≤ t.place → HaveFront size header_end front inside t → HasRead (within size (header_fields_at size 0)) front h (bounded h.bounds.end t)
   front-done front t le before = record {
     same_bounds = ap (λ (b : Bounds). let it : Bounds = record { end = h.bounds.end; limit = b.limit } in it) before.same_bounds;
     from = λ rest there.
         let a = before.from rest there in
-        (a.0, a.1, fields-done h.bounds.limit size header_end front (source_at t.place rest) (header_fields_at size inside.bounds (source_at inside.place a.0)) le a.2);
+        (a.0, a.1, fields-done h.bounds.limit size header_end front (source_at t.place rest) (header_fields_at size 0 inside.bounds (source_at inside.place a.0)) le a.2);
   }
 
 -- ---- a whole file
@@ -176,5 +195,5 @@ module _ {A : Type 0} (kept : Credential → ℕ → A) (version : ℕ) where
   pub whole-fails : (e : FileFault) (file : List ℕ) (start : Start) (s : Source) → started version file ≡ Ok (start, s) → Fails e (credentials_after kept version s) → Fails e (read_in kept version file)
   whole-fails faults.Memory file start s begins fails = tt
   whole-fails faults.Read file start s begins fails = absurd fails
-  whole-fails (faults.Refused place why) file start s begins fails =
+  whole-fails (faults.Refused place why field) file start s begins fails =
       ap credentials_of begins ∙ ap (λ (r : Result (List A) Fault). onward r (λ found. Ok (pair start found))) fails

@@ -3,10 +3,15 @@ use Rattle.std.proofs.Common.{◌≡◌, ℕ, zero, suc, ◌+◌, ltb, Option, N
 use Rattle.std.proofs.lemmas.List.{take_at, append_cancel_right}
 use Rattle.std.specs.Int.{Width, w8, w16, w32, byte_len, from_be_bytes, cast_signed}
 use Rattle.krb_der.specs.Octets.{AreOctets}
-use Rattle.krb_file.specs.Fields.{Source, Fault, limited, Reader, onward, ◌>>=◌, gives, passes, next_octets_at, octets_at, number_at, signed_at, counted_at, times, names_at}
-use Rattle.krb_file.proofs.Fields.{at, done, ok_is, onward-ok, piece-ok, Reads}
+use Rattle.krb_file.specs.Fields.{Source, Fault, limited, Reader, onward, ◌>>=◌, gives, named, placed, refused_at, called, in_part, passes, next_octets_at, octets_at, number_at, signed_at, counted_at, times, component_at, names_at}
+use Rattle.krb_file.specs.declared.field_name.FieldName.{FieldName}
+use Rattle.krb_file.specs.declared.field_name.FieldName.TheVariants as field
+use Rattle.krb_file.specs.declared.field_name.FilePart.{FilePart}
+use Rattle.krb_file.specs.declared.field_name.FilePart.TheVariants as parts
+use Rattle.krb_file.specs.declared.field_name.FileField.{FileField}
+use Rattle.krb_file.proofs.Fields.{refused_at-ok, at_field, at, done, ok_is, onward-ok, piece-ok, Reads}
 use Rattle.krb_ccache.specs.declared.value.FilePrincipal.{FilePrincipal}
-use Rattle.krb_ccache.specs.Reading.{principal_at, typed_at, typed_list_at, credential_from}
+use Rattle.krb_ccache.specs.Reading.{principal_at, principal_in, typed_at, typed_list_at, credential_from}
 use Rattle.krb_ccache.proofs.Headers.{inside_file}
 
 -- the octets that were taken, which are read so wherever they stand
@@ -48,6 +53,20 @@ Local-gives {A} value = record {
       };
 }
 
+-- the same reader, but what it refuses is another field
+Local-at : {A : Type 0} (other : Option FileField → Option FileField) (reader : Reader A) → Local reader → Local (at_field other reader)
+Local-at {A} other reader one = record {
+  local = λ limit s t v e.
+      let a = one.local limit s t v (refused_at-ok other (reader (limited limit) s) (v, t) e) in
+      record { taken = a.taken; parts = a.parts; again = λ place rest. ap (λ (r : Result (A × Source) Fault). refused_at other r) (a.again place rest) };
+}
+
+Local-called : {A : Type 0} (name : FieldName) (reader : Reader A) → Local reader → Local (called name reader)
+Local-called name reader one = Local-at (named name) reader one
+
+pub Local-in_part : {A : Type 0} (part : FilePart) (reader : Reader A) → Local reader → Local (in_part part reader)
+Local-in_part part reader one = Local-at (placed part) reader one
+
 piece-local : (most : Option ℕ) (size : ℕ) (limit : Option ℕ) (s t : Source) (v : List ℕ) → next_octets_at most size (limited limit) s ≡ Ok (v, t) → Again (λ bounds source. next_octets_at most size bounds source) limit s t v
 piece-local most size limit s t v e =
     let p = piece-ok most size (limited limit) s t v e in
@@ -74,7 +93,7 @@ Local-octets size = record {
 }
 
 -- ---- what is made of these
-pub Local-number : (w : Width) → Local (number_at w)
+Local-number : (w : Width) → Local (number_at w)
 Local-number w = Local-then (next_octets_at None (byte_len w)) _ (Local-piece (byte_len w)) (λ octets. Local-gives (from_be_bytes w octets))
 
 Local-signed : (w : Width) → Local (signed_at w)
@@ -83,38 +102,48 @@ Local-signed w = Local-then (number_at w) _ (Local-number w) (λ n. Local-gives 
 Local-counted : (w : Width) → Local (counted_at w)
 Local-counted w = Local-then (number_at w) octets_at (Local-number w) Local-octets
 
-Local-times : {A : Type 0} (item_at : Reader A) → Local item_at → (n : ℕ) → Local (times n item_at)
+Local-times : {A : Type 0} (item_at : ℕ → Reader A) → ((index : ℕ) → Local (item_at index)) → (n : ℕ) → Local (times n item_at)
 Local-times item_at one zero = Local-gives []
-Local-times item_at one (suc n) = Local-then item_at _ one (λ first. Local-then (times n item_at) _ (Local-times item_at one n) (λ others. Local-gives (first ∷ others)))
+Local-times item_at one (suc n) =
+    Local-then (item_at 0) _ (one 0) (λ first.
+    Local-then (times n (λ index. item_at (suc index))) _ (Local-times (λ index. item_at (suc index)) (λ index. one (suc index)) n) (λ others. Local-gives (first ∷ others)))
 
 Local-names : (w : Width) → Local (names_at w)
 Local-names w =
-    Local-then (number_at w) _ (Local-number w) (λ count.
-    Local-then (counted_at w) _ (Local-counted w) (λ realm.
-    Local-then (times count (counted_at w)) _ (Local-times (counted_at w) (Local-counted w) count) (λ components. Local-gives (record { realm = realm; components = components }))))
+    Local-then (called field.ComponentCount (number_at w)) _ (Local-called field.ComponentCount (number_at w) (Local-number w)) (λ count.
+    Local-then (called field.Realm (counted_at w)) _ (Local-called field.Realm (counted_at w) (Local-counted w)) (λ realm.
+    Local-then (times count (component_at w)) _ (Local-times (component_at w) (λ index. Local-called (field.Component index) (counted_at w) (Local-counted w)) count) (λ components. Local-gives (record { realm = realm; components = components }))))
 
-pub Local-principal : Local principal_at
-Local-principal = Local-then (signed_at w32) _ (Local-signed w32) (λ name_type. Local-then (names_at w32) _ (Local-names w32) (λ names. Local-gives (record { name_type = name_type; realm = names.realm; components = names.components })))
+Local-principal : Local principal_at
+Local-principal = Local-then (called field.NameType (signed_at w32)) _ (Local-called field.NameType (signed_at w32) (Local-signed w32)) (λ name_type. Local-then (names_at w32) _ (Local-names w32) (λ names. Local-gives (record { name_type = name_type; realm = names.realm; components = names.components })))
+
+pub Local-principal_in : (part : FilePart) → Local (principal_in part)
+Local-principal_in part = Local-in_part part principal_at Local-principal
 
 Local-typed : Local typed_at
-Local-typed = Local-then (number_at w16) _ (Local-number w16) (λ kind. Local-then (counted_at w32) _ (Local-counted w32) (λ octets. Local-gives (record { kind = kind; octets = octets })))
+Local-typed = Local-then (called field.Type (number_at w16)) _ (Local-called field.Type (number_at w16) (Local-number w16)) (λ kind. Local-then (called field.Octets (counted_at w32)) _ (Local-called field.Octets (counted_at w32) (Local-counted w32)) (λ octets. Local-gives (record { kind = kind; octets = octets })))
 
-Local-typed_list : Local typed_list_at
-Local-typed_list = Local-then (number_at w32) _ (Local-number w32) (λ count. Local-times typed_at Local-typed count)
+Local-typed_list : (name : FieldName) (part : ℕ → FilePart) → Local (typed_list_at name part)
+Local-typed_list name part =
+    Local-then (called name (number_at w32)) _ (Local-called name (number_at w32) (Local-number w32)) (λ count.
+    Local-times (λ index. in_part (part index) typed_at) (λ index. Local-in_part (part index) typed_at Local-typed) count)
+
+pub Local-enctype : Local (called field.Enctype (number_at w16))
+Local-enctype = Local-called field.Enctype (number_at w16) (Local-number w16)
 
 pub Local-from_key : (client server : FilePrincipal) (enctype : ℕ) → Local (credential_from client server enctype)
 Local-from_key client server enctype =
-    Local-then (counted_at w32) _ (Local-counted w32) (λ key.
-    Local-then (number_at w32) _ (Local-number w32) (λ authtime.
-    Local-then (number_at w32) _ (Local-number w32) (λ starttime.
-    Local-then (number_at w32) _ (Local-number w32) (λ endtime.
-    Local-then (number_at w32) _ (Local-number w32) (λ renew_till.
-    Local-then (number_at w8) _ (Local-number w8) (λ is_skey.
-    Local-then (number_at w32) _ (Local-number w32) (λ flags.
-    Local-then typed_list_at _ Local-typed_list (λ addresses.
-    Local-then typed_list_at _ Local-typed_list (λ authdata.
-    Local-then (counted_at w32) _ (Local-counted w32) (λ ticket.
-    Local-then (counted_at w32) _ (Local-counted w32) (λ second_ticket.
+    Local-then (called field.Key (counted_at w32)) _ (Local-called field.Key (counted_at w32) (Local-counted w32)) (λ key.
+    Local-then (called field.AuthTime (number_at w32)) _ (Local-called field.AuthTime (number_at w32) (Local-number w32)) (λ authtime.
+    Local-then (called field.StartTime (number_at w32)) _ (Local-called field.StartTime (number_at w32) (Local-number w32)) (λ starttime.
+    Local-then (called field.EndTime (number_at w32)) _ (Local-called field.EndTime (number_at w32) (Local-number w32)) (λ endtime.
+    Local-then (called field.RenewTill (number_at w32)) _ (Local-called field.RenewTill (number_at w32) (Local-number w32)) (λ renew_till.
+    Local-then (called field.IsSkey (number_at w8)) _ (Local-called field.IsSkey (number_at w8) (Local-number w8)) (λ is_skey.
+    Local-then (called field.TicketFlags (number_at w32)) _ (Local-called field.TicketFlags (number_at w32) (Local-number w32)) (λ flags.
+    Local-then (typed_list_at field.AddressCount parts.Address) _ (Local-typed_list field.AddressCount parts.Address) (λ addresses.
+    Local-then (typed_list_at field.AuthdataCount parts.Authdata) _ (Local-typed_list field.AuthdataCount parts.Authdata) (λ authdata.
+    Local-then (called field.Ticket (counted_at w32)) _ (Local-called field.Ticket (counted_at w32) (Local-counted w32)) (λ ticket.
+    Local-then (called field.SecondTicket (counted_at w32)) _ (Local-called field.SecondTicket (counted_at w32) (Local-counted w32)) (λ second_ticket.
     Local-gives (record { client = client; server = server; enctype = enctype; key = key; authtime = authtime; starttime = starttime; endtime = endtime; renew_till = renew_till; is_skey = is_skey; flags = flags; addresses = addresses; authdata = authdata; ticket = ticket; second_ticket = second_ticket }))))))))))))
 
 -- ---- what was read once is read again of its spelling

@@ -2,16 +2,17 @@
 use Rattle.std.proofs.Common.{◌≡◌, ℕ, ◌<◌, ◌≤◌, ◌-◌, ◌+◌, zero, suc, Bool, true, false, leb, le-leb, Option, Some, None, Result, Ok, Err, List, [], ◌∷◌, ◌++◌, length, sym, ◌∙◌, ap, append_assoc, length-append, arith}
 use Rattle.std.proofs.lemmas.Bool.{lt-leb}
 use Rattle.std.proofs.lemmas.List.{append-nil}
-use Rattle.krb_file.specs.Fields.{Source, Reader, Bounds, Fault, limited, onward, ◌>>=◌, gives, Fails, is_empty}
+use Rattle.krb_file.specs.Fields.{Source, Reader, Bounds, Fault, limited, onward, ◌>>=◌, gives, in_part, Fails, is_empty}
 use Rattle.krb_der.specs.Octets.{when}
 use Rattle.krb_file.proofs.Loops.{with_front, regroup as fields-regroup}
 use Rattle.krb_file.specs.declared.fault.FileFault.{FileFault}
 use Rattle.krb_file.specs.declared.fault.FileFault.TheVariants as faults
+use Rattle.krb_file.specs.declared.field_name.FilePart.TheVariants as parts
 use Rattle.krb_ccache.specs.Reading.{Items, with_first, items_after, all_items, header_field_at, header_fields_at}
 use Rattle.krb_ccache.specs.Streaming.{before}
 use Rattle.krb_ccache.specs.declared.value.HeaderField.{HeaderField}
-use Rattle.krb_ccache.proofs.Faults.{Steps-header_field}
-use Rattle.krb_ccache.proofs.Stepwise.{Shortens, Shortens-header_field, after-item, after-fault, after-end}
+use Rattle.krb_ccache.proofs.Faults.{Steps-header_field_in}
+use Rattle.krb_ccache.proofs.Stepwise.{Shortens, Shortens-header_field_in, after-item, after-fault, after-end}
 
 module _ {A : Type 0} where
   pub regroup : (front : List A) (x : A) (found : Items A) → before front (with_first x found) ≡ before (front ++ x ∷ []) found
@@ -33,16 +34,19 @@ module _ {A : Type 0} (item_at : Reader A) (shortens : Shortens item_at) where
   pub ends : (e : FileFault) (front : List A) (s : Source) (total : Items A) → is_empty s.octets ≡ false → Fails e (item_at (limited None) s) → before front (items_after item_at None s) ≡ total → Fails e (all_items total)
   ends faults.Memory front s total some h so_far = tt
   ends faults.Read front s total some h so_far = absurd h
-  ends (faults.Refused place why) front s total some h so_far =
-      let fault : Fault = record { place = place; why = why } in
+  ends (faults.Refused place why field) front s total some h so_far =
+      let fault : Fault = record { place = place; why = why; field = field } in
       ap all_items (sym so_far ∙ ap (before front) (after-fault item_at shortens None s fault some h))
 
 -- ---- the fields of a header
-field-moves : (bounds : Bounds) (s t : Source) (f : HeaderField) → header_field_at bounds s ≡ Ok (f, t) → s.place < t.place
-field-moves bounds s t f e = omega (arith, (Steps-header_field.moves bounds s f t e).same, Shortens-header_field.shorter bounds s f t e)
+abbrev field_at : ℕ → Reader HeaderField
+field_at index = in_part (parts.Header index) header_field_at
 
-pub field-less : (end : ℕ) (bounds : Bounds) (s t : Source) (f : HeaderField) → s.place < end → header_field_at bounds s ≡ Ok (f, t) → end - t.place < end - s.place
-field-less end bounds s t f lt e = omega (arith, field-moves bounds s t f e)
+field-moves : (index : ℕ) (bounds : Bounds) (s t : Source) (f : HeaderField) → field_at index bounds s ≡ Ok (f, t) → s.place < t.place
+field-moves index bounds s t f e = omega (arith, ((Steps-header_field_in index).moves bounds s f t e).same, (Shortens-header_field_in index).shorter bounds s f t e)
+
+pub field-less : (index end : ℕ) (bounds : Bounds) (s t : Source) (f : HeaderField) → s.place < end → field_at index bounds s ≡ Ok (f, t) → end - t.place < end - s.place
+field-less index end bounds s t f lt e = omega (arith, field-moves index bounds s t f e)
 
 -- ---- the fields of a header that ends at a place, under a limit
 module _ (limit : Option ℕ) where
@@ -50,43 +54,45 @@ module _ (limit : Option ℕ) where
   upto end = record { end = Some end; limit = limit }
 
   abbrev fields_left : ℕ → ℕ → List HeaderField → Source → Result (List HeaderField × Source) Fault
-  fields_left size end front s = with_front front (header_fields_at (size - length front) (upto end) s)
+  fields_left size end front s = with_front front (header_fields_at (size - length front) (length front) (upto end) s)
 
-  abbrev next_field : ℕ → ℕ → Source → Result (List HeaderField × Source) Fault
-  next_field bound end s = (header_field_at >>= λ first. header_fields_at bound >>= λ others. gives (first ∷ others)) (upto end) s
+  abbrev next_field : ℕ → ℕ → ℕ → Source → Result (List HeaderField × Source) Fault
+  next_field bound before end s = (field_at before >>= λ first. header_fields_at bound (suc before) >>= λ others. gives (first ∷ others)) (upto end) s
 
-  fields_left-some : (size end : ℕ) (front : List HeaderField) (s : Source) (k : ℕ) → s.place < end → size - length front ≡ suc k → fields_left size end front s ≡ with_front front (next_field k end s)
+  fields_left-some : (size end : ℕ) (front : List HeaderField) (s : Source) (k : ℕ) → s.place < end → size - length front ≡ suc k → fields_left size end front s ≡ with_front front (next_field k (length front) end s)
   fields_left-some size end front s k lt e =
       let not_yet : leb end s.place ≡ false = lt-leb end s.place lt in
-      ap (λ (bound : ℕ). with_front front (header_fields_at bound (upto end) s)) e
-      ∙ ap (λ (b : Bool). with_front front (when b (λ _. Ok ([], s)) (λ _. next_field k end s))) not_yet
+      ap (λ (bound : ℕ). with_front front (header_fields_at bound (length front) (upto end) s)) e
+      ∙ ap (λ (b : Bool). with_front front (when b (λ _. Ok ([], s)) (λ _. next_field k (length front) end s))) not_yet
 
-  pub field-goes_on : (size end : ℕ) (front : List HeaderField) (s t : Source) (f : HeaderField) (total : Result (List HeaderField × Source) Fault) → s.place < end → length front + (end - s.place) ≤ size → header_field_at (upto end) s ≡ Ok (f, t)
-      → with_front front (header_fields_at (size - length front) (upto end) s) ≡ total → with_front (front ++ f ∷ []) (header_fields_at (size - length (front ++ f ∷ [])) (upto end) t) ≡ total
+  pub field-goes_on : (size end : ℕ) (front : List HeaderField) (s t : Source) (f : HeaderField) (total : Result (List HeaderField × Source) Fault) → s.place < end → length front + (end - s.place) ≤ size → field_at (length front) (upto end) s ≡ Ok (f, t)
+      → with_front front (header_fields_at (size - length front) (length front) (upto end) s) ≡ total → with_front (front ++ f ∷ []) (header_fields_at (size - length (front ++ f ∷ [])) (length (front ++ f ∷ [])) (upto end) t) ≡ total
   field-goes_on size end front s t f total lt few e so_far =
       let k : ℕ = size - length (front ++ f ∷ []) in
       let bound : size - length front ≡ suc (size - length (front ++ f ∷ [])) = omega (arith, length-append front (f ∷ [])) in
+      let after : suc (length front) ≡ length (front ++ f ∷ []) = omega (arith, length-append front (f ∷ [])) in
       sym (fields_left-some size end front s k lt bound
-      ∙ ap (λ (r : Result (HeaderField × Source) Fault). with_front front (onward r (λ p. onward (header_fields_at k (upto end) p.1) (λ q. Ok (p.0 ∷ q.0, q.1))))) e
-      ∙ fields-regroup header_field_at (upto end) front f (header_fields_at k (upto end) t))
+      ∙ ap (λ (r : Result (HeaderField × Source) Fault). with_front front (onward r (λ p. onward (header_fields_at k (suc (length front)) (upto end) p.1) (λ q. Ok (p.0 ∷ q.0, q.1))))) e
+      ∙ fields-regroup front f (header_fields_at k (suc (length front)) (upto end) t)
+      ∙ ap (λ (n : ℕ). with_front (front ++ f ∷ []) (header_fields_at k n (upto end) t)) after)
       ∙ so_far
 
-  pub field-few : (size end : ℕ) (front : List HeaderField) (s t : Source) (f : HeaderField) → s.place < end → length front + (end - s.place) ≤ size → header_field_at (upto end) s ≡ Ok (f, t) → length (front ++ f ∷ []) + (end - t.place) ≤ size
-  field-few size end front s t f lt few e = omega (arith, field-moves (upto end) s t f e, length-append front (f ∷ []))
+  pub field-few : (size end : ℕ) (front : List HeaderField) (s t : Source) (f : HeaderField) → s.place < end → length front + (end - s.place) ≤ size → field_at (length front) (upto end) s ≡ Ok (f, t) → length (front ++ f ∷ []) + (end - t.place) ≤ size
+  field-few size end front s t f lt few e = omega (arith, field-moves (length front) (upto end) s t f e, length-append front (f ∷ []))
 
-  pub field-fails : (fault : Fault) (size end : ℕ) (front : List HeaderField) (s : Source) (total : Result (List HeaderField × Source) Fault) → s.place < end → length front + (end - s.place) ≤ size → header_field_at (upto end) s ≡ Err fault
-      → with_front front (header_fields_at (size - length front) (upto end) s) ≡ total → total ≡ Err fault
+  pub field-fails : (fault : Fault) (size end : ℕ) (front : List HeaderField) (s : Source) (total : Result (List HeaderField × Source) Fault) → s.place < end → length front + (end - s.place) ≤ size → field_at (length front) (upto end) s ≡ Err fault
+      → with_front front (header_fields_at (size - length front) (length front) (upto end) s) ≡ total → total ≡ Err fault
   field-fails fault size end front s total lt few h so_far =
       let k : ℕ = size - length front - 1 in
       let bound : size - length front ≡ suc (size - length front - 1) = omega arith in
       sym so_far ∙ fields_left-some size end front s k lt bound
-      ∙ ap (λ (r : Result (HeaderField × Source) Fault). with_front front (onward r (λ p. onward (header_fields_at k (upto end) p.1) (λ q. Ok (p.0 ∷ q.0, q.1))))) h
+      ∙ ap (λ (r : Result (HeaderField × Source) Fault). with_front front (onward r (λ p. onward (header_fields_at k (suc (length front)) (upto end) p.1) (λ q. Ok (p.0 ∷ q.0, q.1))))) h
 
-  pub fields-done : (size end : ℕ) (front : List HeaderField) (s : Source) (total : Result (List HeaderField × Source) Fault) → end ≤ s.place → with_front front (header_fields_at (size - length front) (upto end) s) ≡ total → total ≡ Ok (front, s)
+  pub fields-done : (size end : ℕ) (front : List HeaderField) (s : Source) (total : Result (List HeaderField × Source) Fault) → end ≤ s.place → with_front front (header_fields_at (size - length front) (length front) (upto end) s) ≡ total → total ≡ Ok (front, s)
   fields-done size end front s total le so_far = sym so_far ∙ go (size - length front)
     where
-      go : (bound : ℕ) → with_front front (header_fields_at bound (upto end) s) ≡ Ok (front, s)
+      go : (bound : ℕ) → with_front front (header_fields_at bound (length front) (upto end) s) ≡ Ok (front, s)
       go zero = ap (λ (fields : List HeaderField). Ok (fields, s)) (append-nil front)
       go (suc bound) =
           let at_end : leb end s.place ≡ true = le-leb end s.place le in
-          ap (λ (b : Bool). with_front front (when b (λ _. Ok ([], s)) (λ _. next_field bound end s))) at_end ∙ ap (λ (fields : List HeaderField). Ok (fields, s)) (append-nil front)
+          ap (λ (b : Bool). with_front front (when b (λ _. Ok ([], s)) (λ _. next_field bound (length front) end s))) at_end ∙ ap (λ (fields : List HeaderField). Ok (fields, s)) (append-nil front)

@@ -1,11 +1,13 @@
 -- Readers that read the same and keep another part of it.
 use Rattle.std.proofs.Common.{◌≡◌, ℕ, zero, suc, Option, Result, Ok, Err, List, [], ◌∷◌, length, map, refl, ◌∙◌, ap}
 use Rattle.std.specs.Int.{w16}
-use Rattle.krb_file.specs.Fields.{Source, Fault, Bounds, limited, Reader, onward, ◌>>=◌, gives, number_at}
+use Rattle.krb_file.specs.Fields.{Source, Fault, Bounds, limited, Reader, onward, ◌>>=◌, gives, called, number_at}
+use Rattle.krb_file.specs.declared.field_name.FieldName.TheVariants as field
+use Rattle.krb_file.specs.declared.field_name.FilePart.TheVariants as parts
 use Rattle.krb_file.proofs.Fields.{at}
 use Rattle.krb_ccache.specs.declared.value.Credential.{Credential}
 use Rattle.krb_ccache.specs.declared.value.Credential3.{Credential3}
-use Rattle.krb_ccache.specs.Reading.{principal_at, credential_from, again_at, credential_at, once, twice, Items, item_and, items_within, items_after}
+use Rattle.krb_ccache.specs.Reading.{principal_in, credential_from, again_at, credential_at, once, twice, Items, item_and, items_within, items_after}
 
 module _ {A B : Type 0} (part : A → B) where
   abbrev of_read : Result (A × Source) Fault → Result (B × Source) Fault
@@ -47,8 +49,8 @@ credential_part c = c.credential
 
 pub Mapped-once : (version : ℕ) → Mapped credential_part (credential_at twice version) (credential_at once version)
 Mapped-once version =
-    Mapped-then credential_part principal_at _ _ (λ client.
-    Mapped-then credential_part principal_at _ _ (λ server.
-    Mapped-then credential_part (number_at w16) _ _ (λ enctype.
+    Mapped-then credential_part (principal_in parts.Client) _ _ (λ client.
+    Mapped-then credential_part (principal_in parts.Server) _ _ (λ server.
+    Mapped-then credential_part (called field.Enctype (number_at w16)) _ _ (λ enctype.
     Mapped-then credential_part (again_at version enctype) _ _ (λ again.
     Mapped-then credential_part (credential_from client server enctype) (λ credential. gives (twice credential again)) (λ credential. gives (once credential again)) (λ credential bounds s. refl)))))

@@ -3,32 +3,36 @@ use Rattle.std.proofs.Common.{◌≡◌, ℕ, ◌<◌, ◌+◌, ℤ, Result, Lis
 use Rattle.std.proofs.lemmas.List.{append-nil}
 use Rattle.std.specs.Int.{w8, w16, w32, to_be_bytes}
 use Rattle.std.specs.Int.RustNames.{FitsSigned}
-use Rattle.krb_file.specs.Fields.{signed, counted, Names, names, bound_of, IsCounted, AreNames, Source, Fault, Reader, onward, ◌>>=◌, gives, number_at, signed_at, counted_at, names_at}
-use Rattle.krb_file.proofs.Fields.{at, done, ok_is, onward-ok, Took, Reads, Reads-as, wide8, wide16, wide32, Reads-number, Reads-signed, Reads-counted, Reads-names, Reads-list, Reads-then, Reads-fields, Reads-given, Fields, End, Field, Values, spell_fields, AllFit}
+use Rattle.krb_file.specs.Fields.{signed, counted, Names, names, bound_of, IsCounted, AreNames, Source, Fault, Reader, onward, ◌>>=◌, gives, called, in_part, number_at, signed_at, counted_at, names_at}
+use Rattle.krb_file.specs.declared.field_name.FieldName.{FieldName}
+use Rattle.krb_file.specs.declared.field_name.FieldName.TheVariants as field
+use Rattle.krb_file.specs.declared.field_name.FilePart.{FilePart}
+use Rattle.krb_file.specs.declared.field_name.FilePart.TheVariants as parts
+use Rattle.krb_file.proofs.Fields.{Reads-called, Reads-in_part, at, done, ok_is, onward-ok, Took, Reads, Reads-as, wide8, wide16, wide32, Reads-number, Reads-signed, Reads-counted, Reads-names, Reads-list, Reads-then, Reads-fields, Reads-given, Fields, End, Field, Values, spell_fields, AllFit}
 use Rattle.krb_ccache.specs.declared.value.Credential.{Credential}
 use Rattle.krb_ccache.specs.declared.value.Credential3.{Credential3}
 use Rattle.krb_ccache.specs.declared.value.FilePrincipal.{FilePrincipal}
 use Rattle.krb_ccache.specs.declared.value.HeaderField.{HeaderField}
 use Rattle.krb_ccache.specs.declared.value.Typed.{Typed}
 use Rattle.krb_ccache.specs.Spelling.{names_of, principal, PrincipalFits, typed, TypedFits, typed_list, TypedListFits, credential_front, credential_back, credential, CredentialFits, credential3, Credential3Fits, header_field, HeaderFieldFits}
-use Rattle.krb_ccache.specs.Reading.{principal_at, typed_at, typed_list_at, credential_from, credential_at, once, twice, header_field_at}
+use Rattle.krb_ccache.specs.Reading.{principal_at, principal_in, typed_at, typed_list_at, credential_from, credential_at, once, twice, header_field_at}
 
 -- ---- fields that occur
-abbrev a_number32 : Fields → Fields
-a_number32 fields = Field ℕ (number_at w32) (to_be_bytes w32) (λ n. n < bound_of w32) (Reads-number w32 wide32) fields
+abbrev a_number32 : FieldName → Fields → Fields
+a_number32 name fields = Field ℕ (called name (number_at w32)) (to_be_bytes w32) (λ n. n < bound_of w32) (Reads-called name (number_at w32) _ _ (Reads-number w32 wide32)) fields
 
-abbrev a_number16 : Fields → Fields
-a_number16 fields = Field ℕ (number_at w16) (to_be_bytes w16) (λ n. n < bound_of w16) (Reads-number w16 wide16) fields
+abbrev a_number16 : FieldName → Fields → Fields
+a_number16 name fields = Field ℕ (called name (number_at w16)) (to_be_bytes w16) (λ n. n < bound_of w16) (Reads-called name (number_at w16) _ _ (Reads-number w16 wide16)) fields
 
-abbrev a_number8 : Fields → Fields
-a_number8 fields = Field ℕ (number_at w8) (to_be_bytes w8) (λ n. n < bound_of w8) (Reads-number w8 wide8) fields
+abbrev a_number8 : FieldName → Fields → Fields
+a_number8 name fields = Field ℕ (called name (number_at w8)) (to_be_bytes w8) (λ n. n < bound_of w8) (Reads-called name (number_at w8) _ _ (Reads-number w8 wide8)) fields
 
-abbrev data_field : Fields → Fields
-data_field fields = Field (List ℕ) (counted_at w32) (counted w32) (IsCounted w32) (Reads-counted w32 wide32) fields
+abbrev data_field : FieldName → Fields → Fields
+data_field name fields = Field (List ℕ) (called name (counted_at w32)) (counted w32) (IsCounted w32) (Reads-called name (counted_at w32) _ _ (Reads-counted w32 wide32)) fields
 
 -- ---- principals
 abbrev principal_fields : Fields
-principal_fields = Field ℤ (signed_at w32) (signed w32) (FitsSigned w32) Reads-signed (Field Names (names_at w32) (names w32) (AreNames w32) (Reads-names w32 wide32) End)
+principal_fields = Field ℤ (called field.NameType (signed_at w32)) (signed w32) (FitsSigned w32) (Reads-called field.NameType (signed_at w32) _ _ Reads-signed) (Field Names (names_at w32) (names w32) (AreNames w32) (Reads-names w32 wide32) End)
 
 abbrev principal_of : Values principal_fields → FilePrincipal
 principal_of v = record { name_type = v.0; realm = v.1.0.realm; components = v.1.0.components }
@@ -36,7 +40,7 @@ principal_of v = record { name_type = v.0; realm = v.1.0.realm; components = v.1
 abbrev principal_parts : FilePrincipal → Values principal_fields
 principal_parts p = (p.name_type, (names_of p, tt))
 
-pub Reads-principal : Reads principal_at principal PrincipalFits
+Reads-principal : Reads principal_at principal PrincipalFits
 Reads-principal =
     Reads-as principal_at _ principal _ PrincipalFits
     (Reads-fields principal_fields FilePrincipal principal_of principal_parts (λ p. refl) (λ v. refl))
@@ -44,9 +48,12 @@ Reads-principal =
     (λ p f. record { name_type = f.0; names = f.1.0 })
     (λ p f. (f.name_type, (f.names, tt)))
 
+pub Reads-principal_in : (part : FilePart) → Reads (principal_in part) principal PrincipalFits
+Reads-principal_in part = Reads-in_part part principal_at principal PrincipalFits Reads-principal
+
 -- ---- typed octets
 abbrev typed_fields : Fields
-typed_fields = a_number16 (data_field End)
+typed_fields = a_number16 field.Type (data_field field.Octets End)
 
 abbrev typed_of : Values typed_fields → Typed
 typed_of v = record { kind = v.0; octets = v.1.0 }
@@ -59,20 +66,21 @@ Reads-typed =
     (λ t f. record { kind = f.0; octets = f.1.0 })
     (λ t f. (f.kind, (f.octets, tt)))
 
-pub Reads-typed_list : Reads typed_list_at typed_list TypedListFits
-Reads-typed_list =
-    Reads-as typed_list_at _ typed_list _ TypedListFits (Reads-list w32 wide32 typed_at typed TypedFits Reads-typed) (λ ts. refl)
+pub Reads-typed_list : (name : FieldName) (part : ℕ → FilePart) → Reads (typed_list_at name part) typed_list TypedListFits
+Reads-typed_list name part =
+    Reads-as (typed_list_at name part) _ typed_list _ TypedListFits
+    (Reads-list w32 wide32 name (λ index. in_part (part index) typed_at) typed TypedFits (λ index. Reads-in_part (part index) typed_at typed TypedFits Reads-typed)) (λ ts. refl)
     (λ ts f. record { few = f.0; each = f.1 })
     (λ ts f. (f.few, f.each))
 
 -- ---- header fields
 abbrev header_field_fields : Fields
-header_field_fields = a_number16 (Field (List ℕ) (counted_at w16) (counted w16) (IsCounted w16) (Reads-counted w16 wide16) End)
+header_field_fields = a_number16 field.Tag (Field (List ℕ) (called field.Value (counted_at w16)) (counted w16) (IsCounted w16) (Reads-called field.Value (counted_at w16) _ _ (Reads-counted w16 wide16)) End)
 
 abbrev header_field_of : Values header_field_fields → HeaderField
 header_field_of v = record { tag = v.0; value = v.1.0 }
 
-pub Reads-header_field : Reads header_field_at header_field HeaderFieldFits
+Reads-header_field : Reads header_field_at header_field HeaderFieldFits
 Reads-header_field =
     Reads-as header_field_at _ header_field _ HeaderFieldFits
     (Reads-fields header_field_fields HeaderField header_field_of (λ t. (t.tag, (t.value, tt))) (λ t. refl) (λ v. refl))
@@ -80,18 +88,27 @@ Reads-header_field =
     (λ t f. record { tag = f.0; value = f.1.0 })
     (λ t f. (f.tag, (f.value, tt)))
 
--- ---- credentials, from the key on
-abbrev list_field : Fields → Fields
-list_field fields = Field (List Typed) typed_list_at typed_list TypedListFits Reads-typed_list fields
+pub Reads-header_field_in : (index : ℕ) → Reads (in_part (parts.Header index) header_field_at) header_field HeaderFieldFits
+Reads-header_field_in index = Reads-in_part (parts.Header index) header_field_at header_field HeaderFieldFits Reads-header_field
 
-abbrev principal_field : Fields → Fields
-principal_field fields = Field FilePrincipal principal_at principal PrincipalFits Reads-principal fields
+-- ---- credentials, from the key on
+abbrev list_field : FieldName → (ℕ → FilePart) → Fields → Fields
+list_field name part fields = Field (List Typed) (typed_list_at name part) typed_list TypedListFits (Reads-typed_list name part) fields
+
+abbrev principal_field : FilePart → Fields → Fields
+principal_field part fields = Field FilePrincipal (principal_in part) principal PrincipalFits (Reads-principal_in part) fields
 
 abbrev back_fields : Fields
-back_fields = data_field (a_number32 (a_number32 (a_number32 (a_number32 (a_number8 (a_number32 (list_field (list_field (data_field (data_field End))))))))))
+back_fields =
+    data_field field.Key
+    (a_number32 field.AuthTime (a_number32 field.StartTime (a_number32 field.EndTime (a_number32 field.RenewTill
+    (a_number8 field.IsSkey
+    (a_number32 field.TicketFlags
+    (list_field field.AddressCount parts.Address (list_field field.AuthdataCount parts.Authdata
+    (data_field field.Ticket (data_field field.SecondTicket End))))))))))
 
 abbrev pub front_fields : Fields
-front_fields = principal_field (principal_field (a_number16 End))
+front_fields = principal_field parts.Client (principal_field parts.Server (a_number16 field.Enctype End))
 
 abbrev credential_of : Values front_fields → Values back_fields → Credential
 credential_of f v = record {
@@ -200,7 +217,7 @@ Reads-credential =
 
 -- ---- a credential of version 3
 abbrev front3_fields : Fields
-front3_fields = principal_field (principal_field (a_number16 (a_number16 End)))
+front3_fields = principal_field parts.Client (principal_field parts.Server (a_number16 field.Enctype (a_number16 field.Enctype End)))
 
 abbrev front3_parts : Credential3 → Values front3_fields
 front3_parts c = (c.credential.client, (c.credential.server, (c.credential.enctype, (c.again, tt))))

@@ -3,8 +3,10 @@ use Rattle.std.proofs.Common.{◌≡◌, ℕ, zero, suc, ◌+◌, ◌<◌, false
 use Rattle.std.specs.List.{flat_map, AllByRecursion}
 use Rattle.std.specs.Int.{w16, to_be_bytes}
 use Rattle.krb_der.specs.Octets.{AreOctets}
-use Rattle.krb_file.specs.Fields.{Source, Fault, Bounds, limited, Reader, onward, ◌>>=◌, gives, number_at, bound_of}
-use Rattle.krb_file.proofs.Fields.{at, done, ok_is, onward-ok, wide16, Reads-number, Values, version-again}
+use Rattle.krb_file.specs.Fields.{Source, Fault, Bounds, limited, Reader, onward, ◌>>=◌, gives, called, number_at, bound_of}
+use Rattle.krb_file.specs.declared.field_name.FieldName.TheVariants as field
+use Rattle.krb_file.specs.declared.field_name.FilePart.TheVariants as whose
+use Rattle.krb_file.proofs.Fields.{at, done, ok_is, onward-ok, wide16, Reads, Reads-called, Reads-number, Values, version-again}
 use Rattle.krb_ccache.specs.declared.value.Cache3.{Cache3}
 use Rattle.krb_ccache.specs.declared.value.Credential.{Credential}
 use Rattle.krb_ccache.specs.declared.value.Credential3.{Credential3}
@@ -12,11 +14,11 @@ use Rattle.krb_ccache.specs.declared.value.FilePrincipal.{FilePrincipal}
 use Rattle.krb_ccache.specs.declared.value.Header.{Header}
 use Rattle.krb_ccache.specs.declared.reading.Start.{Start}
 use Rattle.krb_ccache.specs.Spelling.{principal, PrincipalFits, credential_back, credential, ccache, credential3, Credential3Fits, Spells3, no_header, upgraded}
-use Rattle.krb_ccache.specs.Reading.{principal_at, again_at, credential_from, credential_at, once, twice, header_at, header_in, Items, item_and, items_within, items_after}
+use Rattle.krb_ccache.specs.Reading.{principal_in, again_at, credential_from, credential_at, once, twice, header_at, header_in, Items, item_and, items_within, items_after}
 use Rattle.krb_ccache.specs.Streaming.{begun, credentials_of, credentials, Holds}
-use Rattle.krb_ccache.proofs.Parts.{Reads-principal, Reads-credential3, Reads-from_key, from_key, front_fields, front_parts, BackFits}
+use Rattle.krb_ccache.proofs.Parts.{Reads-principal_in, Reads-credential3, Reads-from_key, from_key, front_fields, front_parts, BackFits}
 use Rattle.krb_ccache.proofs.Headers.{inside_file}
-use Rattle.krb_ccache.proofs.Local.{Local-principal, Local-number, Local-from_key, IsReadAgain, read-again}
+use Rattle.krb_ccache.proofs.Local.{Local-principal_in, Local-enctype, Local-from_key, IsReadAgain, read-again}
 use Rattle.krb_ccache.proofs.Items.{items_after-again, all-sound}
 use Rattle.krb_ccache.proofs.Mapped.{credential_part, Mapped-once, items-mapped}
 use Rattle.krb_ccache.proofs.Ccaches.{start_of, credential-some, credential3-some, spells3-one}
@@ -30,13 +32,16 @@ from_enctype version client server enctype = do
 
 abbrev from_server : ℕ → FilePrincipal → FilePrincipal → Reader Credential
 from_server version client server = do
-  enctype ← number_at w16
+  enctype ← called field.Enctype (number_at w16)
   from_enctype version client server enctype
 
 abbrev from_client : ℕ → FilePrincipal → Reader Credential
 from_client version client = do
-  server ← principal_at
+  server ← principal_in whose.Server
   from_server version client server
+
+Reads-enctype : Reads (called field.Enctype (number_at w16)) (to_be_bytes w16) (λ n. n < bound_of w16)
+Reads-enctype = Reads-called field.Enctype (number_at w16) _ _ (Reads-number w16 wide16)
 
 pub record Then {A B : Type 0} (reader : Reader A) (next : A → Reader B) (bounds : Bounds) (s t : Source) (v : B) : Type 0 where
   pub value : A
@@ -52,29 +57,29 @@ then-ok reader next bounds s t v e =
 module _ (limit : Option ℕ) where
   -- the parts of a credential are read again
   pub record AllAgain (f : Values front_fields) (c : Credential) : Type 0 where
-    pub client : IsReadAgain principal_at principal limit f.0
-    pub server : IsReadAgain principal_at principal limit f.1.0
-    pub enctype : IsReadAgain (number_at w16) (to_be_bytes w16) limit f.1.1.0
+    pub client : IsReadAgain (principal_in whose.Client) principal limit f.0
+    pub server : IsReadAgain (principal_in whose.Server) principal limit f.1.0
+    pub enctype : IsReadAgain (called field.Enctype (number_at w16)) (to_be_bytes w16) limit f.1.1.0
     pub back : IsReadAgain (from_key f) credential_back limit c
 
   parts-again : (s t : Source) (c : Credential) → AreOctets s.octets → credential_at once 3 (limited limit) s ≡ Ok (c, t) → AllAgain (front_parts c) c × AreOctets t.octets
   parts-again s t c fits e =
-      let p = then-ok principal_at (from_client 3) (limited limit) s t c e in
-      let p-took = (Reads-principal.sound (limited limit) s p.after p.value fits (inside_file limit s.place) p.read).0 in
-      let q = then-ok principal_at (from_server 3 p.value) (limited limit) p.after t c p.goes_on in
-      let q-took = (Reads-principal.sound (limited limit) p.after q.after q.value p-took.fits (inside_file limit p.after.place) q.read).0 in
-      let n = then-ok (number_at w16) (from_enctype 3 p.value q.value) (limited limit) q.after t c q.goes_on in
-      let n-took = ((Reads-number w16 wide16).sound (limited limit) q.after n.after n.value q-took.fits (inside_file limit q.after.place) n.read).0 in
-      let m = then-ok (number_at w16) (λ again. credential_from p.value q.value n.value >>= λ credential. gives (once credential again)) (limited limit) n.after t c n.goes_on in
-      let m-took = ((Reads-number w16 wide16).sound (limited limit) n.after m.after m.value n-took.fits (inside_file limit n.after.place) m.read).0 in
+      let p = then-ok (principal_in whose.Client) (from_client 3) (limited limit) s t c e in
+      let p-took = ((Reads-principal_in whose.Client).sound (limited limit) s p.after p.value fits (inside_file limit s.place) p.read).0 in
+      let q = then-ok (principal_in whose.Server) (from_server 3 p.value) (limited limit) p.after t c p.goes_on in
+      let q-took = ((Reads-principal_in whose.Server).sound (limited limit) p.after q.after q.value p-took.fits (inside_file limit p.after.place) q.read).0 in
+      let n = then-ok (called field.Enctype (number_at w16)) (from_enctype 3 p.value q.value) (limited limit) q.after t c q.goes_on in
+      let n-took = (Reads-enctype.sound (limited limit) q.after n.after n.value q-took.fits (inside_file limit q.after.place) n.read).0 in
+      let m = then-ok (called field.Enctype (number_at w16)) (λ again. credential_from p.value q.value n.value >>= λ credential. gives (once credential again)) (limited limit) n.after t c n.goes_on in
+      let m-took = (Reads-enctype.sound (limited limit) n.after m.after m.value n-took.fits (inside_file limit n.after.place) m.read).0 in
       let k = then-ok (credential_from p.value q.value n.value) (λ credential. gives (once credential m.value)) (limited limit) m.after t c m.goes_on in
       let same = ok_is (k.value, k.after) (c, t) k.goes_on in
       let read : credential_from p.value q.value n.value (limited limit) m.after ≡ Ok (c, t) = k.read ∙ ap (λ (x : Credential × Source). done x) same in
       let k-took = (Reads-from_key (p.value, (q.value, (n.value, tt)))).sound (limited limit) m.after t c m-took.fits (inside_file limit m.after.place) read in
       let all : AllAgain (p.value, (q.value, (n.value, tt))) c = record {
-        client = read-again principal_at principal PrincipalFits Reads-principal Local-principal limit s p.after p.value fits p.read;
-        server = read-again principal_at principal PrincipalFits Reads-principal Local-principal limit p.after q.after q.value p-took.fits q.read;
-        enctype = read-again (number_at w16) (to_be_bytes w16) (λ x. x < bound_of w16) (Reads-number w16 wide16) (Local-number w16) limit q.after n.after n.value q-took.fits n.read;
+        client = read-again (principal_in whose.Client) principal PrincipalFits (Reads-principal_in whose.Client) (Local-principal_in whose.Client) limit s p.after p.value fits p.read;
+        server = read-again (principal_in whose.Server) principal PrincipalFits (Reads-principal_in whose.Server) (Local-principal_in whose.Server) limit p.after q.after q.value p-took.fits q.read;
+        enctype = read-again (called field.Enctype (number_at w16)) (to_be_bytes w16) (λ x. x < bound_of w16) Reads-enctype Local-enctype limit q.after n.after n.value q-took.fits n.read;
         back = read-again (credential_from p.value q.value n.value) credential_back (λ x. BackFits x × (front_parts x ≡ (p.value, (q.value, (n.value, tt))))) (Reads-from_key (p.value, (q.value, (n.value, tt)))) (Local-from_key p.value q.value n.value) limit m.after t c m-took.fits read;
       } in
       (subst (λ (x : Values front_fields). AllAgain x c) (sym k-took.1.1) all, k-took.0.fits)
@@ -114,17 +119,17 @@ module _ (limit : Option ℕ) where
 
   -- ---- what stands before the credentials
   abbrev after_version : ℕ → Source → Result (Start × Source) Fault
-  after_version version s = onward (header_in version (limited limit) s) (λ p. onward (principal_at (limited limit) p.1) (λ q. done (start_of version p.0 q.0, q.1)))
+  after_version version s = onward (header_in version (limited limit) s) (λ p. onward (principal_in whose.Principal (limited limit) p.1) (λ q. done (start_of version p.0 q.0, q.1)))
 
   header-none : (rest : List ℕ) → header_at (limited limit) (at 2 (0 ∷ 0 ∷ rest)) ≡ Ok (no_header, at 4 rest)
   header-none rest =
       let long : ltb (length (0 ∷ 0 ∷ rest)) 2 ≡ false = le-ltb _ _ (omega arith) in
       rw long refl
 
-  start-again : (p : FilePrincipal) (rest : List ℕ) → IsReadAgain principal_at principal limit p → begun limit (5 ∷ 4 ∷ 0 ∷ 0 ∷ (principal p ++ rest)) ≡ Ok (start_of 4 no_header p, at (4 + length (principal p)) rest)
+  start-again : (p : FilePrincipal) (rest : List ℕ) → IsReadAgain (principal_in whose.Principal) principal limit p → begun limit (5 ∷ 4 ∷ 0 ∷ 0 ∷ (principal p ++ rest)) ≡ Ok (start_of 4 no_header p, at (4 + length (principal p)) rest)
   start-again p rest again =
       ap (λ (r : Result (ℕ × Source) Fault). onward r (λ q. after_version q.0 q.1)) (version-again (3 ∷ 4 ∷ []) (limited limit) (0 ∷ 0 ∷ (principal p ++ rest)) 4 (omega arith) refl refl)
-      ∙ ap (λ (r : Result (Header × Source) Fault). onward r (λ x. onward (principal_at (limited limit) x.1) (λ q. done (start_of 4 x.0 q.0, q.1)))) (header-none (principal p ++ rest))
+      ∙ ap (λ (r : Result (Header × Source) Fault). onward r (λ x. onward (principal_in whose.Principal (limited limit) x.1) (λ q. done (start_of 4 x.0 q.0, q.1)))) (header-none (principal p ++ rest))
       ∙ ap (λ (r : Result (FilePrincipal × Source) Fault). onward r (λ q. done (start_of 4 no_header q.0, q.1))) (again 4 rest)
 
   -- the start of a file of version 3
@@ -134,14 +139,14 @@ module _ (limit : Option ℕ) where
     pub parts : octets ≡ principal who ++ after.octets
     pub fits : PrincipalFits who
     pub left : AreOctets after.octets
-    pub again : IsReadAgain principal_at principal limit who
+    pub again : IsReadAgain (principal_in whose.Principal) principal limit who
 
   starts3 : (octets : List ℕ) (start : Start) (after : Source) → AreOctets octets → begun limit (5 ∷ 3 ∷ octets) ≡ Ok (start, after) → Starts3 octets start after
   starts3 octets start after fits e =
       let version = ap (λ (r : Result (ℕ × Source) Fault). onward r (λ q. after_version q.0 q.1)) (version-again (3 ∷ 4 ∷ []) (limited limit) octets 3 (omega arith) refl refl) in
-      let p = onward-ok (principal_at (limited limit) (at 2 octets)) (λ q. done (start_of 3 no_header q.0, q.1)) (start, after) (sym version ∙ e) in
-      let took = Reads-principal.sound (limited limit) (at 2 octets) p.0.1 p.0.0 fits (inside_file limit 2) p.1 in
-      let again = read-again principal_at principal PrincipalFits Reads-principal Local-principal limit (at 2 octets) p.0.1 p.0.0 fits p.1 in
+      let p = onward-ok (principal_in whose.Principal (limited limit) (at 2 octets)) (λ q. done (start_of 3 no_header q.0, q.1)) (start, after) (sym version ∙ e) in
+      let took = (Reads-principal_in whose.Principal).sound (limited limit) (at 2 octets) p.0.1 p.0.0 fits (inside_file limit 2) p.1 in
+      let again = read-again (principal_in whose.Principal) principal PrincipalFits (Reads-principal_in whose.Principal) (Local-principal_in whose.Principal) limit (at 2 octets) p.0.1 p.0.0 fits p.1 in
       let same = ok_is (start_of 3 no_header p.0.0, p.0.1) (start, after) p.2 in
       let rest : p.0.1 ≡ after = ap (λ (x : Start × Source). x.1) same in
       record {
@@ -165,7 +170,7 @@ module _ (limit : Option ℕ) where
   begun-ok (Err f) size e = absurd cc
 
   -- a file of version 3 that begins with a principal, and whose credentials are read so
-  module _ (who : FilePrincipal) (who_fits : PrincipalFits who) (who_again : IsReadAgain principal_at principal limit who) (after : Source) (fits : AreOctets after.octets) (size : ℕ) (ends : (items_after (credential_at once 3) limit after).end ≡ Ok size) where
+  module _ (who : FilePrincipal) (who_fits : PrincipalFits who) (who_again : IsReadAgain (principal_in whose.Principal) principal limit who) (after : Source) (fits : AreOctets after.octets) (size : ℕ) (ends : (items_after (credential_at once 3) limit after).end ≡ Ok size) where
     abbrev found : Items Credential3
     found = items_after (credential_at twice 3) limit after
 

@@ -1,9 +1,14 @@
 -- Worked examples, computed by the definitions: octets in hexadecimal, and what they are.
-use Rattle.std.specs.Prelude.{ℕ, zero, suc, pos, negsuc, ◌≡◌, Bool, true, false, Some, None, Result, Ok, Err, List, [], ◌∷◌, ◌++◌, codes, take, map, refl}
+use Rattle.std.specs.Prelude.{ℕ, zero, suc, pos, negsuc, ◌≡◌, Bool, true, false, Option, Some, None, Result, Ok, Err, List, [], ◌∷◌, ◌++◌, codes, take, map, refl}
 use Rattle.krb_der.specs.Octets.{when}
 use Rattle.krb_der.specs.Hex.{hex}
 use Rattle.krb_file.specs.Fields.{Fault}
+use Rattle.krb_file.specs.declared.fault.FileWhy.{FileWhy}
 use Rattle.krb_file.specs.declared.fault.FileWhy.TheVariants as why
+use Rattle.krb_file.specs.declared.field_name.FieldName.{FieldName}
+use Rattle.krb_file.specs.declared.field_name.FieldName.TheVariants as words
+use Rattle.krb_file.specs.declared.field_name.FilePart.{FilePart}
+use Rattle.krb_file.specs.declared.field_name.FilePart.TheVariants as parts
 use Rattle.krb_ccache.specs.declared.value.Cache3.{Cache3}
 use Rattle.krb_ccache.specs.declared.value.Ccache.{Ccache}
 use Rattle.krb_ccache.specs.declared.value.Credential.{Credential}
@@ -133,33 +138,36 @@ cache_lengths : lengths_read read cache_octets 239 ≡ 34 ∷ 156 ∷ 239 ∷ []
 cache_lengths = refl
 
 -- ---- faults
-no_octet : read ([]) ≡ Err (record { place = 0; why = why.Truncated })
+abbrev fault : ℕ → FileWhy → Option FilePart → FieldName → Fault
+fault place reason part name = record { place = place; why = reason; field = Some (record { part = part; name = name }) }
+
+no_octet : read ([]) ≡ Err (fault 0 why.Truncated None words.Magic)
 no_octet = refl
 
-one_octet : read (hex (codes "05")) ≡ Err (record { place = 1; why = why.Truncated })
+one_octet : read (hex (codes "05")) ≡ Err (fault 1 why.Truncated None words.Version)
 one_octet = refl
 
-not_five : read (hex (codes "0601")) ≡ Err (record { place = 0; why = why.Magic })
+not_five : read (hex (codes "0601")) ≡ Err (fault 0 why.Magic None words.Magic)
 not_five = refl
 
-other_version : read (hex (codes "0503")) ≡ Err (record { place = 1; why = why.Version })
+other_version : read (hex (codes "0503")) ≡ Err (fault 1 why.Version None words.Version)
 other_version = refl
 
-field_overruns : read (hex (codes "0504 0003 000100")) ≡ Err (record { place = 6; why = why.Overrun })
+field_overruns : read (hex (codes "0504 0003 000100")) ≡ Err (fault 6 why.Overrun (Some (parts.Header 0)) words.Value)
 field_overruns = refl
 
-value_overruns : read (hex (codes "0504 0005 0001 0002 00")) ≡ Err (record { place = 8; why = why.Overrun })
+value_overruns : read (hex (codes "0504 0005 0001 0002 00")) ≡ Err (fault 8 why.Overrun (Some (parts.Header 0)) words.Value)
 value_overruns = refl
 
-header_cut : read (hex (codes "0504 000C 0001")) ≡ Err (record { place = 6; why = why.Truncated })
+header_cut : read (hex (codes "0504 000C 0001")) ≡ Err (fault 6 why.Truncated (Some (parts.Header 0)) words.Value)
 header_cut = refl
 
 -- a number of addresses that are not there is looked at one address after another, and so at none
-addresses_announced : read (take 221 cache_octets ++ hex (codes "FFFFFFFF")) ≡ Err (record { place = 225; why = why.Truncated })
+addresses_announced : read (take 221 cache_octets ++ hex (codes "FFFFFFFF")) ≡ Err (fault 225 why.Truncated (Some (parts.Address 0)) words.Type)
 addresses_announced = refl
 
 -- ---- a limit on fields of octets
-header_too_long : begun (Some 1) cache_octets ≡ Err (record { place = 8; why = why.TooLong })
+header_too_long : begun (Some 1) cache_octets ≡ Err (fault 8 why.TooLong (Some (parts.Header 0)) words.Value)
 header_too_long = refl
 
 -- ---- a cache of version 3 of u@A: the credential for h@A
@@ -186,17 +194,17 @@ cache3_lengths : lengths_read read3 cache3_octets 105 ≡ 20 ∷ 105 ∷ []
 cache3_lengths = refl
 
 -- the encryption type is there, and is not written again
-again_cut : read3 (take 58 cache3_octets) ≡ Err (record { place = 58; why = why.Truncated })
+again_cut : read3 (take 58 cache3_octets) ≡ Err (fault 58 why.Truncated None words.Enctype)
 again_cut = refl
 
-nothing_after_3 : read3 (hex (codes "0503")) ≡ Err (record { place = 2; why = why.Truncated })
+nothing_after_3 : read3 (hex (codes "0503")) ≡ Err (fault 2 why.Truncated (Some parts.Principal) words.NameType)
 nothing_after_3 = refl
 
-start_cut : begun None (hex (codes "0503")) ≡ Err (record { place = 2; why = why.Truncated })
+start_cut : begun None (hex (codes "0503")) ≡ Err (fault 2 why.Truncated (Some parts.Principal) words.NameType)
 start_cut = refl
 
-not_three : read3 (hex (codes "0504")) ≡ Err (record { place = 1; why = why.Version })
+not_three : read3 (hex (codes "0504")) ≡ Err (fault 1 why.Version None words.Version)
 not_three = refl
 
-not_three_or_four : begun None (hex (codes "0502")) ≡ Err (record { place = 1; why = why.Version })
+not_three_or_four : begun None (hex (codes "0502")) ≡ Err (fault 1 why.Version None words.Version)
 not_three_or_four = refl

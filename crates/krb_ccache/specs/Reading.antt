@@ -2,7 +2,11 @@
 use Rattle.std.specs.Prelude.{ℕ, zero, suc, ◌==◌, List, [], ◌∷◌, length, Option, None, Some, Result, Ok, Err}
 use Rattle.std.specs.Int.{w8, w16, w32}
 use Rattle.krb_der.specs.Octets.{when}
-use Rattle.krb_file.specs.Fields.{Source, source_of, Fault, limited, Reader, onward, ◌>>=◌, gives, is_empty, number_at, signed_at, counted_at, times, names_at, within, is_at_end, version_at}
+use Rattle.krb_file.specs.Fields.{Source, source_of, Fault, limited, Reader, onward, ◌>>=◌, gives, called, in_part, is_empty, number_at, signed_at, counted_at, times, names_at, within, is_at_end, version_at}
+use Rattle.krb_file.specs.declared.field_name.FieldName.{FieldName}
+use Rattle.krb_file.specs.declared.field_name.FieldName.TheVariants as field
+use Rattle.krb_file.specs.declared.field_name.FilePart.{FilePart}
+use Rattle.krb_file.specs.declared.field_name.FilePart.TheVariants as parts
 use Rattle.krb_ccache.specs.declared.value.Cache3.{Cache3}
 use Rattle.krb_ccache.specs.declared.value.Ccache.{Ccache}
 use Rattle.krb_ccache.specs.declared.value.Credential.{Credential}
@@ -18,51 +22,55 @@ use Rattle.krb_ccache.specs.Spelling.{no_header}
 
 abbrev pub principal_at : Reader FilePrincipal
 principal_at = do
-  name_type ← signed_at w32
+  name_type ← called field.NameType (signed_at w32)
   names ← names_at w32
   gives (record { name_type = name_type; realm = names.realm; components = names.components })
+
+abbrev pub principal_in : FilePart → Reader FilePrincipal
+principal_in part = in_part part principal_at
 
 -- ---- addresses and authorization data
 
 abbrev pub typed_at : Reader Typed
 typed_at = do
-  kind ← number_at w16
-  octets ← counted_at w32
+  kind ← called field.Type (number_at w16)
+  octets ← called field.Octets (counted_at w32)
   gives (record { kind = kind; octets = octets })
 
-abbrev pub typed_list_at : Reader (List Typed)
-typed_list_at = do
-  count ← number_at w32
-  times count typed_at
+-- a list after its number, which is the field of this name; each item is a part by its number
+abbrev pub typed_list_at : FieldName → (ℕ → FilePart) → Reader (List Typed)
+typed_list_at name part = do
+  count ← called name (number_at w32)
+  times count (λ index. in_part (part index) typed_at)
 
 -- ---- a credential
 
 -- from the key on
 abbrev pub credential_from : FilePrincipal → FilePrincipal → ℕ → Reader Credential
 credential_from client server enctype = do
-  key ← counted_at w32
-  authtime ← number_at w32
-  starttime ← number_at w32
-  endtime ← number_at w32
-  renew_till ← number_at w32
-  is_skey ← number_at w8
-  flags ← number_at w32
-  addresses ← typed_list_at
-  authdata ← typed_list_at
-  ticket ← counted_at w32
-  second_ticket ← counted_at w32
+  key ← called field.Key (counted_at w32)
+  authtime ← called field.AuthTime (number_at w32)
+  starttime ← called field.StartTime (number_at w32)
+  endtime ← called field.EndTime (number_at w32)
+  renew_till ← called field.RenewTill (number_at w32)
+  is_skey ← called field.IsSkey (number_at w8)
+  flags ← called field.TicketFlags (number_at w32)
+  addresses ← typed_list_at field.AddressCount parts.Address
+  authdata ← typed_list_at field.AuthdataCount parts.Authdata
+  ticket ← called field.Ticket (counted_at w32)
+  second_ticket ← called field.SecondTicket (counted_at w32)
   gives (record { client = client; server = server; enctype = enctype; key = key; authtime = authtime; starttime = starttime; endtime = endtime; renew_till = renew_till; is_skey = is_skey; flags = flags; addresses = addresses; authdata = authdata; ticket = ticket; second_ticket = second_ticket })
 
 -- the encryption type again, which version 4 does not write
 abbrev pub again_at : ℕ → ℕ → Reader ℕ
-again_at version enctype = when (version == 3) (λ _. number_at w16) (λ _. gives enctype)
+again_at version enctype = when (version == 3) (λ _. called field.Enctype (number_at w16)) (λ _. gives enctype)
 
 -- a credential in a version, of which this is kept and of its encryption type as it is written again
 abbrev pub credential_at : {A : Type 0} → (Credential → ℕ → A) → ℕ → Reader A
 credential_at kept version = do
-  client ← principal_at
-  server ← principal_at
-  enctype ← number_at w16
+  client ← principal_in parts.Client
+  server ← principal_in parts.Server
+  enctype ← called field.Enctype (number_at w16)
   again ← again_at version enctype
   credential ← credential_from client server enctype
   gives (kept credential again)
@@ -82,23 +90,23 @@ next_at kept version = λ bounds source. when (is_empty source.octets) (λ _. Ok
 
 abbrev pub header_field_at : Reader HeaderField
 header_field_at = do
-  tag ← number_at w16
-  value ← counted_at w16
+  tag ← called field.Tag (number_at w16)
+  value ← called field.Value (counted_at w16)
   gives (record { tag = tag; value = value })
 
--- fields up to the header's end; the number bounds how many there are
-abbrev pub header_fields_at : ℕ → Reader (List HeaderField)
-header_fields_at zero = gives []
-header_fields_at (suc bound) = λ bounds source.
+-- fields up to the header's end, after so many others; the first number bounds how many there are
+abbrev pub header_fields_at : ℕ → ℕ → Reader (List HeaderField)
+header_fields_at zero before = gives []
+header_fields_at (suc bound) before = λ bounds source.
     when (is_at_end bounds source) (λ _. Ok ([], source)) (λ _. (do
-      first ← header_field_at
-      others ← header_fields_at bound
+      first ← in_part (parts.Header before) header_field_at
+      others ← header_fields_at bound (suc before)
       gives (first ∷ others)) bounds source)
 
 abbrev pub header_at : Reader Header
 header_at = do
-  size ← number_at w16
-  fields ← within size (header_fields_at size)
+  size ← called field.HeaderLength (number_at w16)
+  fields ← within size (header_fields_at size 0)
   gives (record { fields = fields })
 
 -- ---- what stands before the credentials
@@ -112,7 +120,7 @@ abbrev pub start_at : List ℕ → Reader Start
 start_at versions = do
   version ← version_at versions
   header ← header_in version
-  principal ← principal_at
+  principal ← principal_in parts.Principal
   gives (record { version = version; header = header; principal = principal })
 
 -- ---- items up to the end of the file

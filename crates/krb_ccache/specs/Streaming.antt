@@ -53,7 +53,7 @@ pub record Reads (limit : Option ℕ) (held : Held) (start : Start) (state : Sta
 
 -- What stands before the credentials is refused so. Else the device failed or memory ran out.
 abbrev pub FailsStart : Option ℕ → List ℕ → FileFault → Type 0
-FailsStart limit file (faults.Refused place why) = begun limit file ≡ Err (record { place = place; why = why })
+FailsStart limit file (faults.Refused place why field) = begun limit file ≡ Err (record { place = place; why = why; field = field })
 FailsStart limit file faults.Read = Unit {0}
 FailsStart limit file faults.Memory = Unit {0}
 
@@ -78,6 +78,6 @@ pub record FailsBy (items : Items Credential) (count : ℕ) (fault : Fault) : Ty
 abbrev pub GivesNext : Option ℕ → List ℕ → ℕ → Result (Option Credential) FileFault → Held → Start → State → Type 0
 GivesNext limit file count (Ok (Some credential)) held start state = IsItem (credentials limit file) count credential × Reads limit held start state file (suc count)
 GivesNext limit file count (Ok None) held start state = EndsBy (credentials limit file) count held.place
-GivesNext limit file count (Err (faults.Refused place why)) held start state = FailsBy (credentials limit file) count (record { place = place; why = why })
+GivesNext limit file count (Err (faults.Refused place why field)) held start state = FailsBy (credentials limit file) count (record { place = place; why = why; field = field })
 GivesNext limit file count (Err faults.Read) held start state = Unit {0}
 GivesNext limit file count (Err faults.Memory) held start state = Unit {0}

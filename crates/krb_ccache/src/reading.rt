@@ -1,27 +1,34 @@
 //! Reading caches.
 
 ghost use Rattle.std.specs.Prelude.{◌≡◌, ℕ, None, Ok, IfOk, IfErr, OnOk};
-ghost use Rattle.krb_file.specs.Fields.{Gives, IsFaultIn, Reader, within, times};
+ghost use Rattle.krb_file.specs.Fields.{Gives, IsFaultIn, Reader, in_part, within, times};
+ghost use Rattle.krb_file.specs.declared.field_name.FieldName.TheVariants as field;
+ghost use Rattle.krb_file.specs.declared.field_name.FilePart.TheVariants as parts;
 ghost use Rattle.krb_file.specs.FieldReaders.{Follows, Stays, Keeps, Slice, source_at};
 ghost use Rattle.krb_ccache.specs.declared.value.Cache3.{Cache3 as Cache3Value};
 ghost use Rattle.krb_ccache.specs.declared.value.Ccache.{Ccache as CcacheValue};
 ghost use Rattle.krb_ccache.specs.declared.value.Credential.{Credential as CredentialValue};
 ghost use Rattle.krb_ccache.specs.Spelling.{CcacheSpells, Spells3};
-ghost use Rattle.krb_ccache.specs.Reading.{principal_at, typed_at, typed_list_at, credential_from, again_at, credential_at, once, twice, header_field_at, header_fields_at, header_at, header_in, start_at, next_at, credentials_after, read_in, read, read3};
+ghost use Rattle.krb_ccache.specs.Reading.{principal_at, principal_in, typed_at, typed_list_at, credential_from, again_at, credential_at, once, twice, header_field_at, header_fields_at, header_at, header_in, start_at, next_at, credentials_after, read_in, read, read3};
 
 use crate::value::{
     Cache3, Ccache, Credential, Credential3, FilePrincipal, Header, HeaderField, Typed,
 };
 use krb_der::{KString, Many, Octets};
-use krb_file::{Field, FieldReader, FileFault, SliceReader, read_many};
+use krb_file::{
+    Field, FieldName, FieldReader, FileFault, FilePart, SliceReader, in_part, read_many,
+};
 use std::alloc::Global;
 
-/// Reads a principal.
-fn principal<F: FieldReader>(alloc: Global, reader: &mut F) -> Result<FilePrincipal, FileFault>
+/// Reads the fields of a principal.
+fn principal_fields<F: FieldReader>(
+    alloc: Global,
+    reader: &mut F,
+) -> Result<FilePrincipal, FileFault>
     ensures read { Follows (λ principal. principal) result principal_at F.MayFail (F.held reader.old) (F.held reader.new) }
     ensures keeps { Keeps (F.held reader.old) (F.held reader.new) }
 {
-    let name_type = reader.signed32()?;
+    let name_type = reader.signed_field32(FieldName::NameType)?;
     let mut realm = reader.room(alloc);
     let mut components = reader.list(alloc);
     reader.names32(alloc, &mut realm, &mut components)?;
@@ -32,33 +39,85 @@ fn principal<F: FieldReader>(alloc: Global, reader: &mut F) -> Result<FilePrinci
     })
 }
 
-/// The field of a [`Typed`]: a kind, and octets after their number.
-struct OctetsOfKind;
+/// Reads the principal that is this part.
+fn principal<F: FieldReader>(
+    alloc: Global,
+    part: FilePart,
+    reader: &mut F,
+) -> Result<FilePrincipal, FileFault>
+    ensures read { Follows (λ principal. principal) result (principal_in part) F.MayFail (F.held reader.old) (F.held reader.new) }
+    ensures keeps { Keeps (F.held reader.old) (F.held reader.new) }
+{
+    in_part(part, principal_fields(alloc, reader))
+}
 
-impl Field for OctetsOfKind {
+/// Reads a kind, and octets after their number.
+fn typed_fields<F: FieldReader>(alloc: Global, reader: &mut F) -> Result<Typed, FileFault>
+    ensures read { Follows (λ typed. typed) result typed_at F.MayFail (F.held reader.old) (F.held reader.new) }
+    ensures keeps { Keeps (F.held reader.old) (F.held reader.new) }
+{
+    let kind = reader.field16(FieldName::Type)?;
+    let mut octets = reader.room(alloc);
+    reader.counted_field32(alloc, FieldName::Octets, &mut octets)?;
+    Ok(Typed {
+        kind,
+        octets: Octets::new(octets),
+    })
+}
+
+/// Reads the address, or the element of authorization data, that is this part.
+fn typed<F: FieldReader>(alloc: Global, part: FilePart, reader: &mut F) -> Result<Typed, FileFault>
+    ensures read { Follows (λ typed. typed) result (in_part part typed_at) F.MayFail (F.held reader.old) (F.held reader.new) }
+    ensures keeps { Keeps (F.held reader.old) (F.held reader.new) }
+{
+    in_part(part, typed_fields(alloc, reader))
+}
+
+/// An address.
+struct AddressItem;
+
+impl Field for AddressItem {
     type Value = Typed;
 
-    ghost reads = { typed_at };
+    ghost reads = { λ index. in_part (parts.Address index) typed_at };
 
-    fn read<F: FieldReader>(alloc: Global, reader: &mut F) -> Result<Typed, FileFault> {
-        let kind = reader.number16()?;
-        let mut octets = reader.room(alloc);
-        reader.counted32(alloc, &mut octets)?;
-        Ok(Typed {
-            kind,
-            octets: Octets::new(octets),
-        })
+    fn read<F: FieldReader>(alloc: Global, index: u32, reader: &mut F) -> Result<Typed, FileFault> {
+        typed(alloc, FilePart::Address(index), reader)
     }
 }
 
-/// Reads addresses or authorization data, after their number.
-fn typed_list<F: FieldReader>(alloc: Global, reader: &mut F) -> Result<Many<Typed>, FileFault>
-    ensures read { Follows (λ list. list) result typed_list_at F.MayFail (F.held reader.old) (F.held reader.new) }
+/// An element of authorization data.
+struct AuthdataItem;
+
+impl Field for AuthdataItem {
+    type Value = Typed;
+
+    ghost reads = { λ index. in_part (parts.Authdata index) typed_at };
+
+    fn read<F: FieldReader>(alloc: Global, index: u32, reader: &mut F) -> Result<Typed, FileFault> {
+        typed(alloc, FilePart::Authdata(index), reader)
+    }
+}
+
+/// Reads addresses, after their number.
+fn addresses<F: FieldReader>(alloc: Global, reader: &mut F) -> Result<Many<Typed>, FileFault>
+    ensures read { Follows (λ list. list) result (typed_list_at field.AddressCount parts.Address) F.MayFail (F.held reader.old) (F.held reader.new) }
     ensures keeps { Keeps (F.held reader.old) (F.held reader.new) }
 {
-    let count = reader.number32()?;
+    let count = reader.field32(FieldName::AddressCount)?;
     let mut list = Vec::new(alloc);
-    read_many::<OctetsOfKind, F>(alloc, count, reader, &mut list)?;
+    read_many::<AddressItem, F>(alloc, count, reader, &mut list)?;
+    Ok(Many::new(list))
+}
+
+/// Reads authorization data, after the number of its elements.
+fn authdata<F: FieldReader>(alloc: Global, reader: &mut F) -> Result<Many<Typed>, FileFault>
+    ensures read { Follows (λ list. list) result (typed_list_at field.AuthdataCount parts.Authdata) F.MayFail (F.held reader.old) (F.held reader.new) }
+    ensures keeps { Keeps (F.held reader.old) (F.held reader.new) }
+{
+    let count = reader.field32(FieldName::AuthdataCount)?;
+    let mut list = Vec::new(alloc);
+    read_many::<AuthdataItem, F>(alloc, count, reader, &mut list)?;
     Ok(Many::new(list))
 }
 
@@ -77,20 +136,20 @@ fn credential_from<F: FieldReader>(
     ensures stays { OnOk result (Stays (F.held reader.old) (F.held reader.new)) }
 {
     let mut key = reader.room(alloc);
-    reader.counted32(alloc, &mut key)?;
+    reader.counted_field32(alloc, FieldName::Key, &mut key)?;
     reader.look_ahead(LEAST_AFTER_KEY)?;
-    let authtime = reader.number32()?;
-    let starttime = reader.number32()?;
-    let endtime = reader.number32()?;
-    let renew_till = reader.number32()?;
-    let is_skey = reader.number8()?;
-    let flags = reader.number32()?;
-    let addresses = typed_list(alloc, reader)?;
-    let authdata = typed_list(alloc, reader)?;
+    let authtime = reader.field32(FieldName::AuthTime)?;
+    let starttime = reader.field32(FieldName::StartTime)?;
+    let endtime = reader.field32(FieldName::EndTime)?;
+    let renew_till = reader.field32(FieldName::RenewTill)?;
+    let is_skey = reader.field8(FieldName::IsSkey)?;
+    let flags = reader.field32(FieldName::TicketFlags)?;
+    let addresses = addresses(alloc, reader)?;
+    let authdata = authdata(alloc, reader)?;
     let mut ticket = reader.room(alloc);
-    reader.counted32(alloc, &mut ticket)?;
+    reader.counted_field32(alloc, FieldName::Ticket, &mut ticket)?;
     let mut second_ticket = reader.room(alloc);
-    reader.counted32(alloc, &mut second_ticket)?;
+    reader.counted_field32(alloc, FieldName::SecondTicket, &mut second_ticket)?;
     Ok(Credential {
         client,
         server,
@@ -141,7 +200,7 @@ fn again<F: FieldReader>(version: u8, enctype: u16, reader: &mut F) -> Result<u1
     ensures keeps { Keeps (F.held reader.old) (F.held reader.new) }
 {
     if version == 3 {
-        return reader.number16();
+        return reader.field16(FieldName::Enctype);
     }
     Ok(enctype)
 }
@@ -156,9 +215,9 @@ fn credential<K: Kept, F: FieldReader>(
     ensures read { Follows (λ item. item) result (credential_at K.kept version) F.MayFail (F.held reader.old) (F.held reader.new) }
     ensures stays { OnOk result (Stays (F.held reader.old) (F.held reader.new)) }
 {
-    let client = principal(alloc, reader)?;
-    let server = principal(alloc, reader)?;
-    let enctype = reader.number16()?;
+    let client = principal(alloc, FilePart::Client, reader)?;
+    let server = principal(alloc, FilePart::Server, reader)?;
+    let enctype = reader.field16(FieldName::Enctype)?;
     let again = again(version, enctype, reader)?;
     let credential = credential_from(alloc, client, server, enctype, reader)?;
     Ok(K::keep(credential, again))
@@ -184,18 +243,34 @@ pub(crate) fn next<K: Kept, F: FieldReader>(
     Ok(Some(item))
 }
 
-/// Reads a field of the header.
-fn header_field<F: FieldReader>(alloc: Global, reader: &mut F) -> Result<HeaderField, FileFault>
+/// Reads the tag and the value of a field of the header.
+fn header_field_fields<F: FieldReader>(
+    alloc: Global,
+    reader: &mut F,
+) -> Result<HeaderField, FileFault>
     ensures read { Follows (λ field. field) result header_field_at F.MayFail (F.held reader.old) (F.held reader.new) }
     ensures keeps { Keeps (F.held reader.old) (F.held reader.new) }
 {
-    let tag = reader.number16()?;
+    let tag = reader.field16(FieldName::Tag)?;
     let mut value = reader.room(alloc);
-    reader.counted16(alloc, &mut value)?;
+    reader.counted_field16(alloc, FieldName::Value, &mut value)?;
     Ok(HeaderField {
         tag,
         value: Octets::new(value),
     })
+}
+
+/// Reads the field of the header after `index` others.
+fn header_field<F: FieldReader>(
+    alloc: Global,
+    index: usize,
+    reader: &mut F,
+) -> Result<HeaderField, FileFault>
+    ensures read { Follows (λ field. field) result (in_part (parts.Header index) header_field_at) F.MayFail (F.held reader.old) (F.held reader.new) }
+    ensures keeps { Keeps (F.held reader.old) (F.held reader.new) }
+{
+    let part = FilePart::Header(index as u64);
+    in_part(part, header_field_fields(alloc, reader))
 }
 
 /// Reads the fields of a header of `size` octets.
@@ -204,7 +279,7 @@ fn header_fields<F: FieldReader>(
     size: u16,
     reader: &mut F,
 ) -> Result<Many<HeaderField>, FileFault>
-    ensures read { Follows (λ fields. fields) result (within size (header_fields_at size)) F.MayFail (F.held reader.old) (F.held reader.new) }
+    ensures read { Follows (λ fields. fields) result (within size (header_fields_at size 0)) F.MayFail (F.held reader.old) (F.held reader.new) }
     ensures stays { OnOk result (Stays (F.held reader.old) (F.held reader.new)) }
 {
     let outer = reader.end();
@@ -212,7 +287,7 @@ fn header_fields<F: FieldReader>(
     reader.set_end(Some(end));
     let mut fields = Vec::new(alloc);
     'fields: while reader.place() < end {
-        let field = header_field(alloc, reader)?;
+        let field = header_field(alloc, fields.len(), reader)?;
         fields.push(field)?;
     }
     reader.set_end(outer);
@@ -224,7 +299,7 @@ fn header<F: FieldReader>(alloc: Global, reader: &mut F) -> Result<Header, FileF
     ensures read { Follows (λ header. header) result header_at F.MayFail (F.held reader.old) (F.held reader.new) }
     ensures stays { OnOk result (Stays (F.held reader.old) (F.held reader.new)) }
 {
-    let size = reader.number16()?;
+    let size = reader.field16(FieldName::HeaderLength)?;
     let fields = header_fields(alloc, size, reader)?;
     Ok(Header { fields })
 }
@@ -268,7 +343,7 @@ pub(crate) fn beginning<F: FieldReader>(
 {
     let version = reader.version(versions)?;
     let header = header_in(alloc, version, reader)?;
-    let principal = principal(alloc, reader)?;
+    let principal = principal(alloc, FilePart::Principal, reader)?;
     Ok(Start {
         version,
         header,

@@ -130,16 +130,17 @@ fn is_same(streamed: &Written, whole: &Written) -> bool {
     match (streamed, whole) {
         (Ok(octets), Ok(others)) => octets.as_slice() == others.as_slice(),
         (
-            Err(FileFault::Refused { place, why }),
+            Err(FileFault::Refused { place, why, field }),
             Err(
                 FileFault::Refused {
                     place: wanted,
                     why: as_whole,
+                    field: wanted_field,
                 },
             ),
         ) => {
             let is_long = *why == FileWhy::TooLong && *as_whole == FileWhy::Truncated;
-            place == wanted && (why == as_whole || is_long)
+            place == wanted && field == wanted_field && (why == as_whole || is_long)
         }
         _ => false,
     }

@@ -106,7 +106,7 @@ fn first_kind(alloc: Global, stream: &[u8]) -> Option<Kind> {
 fn number_and_string(alloc: Global, octets: &[u8]) -> Result<(u32, KString), FileFault> {
     let mut reader = SliceReader::new(octets);
     let number = reader.number32()?;
-    let string = String16::read(alloc, &mut reader)?;
+    let string = String16::read(alloc, 0, &mut reader)?;
     Ok((number, string))
 }
 

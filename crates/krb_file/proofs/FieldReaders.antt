@@ -1,10 +1,11 @@
 -- What readers of fields read one after another.
 use Rattle.std.proofs.Common.{◌≡◌, ℕ, zero, suc, ◌+◌, ◌<◌, ◌≤◌, Bool, Option, Some, None, Result, Ok, Err, List, [], ◌∷◌, ◌++◌, refl, sym, ◌∙◌, ap, subst, arith}
-use Rattle.krb_file.specs.Fields.{Source, Fault, Bounds, ended, Fails, Reader, onward, ◌>>=◌, gives, next_octets_at, are_zero, times}
-use Rattle.krb_file.specs.FieldReaders.{Held, GoesOn, MayHave, source_at, reach, TakesTo, Stays, Keeps, HasRead, FailsBy, skipped_at, Slice, of_slice}
+use Rattle.krb_file.specs.Fields.{Source, Fault, Bounds, ended, Fails, Reader, onward, ◌>>=◌, gives, refused_at, fault_at, fails_at, next_octets_at, are_zero, times}
+use Rattle.krb_file.specs.FieldReaders.{Held, GoesOn, MayHave, source_at, reach, TakesTo, Stays, Keeps, HasRead, FailsBy, Follows, skipped_at, Slice, of_slice}
 use Rattle.krb_file.specs.declared.fault.FileFault.{FileFault}
 use Rattle.krb_file.specs.declared.fault.FileFault.TheVariants as faults
-use Rattle.krb_file.proofs.Fields.{done, ok_is, onward-ok}
+use Rattle.krb_file.specs.declared.field_name.FileField.{FileField}
+use Rattle.krb_file.proofs.Fields.{done, ok_is, onward-ok, refused_at-ok, at_field}
 
 -- something may always be left
 pub record SomeRest (held : Held) : Type 0 where
@@ -62,68 +63,91 @@ skipped size octets zeros s t is read = subst (λ (b : Bool). HasRead (skipped_a
 less : (m n : ℕ) → suc m < suc n → m < n
 less m n lt = omega arith
 
+-- ---- the same reader, but what it refuses is another field
+module _ {A : Type 0} (field : Option FileField → Option FileField) (reader : Reader A) where
+  abbrev otherwise : Result (A × Source) Fault → Result (A × Source) Fault
+  otherwise r = refused_at field r
+
+  pub read_so : {v : A} {old new : Held} → HasRead reader v old new → HasRead (at_field field reader) v old new
+  read_so {v} {old} {new} read = record { same_bounds = read.same_bounds; from = λ rest there. let a = read.from rest there in (a.0, a.1, ap otherwise a.2) }
+
+  pub is_read : {v : A} {old new : Held} → HasRead (at_field field reader) v old new → HasRead reader v old new
+  is_read {v} {old} {new} read = record { same_bounds = read.same_bounds; from = λ rest there. let a = read.from rest there in (a.0, a.1, refused_at-ok field (reader old.bounds (source_at old.place a.0)) (v, source_at new.place rest) a.2) }
+
+  pub fails_so : (e : FileFault) (MayFail : Type 0) (old : Held) → FailsBy e reader MayFail old → FailsBy (fault_at field e) (at_field field reader) MayFail old
+  fails_so faults.Memory MayFail old fails = tt
+  fails_so faults.Read MayFail old fails = fails
+  fails_so (faults.Refused place why before) MayFail old fails = record { octets = fails.octets; there = fails.there; refused = ap otherwise fails.refused }
+
+  pub follows_so : {B : Type 0} (view : B → A) (result : Result B FileFault) (MayFail : Type 0) (old new : Held) → Follows view result reader MayFail old new → Follows view (fails_at field result) (at_field field reader) MayFail old new
+  follows_so view (Ok value) MayFail old new read = read_so read
+  follows_so view (Err fault) MayFail old new fails = fails_so fault MayFail old fails
+
 -- ---- items of a number, as a loop reads them
-module _ {A : Type 0} (item_at : Reader A) (b : Bounds) where
+module _ {A : Type 0} (b : Bounds) where
   abbrev read_all : List A → Source → Result (List A × Source) Fault
   read_all xs s = Ok (xs, s)
 
-  pub times-more : (n : ℕ) (s t u : Source) (xs : List A) (x : A) → times n item_at b s ≡ Ok (xs, t) → item_at b t ≡ Ok (x, u) → times (suc n) item_at b s ≡ Ok (xs ++ x ∷ [], u)
-  times-more zero s t u xs x e f =
+  abbrev later : (ℕ → Reader A) → ℕ → Reader A
+  later item_at = λ index. item_at (suc index)
+
+  pub times-more : (item_at : ℕ → Reader A) (n : ℕ) (s t u : Source) (xs : List A) (x : A) → times n item_at b s ≡ Ok (xs, t) → item_at n b t ≡ Ok (x, u) → times (suc n) item_at b s ≡ Ok (xs ++ x ∷ [], u)
+  times-more item_at zero s t u xs x e f =
       let same : ([], s) ≡ (xs, t) = ok_is ([], s) (xs, t) e in
       let nothing : [] ≡ xs = ap (λ (p : List A × Source). p.0) same in
-      let here : item_at b s ≡ Ok (x, u) = ap (λ (p : List A × Source). item_at b p.1) same ∙ f in
+      let here : item_at 0 b s ≡ Ok (x, u) = ap (λ (p : List A × Source). item_at 0 b p.1) same ∙ f in
       ap (λ (r : Result (A × Source) Fault). onward r (λ p. read_all (p.0 ∷ []) p.1)) here ∙ ap (λ (l : List A). read_all (l ++ x ∷ []) u) nothing
-  times-more (suc n) s t u xs x e f =
-      let first = onward-ok (item_at b s) (λ p. onward (times n item_at b p.1) (λ q. read_all (p.0 ∷ q.0) q.1)) (xs, t) e in
-      let others = onward-ok (times n item_at b first.0.1) (λ q. read_all (first.0.0 ∷ q.0) q.1) (xs, t) first.2 in
+  times-more item_at (suc n) s t u xs x e f =
+      let first = onward-ok (item_at 0 b s) (λ p. onward (times n (later item_at) b p.1) (λ q. read_all (p.0 ∷ q.0) q.1)) (xs, t) e in
+      let others = onward-ok (times n (later item_at) b first.0.1) (λ q. read_all (first.0.0 ∷ q.0) q.1) (xs, t) first.2 in
       let same : (first.0.0 ∷ others.0.0, others.0.1) ≡ (xs, t) = ok_is (first.0.0 ∷ others.0.0, others.0.1) (xs, t) others.2 in
-      let after : item_at b others.0.1 ≡ Ok (x, u) = ap (λ (p : List A × Source). item_at b p.1) same ∙ f in
-      let more = times-more n first.0.1 others.0.1 u others.0.0 x others.1 after in
-      ap (λ (r : Result (A × Source) Fault). onward r (λ p. onward (times (suc n) item_at b p.1) (λ q. read_all (p.0 ∷ q.0) q.1))) first.1
+      let after : item_at (suc n) b others.0.1 ≡ Ok (x, u) = ap (λ (p : List A × Source). item_at (suc n) b p.1) same ∙ f in
+      let more = times-more (later item_at) n first.0.1 others.0.1 u others.0.0 x others.1 after in
+      ap (λ (r : Result (A × Source) Fault). onward r (λ p. onward (times (suc n) (later item_at) b p.1) (λ q. read_all (p.0 ∷ q.0) q.1))) first.1
       ∙ ap (λ (r : Result (List A × Source) Fault). onward r (λ q. read_all (first.0.0 ∷ q.0) q.1)) more
       ∙ ap (λ (p : List A × Source). read_all (p.0 ++ x ∷ []) u) same
 
-  pub times-fails : (n count : ℕ) (s t : Source) (xs : List A) (fault : Fault) → n < count → times n item_at b s ≡ Ok (xs, t) → item_at b t ≡ Err fault → times count item_at b s ≡ Err fault
-  times-fails n zero s t xs fault lt e f = absurd (omega arith)
-  times-fails zero (suc count) s t xs fault lt e f =
+  pub times-fails : (item_at : ℕ → Reader A) (n count : ℕ) (s t : Source) (xs : List A) (fault : Fault) → n < count → times n item_at b s ≡ Ok (xs, t) → item_at n b t ≡ Err fault → times count item_at b s ≡ Err fault
+  times-fails item_at n zero s t xs fault lt e f = absurd (omega arith)
+  times-fails item_at zero (suc count) s t xs fault lt e f =
       let same : ([], s) ≡ (xs, t) = ok_is ([], s) (xs, t) e in
-      let here : item_at b s ≡ Err fault = ap (λ (p : List A × Source). item_at b p.1) same ∙ f in
-      ap (λ (r : Result (A × Source) Fault). onward r (λ p. onward (times count item_at b p.1) (λ q. read_all (p.0 ∷ q.0) q.1))) here
-  times-fails (suc n) (suc count) s t xs fault lt e f =
-      let first = onward-ok (item_at b s) (λ p. onward (times n item_at b p.1) (λ q. read_all (p.0 ∷ q.0) q.1)) (xs, t) e in
-      let others = onward-ok (times n item_at b first.0.1) (λ q. read_all (first.0.0 ∷ q.0) q.1) (xs, t) first.2 in
+      let here : item_at 0 b s ≡ Err fault = ap (λ (p : List A × Source). item_at 0 b p.1) same ∙ f in
+      ap (λ (r : Result (A × Source) Fault). onward r (λ p. onward (times count (later item_at) b p.1) (λ q. read_all (p.0 ∷ q.0) q.1))) here
+  times-fails item_at (suc n) (suc count) s t xs fault lt e f =
+      let first = onward-ok (item_at 0 b s) (λ p. onward (times n (later item_at) b p.1) (λ q. read_all (p.0 ∷ q.0) q.1)) (xs, t) e in
+      let others = onward-ok (times n (later item_at) b first.0.1) (λ q. read_all (first.0.0 ∷ q.0) q.1) (xs, t) first.2 in
       let same : (first.0.0 ∷ others.0.0, others.0.1) ≡ (xs, t) = ok_is (first.0.0 ∷ others.0.0, others.0.1) (xs, t) others.2 in
-      let after : item_at b others.0.1 ≡ Err fault = ap (λ (p : List A × Source). item_at b p.1) same ∙ f in
-      let more : times count item_at b first.0.1 ≡ Err fault = times-fails n count first.0.1 others.0.1 others.0.0 fault (less n count lt) others.1 after in
-      ap (λ (r : Result (A × Source) Fault). onward r (λ p. onward (times count item_at b p.1) (λ q. read_all (p.0 ∷ q.0) q.1))) first.1
+      let after : item_at (suc n) b others.0.1 ≡ Err fault = ap (λ (p : List A × Source). item_at (suc n) b p.1) same ∙ f in
+      let more : times count (later item_at) b first.0.1 ≡ Err fault = times-fails (later item_at) n count first.0.1 others.0.1 others.0.0 fault (less n count lt) others.1 after in
+      ap (λ (r : Result (A × Source) Fault). onward r (λ p. onward (times count (later item_at) b p.1) (λ q. read_all (p.0 ∷ q.0) q.1))) first.1
       ∙ ap (λ (r : Result (List A × Source) Fault). onward r (λ q. read_all (first.0.0 ∷ q.0) q.1)) more
 
-module _ {A : Type 0} (item_at : Reader A) where
+module _ {A : Type 0} (item_at : ℕ → Reader A) where
   pub none_read : (h : Held) → HasRead (times 0 item_at) [] h h
   none_read h = record { same_bounds = refl; from = λ rest there. (rest, there, refl) }
 
-  pub one_more : (n : ℕ) (s t u : Held) (xs : List A) (x : A) → HasRead (times n item_at) xs s t → HasRead item_at x t u → HasRead (times (n + 1) item_at) (xs ++ x ∷ []) s u
+  pub one_more : (n : ℕ) (s t u : Held) (xs : List A) (x : A) → HasRead (times n item_at) xs s t → HasRead (item_at n) x t u → HasRead (times (n + 1) item_at) (xs ++ x ∷ []) s u
   one_more n s t u xs x before item = subst (λ (k : ℕ). HasRead (times k item_at) (xs ++ x ∷ []) s u) next (record {
     same_bounds = item.same_bounds ∙ before.same_bounds;
     from = λ rest there.
         let b = item.from rest there in
         let a = before.from b.0 b.1 in
-        (a.0, a.1, times-more item_at s.bounds n (source_at s.place a.0) (source_at t.place b.0) (source_at u.place rest) xs x a.2 (subst (λ (k : Bounds). item_at k (source_at t.place b.0) ≡ Ok (x, source_at u.place rest)) before.same_bounds b.2));
+        (a.0, a.1, times-more s.bounds item_at n (source_at s.place a.0) (source_at t.place b.0) (source_at u.place rest) xs x a.2 (subst (λ (k : Bounds). item_at n k (source_at t.place b.0) ≡ Ok (x, source_at u.place rest)) before.same_bounds b.2));
   })
     where
       next : suc n ≡ n + 1
       next = omega arith
 
-  pub one_fails : (n count : ℕ) (s t : Held) (xs : List A) (e : FileFault) (MayFail : Type 0) → n < count → HasRead (times n item_at) xs s t → FailsBy e item_at MayFail t → FailsBy e (times count item_at) MayFail s
+  pub one_fails : (n count : ℕ) (s t : Held) (xs : List A) (e : FileFault) (MayFail : Type 0) → n < count → HasRead (times n item_at) xs s t → FailsBy e (item_at n) MayFail t → FailsBy e (times count item_at) MayFail s
   one_fails n count s t xs faults.Memory MayFail lt before fails = tt
   one_fails n count s t xs faults.Read MayFail lt before fails = fails
-  one_fails n count s t xs (faults.Refused place why) MayFail lt before fails =
+  one_fails n count s t xs (faults.Refused place why field) MayFail lt before fails =
       let a = before.from fails.octets fails.there in
-      let fault : Fault = record { place = place; why = why } in
+      let fault : Fault = record { place = place; why = why; field = field } in
       record {
         octets = a.0;
         there = a.1;
-        refused = times-fails item_at s.bounds n count (source_at s.place a.0) (source_at t.place fails.octets) xs fault lt a.2 (subst (λ (k : Bounds). item_at k (source_at t.place fails.octets) ≡ Err fault) before.same_bounds fails.refused);
+        refused = times-fails s.bounds item_at n count (source_at s.place a.0) (source_at t.place fails.octets) xs fault lt a.2 (subst (λ (k : Bounds). item_at n k (source_at t.place fails.octets) ≡ Err fault) before.same_bounds fails.refused);
       }
 
 -- ---- of a slice, what is left is known
@@ -138,6 +162,6 @@ known_end reader v s t read = ap (λ (b : Bounds). b.end) read.same_bounds
 pub known_fault : {A : Type 0} (reader : Reader A) (e : FileFault) (s : Slice) → FailsBy e reader ⊥ (of_slice s) → Fails e (reader (ended s.end) (source_at s.place s.octets))
 known_fault reader faults.Memory s fails = tt
 known_fault reader faults.Read s fails = fails
-known_fault reader (faults.Refused place why) s fails =
-    let fault : Fault = record { place = place; why = why } in
+known_fault reader (faults.Refused place why field) s fails =
+    let fault : Fault = record { place = place; why = why; field = field } in
     subst (λ (o : List ℕ). reader (ended s.end) (source_at s.place o) ≡ Err fault) fails.there fails.refused

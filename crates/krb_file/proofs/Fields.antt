@@ -11,9 +11,13 @@ use Rattle.std.specs.List.{flat_map, AllByRecursion}
 use Rattle.std.specs.Int.{Width, w8, w16, w32, byte_len, from_be_bytes, to_be_bytes, cast_signed, cast_unsigned}
 use Rattle.std.specs.Int.RustNames.{FitsSigned}
 use Rattle.krb_der.specs.Octets.{when, AreOctets}
-use Rattle.krb_file.specs.Fields.{signed, counted, Names, names, bound_of, IsCounted, AreNames, Source, Fault, Bounds, Reader, onward, ◌>>=◌, gives, refused, passes, next_octets_at, octets_at, number_at, signed_at, counted_at, times, names_at, is_one_of, expect, version_at}
+use Rattle.krb_file.specs.Fields.{signed, counted, Names, names, bound_of, IsCounted, AreNames, Source, Fault, Bounds, Reader, onward, ◌>>=◌, gives, refused, passes, named, placed, refused_at, called, in_part, next_octets_at, octets_at, number_at, signed_at, counted_at, times, component_at, names_at, is_one_of, expect, version_at}
 use Rattle.krb_file.specs.declared.fault.FileWhy.{FileWhy}
 use Rattle.krb_file.specs.declared.fault.FileWhy.TheVariants as why
+use Rattle.krb_file.specs.declared.field_name.FieldName.{FieldName}
+use Rattle.krb_file.specs.declared.field_name.FieldName.TheVariants as words
+use Rattle.krb_file.specs.declared.field_name.FilePart.{FilePart}
+use Rattle.krb_file.specs.declared.field_name.FileField.{FileField}
 use Rattle.krb_der.specs.inner.Numbers.{AreOctets-take, AreOctets-drop}
 
 abbrev pub at : ℕ → List ℕ → Source
@@ -240,30 +244,60 @@ counted-again w wide bounds place rest octets fits free inside =
 pub Reads-counted : (w : Width) → IsWide w → Reads (counted_at w) (counted w) (IsCounted w)
 Reads-counted w wide = record { sound = counted-sound w wide; again = counted-again w wide }
 
+-- ---- the same reader, but what it refuses is another field
+pub refused_at-ok : {A : Type 0} (field : Option FileField → Option FileField) (r : Result A Fault) (x : A) → refused_at field r ≡ Ok x → r ≡ Ok x
+refused_at-ok field (Ok y) x e = e
+refused_at-ok field (Err d) x e = absurd cc
+
+pub refused_at-err : {A : Type 0} (field : Option FileField → Option FileField) (r : Result A Fault) (f : Fault) → refused_at field r ≡ Err f → (d : Fault) × (r ≡ Err d) × (record { place = d.place; why = d.why; field = field d.field } ≡ f)
+refused_at-err field (Ok y) f e = absurd cc
+refused_at-err {A} field (Err d) f e = (d, refl, err_is A (record { place = d.place; why = d.why; field = field d.field }) f e)
+
+abbrev pub at_field : {A : Type 0} → (Option FileField → Option FileField) → Reader A → Reader A
+at_field field reader = λ bounds source. refused_at field (reader bounds source)
+
+Reads-at : {A : Type 0} (field : Option FileField → Option FileField) (reader : Reader A) (spell : A → List ℕ) (Fits : A → Type 0) → Reads reader spell Fits → Reads (at_field field reader) spell Fits
+Reads-at {A} field reader spell Fits laws = record {
+  sound = λ bounds s t v fits inside e. laws.sound bounds s t v fits inside (refused_at-ok field (reader bounds s) (v, t) e);
+  again = λ bounds place rest v fits free inside. ap (λ (r : Result (A × Source) Fault). refused_at field r) (laws.again bounds place rest v fits free inside);
+}
+
+pub Reads-called : {A : Type 0} (name : FieldName) (reader : Reader A) (spell : A → List ℕ) (Fits : A → Type 0) → Reads reader spell Fits → Reads (called name reader) spell Fits
+Reads-called name reader spell Fits laws = Reads-at (named name) reader spell Fits laws
+
+pub Reads-in_part : {A : Type 0} (part : FilePart) (reader : Reader A) (spell : A → List ℕ) (Fits : A → Type 0) → Reads reader spell Fits → Reads (in_part part reader) spell Fits
+Reads-in_part part reader spell Fits laws = Reads-at (placed part) reader spell Fits laws
+
 -- ---- n items
-module _ {A : Type 0} (item_at : Reader A) (spell : A → List ℕ) (Fits : A → Type 0) (laws : Reads item_at spell Fits) where
-  pub times-sound : (n : ℕ) (bounds : Bounds) (s t : Source) (vs : List A) → AreOctets s.octets → Inside bounds s.place → times n item_at bounds s ≡ Ok (vs, t) → Took bounds (flat_map spell vs) s t × (length vs ≡ n) × AllByRecursion Fits vs
-  times-sound zero bounds s t vs fits inside e =
+module _ {A : Type 0} (spell : A → List ℕ) (Fits : A → Type 0) where
+  abbrev Items : (ℕ → Reader A) → Type 0
+  Items item_at = (index : ℕ) → Reads (item_at index) spell Fits
+
+  abbrev later : (ℕ → Reader A) → ℕ → Reader A
+  later item_at = λ index. item_at (suc index)
+
+  pub times-sound : (item_at : ℕ → Reader A) → Items item_at → (n : ℕ) (bounds : Bounds) (s t : Source) (vs : List A) → AreOctets s.octets → Inside bounds s.place → times n item_at bounds s ≡ Ok (vs, t) → Took bounds (flat_map spell vs) s t × (length vs ≡ n) × AllByRecursion Fits vs
+  times-sound item_at laws zero bounds s t vs fits inside e =
       subst (λ (p : List A × Source). Took bounds (flat_map spell p.0) s p.1 × (length p.0 ≡ 0) × AllByRecursion Fits p.0) (ok_is ([], s) (vs, t) e) (Took-none bounds s fits inside, refl, tt)
-  times-sound (suc n) bounds s t vs fits inside e =
-      let a = onward-ok (item_at bounds s) (λ p. onward (times n item_at bounds p.1) (λ q. Ok (p.0 ∷ q.0, q.1))) (vs, t) e in
-      let b = onward-ok (times n item_at bounds a.0.1) (λ q. Ok (a.0.0 ∷ q.0, q.1)) (vs, t) a.2 in
-      let first = laws.sound bounds s a.0.1 a.0.0 fits inside a.1 in
-      let others = times-sound n bounds a.0.1 b.0.1 b.0.0 first.0.fits first.0.inside b.1 in
+  times-sound item_at laws (suc n) bounds s t vs fits inside e =
+      let a = onward-ok (item_at 0 bounds s) (λ p. onward (times n (later item_at) bounds p.1) (λ q. Ok (p.0 ∷ q.0, q.1))) (vs, t) e in
+      let b = onward-ok (times n (later item_at) bounds a.0.1) (λ q. Ok (a.0.0 ∷ q.0, q.1)) (vs, t) a.2 in
+      let first = (laws 0).sound bounds s a.0.1 a.0.0 fits inside a.1 in
+      let others = times-sound (later item_at) (λ index. laws (suc index)) n bounds a.0.1 b.0.1 b.0.0 first.0.fits first.0.inside b.1 in
       let both = Took-then bounds (spell a.0.0) (flat_map spell b.0.0) s a.0.1 b.0.1 first.0 others.0 in
       subst (λ (p : List A × Source). Took bounds (flat_map spell p.0) s p.1 × (length p.0 ≡ suc n) × AllByRecursion Fits p.0) (ok_is (a.0.0 ∷ b.0.0, b.0.1) (vs, t) b.2) (rw flat_map-cons both, ap suc others.1, (first.1, others.2))
 
-  pub times-again : (vs : List A) (bounds : Bounds) (place : ℕ) (rest : List ℕ) → AllByRecursion Fits vs → bounds.limit ≡ None → Inside bounds (place + length (flat_map spell vs)) → times (length vs) item_at bounds (at place (flat_map spell vs ++ rest)) ≡ Ok (vs, at (place + length (flat_map spell vs)) rest)
-  times-again [] bounds place rest fits free inside = ap (λ (k : ℕ). done ([], at k rest)) (omega arith)
-  times-again (v ∷ vs) bounds place rest fits free inside =
+  pub times-again : (item_at : ℕ → Reader A) → Items item_at → (vs : List A) (bounds : Bounds) (place : ℕ) (rest : List ℕ) → AllByRecursion Fits vs → bounds.limit ≡ None → Inside bounds (place + length (flat_map spell vs)) → times (length vs) item_at bounds (at place (flat_map spell vs ++ rest)) ≡ Ok (vs, at (place + length (flat_map spell vs)) rest)
+  times-again item_at laws [] bounds place rest fits free inside = ap (λ (k : ℕ). done ([], at k rest)) (omega arith)
+  times-again item_at laws (v ∷ vs) bounds place rest fits free inside =
       let len : length (flat_map spell (v ∷ vs)) ≡ length (spell v) + length (flat_map spell vs) = ap length (flat_map-cons spell v vs) ∙ length-append (spell v) (flat_map spell vs) in
       let before : Inside bounds (place + length (spell v)) = Inside-before bounds _ (place + length (flat_map spell (v ∷ vs))) (omega (arith, len)) inside in
       let places : (place + length (spell v)) + length (flat_map spell vs) ≡ place + length (flat_map spell (v ∷ vs)) = omega (arith, len) in
-      let first = laws.again bounds place (flat_map spell vs ++ rest) v fits.0 free before in
-      let second = times-again vs bounds (place + length (spell v)) rest fits.1 free (subst (Inside bounds) (sym places) inside) in
+      let first = (laws 0).again bounds place (flat_map spell vs ++ rest) v fits.0 free before in
+      let second = times-again (later item_at) (λ index. laws (suc index)) vs bounds (place + length (spell v)) rest fits.1 free (subst (Inside bounds) (sym places) inside) in
       let regrouped : flat_map spell (v ∷ vs) ++ rest ≡ spell v ++ (flat_map spell vs ++ rest) = ap (λ (x : List ℕ). x ++ rest) (flat_map-cons spell v vs) ∙ append_assoc (spell v) (flat_map spell vs) rest in
       ap (λ (x : List ℕ). times (suc (length vs)) item_at bounds (at place x)) regrouped
-      ∙ ap (λ (r : Result (A × Source) Fault). onward r (λ p. onward (times (length vs) item_at bounds p.1) (λ q. done (p.0 ∷ q.0, q.1)))) first
+      ∙ ap (λ (r : Result (A × Source) Fault). onward r (λ p. onward (times (length vs) (later item_at) bounds p.1) (λ q. done (p.0 ∷ q.0, q.1)))) first
       ∙ ap (λ (r : Result (List A × Source) Fault). onward r (λ q. done (v ∷ q.0, q.1))) second
       ∙ ap (λ (k : ℕ). done (v ∷ vs, at k rest)) places
 
@@ -330,10 +364,15 @@ module _ (fields : Fields) (X : Type 0) (make : Values fields → X) (parts : X 
 -- ---- a realm and components after their number
 module _ (w : Width) (wide : IsWide w) where
   abbrev count_and_realm : Fields
-  count_and_realm = Field ℕ (number_at w) (to_be_bytes w) (λ n. n < bound_of w) (Reads-number w wide) (Field (List ℕ) (counted_at w) (counted w) (IsCounted w) (Reads-counted w wide) End)
+  count_and_realm =
+      Field ℕ (called words.ComponentCount (number_at w)) (to_be_bytes w) (λ n. n < bound_of w) (Reads-called words.ComponentCount (number_at w) _ _ (Reads-number w wide))
+      (Field (List ℕ) (called words.Realm (counted_at w)) (counted w) (IsCounted w) (Reads-called words.Realm (counted_at w) _ _ (Reads-counted w wide)) End)
+
+  Reads-component : (index : ℕ) → Reads (component_at w index) (counted w) (IsCounted w)
+  Reads-component index = Reads-called (words.Component index) (counted_at w) (counted w) (IsCounted w) (Reads-counted w wide)
 
   abbrev components_from : Values count_and_realm → Reader Names
-  components_from values = times values.0 (counted_at w) >>= λ components. gives (record { realm = values.1.0; components = components })
+  components_from values = times values.0 (component_at w) >>= λ components. gives (record { realm = values.1.0; components = components })
 
   count_spelled : (count n : ℕ) (realm : List ℕ) → n ≡ count → to_be_bytes w count ++ (counted w realm ++ []) ≡ to_be_bytes w n ++ counted w realm
   count_spelled count n realm e = ap₂ (λ (k : ℕ) (x : List ℕ). to_be_bytes w k ++ x) (sym e) (append-nil (counted w realm))
@@ -342,8 +381,8 @@ module _ (w : Width) (wide : IsWide w) where
   names-sound bounds s t n fits inside e =
       let a = fields-sound count_and_realm Names components_from bounds s t n fits inside e in
       let made = λ (components : List (List ℕ)). let it : Names = record { realm = a.0.1.0; components = components } in it in
-      let b = onward-ok (times a.0.0 (counted_at w) bounds a.1) (λ q. Ok (made q.0, q.1)) (n, t) a.4 in
-      let c = times-sound (counted_at w) (counted w) (IsCounted w) (Reads-counted w wide) a.0.0 bounds a.1 b.0.1 b.0.0 a.2.fits a.2.inside b.1 in
+      let b = onward-ok (times a.0.0 (component_at w) bounds a.1) (λ q. Ok (made q.0, q.1)) (n, t) a.4 in
+      let c = times-sound (counted w) (IsCounted w) (component_at w) Reads-component a.0.0 bounds a.1 b.0.1 b.0.0 a.2.fits a.2.inside b.1 in
       let front : Took bounds (to_be_bytes w (length b.0.0) ++ counted w a.0.1.0) s a.1 = subst (λ (x : List ℕ). Took bounds x s a.1) (count_spelled a.0.0 (length b.0.0) a.0.1.0 c.1) a.2 in
       let whole = Took-then bounds (to_be_bytes w (length b.0.0) ++ counted w a.0.1.0) (flat_map (counted w) b.0.0) s a.1 b.0.1 front c.0 in
       subst (λ (p : Names × Source). Took bounds (names w p.0) s p.1 × AreNames w p.0) (ok_is (made b.0.0, b.0.1) (n, t) b.2) (whole, record { few = subst (λ (k : ℕ). k < bound_of w) (sym c.1) a.3.0; realm = a.3.1.0; components = c.2 })
@@ -359,7 +398,7 @@ module _ (w : Width) (wide : IsWide w) where
       let before : Inside bounds (place + length front) = Inside-before bounds _ (place + length (front ++ back)) (omega (arith, len)) inside in
       let first : names_at w bounds (at place (front ++ (back ++ rest))) ≡ components_from values bounds (at (place + length front) (back ++ rest)) =
       subst (λ (x : List ℕ). Inside bounds (place + length x) → names_at w bounds (at place (x ++ (back ++ rest))) ≡ components_from values bounds (at (place + length x) (back ++ rest))) spelled (fields-again count_and_realm Names components_from bounds place (back ++ rest) values (fits.few, (fits.realm, tt)) free) before in
-      let second = times-again (counted_at w) (counted w) (IsCounted w) (Reads-counted w wide) n.components bounds (place + length front) rest fits.components free (subst (Inside bounds) (sym places) inside) in
+      let second = times-again (counted w) (IsCounted w) (component_at w) Reads-component n.components bounds (place + length front) rest fits.components free (subst (Inside bounds) (sym places) inside) in
       ap (λ (x : List ℕ). names_at w bounds (at place x)) (append_assoc front back rest)
       ∙ first
       ∙ ap (λ (r : Result (List (List ℕ) × Source) Fault). onward r (λ q. let made : Names = record { realm = n.realm; components = q.0 } in done (made, q.1))) second
@@ -394,10 +433,10 @@ is_one_of-one v w e = grind (arith, nat_tests)
 -- the first two octets
 pub version-sound : (versions : List ℕ) (bounds : Bounds) (s t : Source) (v : ℕ) → AreOctets s.octets → Inside bounds s.place → version_at versions bounds s ≡ Ok (v, t) → Took bounds (5 ∷ to_be_bytes w8 v) s t × (is_one_of v versions ≡ true)
 version-sound versions bounds s t v fits inside e =
-    let a = onward-ok (expect (5 ∷ []) why.Magic bounds s) (λ p. expect versions why.Version bounds p.1) (v, t) e in
-    let five = expect-sound (5 ∷ []) why.Magic bounds s a.0.1 a.0.0 fits inside a.1 in
+    let a = onward-ok (called words.Magic (expect (5 ∷ []) why.Magic) bounds s) (λ p. called words.Version (expect versions why.Version) bounds p.1) (v, t) e in
+    let five = expect-sound (5 ∷ []) why.Magic bounds s a.0.1 a.0.0 fits inside (refused_at-ok (named words.Magic) (expect (5 ∷ []) why.Magic bounds s) a.0 a.1) in
     let first : Took bounds (5 ∷ []) s a.0.1 = subst (λ (n : ℕ). Took bounds (to_be_bytes w8 n) s a.0.1) (is_one_of-one a.0.0 5 five.1) five.0 in
-    let second = expect-sound versions why.Version bounds a.0.1 t v first.fits first.inside a.2 in
+    let second = expect-sound versions why.Version bounds a.0.1 t v first.fits first.inside (refused_at-ok (named words.Version) (expect versions why.Version bounds a.0.1) (v, t) a.2) in
     (Took-then bounds (5 ∷ []) (to_be_bytes w8 v) s a.0.1 t first second.0, second.1)
 
 pub version-one : (version : ℕ) (bounds : Bounds) (s t : Source) (v : ℕ) → AreOctets s.octets → Inside bounds s.place → version_at (version ∷ []) bounds s ≡ Ok (v, t) → Took bounds (5 ∷ to_be_bytes w8 version) s t × (v ≡ version)
@@ -409,8 +448,8 @@ version-one version bounds s t v fits inside e =
 pub version-again : (versions : List ℕ) (bounds : Bounds) (rest : List ℕ) (v : ℕ) → v < 256 → is_one_of v versions ≡ true → bounds.end ≡ None → version_at versions bounds (at 0 (5 ∷ to_be_bytes w8 v ++ rest)) ≡ Ok (v, at 2 rest)
 version-again versions bounds rest v lt is_wanted free =
     let inside = λ (n : ℕ). let it : Inside bounds n = record { inside = rw free } in it in
-    ap (λ (r : Result (ℕ × Source) Fault). onward r (λ p. expect versions why.Version bounds p.1)) (expect-again (5 ∷ []) why.Magic bounds 0 (to_be_bytes w8 v ++ rest) 5 (omega arith) refl (inside 1))
-    ∙ expect-again versions why.Version bounds 1 rest v lt is_wanted (inside 2)
+    ap (λ (r : Result (ℕ × Source) Fault). onward (refused_at (named words.Magic) r) (λ p. called words.Version (expect versions why.Version) bounds p.1)) (expect-again (5 ∷ []) why.Magic bounds 0 (to_be_bytes w8 v ++ rest) 5 (omega arith) refl (inside 1))
+    ∙ ap (λ (r : Result (ℕ × Source) Fault). refused_at (named words.Version) r) (expect-again versions why.Version bounds 1 rest v lt is_wanted (inside 2))
 
 -- ---- fields, and then a part that keeps their values
 module _ (fields : Fields) (X : Type 0) (next : Values fields → Reader X) (front_of : X → Values fields) (back : X → List ℕ) (BackFits : X → Type 0) (laws : (values : Values fields) → Reads (next values) back (λ x. BackFits x × (front_of x ≡ values))) where
@@ -433,23 +472,23 @@ module _ (fields : Fields) (X : Type 0) (next : Values fields → Reader X) (fro
   }
 
 -- ---- items after their number
-module _ (w : Width) (wide : IsWide w) {A : Type 0} (item_at : Reader A) (spell : A → List ℕ) (Fits : A → Type 0) (laws : Reads item_at spell Fits) where
+module _ (w : Width) (wide : IsWide w) (name : FieldName) {A : Type 0} (item_at : ℕ → Reader A) (spell : A → List ℕ) (Fits : A → Type 0) (laws : (index : ℕ) → Reads (item_at index) spell Fits) where
   abbrev count_field : Fields
-  count_field = Field ℕ (number_at w) (to_be_bytes w) (λ n. n < bound_of w) (Reads-number w wide) End
+  count_field = Field ℕ (called name (number_at w)) (to_be_bytes w) (λ n. n < bound_of w) (Reads-called name (number_at w) _ _ (Reads-number w wide)) End
 
   counted_items : (n : ℕ) → Reads (times n item_at) (flat_map spell) (λ vs. AllByRecursion Fits vs × (length vs ≡ n))
   counted_items n = record {
-    sound = λ bounds s t vs fits inside e. let p = times-sound item_at spell Fits laws n bounds s t vs fits inside e in (p.0, (p.2, p.1));
+    sound = λ bounds s t vs fits inside e. let p = times-sound spell Fits item_at laws n bounds s t vs fits inside e in (p.0, (p.2, p.1));
     again = λ bounds place rest vs fits free inside.
-        subst (λ (k : ℕ). times k item_at bounds (at place (flat_map spell vs ++ rest)) ≡ Ok (vs, at (place + length (flat_map spell vs)) rest)) fits.1 (times-again item_at spell Fits laws vs bounds place rest fits.0 free inside);
+        subst (λ (k : ℕ). times k item_at bounds (at place (flat_map spell vs ++ rest)) ≡ Ok (vs, at (place + length (flat_map spell vs)) rest)) fits.1 (times-again spell Fits item_at laws vs bounds place rest fits.0 free inside);
   }
 
   items_then : (values : Values count_field) → Reads (times values.0 item_at) (flat_map spell) (λ vs. AllByRecursion Fits vs × (◌≡◌ {A = Values count_field} (length vs, tt) values))
   items_then values = Reads-as (times values.0 item_at) (flat_map spell) (flat_map spell) _ _ (counted_items values.0) (λ vs. refl) (λ vs p. (p.0, ap (λ (k : ℕ). let it : Values count_field = (k, tt) in it) p.1)) (λ vs p. (p.0, ap (λ (v : Values count_field). v.0) p.1))
 
-  pub Reads-list : Reads (number_at w >>= λ count. times count item_at) (λ vs. to_be_bytes w (length vs) ++ flat_map spell vs) (λ vs. (length vs < bound_of w) × AllByRecursion Fits vs)
+  pub Reads-list : Reads (called name (number_at w) >>= λ count. times count item_at) (λ vs. to_be_bytes w (length vs) ++ flat_map spell vs) (λ vs. (length vs < bound_of w) × AllByRecursion Fits vs)
   Reads-list =
-      Reads-as (number_at w >>= λ count. times count item_at) _ _ _ _
+      Reads-as (called name (number_at w) >>= λ count. times count item_at) _ _ _ _
       (Reads-then count_field (List A) (λ values. times values.0 item_at) (λ vs. (length vs, tt)) (flat_map spell) (AllByRecursion Fits) items_then)
       (λ vs. ap (λ (x : List ℕ). x ++ flat_map spell vs) (append-nil (to_be_bytes w (length vs))))
       (λ vs p. (p.0.0, p.1))

@@ -1,12 +1,16 @@
 -- How far readers go: over a number of octets at least, or up to the end of what a field stands in.
 use Rattle.std.proofs.Common.{◌≡◌, ℕ, ◌+◌, ◌-◌, ◌<◌, ◌≤◌, Bool, true, false, Option, Some, None, Ok, List, [], ◌∷◌, length, refl, ap, subst, arith}
 use Rattle.std.specs.Int.{Width, w8, byte_len, from_be_bytes, cast_signed}
-use Rattle.krb_file.specs.Fields.{Source, Bounds, Reader, ◌>>=◌, gives, is_empty, next_octets_at, octets_at, room, rest_at, number_at, signed_at, counted_at, within, is_one_of, expect, version_at, refused}
+use Rattle.krb_file.specs.Fields.{Source, Bounds, Reader, ◌>>=◌, gives, is_empty, next_octets_at, octets_at, room, rest_at, number_at, signed_at, counted_at, named, placed, called, in_part, within, is_one_of, expect, version_at, refused}
 use Rattle.krb_der.specs.Octets.{when}
 use Rattle.krb_file.specs.declared.fault.FileWhy.{FileWhy}
 use Rattle.krb_file.specs.declared.fault.FileWhy.TheVariants as why
 use Rattle.krb_file.specs.FieldReaders.{Held, GoesOn, source_at, reach, TakesTo, KeepsTo, Stays, LooksTo, HasRead, ended_at}
-use Rattle.krb_file.proofs.Fields.{done, ok_is, onward-ok, piece-ok, when-ok_else}
+use Rattle.krb_file.specs.declared.field_name.FieldName.{FieldName}
+use Rattle.krb_file.specs.declared.field_name.FieldName.TheVariants as words
+use Rattle.krb_file.specs.declared.field_name.FilePart.{FilePart}
+use Rattle.krb_file.specs.declared.field_name.FileField.{FileField}
+use Rattle.krb_file.proofs.Fields.{refused_at-ok, at_field, done, ok_is, onward-ok, piece-ok, when-ok_else}
 use Rattle.krb_file.proofs.FieldReaders.{some_rest, Stays-same, Stays-then}
 use Rattle.krb_file.proofs.Steps.{Steps, Steps-gives, Steps-octets}
 
@@ -39,6 +43,15 @@ AtLeast-number w = record {
       let same : a.0.1 ≡ t = ap (λ (x : ℕ × Source). x.1) (ok_is (from_be_bytes w a.0.0, a.0.1) (v, t) a.2) in
       subst (λ (x : Source). s.place + byte_len w ≤ x.place) same one;
 }
+
+AtLeast-at : {A : Type 0} (n : ℕ) (field : Option FileField → Option FileField) (reader : Reader A) → AtLeast n reader → AtLeast n (at_field field reader)
+AtLeast-at n field reader long = record { goes = λ bounds s v t e. long.goes bounds s v t (refused_at-ok field (reader bounds s) (v, t) e) }
+
+pub AtLeast-called : {A : Type 0} (n : ℕ) (name : FieldName) (reader : Reader A) → AtLeast n reader → AtLeast n (called name reader)
+AtLeast-called n name reader long = AtLeast-at n (named name) reader long
+
+pub AtLeast-in_part : {A : Type 0} (n : ℕ) (part : FilePart) (reader : Reader A) → AtLeast n reader → AtLeast n (in_part part reader)
+AtLeast-in_part n part reader long = AtLeast-at n (placed part) reader long
 
 pub AtLeast-fewer : {A : Type 0} (m n : ℕ) (reader : Reader A) → m ≤ n → AtLeast n reader → AtLeast m reader
 AtLeast-fewer m n reader few long = record { goes = λ bounds s v t e. let m = long.goes bounds s v t e in omega (arith, m, few) }
@@ -87,8 +100,13 @@ Exactly-then m n reader next first others = record {
       omega (arith, one, two);
 }
 
+pub Exactly-called : {A : Type 0} (n : ℕ) (name : FieldName) (reader : Reader A) → Exactly n reader → Exactly n (called name reader)
+Exactly-called n name reader long = record { goes = λ bounds s v t e. long.goes bounds s v t (refused_at-ok (named name) (reader bounds s) (v, t) e) }
+
 pub Exactly-version : (versions : List ℕ) → Exactly 2 (version_at versions)
-Exactly-version versions = Exactly-then 1 1 (expect (5 ∷ []) why.Magic) _ (Exactly-expect (5 ∷ []) why.Magic) (λ _. Exactly-expect versions why.Version)
+Exactly-version versions =
+    Exactly-then 1 1 (called words.Magic (expect (5 ∷ []) why.Magic)) _ (Exactly-called 1 words.Magic (expect (5 ∷ []) why.Magic) (Exactly-expect (5 ∷ []) why.Magic))
+    (λ _. Exactly-called 1 words.Version (expect versions why.Version) (Exactly-expect versions why.Version))
 
 -- ---- up to the end
 pub record ToEnd {A : Type 0} (reader : Reader A) : Type 0 where
@@ -101,6 +119,9 @@ ToEnd-rest = record {
       let long : room bounds.end s.place ≡ end - s.place = rw is refl in
       rw p.source (omega (arith, long));
 }
+
+pub ToEnd-called : {A : Type 0} (name : FieldName) (reader : Reader A) → ToEnd reader → ToEnd (called name reader)
+ToEnd-called name reader whole = record { goes = λ end bounds s v t is e. whole.goes end bounds s v t is (refused_at-ok (named name) (reader bounds s) (v, t) e) }
 
 pub ToEnd-then : {A B : Type 0} (reader : Reader A) (next : A → Reader B) → ((value : A) → ToEnd (next value)) → ToEnd (reader >>= next)
 ToEnd-then reader next others = record {

@@ -2,10 +2,14 @@
 use Rattle.std.proofs.Common.{◌≡◌, ℕ, zero, suc, ◌+◌, ◌≤◌, ◌⊎◌, inl, inr, Bool, true, false, ltb, Option, Some, None, Result, Ok, Err, List, [], ◌∷◌, length, take, drop, refl, subst, arith, length-drop, ℤ, ap, ◌∙◌, sym, ◌<◌}
 use Rattle.std.specs.Int.{Width, w8, byte_len, from_be_bytes, cast_signed, w32}
 use Rattle.krb_der.specs.Octets.{when}
-use Rattle.krb_file.specs.Fields.{Source, Fault, Bounds, Reader, ◌>>=◌, gives, refused, passes, next_octets_at, octets_at, room, rest_at, number_at, signed_at, counted_at, times, names_at, within, is_one_of, expect, version_at}
+use Rattle.krb_file.specs.Fields.{Source, Fault, Bounds, Reader, ◌>>=◌, gives, refused, passes, next_octets_at, octets_at, room, rest_at, number_at, signed_at, counted_at, times, component_at, names_at, named, placed, called, in_part, within, is_one_of, expect, version_at}
 use Rattle.krb_file.specs.declared.fault.FileWhy.{FileWhy}
 use Rattle.krb_file.specs.declared.fault.FileWhy.TheVariants as why
-use Rattle.krb_file.proofs.Fields.{at, done, failed, ok_is, err_is, onward-ok, onward-err, piece-ok, when-err_err, when-ok_else}
+use Rattle.krb_file.specs.declared.field_name.FieldName.{FieldName}
+use Rattle.krb_file.specs.declared.field_name.FieldName.TheVariants as words
+use Rattle.krb_file.specs.declared.field_name.FilePart.{FilePart}
+use Rattle.krb_file.specs.declared.field_name.FileField.{FileField}
+use Rattle.krb_file.proofs.Fields.{refused_at-ok, refused_at-err, at_field, at, done, failed, ok_is, err_is, onward-ok, onward-err, piece-ok, when-err_err, when-ok_else}
 
 pub record IsFault (bounds : Bounds) (s : Source) (f : Fault) : Type 0 where
   pub from : s.place ≤ f.place
@@ -44,8 +48,24 @@ Steps-gives {A} value = record {
   faults = λ bounds s f e. absurd cc;
 }
 
+-- ---- the same reader, but what it refuses is another field
+Steps-at : {A : Type 0} (field : Option FileField → Option FileField) (reader : Reader A) → Steps reader → Steps (at_field field reader)
+Steps-at field reader steps = record {
+  moves = λ bounds s v t e. steps.moves bounds s v t (refused_at-ok field (reader bounds s) (v, t) e);
+  faults = λ bounds s f e.
+      let a = refused_at-err field (reader bounds s) f e in
+      let p = steps.faults bounds s a.0 a.1 in
+      subst (IsFault bounds s) a.2 (record { from = p.from; upto = p.upto; limited = p.limited });
+}
+
+pub Steps-called : {A : Type 0} (name : FieldName) (reader : Reader A) → Steps reader → Steps (called name reader)
+Steps-called name reader steps = Steps-at (named name) reader steps
+
+pub Steps-in_part : {A : Type 0} (part : FilePart) (reader : Reader A) → Steps reader → Steps (in_part part reader)
+Steps-in_part part reader steps = Steps-at (placed part) reader steps
+
 -- ---- n octets
-fault_here : (limit : Option ℕ) (bounds : Bounds) (s : Source) (reason : FileWhy) (f : Fault) → (bounds.limit ≡ None → reason ≡ why.TooLong → ⊥) → record { place = s.place; why = reason } ≡ f → IsFault bounds s f
+fault_here : (limit : Option ℕ) (bounds : Bounds) (s : Source) (reason : FileWhy) (f : Fault) → (bounds.limit ≡ None → reason ≡ why.TooLong → ⊥) → record { place = s.place; why = reason; field = None } ≡ f → IsFault bounds s f
 fault_here limit bounds s reason f free e = subst (IsFault bounds s) e (record { from = omega arith; upto = omega arith; limited = free })
 
 piece-faults : (limit : Option ℕ) (size : ℕ) (bounds : Bounds) (s : Source) (f : Fault) → (bounds.limit ≡ None → limit ≡ None) → next_octets_at limit size bounds s ≡ Err f → IsFault bounds s f
@@ -60,15 +80,15 @@ piece-faults limit size bounds s f free e = overrun (when-err_err (passes (s.pla
     no_limit : limit ≡ None → passes size limit ≡ true → ⊥
     no_limit e t = let h : passes size limit ≡ false = rw e in absurd cc
 
-    truncated : ((ltb (length s.octets) size ≡ true) × (record { place = s.place; why = why.Truncated } ≡ f)) ⊎ (taken tt ≡ Err f) → IsFault bounds s f
+    truncated : ((ltb (length s.octets) size ≡ true) × (record { place = s.place; why = why.Truncated; field = None } ≡ f)) ⊎ (taken tt ≡ Err f) → IsFault bounds s f
     truncated (inl p) = fault_here limit bounds s why.Truncated f (λ _ e. absurd cc) p.1
     truncated (inr p) = absurd cc
 
-    too_long : ((passes size limit ≡ true) × (record { place = s.place; why = why.TooLong } ≡ f)) ⊎ (last tt ≡ Err f) → IsFault bounds s f
+    too_long : ((passes size limit ≡ true) × (record { place = s.place; why = why.TooLong; field = None } ≡ f)) ⊎ (last tt ≡ Err f) → IsFault bounds s f
     too_long (inl p) = fault_here limit bounds s why.TooLong f (λ none _. no_limit (free none) p.0) p.1
     too_long (inr p) = truncated (when-err_err (ltb (length s.octets) size) _ f taken p)
 
-    overrun : ((passes (s.place + size) bounds.end ≡ true) × (record { place = s.place; why = why.Overrun } ≡ f)) ⊎ (when (passes size limit) (λ _. refused s why.TooLong) last ≡ Err f) → IsFault bounds s f
+    overrun : ((passes (s.place + size) bounds.end ≡ true) × (record { place = s.place; why = why.Overrun; field = None } ≡ f)) ⊎ (when (passes size limit) (λ _. refused s why.TooLong) last ≡ Err f) → IsFault bounds s f
     overrun (inl p) = fault_here limit bounds s why.Overrun f (λ _ e. absurd cc) p.1
     overrun (inr p) = too_long (when-err_err (passes size limit) _ f last p)
 
@@ -99,15 +119,20 @@ Steps-signed w = Steps-then (number_at w) _ (Steps-number w) (λ n. Steps-gives 
 pub Steps-counted : (w : Width) → Steps (counted_at w)
 Steps-counted w = Steps-then (number_at w) octets_at (Steps-number w) Steps-octets
 
-pub Steps-times : {A : Type 0} (item_at : Reader A) → Steps item_at → (n : ℕ) → Steps (times n item_at)
+pub Steps-times : {A : Type 0} (item_at : ℕ → Reader A) → ((index : ℕ) → Steps (item_at index)) → (n : ℕ) → Steps (times n item_at)
 Steps-times item_at steps zero = Steps-gives []
-Steps-times item_at steps (suc n) = Steps-then item_at _ steps (λ first. Steps-then (times n item_at) _ (Steps-times item_at steps n) (λ others. Steps-gives (first ∷ others)))
+Steps-times item_at steps (suc n) =
+    Steps-then (item_at 0) _ (steps 0) (λ first.
+    Steps-then (times n (λ index. item_at (suc index))) _ (Steps-times (λ index. item_at (suc index)) (λ index. steps (suc index)) n) (λ others. Steps-gives (first ∷ others)))
+
+pub Steps-component : (w : Width) (index : ℕ) → Steps (component_at w index)
+Steps-component w index = Steps-called (words.Component index) (counted_at w) (Steps-counted w)
 
 pub Steps-names : (w : Width) → Steps (names_at w)
 Steps-names w =
-    Steps-then (number_at w) _ (Steps-number w) (λ count.
-    Steps-then (counted_at w) _ (Steps-counted w) (λ realm.
-    Steps-then (times count (counted_at w)) _ (Steps-times (counted_at w) (Steps-counted w) count) (λ components. Steps-gives (record { realm = realm; components = components }))))
+    Steps-then (called words.ComponentCount (number_at w)) _ (Steps-called words.ComponentCount (number_at w) (Steps-number w)) (λ count.
+    Steps-then (called words.Realm (counted_at w)) _ (Steps-called words.Realm (counted_at w) (Steps-counted w)) (λ realm.
+    Steps-then (times count (component_at w)) _ (Steps-times (component_at w) (Steps-component w) count) (λ components. Steps-gives (record { realm = realm; components = components }))))
 
 pub Steps-within : {A : Type 0} (size : ℕ) (inner : Reader A) → Steps inner → Steps (within size inner)
 Steps-within size inner steps = record {
@@ -133,7 +158,9 @@ Steps-expect wanted reason other = record {
 }
 
 pub Steps-version : (versions : List ℕ) → Steps (version_at versions)
-Steps-version versions = Steps-then (expect (5 ∷ []) why.Magic) _ (Steps-expect (5 ∷ []) why.Magic (λ e. cc)) (λ _. Steps-expect versions why.Version (λ e. cc))
+Steps-version versions =
+    Steps-then (called words.Magic (expect (5 ∷ []) why.Magic)) _ (Steps-called words.Magic (expect (5 ∷ []) why.Magic) (Steps-expect (5 ∷ []) why.Magic (λ e. cc)))
+    (λ _. Steps-called words.Version (expect versions why.Version) (Steps-expect versions why.Version (λ e. cc)))
 
 -- a number of 32 bits takes octets, whatever follows
 pub signed-shorter : (bounds : Bounds) (s : Source) (z : ℤ) (t : Source) → signed_at w32 bounds s ≡ Ok (z, t) → length t.octets < length s.octets

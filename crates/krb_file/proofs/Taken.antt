@@ -11,6 +11,7 @@ use Rattle.krb_file.specs.FieldReaders.{Held, GoesOn, MayHave, left_of, HasRead,
 use Rattle.krb_file.specs.inner.Takes.{Takes, FallsShort, FailsTaking, AreNear}
 use Rattle.krb_file.specs.declared.fault.FileFault.{FileFault}
 use Rattle.krb_file.specs.declared.fault.FileFault.TheVariants as faults
+use Rattle.krb_file.specs.declared.field_name.FileField.{FileField}
 use Rattle.krb_file.specs.declared.fault.FileWhy.{FileWhy}
 use Rattle.krb_file.specs.declared.fault.FileWhy.TheVariants as why
 use Rattle.krb_file.proofs.FieldReaders.{some_rest, skipped}
@@ -118,13 +119,13 @@ piece-read limit size octets old new inside under taken long = record {
       (octets ++ rest, taken.from rest there, rw (inside, under, enough, take_at octets rest size long, drop_at octets rest size long, place) refl);
 }
 
-pub piece-overruns : (limit : Option ℕ) (size : ℕ) (old : Held) → passes (old.place + size) old.bounds.end ≡ true → HasMet (next_octets_at limit size) (record { place = old.place; why = why.Overrun }) old
+pub piece-overruns : (limit : Option ℕ) (size : ℕ) (old : Held) → passes (old.place + size) old.bounds.end ≡ true → HasMet (next_octets_at limit size) (record { place = old.place; why = why.Overrun; field = None }) old
 piece-overruns limit size old past = let a = some_rest old in record { octets = a.rest; there = a.there; refused = rw past refl }
 
-pub piece-too_long : (limit : Option ℕ) (size : ℕ) (old : Held) → passes (old.place + size) old.bounds.end ≡ false → passes size limit ≡ true → HasMet (next_octets_at limit size) (record { place = old.place; why = why.TooLong }) old
+pub piece-too_long : (limit : Option ℕ) (size : ℕ) (old : Held) → passes (old.place + size) old.bounds.end ≡ false → passes size limit ≡ true → HasMet (next_octets_at limit size) (record { place = old.place; why = why.TooLong; field = None }) old
 piece-too_long limit size old inside over = let a = some_rest old in record { octets = a.rest; there = a.there; refused = rw (inside, over) refl }
 
-pub piece-short : (limit : Option ℕ) (size : ℕ) (taken : List ℕ) (old now : Held) → passes (old.place + size) old.bounds.end ≡ false → passes size limit ≡ false → Takes old now taken → MayHave now [] → length taken < size → HasMet (next_octets_at limit size) (record { place = old.place; why = why.Truncated }) old
+pub piece-short : (limit : Option ℕ) (size : ℕ) (taken : List ℕ) (old now : Held) → passes (old.place + size) old.bounds.end ≡ false → passes size limit ≡ false → Takes old now taken → MayHave now [] → length taken < size → HasMet (next_octets_at limit size) (record { place = old.place; why = why.Truncated; field = None }) old
 piece-short limit size taken old now inside under took end short =
     let few : ltb (length taken) size ≡ true = lt-ltb _ _ short in
     record { octets = taken; there = subst (MayHave old) (append-nil taken) (took.from [] end); refused = rw (inside, under, few) refl }
@@ -151,18 +152,18 @@ Fills-more had now left octets piece filled count before long few gave =
       taken = subst (Takes had left) (sym same) (Takes-then had now left (take filled octets) (take count piece) before.taken gave);
     }
 
-truncated : (limit : Option ℕ) (size start k place : ℕ) (reason : FileWhy) (taken : List ℕ) (old now left : Held) → start ≡ old.place → passes (old.place + size) old.bounds.end ≡ false → passes size limit ≡ false → Takes old now taken → length taken + k ≤ size
-    → place ≡ start → reason ≡ why.Truncated → FallsShort now left k → HasMet (next_octets_at limit size) (record { place = place; why = reason }) old
-truncated limit size start k place reason taken old now left begins inside under took fits at is short =
+truncated : (limit : Option ℕ) (size start k place : ℕ) (reason : FileWhy) (field : Option FileField) (taken : List ℕ) (old now left : Held) → start ≡ old.place → passes (old.place + size) old.bounds.end ≡ false → passes size limit ≡ false → Takes old now taken → length taken + k ≤ size
+    → place ≡ start → reason ≡ why.Truncated → field ≡ None → FallsShort now left k → HasMet (next_octets_at limit size) (record { place = place; why = reason; field = field }) old
+truncated limit size start k place reason field taken old now left begins inside under took fits at is unnamed short =
     let whole = Takes-then old now left taken short.taken took short.took in
-    rw (at, begins, is) (piece-short limit size (taken ++ short.taken) old left inside under whole short.end (omega (arith, length-append taken short.taken, short.short, fits)))
+    rw (at, begins, is, unnamed) (piece-short limit size (taken ++ short.taken) old left inside under whole short.end (omega (arith, length-append taken short.taken, short.short, fits)))
 
 pub taking-fails : (e : FileFault) (limit : Option ℕ) (size start k : ℕ) (taken : List ℕ) (old now left : Held) → start ≡ old.place → passes (old.place + size) old.bounds.end ≡ false → passes size limit ≡ false → Takes old now taken → length taken + k ≤ size
     → FailsTaking e start now left k → FailsBy e (next_octets_at limit size) (Unit {0}) old
 taking-fails faults.Read limit size start k taken old now left begins inside under took fits fails = tt
 taking-fails faults.Memory limit size start k taken old now left begins inside under took fits fails = tt
-taking-fails (faults.Refused place reason) limit size start k taken old now left begins inside under took fits fails =
-    truncated limit size start k place reason taken old now left begins inside under took fits fails.0 fails.1 fails.2
+taking-fails (faults.Refused place reason field) limit size start k taken old now left begins inside under took fits fails =
+    truncated limit size start k place reason field taken old now left begins inside under took fits fails.0 fails.1 fails.2 fails.3
 
 -- ---- the same of a field of octets, by the limit that there is
 met : (size : ℕ) (fault : Fault) (old : Held) → HasMet (next_octets_at old.bounds.limit size) fault old → HasMet (octets_at size) fault old
@@ -171,7 +172,7 @@ met size fault old m = record { octets = m.octets; there = m.there; refused = m.
 fails_so : (e : FileFault) (size : ℕ) (old : Held) → FailsBy e (next_octets_at old.bounds.limit size) (Unit {0}) old → FailsBy e (octets_at size) (Unit {0}) old
 fails_so faults.Read size old f = tt
 fails_so faults.Memory size old f = tt
-fails_so (faults.Refused place reason) size old f = met size (record { place = place; why = reason }) old f
+fails_so (faults.Refused place reason field) size old f = met size (record { place = place; why = reason; field = field }) old f
 
 pub octets-fails : (e : FileFault) (size start k : ℕ) (taken : List ℕ) (old now left : Held) → start ≡ old.place → passes (old.place + size) old.bounds.end ≡ false → passes size old.bounds.limit ≡ false → Takes old now taken → length taken + k ≤ size
     → FailsTaking e start now left k → FailsBy e (octets_at size) (Unit {0}) old
@@ -223,7 +224,7 @@ skip-met size fault old m = record { octets = m.octets; there = m.there; refused
 pub skip-refused : (e : FileFault) (size : ℕ) (old : Held) → FailsBy e (next_octets_at None size) (Unit {0}) old → FailsBy e (skipped_at size) (Unit {0}) old
 skip-refused faults.Read size old f = tt
 skip-refused faults.Memory size old f = tt
-skip-refused (faults.Refused place reason) size old f = skip-met size (record { place = place; why = reason }) old f
+skip-refused (faults.Refused place reason field) size old f = skip-met size (record { place = place; why = reason; field = field }) old f
 
 pub skip-fails : (e : FileFault) (size start k rest : ℕ) (zeros : Bool) (old now left : Held) → start ≡ old.place → passes (old.place + size) old.bounds.end ≡ false → Passes old now zeros rest size → k ≤ rest → FailsTaking e start now left k → FailsBy e (skipped_at size) (Unit {0}) old
 skip-fails e size start k rest zeros old now left begins inside p few fails = skip-refused e size old (taking-fails e None size start k p.taken old now left begins inside refl p.took (omega (arith, p.counted, few)) fails)

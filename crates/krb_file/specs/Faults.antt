@@ -1,8 +1,9 @@
 -- The numbers and the names of the reasons why a file is refused, and what a fault of a file prints.
-use Rattle.std.specs.Prelude.{ℕ, List, ◌++◌, codes}
+use Rattle.std.specs.Prelude.{ℕ, List, ◌++◌, codes, Option, None}
 use Rattle.std.specs.Fmt.{decimal}
 use Rattle.krb_file.specs.declared.fault.FileFault.{FileFault}
 use Rattle.krb_file.specs.declared.fault.FileFault.TheVariants.{Refused, Read, Memory}
+use Rattle.krb_file.specs.declared.field_name.FileField.{FileField}
 use Rattle.krb_file.specs.declared.fault.FileWhy.{FileWhy}
 use Rattle.krb_file.specs.declared.fault.FileWhy.TheVariants.{Magic, Version, Truncated, Overrun, TooLong}
 
@@ -21,6 +22,11 @@ file_reason_name Overrun = codes "Overrun"
 file_reason_name TooLong = codes "TooLong"
 
 abbrev pub file_fault_text : FileFault → List ℕ
-file_fault_text (Refused place why) = codes "refused at " ++ decimal place ++ codes ": " ++ file_reason_name why
+file_fault_text (Refused place why field) = codes "refused at " ++ decimal place ++ codes ": " ++ file_reason_name why
 file_fault_text Read = codes "a read failed"
 file_fault_text Memory = codes "out of memory"
+
+abbrev pub fault_field : FileFault → Option FileField
+fault_field (Refused place why field) = field
+fault_field Read = None
+fault_field Memory = None

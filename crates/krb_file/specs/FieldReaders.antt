@@ -36,7 +36,7 @@ pub record HasMet {A : Type 0} (reader : Reader A) (fault : Fault) (old : Held) 
 
 -- A fault of a call: that of the octets, that of the device, which not every source has, or out of memory.
 abbrev pub FailsBy : {A : Type 0} → FileFault → Reader A → Type 0 → Held → Type 0
-FailsBy (faults.Refused place why) reader MayFail old = HasMet reader (record { place = place; why = why }) old
+FailsBy (faults.Refused place why field) reader MayFail old = HasMet reader (record { place = place; why = why; field = field }) old
 FailsBy faults.Read reader MayFail old = MayFail
 FailsBy faults.Memory reader MayFail old = Unit {0}
 

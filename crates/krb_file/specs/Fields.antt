@@ -7,6 +7,10 @@ use Rattle.krb_file.specs.declared.fault.FileWhy.{FileWhy}
 use Rattle.krb_file.specs.declared.fault.FileWhy.TheVariants as why
 use Rattle.krb_file.specs.declared.fault.FileFault.{FileFault}
 use Rattle.krb_file.specs.declared.fault.FileFault.TheVariants as faults
+use Rattle.krb_file.specs.declared.field_name.FieldName.{FieldName}
+use Rattle.krb_file.specs.declared.field_name.FieldName.TheVariants as fields
+use Rattle.krb_file.specs.declared.field_name.FilePart.{FilePart}
+use Rattle.krb_file.specs.declared.field_name.FileField.{FileField}
 
 -- ---- Spelling. Numbers have their highest octet first.
 
@@ -60,10 +64,11 @@ is_empty (octet ∷ octets) = false
 abbrev pub source_of : List ℕ → Source
 source_of file = record { place = 0; octets = file }
 
--- the first octet of the field at fault, and the reason
+-- the first octet of the field at fault, the reason, and which field it is, if its reader names it
 pub record Fault : Type 0 where
   pub place : ℕ
   pub why : FileWhy
+  pub field : Option FileField
 
 -- What bounds a field: the place where the entry or the header that it stands in ends, and how many octets a field of octets may have.
 pub record Bounds : Type 0 where
@@ -91,7 +96,32 @@ abbrev pub gives : {A : Type 0} → A → Reader A
 gives value = λ bounds source. Ok (value, source)
 
 abbrev pub refused : {A : Type 0} → Source → FileWhy → Result A Fault
-refused source reason = Err (record { place = source.place; why = reason })
+refused source reason = Err (record { place = source.place; why = reason; field = None })
+
+-- ---- Which field is at fault.
+
+-- The field of this name.
+abbrev pub named : FieldName → Option FileField → Option FileField
+named name field = Some (record { part = None; name = name })
+
+-- The same field, in this part.
+abbrev pub placed : FilePart → Option FileField → Option FileField
+placed part None = None
+placed part (Some field) = Some (record field { part = Some part })
+
+abbrev pub refused_at : {A : Type 0} → (Option FileField → Option FileField) → Result A Fault → Result A Fault
+refused_at field (Ok value) = Ok value
+refused_at field (Err fault) = Err (record fault { field = field fault.field })
+
+-- The same reader, but what it refuses is the field of this name.
+abbrev pub called : {A : Type 0} → FieldName → Reader A → Reader A
+called name reader = λ bounds source. refused_at (named name) (reader bounds source)
+
+-- The same reader, whose fields stand in this part.
+abbrev pub in_part : {A : Type 0} → FilePart → Reader A → Reader A
+in_part part reader = λ bounds source. refused_at (placed part) (reader bounds source)
+
+-- ---- What fields are read.
 
 abbrev pub passes : ℕ → Option ℕ → Bool
 passes n None = false
@@ -124,18 +154,22 @@ counted_at width = do
   size ← number_at width
   octets_at size
 
-abbrev pub times : {A : Type 0} → ℕ → Reader A → Reader (List A)
+-- so many items, each read by its number from 0
+abbrev pub times : {A : Type 0} → ℕ → (ℕ → Reader A) → Reader (List A)
 times zero item_at = gives []
 times (suc n) item_at = do
-  first ← item_at
-  others ← times n item_at
+  first ← item_at 0
+  others ← times n (λ index. item_at (suc index))
   gives (first ∷ others)
+
+abbrev pub component_at : Width → ℕ → Reader (List ℕ)
+component_at width index = called (fields.Component index) (counted_at width)
 
 abbrev pub names_at : Width → Reader Names
 names_at width = do
-  count ← number_at width
-  realm ← counted_at width
-  components ← times count (counted_at width)
+  count ← called fields.ComponentCount (number_at width)
+  realm ← called fields.Realm (counted_at width)
+  components ← times count (component_at width)
   gives (record { realm = realm; components = components })
 
 -- what is left up to the end of the entry or the header
@@ -169,13 +203,13 @@ expect wanted reason = λ bounds source.
 -- the first two octets of a file: 5, and a version
 abbrev pub version_at : List ℕ → Reader ℕ
 version_at versions = do
-  five ← expect (5 ∷ []) why.Magic
-  expect versions why.Version
+  five ← called fields.Magic (expect (5 ∷ []) why.Magic)
+  called fields.Version (expect versions why.Version)
 
 -- ---- What the code gives. A function's result, seen by view, is what reading gives, unless memory ran out.
 
 abbrev pub Fails : {B : Type 0} → FileFault → Result B Fault → Type 0
-Fails (faults.Refused place why) read = read ≡ Err (record { place = place; why = why })
+Fails (faults.Refused place why field) read = read ≡ Err (record { place = place; why = why; field = field })
 Fails faults.Read read = ⊥
 Fails faults.Memory read = Unit {0}
 
@@ -183,14 +217,24 @@ abbrev pub Gives : {A B : Type 0} → (A → B) → Result A FileFault → Resul
 Gives view (Ok x) read = read ≡ Ok (view x)
 Gives view (Err e) read = Fails e read
 
+-- The same result, but what is refused is another field.
+abbrev pub fault_at : (Option FileField → Option FileField) → FileFault → FileFault
+fault_at field (faults.Refused place why before) = faults.Refused place why (field before)
+fault_at field faults.Read = faults.Read
+fault_at field faults.Memory = faults.Memory
+
+abbrev pub fails_at : {A : Type 0} → (Option FileField → Option FileField) → Result A FileFault → Result A FileFault
+fails_at field (Ok value) = Ok value
+fails_at field (Err fault) = Err (fault_at field fault)
+
 -- What the reader of a whole file answers if it gives none: a refusal in the file or at its end, which no limit brings, or out of memory.
 abbrev pub IsFaultIn : List ℕ → FileFault → Type 0
-IsFaultIn file (faults.Refused place reason) = (place ≤ length file) × (reason ≡ why.TooLong → ⊥)
+IsFaultIn file (faults.Refused place reason field) = (place ≤ length file) × (reason ≡ why.TooLong → ⊥)
 IsFaultIn file faults.Read = ⊥
 IsFaultIn file faults.Memory = Unit {0}
 
 -- A fault of a file that is read as it comes: a refusal in the file or at its end, a failed read, or out of memory.
 abbrev pub StandsIn : List ℕ → FileFault → Type 0
-StandsIn file (faults.Refused place reason) = place ≤ length file
+StandsIn file (faults.Refused place reason field) = place ≤ length file
 StandsIn file faults.Read = Unit {0}
 StandsIn file faults.Memory = Unit {0}

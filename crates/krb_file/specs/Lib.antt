@@ -1,5 +1,6 @@
 pub mod Faults
 pub mod Fields
+pub mod Names
 pub mod FieldReaders
 pub mod Parts
 pub mod inner

@@ -1,9 +1,11 @@
 //! Why files are refused or cannot be read.
 
 ghost use Rattle.std.specs.Prelude.{◌≡◌, Some};
-ghost use Rattle.krb_file.specs.Faults.{file_reason_number, file_reason_name, file_fault_text};
+ghost use Rattle.krb_file.specs.Faults.{file_reason_number, file_reason_name, file_fault_text, fault_field};
+ghost use Rattle.krb_file.specs.Fields.{named, placed, fault_at, fails_at};
 ghost use Rattle.krb_file.specs.declared.fault.FileFault.TheVariants.{Memory};
 
+use crate::field_name::{FieldName, FileField, FilePart};
 use std::alloc::{AllocError, AllocFailed};
 use std::error::Error;
 use std::fmt;
@@ -34,6 +36,8 @@ pub enum FileFault {
         place: u64,
         /// What is wrong with the field.
         why: FileWhy,
+        /// The field, if its reader names it.
+        field: Option<FileField>,
     },
     /// The device that the file is read from failed.
     Read,
@@ -54,6 +58,76 @@ impl<T: Drop> From<AllocFailed<T>> for FileFault {
 
     fn from(_error: AllocFailed<T>) -> FileFault {
         FileFault::Memory
+    }
+}
+
+impl FileFault {
+    /// Returns the field that is refused, if its reader names it.
+    pub fn field(self) -> Option<FileField>
+        ensures { result ≡ fault_field self }
+    {
+        match self {
+            FileFault::Refused { field, .. } => field,
+            FileFault::Read | FileFault::Memory => None,
+        }
+    }
+
+    /// Returns the same fault, but of the field of this name.
+    fn of_field(self, name: FieldName) -> FileFault
+        ensures { result ≡ fault_at (named name) self }
+    {
+        match self {
+            FileFault::Refused { place, why, .. } => FileFault::Refused {
+                place,
+                why,
+                field: Some(FileField { part: None, name }),
+            },
+            FileFault::Read => FileFault::Read,
+            FileFault::Memory => FileFault::Memory,
+        }
+    }
+
+    /// Returns the same fault, with its field in this part.
+    fn of_part(self, part: FilePart) -> FileFault
+        ensures { result ≡ fault_at (placed part) self }
+    {
+        match self {
+            FileFault::Refused {
+                place,
+                why,
+                field: Some(FileField { name, .. }),
+            } => FileFault::Refused {
+                place,
+                why,
+                field: Some(FileField {
+                    part: Some(part),
+                    name,
+                }),
+            },
+            fault => fault,
+        }
+    }
+}
+
+/// Returns what was read, or the fault of the field of this name.
+#[inline(always)]
+pub(crate) fn called<T>(name: FieldName, read: Result<T, FileFault>) -> Result<T, FileFault>
+    ensures { result ≡ fails_at (named name) read }
+{
+    match read {
+        Ok(value) => Ok(value),
+        Err(fault) => Err(fault.of_field(name)),
+    }
+}
+
+/// Returns what was read, or the fault, with its field in this part.
+#[inline(always)]
+pub fn in_part<T>(part: FilePart, read: Result<T, FileFault>) -> Result<T, FileFault>
+    ensures { result ≡ fails_at (placed part) read }
+{
+    match read {
+        Ok(value) => Ok(value),
+        Err(fault) => Err(fault.of_part(part)),
     }
 }
 
@@ -98,7 +172,7 @@ impl fmt::Display for FileFault {
 
     fn fmt<W: fmt::Write>(&self, f: &mut fmt::Formatter<W>) -> fmt::Result {
         match self {
-            FileFault::Refused { place, why } => write!(f, "refused at {place}: {why}"),
+            FileFault::Refused { place, why, .. } => write!(f, "refused at {place}: {why}"),
             FileFault::Read => f.write_str("a read failed"),
             FileFault::Memory => f.write_str("out of memory"),
         }

@@ -1,11 +1,12 @@
 //! Readers of the fields of files.
 
-ghost use Rattle.std.specs.Prelude.{◌≡◌, ◌+◌, ◌^◌, ◌<◌, ◌≤◌, [], length, None, Some};
+ghost use Rattle.std.specs.Prelude.{◌≡◌, ℕ, ◌+◌, ◌^◌, ◌<◌, ◌≤◌, [], length, None, Some};
 ghost use Rattle.std.specs.Int.{w8, w16, w32};
-ghost use Rattle.krb_file.specs.Fields.{gives, next_octets_at, octets_at, number_at, signed_at, counted_at, names_at, rest_at, times, is_one_of, expect, version_at, Reader};
+ghost use Rattle.krb_file.specs.Fields.{gives, called, next_octets_at, octets_at, number_at, signed_at, counted_at, component_at, names_at, rest_at, times, is_one_of, expect, version_at, Reader};
 ghost use Rattle.krb_file.specs.FieldReaders.{Held, Follows, Keeps, TakesTo, LooksTo, ended_at, skipped_at, bounded};
 
-use crate::fault::{FileFault, FileWhy};
+use crate::fault::{FileFault, FileWhy, called};
+use crate::field_name::FieldName;
 use krb_der::KString;
 use std::alloc::Global;
 
@@ -157,6 +158,91 @@ pub trait FieldReader {
         self.octets(alloc, size, octets)
     }
 
+    /// Reads a number of 8 bits, the field of this name.
+    #[inline(always)]
+    final fn field8(&mut self, name: FieldName) -> Result<u8, FileFault>
+        ensures read { Follows (λ number. number) result (called name (number_at w8)) MayFail (held self.old) (held self.new) }
+        ensures keeps { Keeps (held self.old) (held self.new) }
+    {
+        called(name, self.number8())
+    }
+
+    /// Reads a number of 16 bits, the field of this name.
+    #[inline(always)]
+    final fn field16(&mut self, name: FieldName) -> Result<u16, FileFault>
+        ensures read { Follows (λ number. number) result (called name (number_at w16)) MayFail (held self.old) (held self.new) }
+        ensures keeps { Keeps (held self.old) (held self.new) }
+    {
+        called(name, self.number16())
+    }
+
+    /// Reads a number of 32 bits, the field of this name.
+    #[inline(always)]
+    final fn field32(&mut self, name: FieldName) -> Result<u32, FileFault>
+        ensures read { Follows (λ number. number) result (called name (number_at w32)) MayFail (held self.old) (held self.new) }
+        ensures keeps { Keeps (held self.old) (held self.new) }
+    {
+        called(name, self.number32())
+    }
+
+    /// Reads a number of 32 bits with a sign, in two's complement, the field of this name.
+    #[inline(always)]
+    final fn signed_field32(&mut self, name: FieldName) -> Result<i32, FileFault>
+        ensures read { Follows (λ number. number) result (called name (signed_at w32)) MayFail (held self.old) (held self.new) }
+        ensures keeps { Keeps (held self.old) (held self.new) }
+        ensures within { TakesTo ((held self.old).place + 4) (held self.old) (held self.new) }
+    {
+        called(name, self.signed32())
+    }
+
+    /// Reads octets after their number of 16 bits, the field of this name.
+    final fn counted_field16(
+        &mut self,
+        alloc: Global,
+        name: FieldName,
+        octets: &mut Vec<u8>,
+    ) -> Result<(), FileFault>
+        ensures read { Follows (λ _. octets.new.items) result (called name (counted_at w16)) MayFail (held self.old) (held self.new) }
+        ensures keeps { Keeps (held self.old) (held self.new) }
+    {
+        called(name, self.counted16(alloc, octets))
+    }
+
+    /// Reads octets after their number of 32 bits, the field of this name.
+    final fn counted_field32(
+        &mut self,
+        alloc: Global,
+        name: FieldName,
+        octets: &mut Vec<u8>,
+    ) -> Result<(), FileFault>
+        ensures read { Follows (λ _. octets.new.items) result (called name (counted_at w32)) MayFail (held self.old) (held self.new) }
+        ensures keeps { Keeps (held self.old) (held self.new) }
+    {
+        called(name, self.counted32(alloc, octets))
+    }
+
+    /// Reads what is left of the entry, the field of this name.
+    final fn rest_field(
+        &mut self,
+        alloc: Global,
+        name: FieldName,
+        octets: &mut Vec<u8>,
+    ) -> Result<(), FileFault>
+        ensures read { Follows (λ _. octets.new.items) result (called name rest_at) MayFail (held self.old) (held self.new) }
+        ensures keeps { Keeps (held self.old) (held self.new) }
+    {
+        called(name, self.rest(alloc, octets))
+    }
+
+    /// Skips the field of this name, of `size` octets, as [`skip`](FieldReader::skip) does.
+    final fn skip_field(&mut self, name: FieldName, size: u64) -> Result<bool, FileFault>
+        ensures read { Follows (λ zeros. zeros) result (called name (skipped_at size)) MayFail (held self.old) (held self.new) }
+        ensures keeps { Keeps (held self.old) (held self.new) }
+        ensures within { TakesTo ((held self.old).place + size) (held self.old) (held self.new) }
+    {
+        called(name, self.skip(size))
+    }
+
     /// Reads the number of the components of a principal, its realm and its components, with each
     /// number in 16 bits.
     final fn names16(
@@ -169,8 +255,8 @@ pub trait FieldReader {
         ensures read { Follows (λ _. record { realm = realm.new.items; components = components.new.items }) result (names_at w16) MayFail (held self.old) (held self.new) }
         ensures keeps { Keeps (held self.old) (held self.new) }
     {
-        let count = self.number16()?;
-        self.counted16(alloc, realm)?;
+        let count = self.field16(FieldName::ComponentCount)?;
+        self.counted_field16(alloc, FieldName::Realm, realm)?;
         read_many::<String16, Self>(alloc, u32::from(count), self, components)
     }
 
@@ -186,8 +272,8 @@ pub trait FieldReader {
         ensures read { Follows (λ _. record { realm = realm.new.items; components = components.new.items }) result (names_at w32) MayFail (held self.old) (held self.new) }
         ensures keeps { Keeps (held self.old) (held self.new) }
     {
-        let count = self.number32()?;
-        self.counted32(alloc, realm)?;
+        let count = self.field32(FieldName::ComponentCount)?;
+        self.counted_field32(alloc, FieldName::Realm, realm)?;
         read_many::<String32, Self>(alloc, count, self, components)
     }
 
@@ -202,8 +288,26 @@ pub trait FieldReader {
         if is_one_of(octet, wanted) {
             Ok(octet)
         } else {
-            Err(FileFault::Refused { place, why })
+            Err(FileFault::Refused {
+                place,
+                why,
+                field: None,
+            })
         }
+    }
+
+    /// Reads the field of this name as [`expect`](FieldReader::expect) reads an octet.
+    final fn expect_field(
+        &mut self,
+        name: FieldName,
+        wanted: &[u8],
+        why: FileWhy,
+    ) -> Result<u8, FileFault>
+        ensures read { Follows (λ octet. octet) result (called name (expect wanted.now why)) MayFail (held self.old) (held self.new) }
+        ensures keeps { Keeps (held self.old) (held self.new) }
+        ensures within { TakesTo ((held self.old).place + 1) (held self.old) (held self.new) }
+    {
+        called(name, self.expect(wanted, why))
     }
 
     /// Reads the first two octets of a file, which are 05 and one of `versions`, and returns the
@@ -213,8 +317,8 @@ pub trait FieldReader {
         ensures keeps { Keeps (held self.old) (held self.new) }
         ensures within { TakesTo ((held self.old).place + 2) (held self.old) (held self.new) }
     {
-        self.expect(&[5], FileWhy::Magic)?;
-        self.expect(versions, FileWhy::Version)
+        self.expect_field(FieldName::Magic, &[5], FileWhy::Magic)?;
+        self.expect_field(FieldName::Version, versions, FileWhy::Version)
     }
 }
 
@@ -230,41 +334,53 @@ pub trait Field {
     /// The type of what is read.
     type Value: Drop;
 
-    /// How it is read from octets.
-    ghost reads: { Reader Self.Value };
+    /// How the one after so many others is read from octets.
+    ghost reads: { ℕ → Reader Self.Value };
 
-    /// Reads it. Octets that are kept are copied once.
-    fn read<F: FieldReader>(alloc: Global, reader: &mut F) -> Result<Self::Value, FileFault>
-        ensures read { Follows (λ value. value) result reads F.MayFail (F.held reader.old) (F.held reader.new) }
+    /// Reads the one after `index` others. Octets that are kept are copied once.
+    fn read<F: FieldReader>(
+        alloc: Global,
+        index: u32,
+        reader: &mut F,
+    ) -> Result<Self::Value, FileFault>
+        ensures read { Follows (λ value. value) result (reads index) F.MayFail (F.held reader.old) (F.held reader.new) }
         ensures keeps { Keeps (F.held reader.old) (F.held reader.new) };
 }
 
-/// A string after the number of its octets in 16 bits.
+/// A component of a principal: a string after the number of its octets in 16 bits.
 pub struct String16;
 
 impl Field for String16 {
     type Value = KString;
 
-    ghost reads = { counted_at w16 };
+    ghost reads = { component_at w16 };
 
-    fn read<F: FieldReader>(alloc: Global, reader: &mut F) -> Result<KString, FileFault> {
+    fn read<F: FieldReader>(
+        alloc: Global,
+        index: u32,
+        reader: &mut F,
+    ) -> Result<KString, FileFault> {
         let mut octets = reader.room(alloc);
-        reader.counted16(alloc, &mut octets)?;
+        reader.counted_field16(alloc, FieldName::Component(index), &mut octets)?;
         Ok(KString::new(octets))
     }
 }
 
-/// A string after the number of its octets in 32 bits.
+/// A component of a principal: a string after the number of its octets in 32 bits.
 pub struct String32;
 
 impl Field for String32 {
     type Value = KString;
 
-    ghost reads = { counted_at w32 };
+    ghost reads = { component_at w32 };
 
-    fn read<F: FieldReader>(alloc: Global, reader: &mut F) -> Result<KString, FileFault> {
+    fn read<F: FieldReader>(
+        alloc: Global,
+        index: u32,
+        reader: &mut F,
+    ) -> Result<KString, FileFault> {
         let mut octets = reader.room(alloc);
-        reader.counted32(alloc, &mut octets)?;
+        reader.counted_field32(alloc, FieldName::Component(index), &mut octets)?;
         Ok(KString::new(octets))
     }
 }
@@ -281,8 +397,8 @@ pub fn read_many<K: Field, F: FieldReader>(
     ensures read { Follows (λ _. values.new.items) result (times count K.reads) F.MayFail (F.held reader.old) (F.held reader.new) }
     ensures keeps { Keeps (F.held reader.old) (F.held reader.new) }
 {
-    for _ in 0..count {
-        values.push(K::read(alloc, reader)?)?;
+    'items: for index in 0..count {
+        values.push(K::read(alloc, index, reader)?)?;
     }
     Ok(())
 }

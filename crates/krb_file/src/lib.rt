@@ -21,13 +21,15 @@
 mod ahead;
 mod fault;
 mod field_limit;
+mod field_name;
 mod field_reader;
 mod part;
 mod slice_reader;
 mod stream_reader;
 
-pub use fault::{FileFault, FileWhy, file_why_number, file_why_text};
+pub use fault::{FileFault, FileWhy, file_why_number, file_why_text, in_part};
 pub use field_limit::FieldLimit;
+pub use field_name::{FieldName, FileField, FilePart};
 pub use field_reader::{Field, FieldReader, String16, String32, read_many};
 pub use part::{
     Count16, Count32, Counted16, Counted32, Each, GREATEST_FILE, Listed, Measured, Part, Plain,

@@ -58,12 +58,14 @@ impl<'a> SliceReader<'a> {
             return Err(FileFault::Refused {
                 place,
                 why: FileWhy::Overrun,
+                field: None,
             });
         }
         if (self.octets.len() as u64) < size {
             return Err(FileFault::Refused {
                 place,
                 why: FileWhy::Truncated,
+                field: None,
             });
         }
         let (taken, left) = self.octets.split_at(size as usize);

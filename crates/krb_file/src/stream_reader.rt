@@ -183,6 +183,7 @@ impl<R: Read> StreamReader<R> {
                 return Err(FileFault::Refused {
                     place: start,
                     why: FileWhy::Truncated,
+                    field: None,
                 });
             }
             filled += count;
@@ -259,12 +260,14 @@ impl<R: Read> StreamReader<R> {
             return Err(FileFault::Refused {
                 place,
                 why: FileWhy::Overrun,
+                field: None,
             });
         }
         if is_longer(size, most) {
             return Err(FileFault::Refused {
                 place,
                 why: FileWhy::TooLong,
+                field: None,
             });
         }
         Ok(())

@@ -25,4 +25,4 @@ pub refused : (file : List ℕ) (answer : Answer) → Gives (λ taken. taken) an
 refused file (Ok taken) gives = tt
 refused file (Err faults.Memory) gives = tt
 refused file (Err faults.Read) gives = absurd gives
-refused file (Err (faults.Refused place why)) gives = read-fault file (record { place = place; why = why }) gives
+refused file (Err (faults.Refused place why field)) gives = read-fault file (record { place = place; why = why; field = field }) gives

@@ -7,8 +7,9 @@ use Rattle.std.specs.Int.RustNames.{FitsSigned}
 use lib.IntN.{nat_abs}
 use lib.Signed.{lt_z}
 use mir.Val.{to_z, of_z}
-use Rattle.krb_file.specs.Fields.{Source, Fault, Bounds, onward, next_octets_at, are_zero}
+use Rattle.krb_file.specs.Fields.{Source, Fault, Bounds, onward, named, refused_at, next_octets_at, are_zero}
 use Rattle.krb_file.specs.FieldReaders.{Held, source_at, HasRead, skipped_at}
+use Rattle.krb_file.specs.declared.field_name.FieldName.TheVariants as fields
 use Rattle.krb_file.proofs.Fields.{done, ok_is, onward-ok}
 use Rattle.krb_keytab.specs.declared.value.Record.TheVariants as records
 use Rattle.krb_keytab.specs.declared.reading.Next.{Next}
@@ -22,7 +23,7 @@ hole size clean = nexts.Item (records.Hole (record { size = size; clean = clean 
 passed : (n : ℕ) (b : Bounds) (s t : Source) (clean : Bool) → skipped_at (suc n) b s ≡ Ok (clean, t) → record_of (negsuc n) b s ≡ Ok (hole (suc n) clean, t)
 passed n b s t clean e =
     let a = onward-ok (next_octets_at None (suc n) b s) (λ p. done (are_zero p.0, p.1)) (clean, t) e in
-    ap (λ (r : Result (List ℕ × Source) Fault). onward r (λ p. done (hole (suc n) (are_zero p.0), p.1))) a.1
+    ap (λ (r : Result (List ℕ × Source) Fault). onward (refused_at (named fields.Hole) r) (λ p. done (hole (suc n) (are_zero p.0), p.1))) a.1
     ∙ ap (λ (p : Bool × Source). done (hole (suc n) p.0, p.1)) (ok_is (are_zero a.0.0, a.0.1) (clean, t) a.2)
 
 negative : (n : ℕ) (clean : Bool) (s t : Held) → HasRead (skipped_at (suc n)) clean s t → HasRead (record_of (negsuc n)) (hole (suc n) clean) s t

@@ -36,8 +36,8 @@ is_done front s t stop total e so_far =
 pub ends : (e : FileFault) (front : List Record) (s : Source) (total : Items) → Fails e (record_at (limited None) s) → before front (items_after None s) ≡ total → Fails e (keytab_of_items total)
 ends faults.Memory front s total h so_far = tt
 ends faults.Read front s total h so_far = absurd h
-ends (faults.Refused place why) front s total h so_far =
-    let fault : Fault = record { place = place; why = why } in
+ends (faults.Refused place why field) front s total h so_far =
+    let fault : Fault = record { place = place; why = why; field = field } in
     ap keytab_of_items (sym so_far ∙ ap (before front) (after-fault None s fault h))
 
 pub shorter : (s t : Source) (r : Record) → record_at (limited None) s ≡ Ok (nexts.Item r, t) → length t.octets < length s.octets

@@ -6,11 +6,12 @@ use lib.IntN.{nat_abs}
 use mir.Val.{to_z, of_z}
 use Rattle.std.specs.Prelude.{OnErr}
 use Rattle.std.specs.Int.{w8, w16, w32}
-use Rattle.krb_file.specs.Fields.{Source, Fault, Bounds, gives, is_empty, number_at, signed_at, counted_at, names_at, rest_at, within, version_at}
+use Rattle.krb_file.specs.Fields.{Source, Fault, Bounds, gives, called, is_empty, number_at, signed_at, counted_at, names_at, rest_at, within, version_at}
 use Rattle.krb_file.specs.FieldReaders.{Held, source_at, reach, TakesTo, KeepsTo, Stays, LooksTo, HasRead, ended_at}
 use Rattle.krb_file.proofs.FieldReaders.{some_rest, Stays-then}
+use Rattle.krb_file.specs.declared.field_name.FieldName.TheVariants as fields
 use Rattle.krb_file.proofs.Fields.{ok_is}
-use Rattle.krb_file.proofs.Reaching.{ToEnd, ToEnd-then, ToEnd-made, ToEnd-rest, AtLeast-within, AtLeast-signed, Exactly-signed, Exactly-version, goes_on, goes_to, keeps_least, keeps_then, looked, item_stays}
+use Rattle.krb_file.proofs.Reaching.{ToEnd, ToEnd-then, ToEnd-made, ToEnd-called, ToEnd-rest, AtLeast-within, AtLeast-signed, Exactly-signed, Exactly-version, goes_on, goes_to, keeps_least, keeps_then, looked, item_stays}
 use Rattle.krb_keytab.specs.declared.value.Entry.{Entry}
 use Rattle.krb_keytab.specs.Reading.{entry_at, content_size, announced_by, announced}
 use Rattle.krb_keytab.specs.Streaming.{announced_after, announced_in}
@@ -19,12 +20,12 @@ use Rattle.krb_keytab.specs.declared.records.State.TheVariants as states
 ToEnd-entry : ToEnd entry_at
 ToEnd-entry =
     ToEnd-then (names_at w16) _ (λ names.
-    ToEnd-then (signed_at w32) _ (λ name_type.
-    ToEnd-then (number_at w32) _ (λ time.
-    ToEnd-then (number_at w8) _ (λ vno8.
-    ToEnd-then (number_at w16) _ (λ enctype.
-    ToEnd-then (counted_at w16) _ (λ key.
-    ToEnd-made rest_at (λ rest. record { realm = names.realm; components = names.components; name_type = name_type; time = time; vno8 = vno8; enctype = enctype; key = key; rest = rest }) ToEnd-rest))))))
+    ToEnd-then (called fields.NameType (signed_at w32)) _ (λ name_type.
+    ToEnd-then (called fields.Timestamp (number_at w32)) _ (λ time.
+    ToEnd-then (called fields.KeyVersion (number_at w8)) _ (λ vno8.
+    ToEnd-then (called fields.Enctype (number_at w16)) _ (λ enctype.
+    ToEnd-then (called fields.Key (counted_at w16)) _ (λ key.
+    ToEnd-made (called fields.Rest rest_at) (λ rest. record { realm = names.realm; components = names.components; name_type = name_type; time = time; vno8 = vno8; enctype = enctype; key = key; rest = rest }) (ToEnd-called fields.Rest rest_at ToEnd-rest)))))))
 
 pub entry_stays : (size told : ℕ) (entry : Entry) (old mid new : Held) → told ≡ size → LooksTo told old mid → HasRead (within size entry_at) entry mid new → Stays mid new → Stays old new
 entry_stays size told entry old mid new same looks read stays =

@@ -4,8 +4,9 @@ use Rattle.std.proofs.lemmas.List.{nil_from_length}
 use Rattle.std.specs.Int.{w32}
 use Rattle.std.specs.Int.RustNames.{FitsSigned}
 use Rattle.krb_der.specs.Octets.{AreOctets}
-use Rattle.krb_file.specs.Fields.{signed, Source, Fault, limited, onward, next_octets_at, signed_at, within, are_zero}
-use Rattle.krb_file.proofs.Fields.{at, done, ok_is, onward-ok, Inside, Took, Took-then, Took-none, piece-ok, piece-took, piece-again, Reads-signed}
+use Rattle.krb_file.specs.Fields.{signed, Source, Fault, limited, onward, named, refused_at, called, next_octets_at, signed_at, within, are_zero}
+use Rattle.krb_file.specs.declared.field_name.FieldName.TheVariants as fields
+use Rattle.krb_file.proofs.Fields.{refused_at-ok, at, done, ok_is, onward-ok, Inside, Took, Took-then, Took-none, piece-ok, piece-took, piece-again, Reads-signed}
 use Rattle.krb_keytab.specs.declared.value.Record.{Record}
 use Rattle.krb_keytab.specs.declared.value.Record.TheVariants as records
 use Rattle.krb_keytab.specs.declared.reading.Next.{Next}
@@ -41,8 +42,8 @@ record_of-sound (pos (suc n)) limit s u t x front z e =
     subst (λ (p : Next × Source). RecordRead limit s p.1 p.0) (ok_is (nexts.Item (records.Entry a.0.0), a.0.1) (x, t) a.2) (signed w32 (pos (suc n)) ++ entry a.0.0, (r.fits short, spelled), both, omega arith)
 record_of-sound (negsuc n) limit s u t x front z e =
     let hole = λ (octets : List ℕ). let it : HoleModel = record { size = suc n; clean = are_zero octets } in it in
-    let a = onward-ok (next_octets_at None (suc n) (limited limit) u) (λ p. done (nexts.Item (records.Hole (hole p.0)), p.1)) (x, t) e in
-    let p = piece-took None (suc n) (limited limit) u a.0.1 a.0.0 front.fits (piece-ok None (suc n) (limited limit) u a.0.1 a.0.0 a.1) in
+    let a = onward-ok (called fields.Hole (next_octets_at None (suc n)) (limited limit) u) (λ p. done (nexts.Item (records.Hole (hole p.0)), p.1)) (x, t) e in
+    let p = piece-took None (suc n) (limited limit) u a.0.1 a.0.0 front.fits (piece-ok None (suc n) (limited limit) u a.0.1 a.0.0 (refused_at-ok (named fields.Hole) (next_octets_at None (suc n) (limited limit) u) a.0 a.1)) in
     let small : n < 2 ^ 31 = z.sfits in
     let both = Took-then (limited limit) (signed w32 (negsuc n)) a.0.0 s u a.0.1 front p.0 in
     let is : IsHole (hole a.0.0) a.0.0 = record { room = (omega arith, omega (arith, small)); are_octets = p.2; size = p.1; clean = refl } in
@@ -53,14 +54,14 @@ record-sound limit place [] t x fits e =
     subst (λ (p : Next × Source). RecordRead limit (at place []) p.1 p.0) (ok_is (nexts.Done stops.File, at place []) (x, t) e) (Took-none (limited limit) (at place []) fits (inside_file limit place), λ h. refl)
 record-sound limit place (octet ∷ octets) t x fits e =
     let s = at place (octet ∷ octets) in
-    let a = onward-ok (signed_at w32 (limited limit) s) (λ p. record_of p.0 (limited limit) p.1) (x, t) e in
-    let z = Reads-signed.sound (limited limit) s a.0.1 a.0.0 fits (inside_file limit place) a.1 in
+    let a = onward-ok (called fields.Length (signed_at w32) (limited limit) s) (λ p. record_of p.0 (limited limit) p.1) (x, t) e in
+    let z = Reads-signed.sound (limited limit) s a.0.1 a.0.0 fits (inside_file limit place) (refused_at-ok (named fields.Length) (signed_at w32 (limited limit) s) a.0 a.1) in
     record_of-sound a.0.0 limit s a.0.1 t x z.0 z.1 a.2
 
 -- a record's length, and then what it leads to
 length-again : (z : ℤ) (place : ℕ) (octets : List ℕ) → FitsSigned w32 z → record_at (limited None) (at place (signed w32 z ++ octets)) ≡ record_of z (limited None) (at (place + 4) octets)
 length-again z place octets fits =
-    ap (λ (r : Result (ℤ × Source) Fault). onward r (λ p. record_of p.0 (limited None) p.1)) (Reads-signed.again (limited None) place octets z fits refl (inside_file None (place + 4)))
+    ap (λ (r : Result (ℤ × Source) Fault). onward (refused_at (named fields.Length) r) (λ p. record_of p.0 (limited None) p.1)) (Reads-signed.again (limited None) place octets z fits refl (inside_file None (place + 4)))
 
 pub record-again : (r : Record) (b : List ℕ) (place : ℕ) (rest : List ℕ) → RecordSpells r b → record_at (limited None) (at place (b ++ rest)) ≡ Ok (nexts.Item r, at (place + length b) rest)
 record-again (records.Entry e) b place rest spelled =
@@ -86,7 +87,7 @@ record-again (records.Hole h) b place rest spelled = go h.size spelled.0 spelled
         ap (λ (x : List ℕ). record_at (limited None) (at place (x ++ rest))) spelled
         ∙ ap (λ (x : List ℕ). record_at (limited None) (at place x)) (append_assoc (signed w32 z) octets rest)
         ∙ length-again z place (octets ++ rest) fits
-        ∙ ap (λ (r : Result (List ℕ × Source) Fault). onward r (λ p. done (nexts.Item (records.Hole (made (suc n) (are_zero p.0))), p.1))) piece
+        ∙ ap (λ (r : Result (List ℕ × Source) Fault). onward (refused_at (named fields.Hole) r) (λ p. done (nexts.Item (records.Hole (made (suc n) (are_zero p.0))), p.1))) piece
         ∙ ap (λ (h : HoleModel). done (nexts.Item (records.Hole h), at ((place + 4) + length octets) rest)) same
         ∙ ap (λ (k : ℕ). done (nexts.Item (records.Hole h), at k rest)) (omega (arith, ap length spelled, length-append (signed w32 z) octets))
 

@@ -95,8 +95,8 @@ ends_so limit file count fault given left counted is whole =
 pub fault_given : (limit : Option ℕ) (file : List ℕ) (count : ℕ) (e : FileFault) (MayFail : Type 0) (state : State) (old new : Held) → Reads limit old states.Open file count → FailsBy e record_at MayFail old → GivesNext limit file count (Err e) new state
 fault_given limit file count faults.Read MayFail state old new reads fails = tt
 fault_given limit file count faults.Memory MayFail state old new reads fails = tt
-fault_given limit file count (faults.Refused place why) MayFail state old new reads fails =
-    let fault : Fault = record { place = place; why = why } in
+fault_given limit file count (faults.Refused place why field) MayFail state old new reads fails =
+    let fault : Fault = record { place = place; why = why; field = field } in
     let b = reads.rest fails.octets fails.there in
     let e : record_at (limited limit) (source_at old.place fails.octets) ≡ Err fault = subst (λ (k : Bounds). record_at k (source_at old.place fails.octets) ≡ Err fault) reads.bounds fails.refused in
     ends_so limit file count fault reads.given b.0 reads.counted (b.1 ∙ after-fault limit (source_at old.place fails.octets) fault e) b.2
@@ -104,8 +104,8 @@ fault_given limit file count (faults.Refused place why) MayFail state old new re
 pub version_refused : (limit : Option ℕ) (file : List ℕ) (count : ℕ) (e : FileFault) (MayFail : Type 0) (state : State) (old new : Held) → Reads limit old states.Start file count → FailsBy e (version_at (2 ∷ [])) MayFail old → GivesNext limit file count (Err e) new state
 version_refused limit file count faults.Read MayFail state old new reads fails = tt
 version_refused limit file count faults.Memory MayFail state old new reads fails = tt
-version_refused limit file count (faults.Refused place why) MayFail state old new reads fails =
-    let fault : Fault = record { place = place; why = why } in
+version_refused limit file count (faults.Refused place why field) MayFail state old new reads fails =
+    let fault : Fault = record { place = place; why = why; field = field } in
     let b = reads.rest fails.octets fails.there in
     let e : version_at (2 ∷ []) (limited limit) (source_at old.place fails.octets) ≡ Err fault = subst (λ (k : Bounds). version_at (2 ∷ []) k (source_at old.place fails.octets) ≡ Err fault) reads.bounds fails.refused in
     ends_so limit file count fault reads.given b.0 reads.counted (b.1 ∙ ap (λ (r : Result (ℕ × Source) Fault). opened r (items_after limit)) e) b.2
@@ -121,4 +121,4 @@ pub stands_in : (limit : Option ℕ) (file : List ℕ) (count : ℕ) (given : Re
 stands_in limit file count (Ok answered) held state answer = tt
 stands_in limit file count (Err faults.Read) held state answer = tt
 stands_in limit file count (Err faults.Memory) held state answer = tt
-stands_in limit file count (Err (faults.Refused place why)) held state answer = let p = items-fault limit file (record { place = place; why = why }) answer.is in omega (arith, p.upto)
+stands_in limit file count (Err (faults.Refused place why field)) held state answer = let p = items-fault limit file (record { place = place; why = why; field = field }) answer.is in omega (arith, p.upto)

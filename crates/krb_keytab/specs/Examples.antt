@@ -3,7 +3,10 @@ use Rattle.std.specs.Prelude.{ℕ, zero, suc, pos, ◌≡◌, Bool, true, false,
 use Rattle.krb_der.specs.Octets.{when}
 use Rattle.krb_der.specs.Hex.{hex}
 use Rattle.krb_file.specs.Fields.{Fault}
+use Rattle.krb_file.specs.declared.fault.FileWhy.{FileWhy}
 use Rattle.krb_file.specs.declared.fault.FileWhy.TheVariants as why
+use Rattle.krb_file.specs.declared.field_name.FieldName.{FieldName}
+use Rattle.krb_file.specs.declared.field_name.FieldName.TheVariants as fields
 use Rattle.krb_keytab.specs.declared.value.Keytab.{Keytab}
 use Rattle.krb_keytab.specs.declared.value.Entry.{Entry}
 use Rattle.krb_keytab.specs.declared.value.Record.TheVariants as records
@@ -73,54 +76,57 @@ hole_dirty : write_fault (record { records = records.Entry entry ∷ records.Hol
 hole_dirty = refl
 
 -- ---- faults
-no_octet : read ([]) ≡ Err (record { place = 0; why = why.Truncated })
+abbrev fault : ℕ → FileWhy → FieldName → Fault
+fault place reason name = record { place = place; why = reason; field = Some (record { part = None; name = name }) }
+
+no_octet : read ([]) ≡ Err (fault 0 why.Truncated fields.Magic)
 no_octet = refl
 
-one_octet : read (hex (codes "05")) ≡ Err (record { place = 1; why = why.Truncated })
+one_octet : read (hex (codes "05")) ≡ Err (fault 1 why.Truncated fields.Version)
 one_octet = refl
 
-not_five : read (hex (codes "0601")) ≡ Err (record { place = 0; why = why.Magic })
+not_five : read (hex (codes "0601")) ≡ Err (fault 0 why.Magic fields.Magic)
 not_five = refl
 
-not_five_alone : read (hex (codes "06")) ≡ Err (record { place = 0; why = why.Magic })
+not_five_alone : read (hex (codes "06")) ≡ Err (fault 0 why.Magic fields.Magic)
 not_five_alone = refl
 
-other_version : read (hex (codes "0501")) ≡ Err (record { place = 1; why = why.Version })
+other_version : read (hex (codes "0501")) ≡ Err (fault 1 why.Version fields.Version)
 other_version = refl
 
-length_cut : read (hex (codes "0502 0000")) ≡ Err (record { place = 2; why = why.Truncated })
+length_cut : read (hex (codes "0502 0000")) ≡ Err (fault 2 why.Truncated fields.Length)
 length_cut = refl
 
-count_overruns : read (hex (codes "0502 00000001 00")) ≡ Err (record { place = 6; why = why.Overrun })
+count_overruns : read (hex (codes "0502 00000001 00")) ≡ Err (fault 6 why.Overrun fields.ComponentCount)
 count_overruns = refl
 
-realm_overruns : read (hex (codes "0502 00000003 0001 00")) ≡ Err (record { place = 8; why = why.Overrun })
+realm_overruns : read (hex (codes "0502 00000003 0001 00")) ≡ Err (fault 8 why.Overrun fields.Realm)
 realm_overruns = refl
 
-component_overruns_at_the_end : read (hex (codes "0502 00000004 0001 0000")) ≡ Err (record { place = 10; why = why.Overrun })
+component_overruns_at_the_end : read (hex (codes "0502 00000004 0001 0000")) ≡ Err (fault 10 why.Overrun (fields.Component 0))
 component_overruns_at_the_end = refl
 
-realm_cut : read (hex (codes "0502 0000001B 0001 0003 41")) ≡ Err (record { place = 10; why = why.Truncated })
+realm_cut : read (hex (codes "0502 0000001B 0001 0003 41")) ≡ Err (fault 10 why.Truncated fields.Realm)
 realm_cut = refl
 
-hole_cut : read (hex (codes "0502 80000000")) ≡ Err (record { place = 6; why = why.Truncated })
+hole_cut : read (hex (codes "0502 80000000")) ≡ Err (fault 6 why.Truncated fields.Hole)
 hole_cut = refl
 
 -- ---- a limit on fields of octets
-limit_1 : items (Some 1) keytab_octets ≡ record { records = []; end = Err (record { place = 27; why = why.TooLong }) }
+limit_1 : items (Some 1) keytab_octets ≡ record { records = []; end = Err (fault 27 why.TooLong fields.Key) }
 limit_1 = refl
 
-limit_2 : items (Some 2) keytab_octets ≡ record { records = []; end = Err (record { place = 29; why = why.TooLong }) }
+limit_2 : items (Some 2) keytab_octets ≡ record { records = []; end = Err (fault 29 why.TooLong fields.Rest) }
 limit_2 = refl
 
 limit_4 : items (Some 4) keytab_octets ≡ record { records = keytab.records; end = Ok (stops.Zero, 49) }
 limit_4 = refl
 
-too_long_before_truncated : items (Some 1) (hex (codes "0502 0000001B 0001 0003 41")) ≡ record { records = []; end = Err (record { place = 10; why = why.TooLong }) }
+too_long_before_truncated : items (Some 1) (hex (codes "0502 0000001B 0001 0003 41")) ≡ record { records = []; end = Err (fault 10 why.TooLong fields.Realm) }
 too_long_before_truncated = refl
 
-overrun_before_too_long : items (Some 1) (hex (codes "0502 00000005 0001 0003 41")) ≡ record { records = []; end = Err (record { place = 10; why = why.Overrun }) }
+overrun_before_too_long : items (Some 1) (hex (codes "0502 00000005 0001 0003 41")) ≡ record { records = []; end = Err (fault 10 why.Overrun fields.Realm) }
 overrun_before_too_long = refl
 
-cut_in_a_hole : items (Some 16777216) (take 40 keytab_octets) ≡ record { records = records.Entry entry ∷ []; end = Err (record { place = 37; why = why.Truncated }) }
+cut_in_a_hole : items (Some 16777216) (take 40 keytab_octets) ≡ record { records = records.Entry entry ∷ []; end = Err (fault 37 why.Truncated fields.Hole) }
 cut_in_a_hole = refl

@@ -4,4 +4,5 @@ pub mod Reading
 pub mod Writing
 pub mod Examples
 pub mod Laws
+pub mod Paths
 pub mod Streaming

@@ -2,7 +2,8 @@
 use Rattle.std.specs.Prelude.{ℕ, zero, suc, ◌+◌, ℤ, pos, negsuc, List, [], ◌∷◌, length, Option, None, Result, Ok, Err}
 use Rattle.std.specs.Int.{w8, w16, w32}
 use Rattle.krb_der.specs.Octets.{when}
-use Rattle.krb_file.specs.Fields.{Source, source_of, Fault, Bounds, limited, Reader, ◌>>=◌, gives, next_octets_at, rest_at, is_empty, number_at, signed_at, counted_at, names_at, within, version_at, are_zero}
+use Rattle.krb_file.specs.Fields.{Source, source_of, Fault, Bounds, limited, Reader, ◌>>=◌, gives, called, next_octets_at, rest_at, is_empty, number_at, signed_at, counted_at, names_at, within, version_at, are_zero}
+use Rattle.krb_file.specs.declared.field_name.FieldName.TheVariants as fields
 use Rattle.krb_keytab.specs.declared.value.Keytab.{Keytab}
 use Rattle.krb_keytab.specs.declared.value.Record.{Record}
 use Rattle.krb_keytab.specs.declared.value.Record.TheVariants as records
@@ -17,12 +18,12 @@ use Rattle.krb_keytab.specs.declared.value.Entry.{Entry}
 abbrev pub entry_at : Reader Entry
 entry_at = do
   names ← names_at w16
-  name_type ← signed_at w32
-  time ← number_at w32
-  vno8 ← number_at w8
-  enctype ← number_at w16
-  key ← counted_at w16
-  rest ← rest_at
+  name_type ← called fields.NameType (signed_at w32)
+  time ← called fields.Timestamp (number_at w32)
+  vno8 ← called fields.KeyVersion (number_at w8)
+  enctype ← called fields.Enctype (number_at w16)
+  key ← called fields.Key (counted_at w16)
+  rest ← called fields.Rest rest_at
   gives (record { realm = names.realm; components = names.components; name_type = name_type; time = time; vno8 = vno8; enctype = enctype; key = key; rest = rest })
 
 -- after a record's length: zero is the stop, an entry has n octets, a hole the negated number
@@ -32,13 +33,13 @@ record_of (pos (suc n)) = do
   entry ← within (suc n) entry_at
   gives (nexts.Item (records.Entry entry))
 record_of (negsuc n) = do
-  octets ← next_octets_at None (suc n)
+  octets ← called fields.Hole (next_octets_at None (suc n))
   gives (nexts.Item (records.Hole (record { size = suc n; clean = are_zero octets })))
 
 -- the next record, or the stop
 abbrev pub record_at : Reader Next
 record_at bounds source =
-    when (is_empty source.octets) (λ _. Ok (nexts.Done stops.File, source)) (λ _. (signed_at w32 >>= record_of) bounds source)
+    when (is_empty source.octets) (λ _. Ok (nexts.Done stops.File, source)) (λ _. (called fields.Length (signed_at w32) >>= record_of) bounds source)
 
 -- ---- how many octets a record announces
 

@@ -57,6 +57,6 @@ pub record EndsBy (items : Items) (count : ℕ) (end : Result (Stop × ℕ) Faul
 abbrev pub GivesNext : Option ℕ → List ℕ → ℕ → Result Next FileFault → Held → State → Type 0
 GivesNext limit file count (Ok (nexts.Item item)) held state = IsItem (items limit file) count item × Reads limit held state file (suc count)
 GivesNext limit file count (Ok (nexts.Done stop)) held state = EndsBy (items limit file) count (Ok (stop, held.place))
-GivesNext limit file count (Err (faults.Refused place why)) held state = EndsBy (items limit file) count (Err (record { place = place; why = why }))
+GivesNext limit file count (Err (faults.Refused place why field)) held state = EndsBy (items limit file) count (Err (record { place = place; why = why; field = field }))
 GivesNext limit file count (Err faults.Read) held state = Unit {0}
 GivesNext limit file count (Err faults.Memory) held state = Unit {0}

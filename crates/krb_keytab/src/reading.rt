@@ -10,7 +10,7 @@ ghost use Rattle.krb_keytab.specs.Reading.{entry_at, content_size, announced, re
 
 use crate::value::{Entry, Hole, Keytab, Record, Stop};
 use krb_der::{KString, Many, Octets};
-use krb_file::{FieldReader, FileFault, SliceReader};
+use krb_file::{FieldName, FieldReader, FileFault, SliceReader};
 use std::alloc::Global;
 
 /// The next record of a keytab, or how its records end.
@@ -31,14 +31,14 @@ fn entry<F: FieldReader>(alloc: Global, reader: &mut F) -> Result<Entry, FileFau
     let mut realm = reader.room(alloc);
     let mut components = reader.list(alloc);
     reader.names16(alloc, &mut realm, &mut components)?;
-    let name_type = reader.signed32()?;
-    let time = reader.number32()?;
-    let vno8 = reader.number8()?;
-    let enctype = reader.number16()?;
+    let name_type = reader.signed_field32(FieldName::NameType)?;
+    let time = reader.field32(FieldName::Timestamp)?;
+    let vno8 = reader.field8(FieldName::KeyVersion)?;
+    let enctype = reader.field16(FieldName::Enctype)?;
     let mut key = reader.room(alloc);
-    reader.counted16(alloc, &mut key)?;
+    reader.counted_field16(alloc, FieldName::Key, &mut key)?;
     let mut rest = reader.room(alloc);
-    reader.rest(alloc, &mut rest)?;
+    reader.rest_field(alloc, FieldName::Rest, &mut rest)?;
     Ok(Entry {
         realm: KString::new(realm),
         components: Many::new(components),
@@ -87,7 +87,7 @@ fn record_after<F: FieldReader>(
         let entry = entry_within(alloc, size, reader)?;
         Ok(Next::Item(Record::Entry(entry)))
     } else {
-        let clean = reader.skip(u64::from(size))?;
+        let clean = reader.skip_field(FieldName::Hole, u64::from(size))?;
         Ok(Next::Item(Record::Hole(Hole::of(size, clean))))
     }
 }
@@ -105,7 +105,7 @@ pub(crate) fn record<F: FieldReader>(alloc: Global, reader: &mut F) -> Result<Ne
     if reader.is_empty()? {
         return Ok(Next::Done(Stop::File));
     }
-    let length = reader.signed32()?;
+    let length = reader.signed_field32(FieldName::Length)?;
     record_after(alloc, length, reader)
 }
 

@@ -113,7 +113,7 @@ value-err {A} (Err fault) f e = let same : fault ≡ f = cc in ap (λ (x : Fault
 fault_of : {A : Type 0} (e : FileFault) (r : Result (A × Source) Fault) → Fails e r → Fails e (value_of r)
 fault_of faults.Memory r fails = tt
 fault_of faults.Read r fails = fails
-fault_of (faults.Refused place why) r fails = ap value_of fails
+fault_of (faults.Refused place why unnamed) r fails = ap value_of fails
 
 pub body_gives : {A : Type 0} (reader : Reader A) (body : List ℕ) (r : Result A FileFault) (old : Held) (t : Slice) → old ≡ of_slice (whole body) → Follows (λ (value : A). value) r reader ⊥ old (of_slice t) → Gives (λ (value : A). value) r (in_body reader body)
 body_gives {A} reader body r old t is follows = by_cases r (subst (λ (held : Held). Follows (λ (value : A). value) r reader ⊥ held (of_slice t)) is follows)
@@ -126,7 +126,7 @@ pub body_inside : {A : Type 0} (reader : Reader A) (body : List ℕ) (r : Result
 body_inside reader body (Ok value) stops gives = search rules
 body_inside reader body (Err faults.Memory) stops gives = search rules
 body_inside reader body (Err faults.Read) stops gives = search rules
-body_inside reader body (Err (faults.Refused place why)) stops gives =
-    let upto = stops.upto (ended (Some (length body))) (source_of body) (record { place = place; why = why }) (value-err (reader (ended (Some (length body))) (source_of body)) (record { place = place; why = why }) gives) in
+body_inside reader body (Err (faults.Refused place why unnamed)) stops gives =
+    let upto = stops.upto (ended (Some (length body))) (source_of body) (record { place = place; why = why; field = unnamed }) (value-err (reader (ended (Some (length body))) (source_of body)) (record { place = place; why = why; field = unnamed }) gives) in
     let near : place ≤ length body = omega (arith, upto) in
     search (rules, near)

@@ -61,7 +61,7 @@ module _ {A : Type 0} (tells : Result A FileWhy) (MayFail : Type 0) (held : Held
 pub told_fails : {A B : Type 0} (reader : Reader B) (place : ℕ) (tells : Result A FileWhy) (next : A → Reader B) (e : FileFault) (MayFail : Type 0) (old mid : Held) → told place tells ≡ Err e → Continues reader (telling place tells then next) old mid → FailsBy e reader MayFail old
 told_fails reader place (Ok value) next e MayFail old mid is on = absurd cc
 told_fails reader place (Err why) next e MayFail old mid is on =
-    let same : faults.Refused place why ≡ e = cc in
+    let same : faults.Refused place why None ≡ e = cc in
     let now = some_rest mid in
     let a = on.from now.rest now.there in
     rw (sym same) (record { octets = a.0; there = a.1; refused = a.2 })
@@ -73,7 +73,7 @@ module _ {A B : Type 0} (view : A → B) (reader : Reader B) (MayFail : Type 0) 
     same_bounds = follows.same_bounds;
     from = λ rest there. let a = follows.from rest there in (a.0, a.1, ap (naming (λ place. field)) a.2);
   })
-  named_follows field (Err (faults.Refused place why)) result is follows = rw is (record { octets = follows.octets; there = follows.there; refused = ap (naming (λ place. field)) follows.refused })
+  named_follows field (Err (faults.Refused place why unnamed)) result is follows = rw is (record { octets = follows.octets; there = follows.there; refused = ap (naming (λ place. field)) follows.refused })
   named_follows field (Err faults.Read) result is follows = rw is follows
   named_follows field (Err faults.Memory) result is follows = rw is tt
 
@@ -90,8 +90,8 @@ module _ {A : Type 0} (reader : Reader A) (MayFail : Type 0) (field_of : ℕ →
   pub fields_fail : (e : FileFault) (start offset : ℕ) (field : CaptureField) (old : Held) → start ≡ old.place → offset ≡ offset_of e start → field ≡ field_of offset → FailsBy e reader MayFail old → FailsIn e field placed_fields MayFail old
   fields_fail faults.Memory start offset field old here is named fails = tt
   fields_fail faults.Read start offset field old here is named fails = fails
-  fields_fail (faults.Refused place why) start offset field old here is named fails =
-      let fault : Fault = record { place = place; why = why } in
+  fields_fail (faults.Refused place why unnamed) start offset field old here is named fails =
+      let fault : Fault = record { place = place; why = why; field = unnamed } in
       let same : field_of (place - old.place) ≡ field = ap (λ (s : ℕ). field_of (place - s)) (sym here) ∙ ap field_of (sym is) ∙ sym named in
       record {
         octets = fails.octets;
@@ -117,7 +117,7 @@ module _ {A B : Type 0} (first : Parser A) (next : A → Parser B) (MayFail : Ty
   pub first_fails : (e : FileFault) (field : CaptureField) (old : Held) → FailsIn e field first MayFail old → FailsIn e field (first >>= next) MayFail old
   first_fails faults.Memory field old fails = tt
   first_fails faults.Read field old fails = fails
-  first_fails (faults.Refused place why) field old fails = record {
+  first_fails (faults.Refused place why unnamed) field old fails = record {
     octets = fails.octets;
     there = fails.there;
     refused = ap (λ (r : Result (A × Source) Refusal). onward r (λ x. next x.0 old.bounds x.1)) fails.refused;
@@ -126,8 +126,8 @@ module _ {A B : Type 0} (first : Parser A) (next : A → Parser B) (MayFail : Ty
   pub next_fails : (v : A) (e : FileFault) (field : CaptureField) (old mid : Held) → HasParsed first v old mid → FailsIn e field (next v) MayFail mid → FailsIn e field (first >>= next) MayFail old
   next_fails v faults.Memory field old mid p fails = tt
   next_fails v faults.Read field old mid p fails = fails
-  next_fails v (faults.Refused place why) field old mid p fails =
-      let fault : Fault = record { place = place; why = why } in
+  next_fails v (faults.Refused place why unnamed) field old mid p fails =
+      let fault : Fault = record { place = place; why = why; field = unnamed } in
       let refusal : Refusal = record { fault = fault; field = field } in
       let a = p.from fails.octets fails.there in
       let s = source_at mid.place fails.octets in

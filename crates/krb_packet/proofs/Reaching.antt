@@ -129,7 +129,7 @@ Stops-number w order = Stops-then (next_octets_at None (byte_len w)) _ (Stops-pi
 
 telling-err : {A : Type 0} (place : ℕ) (tells : Result A FileWhy) (bounds : Bounds) (s : Source) (f : Fault) → telling place tells bounds s ≡ Err f → f.place ≡ place
 telling-err place (Ok value) bounds s f e = absurd cc
-telling-err {A} place (Err why) bounds s f e = ap (λ (x : Fault). x.place) (err_is (A × Source) f (record { place = place; why = why }) cc)
+telling-err {A} place (Err why) bounds s f e = ap (λ (x : Fault). x.place) (err_is (A × Source) f (record { place = place; why = why; field = None }) cc)
 
 pub Stops-tells : {A : Type 0} (tells : Result A FileWhy) → Stops (from_here (λ place. telling place tells))
 Stops-tells tells = record {
@@ -149,7 +149,7 @@ Stops-telling w order tells = record {
 
 moved-err : {A : Type 0} (place : ℕ) (r : Result A Fault) (f : Fault) → moved_to place r ≡ Err f → f.place ≡ place
 moved-err place (Ok read) f e = absurd cc
-moved-err {A} place (Err fault) f e = let moved : Fault = record { place = place; why = fault.why } in ap (λ (x : Fault). x.place) (err_is A f moved cc)
+moved-err {A} place (Err fault) f e = let moved : Fault = record fault { place = place } in ap (λ (x : Fault). x.place) (err_is A f moved cc)
 
 -- one whose faults stand at its first octet
 pub Stops-whole : {A : Type 0} (reader : Reader A) → Passes 0 reader → Stops (from_here (λ place. refused_at place reader))

@@ -1,8 +1,9 @@
 -- A body that was read: what it tells, or the field of it that is refused.
-use Rattle.std.proofs.Common.{◌≡◌, ℕ, ◌+◌, ◌-◌, Result, Ok, Err, List, refl, sym, ap, ◌∙◌, subst, arith}
+use Rattle.std.proofs.Common.{◌≡◌, ℕ, ◌+◌, ◌-◌, Option, Result, Ok, Err, List, refl, sym, ap, ◌∙◌, subst, arith}
 use Rattle.krb_file.specs.Fields.{Source, Fault, Bounds, octets_at, Fails}
 use Rattle.krb_file.specs.FieldReaders.{Held, source_at}
 use Rattle.krb_file.specs.declared.fault.FileWhy.{FileWhy}
+use Rattle.krb_file.specs.declared.field_name.FileField.{FileField}
 use Rattle.krb_file.specs.declared.fault.FileFault.{FileFault}
 use Rattle.krb_file.specs.declared.fault.FileFault.TheVariants as faults
 use Rattle.krb_file.proofs.FieldReaders.{some_rest}
@@ -39,7 +40,7 @@ module _ (kind : BlockKind) (section : Section) (count place : ℕ) (head : Head
   fails_place : (e : FileFault) (field : CaptureField) (old : Held) → FailsIn e field (octets_in >>= next old.place) MayFail old → FailsIn e field (read_body kind section count place head) MayFail old
   fails_place faults.Memory field old fails = tt
   fails_place faults.Read field old fails = fails
-  fails_place (faults.Refused at why) field old fails = record { octets = fails.octets; there = fails.there; refused = fails.refused }
+  fails_place (faults.Refused at why unnamed) field old fails = record { octets = fails.octets; there = fails.there; refused = fails.refused }
 
   pub body_read : (octets : List ℕ) (content : Content) (old new : Held) → HasParsed octets_in octets old new → content_in octets ≡ Ok content → HasParsed (read_body kind section count place head) content old new
   body_read octets content old new p is =
@@ -49,9 +50,9 @@ module _ (kind : BlockKind) (section : Section) (count place : ℕ) (head : Head
   pub octets_fail : (e : FileFault) (field : CaptureField) (old : Held) → FailsIn e field octets_in MayFail old → FailsIn e field (read_body kind section count place head) MayFail old
   octets_fail e field old fails = fails_place e field old (first_fails octets_in (next old.place) MayFail e field old fails)
 
-  told_refused : (begin at : ℕ) (why : FileWhy) (r : Result Content Fault) (field : CaptureField) (held : Held) → r ≡ Err (record { place = at; why = why }) → field ≡ capture.Block section.blocks (body_field kind section.interfaces at)
-      → HasRefused (told_in_body section kind begin r) (record { fault = record { place = begin + at; why = why }; field = field }) held
-  told_refused begin at why r field held is named =
+  told_refused : (begin at : ℕ) (why : FileWhy) (unnamed : Option FileField) (r : Result Content Fault) (field : CaptureField) (held : Held) → r ≡ Err (record { place = at; why = why; field = unnamed }) → field ≡ capture.Block section.blocks (body_field kind section.interfaces at)
+      → HasRefused (told_in_body section kind begin r) (record { fault = record { place = begin + at; why = why; field = unnamed }; field = field }) held
+  told_refused begin at why unnamed r field held is named =
       let now = some_rest held in
       rw (is, named) (record { octets = now.rest; there = now.there; refused = refl })
 
@@ -59,19 +60,19 @@ module _ (kind : BlockKind) (section : Section) (count place : ℕ) (head : Head
       → field ≡ capture.Block section.blocks (body_field kind section.interfaces offset) → moved ≡ fault_from begin e → FailsIn moved field (read_body kind section count place head) MayFail old
   body_fails octets faults.Memory moved begin offset field old new p fails here is named to = rw to tt
   body_fails octets faults.Read moved begin offset field old new p fails here is named to = absurd fails
-  body_fails octets (faults.Refused at why) moved begin offset field old new p fails here is named to =
+  body_fails octets (faults.Refused at why unnamed) moved begin offset field old new p fails here is named to =
       let same : offset ≡ at = omega (arith, is) in
       let whose : field ≡ capture.Block section.blocks (body_field kind section.interfaces at) = named ∙ ap (λ (o : ℕ). capture.Block section.blocks (body_field kind section.interfaces o)) same in
       rw (to, here)
-      (fails_place (faults.Refused (old.place + at) why) field old
-      (next_fails octets_in (next old.place) MayFail octets (faults.Refused (old.place + at) why) field old new p
-      (told_refused old.place at why (content_in octets) field new fails whose)))
+      (fails_place (faults.Refused (old.place + at) why unnamed) field old
+      (next_fails octets_in (next old.place) MayFail octets (faults.Refused (old.place + at) why unnamed) field old new p
+      (told_refused old.place at why unnamed (content_in octets) field new fails whose)))
 
 -- ---- the end of a block, that is refused after its body was read
 here_fails : {A : Type 0} (parser : ℕ → Parser A) (MayFail : Type 0) (e : FileFault) (field : CaptureField) (old : Held) → FailsIn e field (parser old.place) MayFail old → FailsIn e field (from_here parser) MayFail old
 here_fails parser MayFail faults.Memory field old fails = tt
 here_fails parser MayFail faults.Read field old fails = fails
-here_fails parser MayFail (faults.Refused at why) field old fails = record { octets = fails.octets; there = fails.there; refused = fails.refused }
+here_fails parser MayFail (faults.Refused at why unnamed) field old fails = record { octets = fails.octets; there = fails.there; refused = fails.refused }
 
 module _ (kind : BlockKind) (section : Section) (count : ℕ) (MayFail : Type 0) where
   abbrev after_body : Head → Content → Parser Content

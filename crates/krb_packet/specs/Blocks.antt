@@ -69,7 +69,7 @@ skipped_body blocks head = named (capture.Block blocks block.Body) (skipped_at h
 abbrev pub told_in_body : Section → BlockKind → ℕ → Result Content Fault → Parser Content
 told_in_body section kind begin (Ok content) = gives content
 told_in_body section kind begin (Err fault) = λ bounds source.
-    Err (record { fault = record { place = begin + fault.place; why = fault.why }; field = capture.Block section.blocks (body_field kind section.interfaces fault.place) })
+    Err (record { fault = record fault { place = begin + fault.place }; field = capture.Block section.blocks (body_field kind section.interfaces fault.place) })
 
 -- a body has to be there whole before it is read; it begins at a place, with what was read of it before
 abbrev pub read_body : BlockKind → Section → ℕ → ℕ → Head → Parser Content
@@ -113,6 +113,6 @@ next_block section count = named (capture.Block section.blocks block.Type) (next
 -- ---- as the code has it
 
 abbrev pub fault_from : ℕ → FileFault → FileFault
-fault_from begin (faults.Refused place why) = faults.Refused (begin + place) why
+fault_from begin (faults.Refused place why unnamed) = faults.Refused (begin + place) why unnamed
 fault_from begin faults.Read = faults.Read
 fault_from begin faults.Memory = faults.Memory

@@ -73,22 +73,22 @@ clock_is_read = refl
 abbrev refused : List Packet → Refusal → Packets
 refused found refusal = record { packets = found; refusal = Some refusal }
 
-magic_is_refused : packets captured ≡ refused [] (record { fault = record { place = 0; why = why.Magic }; field = fields.Magic })
+magic_is_refused : packets captured ≡ refused [] (record { fault = record { place = 0; why = why.Magic; field = None }; field = fields.Magic })
 magic_is_refused = refl
 
-version_is_refused : packets (hex (codes "A1B23C4D 0002 0003")) ≡ refused [] (record { fault = record { place = 4; why = why.Version }; field = fields.Version })
+version_is_refused : packets (hex (codes "A1B23C4D 0002 0003")) ≡ refused [] (record { fault = record { place = 4; why = why.Version; field = None }; field = fields.Version })
 version_is_refused = refl
 
-cut_packet_is_refused : packets (header ++ captured ++ take 50 captured) ≡ refused (packet ∷ []) (record { fault = record { place = 130; why = why.Truncated }; field = fields.Packet 1 packet_fields.Data })
+cut_packet_is_refused : packets (header ++ captured ++ take 50 captured) ≡ refused (packet ∷ []) (record { fault = record { place = 130; why = why.Truncated; field = None }; field = fields.Packet 1 packet_fields.Data })
 cut_packet_is_refused = refl
 
-long_packet_is_refused : packets (hex (codes "A1B2C3D4 0002 0004 00000000 00000000 00000400 00000065 00000001 00000000 01000001")) ≡ refused [] (record { fault = record { place = 32; why = why.TooLong }; field = fields.Packet 0 packet_fields.CapturedLength })
+long_packet_is_refused : packets (hex (codes "A1B2C3D4 0002 0004 00000000 00000000 00000400 00000065 00000001 00000000 01000001")) ≡ refused [] (record { fault = record { place = 32; why = why.TooLong; field = None }; field = fields.Packet 0 packet_fields.CapturedLength })
 long_packet_is_refused = refl
 
-interface_is_refused : packets (section ++ block) ≡ refused [] (record { fault = record { place = 36; why = why.Overrun }; field = fields.Block 1 block_fields.Interface })
+interface_is_refused : packets (section ++ block) ≡ refused [] (record { fault = record { place = 36; why = why.Overrun; field = None }; field = fields.Block 1 block_fields.Interface })
 interface_is_refused = refl
 
-cut_block_is_refused : packets (section ++ interface ++ block ++ take 20 block) ≡ refused (in_block ∷ []) (record { fault = record { place = 92; why = why.Truncated }; field = fields.Block 3 block_fields.Body })
+cut_block_is_refused : packets (section ++ interface ++ block ++ take 20 block) ≡ refused (in_block ∷ []) (record { fault = record { place = 92; why = why.Truncated; field = None }; field = fields.Block 3 block_fields.Body })
 cut_block_is_refused = refl
 
 -- ---- what a packet carries

@@ -24,7 +24,7 @@ number_in width order = do
 -- what a field at a place tells, or the reason for which it is refused there
 abbrev pub telling : {A : Type 0} → ℕ → Result A FileWhy → Reader A
 telling place (Ok value) = gives value
-telling place (Err reason) = λ bounds source. Err (record { place = place; why = reason })
+telling place (Err reason) = λ bounds source. Err (record { place = place; why = reason; field = None })
 
 -- what is read from a place on
 abbrev pub from_here : {A : Type 0} → (ℕ → Reader A) → Reader A
@@ -36,7 +36,7 @@ number_telling width order tells = from_here (λ place. number_in width order >>
 -- a fault is told at a place
 abbrev pub moved_to : {A : Type 0} → ℕ → Result A Fault → Result A Fault
 moved_to place (Ok read) = Ok read
-moved_to place (Err fault) = Err (record { place = place; why = fault.why })
+moved_to place (Err fault) = Err (record fault { place = place })
 
 abbrev pub refused_at : {A : Type 0} → ℕ → Reader A → Reader A
 refused_at place reader = λ bounds source. moved_to place (reader bounds source)
@@ -44,4 +44,4 @@ refused_at place reader = λ bounds source. moved_to place (reader bounds source
 -- the same, as the code has it
 abbrev pub told : {A : Type 0} → ℕ → Result A FileWhy → Result A FileFault
 told place (Ok value) = Ok value
-told place (Err reason) = Err (faults.Refused place reason)
+told place (Err reason) = Err (faults.Refused place reason None)

@@ -57,7 +57,7 @@ pub record HasRefused {A : Type 0} (parser : Parser A) (refusal : Refusal) (old 
 
 -- A fault of a call: that of the octets with its field, that of the device, which not every source has, or out of memory.
 abbrev pub FailsIn : {A : Type 0} → FileFault → CaptureField → Parser A → Type 0 → Held → Type 0
-FailsIn (faults.Refused place why) field parser MayFail old = HasRefused parser (record { fault = record { place = place; why = why }; field = field }) old
+FailsIn (faults.Refused place why unnamed) field parser MayFail old = HasRefused parser (record { fault = record { place = place; why = why; field = unnamed }; field = field }) old
 FailsIn faults.Read field parser MayFail old = MayFail
 FailsIn faults.Memory field parser MayFail old = Unit {0}
 
@@ -73,6 +73,6 @@ in_field field (Err fault) = Err (record { fault = fault; field = field })
 
 -- how many octets after a place a field is refused
 abbrev pub offset_of : FileFault → ℕ → ℕ
-offset_of (faults.Refused place why) start = place - start
+offset_of (faults.Refused place why unnamed) start = place - start
 offset_of faults.Read start = 0
 offset_of faults.Memory start = 0

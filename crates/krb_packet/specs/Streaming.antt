@@ -57,7 +57,7 @@ pub record EndsBy (packets : Packets) (count : ℕ) (refusal : Option Refusal) :
 
 -- a fault of a file whose first `count` packets were given: where it is refused; else the device failed, or memory ran out
 abbrev pub FailsAfter : List ℕ → ℕ → FileFault → CaptureField → Type 0
-FailsAfter file count (faults.Refused place why) field = EndsBy (packets file) count (Some (record { fault = record { place = place; why = why }; field = field }))
+FailsAfter file count (faults.Refused place why unnamed) field = EndsBy (packets file) count (Some (record { fault = record { place = place; why = why; field = unnamed }; field = field }))
 FailsAfter file count faults.Read field = Unit {0}
 FailsAfter file count faults.Memory field = Unit {0}
 

@@ -193,7 +193,7 @@ pub(crate) fn body_octets<F: FieldReader>(
     let mut octets = reader.room(alloc);
     match reader.octets(alloc, u64::from(left), &mut octets) {
         Ok(()) => Ok(octets),
-        Err(FileFault::Refused { why, .. }) => Err(FileFault::Refused { place, why }),
+        Err(FileFault::Refused { why, field, .. }) => Err(FileFault::Refused { place, why, field }),
         Err(fault) => Err(fault),
     }
 }

@@ -56,9 +56,10 @@ fn fault_from(begin: u64, fault: FileFault) -> FileFault
     ensures { result ≡ fault_from begin fault }
 {
     match fault {
-        FileFault::Refused { place, why } => FileFault::Refused {
+        FileFault::Refused { place, why, field } => FileFault::Refused {
             place: begin + place,
             why,
+            field,
         },
         fault => fault,
     }

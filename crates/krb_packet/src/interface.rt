@@ -143,7 +143,7 @@ fn next_option<F: FieldReader>(order: Order, reader: &mut F) -> Result<Option<Se
 {
     let place = reader.place();
     match next_setting(order, reader) {
-        Err(FileFault::Refused { why, .. }) => Err(FileFault::Refused { place, why }),
+        Err(FileFault::Refused { why, field, .. }) => Err(FileFault::Refused { place, why, field }),
         read => read,
     }
 }

@@ -57,6 +57,10 @@ pub(crate) fn told<T>(place: u64, tells: Result<T, FileWhy>) -> Result<T, FileFa
 {
     match tells {
         Ok(value) => Ok(value),
-        Err(why) => Err(FileFault::Refused { place, why }),
+        Err(why) => Err(FileFault::Refused {
+            place,
+            why,
+            field: None,
+        }),
     }
 }

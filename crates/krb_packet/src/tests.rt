@@ -85,6 +85,7 @@ fn cut_packets_are_refused(rt: HostRuntime) {
         fault: FileFault::Refused {
             place: 40,
             why: FileWhy::Truncated,
+            field: None,
         },
         field: CaptureField::Packet(0, PacketField::Data),
     };

@@ -7,7 +7,7 @@ use krb_ccache::{
     upgrade, write,
 };
 use krb_der::{Many, Octets, Refusal, Why};
-use krb_file::{FileFault, FileWhy};
+use krb_file::{FieldName, FileFault, FileField, FileWhy};
 use std::alloc::Global;
 use std::test::Fail;
 
@@ -206,7 +206,11 @@ fn fault_of<T: Drop>(answer: Result<T, FileFault>) -> Option<FileFault> {
 #[test]
 fn reads_one_version_each(rt: HostRuntime) {
     let (place, why) = (1, FileWhy::Version);
-    let refused = Some(FileFault::Refused { place, why });
+    let field = Some(FileField {
+        part: None,
+        name: FieldName::Version,
+    });
+    let refused = Some(FileFault::Refused { place, why, field });
     assert_eq!(rt; fault_of(read(rt.alloc(), b"\x05\x03")), refused);
     assert_eq!(rt; fault_of(read3(rt.alloc(), b"\x05\x04")), refused);
 }

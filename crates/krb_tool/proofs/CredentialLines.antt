@@ -15,6 +15,7 @@ use Rattle.krb_tool.specs.declared.run.RunEnd.{RunEnd}
 use Rattle.krb_tool.specs.declared.run.RunEnd.TheVariants as run
 use Rattle.krb_tool.specs.declared.run.RunFault.{RunFault}
 use Rattle.krb_tool.specs.Files.{RecordListing, field_limit, after_line, ccache_last, end_of, credentials_listing, cache_listing, ccache_listing}
+use Rattle.krb_tool.specs.Paths.{credential_path, start_path}
 use Rattle.krb_tool.specs.inner.RecordRuns.{Adds, AddsRefusal, AddsLine, AreCredentialsLeft, IsRefusal}
 use Rattle.krb_tool.proofs.Records.{item_added, last_added}
 
@@ -43,11 +44,11 @@ module _ (form : Form) (old new : Held) (start kept : Start) (from to : State) (
       last_added (credential_line form now) found.items count (ccache_last form (length found.items) found.end) (end_of found.end) IsLeft left is_left.is before after ended
       (cache_end_line form count) run.Clean given.counted (ap₂ (ccache_last form) given.counted given.is) (ap end_of given.is) adds
 
-  pub refusal_added : (e : FileFault) (r : Result (Option RunEnd) RunFault) → Promises old start from (Err e) new kept to → IfOk r (AddsRefusal form e before after) → AddsLine (AreCredentialsLeft form new kept to now (suc count)) left before after r
+  pub refusal_added : (e : FileFault) (r : Result (Option RunEnd) RunFault) → Promises old start from (Err e) new kept to → IfOk r (AddsRefusal (credential_path count) form e before after) → AddsLine (AreCredentialsLeft form new kept to now (suc count)) left before after r
   refusal_added e (Err f) promises adds = tt
   refusal_added faults.Read (Ok ended) promises adds = absurd adds
   refusal_added faults.Memory (Ok ended) promises adds = absurd adds
-  refusal_added (faults.Refused place why) (Ok ended) promises adds =
+  refusal_added (faults.Refused place why field) (Ok ended) promises adds =
       let given = promises is_left.file 16777216 count is_left.reads in
       last_added (credential_line form now) found.items count (ccache_last form (length found.items) found.end) (end_of found.end) IsLeft left is_left.is before after ended
       _ run.Refused given.counted (ap₂ (ccache_last form) given.counted given.is) (ap end_of given.is) adds
@@ -65,15 +66,15 @@ pub start_refused : (form : Form) (now : Option ℕ) (file : List ℕ) (e : File
 unfolding ccache_listing
 start_refused form now file faults.Read fails = tt
 start_refused form now file faults.Memory fails = tt
-start_refused form now file (faults.Refused place why) fails = ap (λ (r : Result (Start × Source) Fault). cache_listing form now r (credentials field_limit file)) fails
+start_refused form now file (faults.Refused place why field) fails = ap (λ (r : Result (Start × Source) Fault). cache_listing form now r (credentials field_limit file)) fails
 
-pub fault_added : (form : Form) (e : FileFault) (left : RecordListing) (old new : List ℕ) (r : Result (Option RunEnd) RunFault) → IsRefusal form e left → IfOk r (AddsRefusal form e old new) → AddsLine (IsRefusal form e) left old new r
+pub fault_added : (form : Form) (e : FileFault) (left : RecordListing) (old new : List ℕ) (r : Result (Option RunEnd) RunFault) → IsRefusal form e left → IfOk r (AddsRefusal start_path form e old new) → AddsLine (IsRefusal form e) left old new r
 fault_added form e left old new (Err f) is adds = tt
 fault_added form faults.Read left old new (Ok ended) is adds = absurd adds
 fault_added form faults.Memory left old new (Ok ended) is adds = absurd adds
-fault_added form (faults.Refused place why) left old new (Ok ended) is adds =
-    let fault : Fault = record { place = place; why = why } in
-    subst (λ (x : Option RunEnd). AddsLine (IsRefusal form (faults.Refused place why)) left old new (Ok x)) (sym adds.0) (
+fault_added form (faults.Refused place why field) left old new (Ok ended) is adds =
+    let fault : Fault = record { place = place; why = why; field = field } in
+    subst (λ (x : Option RunEnd). AddsLine (IsRefusal form (faults.Refused place why field)) left old new (Ok x)) (sym adds.0) (
       adds.1 ∙ ap (λ (l : RecordListing). old ++ l.last) (sym is),
       ap (λ (l : RecordListing). l.lines) is,
       ap (λ (l : RecordListing). l.end) (sym is),

@@ -16,6 +16,7 @@ use Rattle.krb_tool.specs.declared.run.RunEnd.{RunEnd}
 use Rattle.krb_tool.specs.declared.run.RunEnd.TheVariants as run
 use Rattle.krb_tool.specs.declared.run.RunFault.{RunFault}
 use Rattle.krb_tool.specs.Files.{RecordListing, field_limit, keytab_last, end_of, keytab_listing}
+use Rattle.krb_tool.specs.Paths.{keytab_path}
 use Rattle.krb_tool.specs.inner.RecordRuns.{Adds, AddsRefusal, AddsLine, AreRecordsLeft}
 use Rattle.krb_tool.proofs.Records.{item_added, last_added}
 
@@ -44,11 +45,11 @@ module _ (form : Form) (old new : Held) (from to : State) (count : ℕ) (left : 
       last_added (record_line form) found.records count (keytab_last form (length found.records) found.end) (end_of found.end) IsLeft left is_left.is before after ended
       (keytab_end_line form count stop) run.Clean given.counted (ap₂ (keytab_last form) given.counted given.is) (ap end_of given.is) adds
 
-  pub refusal_added : (e : FileFault) (r : Result (Option RunEnd) RunFault) → Promises old from (Err e) new to → IfOk r (AddsRefusal form e before after) → AddsLine (AreRecordsLeft form new to (suc count)) left before after r
+  pub refusal_added : (e : FileFault) (r : Result (Option RunEnd) RunFault) → Promises old from (Err e) new to → IfOk r (AddsRefusal (keytab_path count) form e before after) → AddsLine (AreRecordsLeft form new to (suc count)) left before after r
   refusal_added e (Err f) promises adds = tt
   refusal_added faults.Read (Ok ended) promises adds = absurd adds
   refusal_added faults.Memory (Ok ended) promises adds = absurd adds
-  refusal_added (faults.Refused place why) (Ok ended) promises adds =
+  refusal_added (faults.Refused place why field) (Ok ended) promises adds =
       let given = promises is_left.file 16777216 count is_left.reads in
       last_added (record_line form) found.records count (keytab_last form (length found.records) found.end) (end_of found.end) IsLeft left is_left.is before after ended
       _ run.Refused given.counted (ap₂ (keytab_last form) given.counted given.is) (ap end_of given.is) adds

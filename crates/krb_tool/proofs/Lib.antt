@@ -14,3 +14,4 @@ pub mod CountedListings
 pub mod CountedPieces
 pub mod SourceRuns
 mod FaultPaths
+pub mod FilePaths

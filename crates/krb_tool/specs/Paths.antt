@@ -1,5 +1,10 @@
--- The field at fault of the frame with which a stream ends, and of a message.
+-- The field at fault of the frame with which a stream ends, of a message, and of a file.
 use Rattle.std.specs.Prelude.{ℕ, ◌+◌, List, [], length, take, drop, nat_lt, if◌then◌else◌, Option, None}
+use Rattle.std.specs.Option.{option_map}
+use Rattle.krb_file.specs.Names.{field_text}
+use Rattle.krb_file.specs.declared.field_name.FileField.{FileField}
+use Rattle.krb_keytab.specs.Paths.{path_text as keytab_text}
+use Rattle.krb_ccache.specs.Paths.{path_text as credential_text}
 use Rattle.krb_der.specs.Octets.{number}
 use Rattle.krb_der.specs.declared.profile.Profile.{Profile}
 use Rattle.krb_der.specs.declared.verdict.Refusal.{Refusal}
@@ -29,3 +34,14 @@ end_path profile limit stream = found_path profile (frames (messages profile) li
 unfoldable pub refused_path : Profile → List ℕ → Refusal → Option (List ℕ)
 refused_path profile octets refusal =
     if nat_lt 2147483647 (length octets) then None else message_path profile (length octets) (take (refusal.place + 1) octets)
+
+-- ---- The field at fault of a file, if there is one: after so many records of a keytab, after so many credentials of a cache, and before these.
+
+unfoldable pub keytab_path : ℕ → Option FileField → Option (List ℕ)
+keytab_path records field = option_map (λ found. keytab_text (record { records = records; field = found })) field
+
+unfoldable pub credential_path : ℕ → Option FileField → Option (List ℕ)
+credential_path credentials field = option_map (λ found. credential_text (record { credentials = credentials; field = found })) field
+
+unfoldable pub start_path : Option FileField → Option (List ℕ)
+start_path field = option_map field_text field

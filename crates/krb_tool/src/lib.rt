@@ -16,6 +16,7 @@
 
 mod capture_run;
 mod fault_path;
+mod file_path;
 mod file_run;
 mod going_on;
 pub mod law;

@@ -2,16 +2,19 @@
 
 ghost use Rattle.std.specs.Prelude.{◌≡◌, ◌≢◌, ◌++◌, ℕ, suc, List, None, Some, IfErr, IfOk, OnErr, OnOk, string_bytes};
 ghost use Rattle.std.specs.Io.Buffered.{reader_remaining};
-ghost use Rattle.krb_tool.specs.Lines.{record_line, keytab_end_line, cache_line, credential_line, cache_end_line};
+ghost use Rattle.std.specs.Option.{option_map};
+ghost use Rattle.krb_tool.specs.Lines.{record_line, keytab_end_line, cache_line, credential_line, cache_end_line, file_refused_line};
+ghost use Rattle.krb_tool.specs.Paths.{keytab_path, credential_path, start_path};
 ghost use Rattle.krb_tool.specs.declared.run.RunEnd.TheVariants as run;
 ghost use Rattle.krb_tool.specs.Faults.{IsWrite};
 ghost use Rattle.krb_tool.specs.Files.{RecordListing, after_line, keytab_listing, ccache_listing, AddsFront, ListsRecords};
 ghost use Rattle.krb_tool.specs.inner.RecordRuns.{Adds, AddsRefusal, AddsLine, Moves, AreRecordsLeft, AreCredentialsLeft, IsRefusal};
 
+use crate::file_path::{credential_path, keytab_path, start_path};
 use crate::run::{PIECE_OCTETS, RunEnd, RunFault};
 use crate::transfer::{MOST_ASKS, too_many_reads, write_all};
 use krb_ccache::{Credential, Credentials, FilePrincipal, Header};
-use krb_file::{FieldLimit, FileFault};
+use krb_file::{FieldLimit, FileFault, FileWhy};
 use krb_keytab::{Next, Record, Records, Stop};
 use krb_list::{
     Form, put_cache, put_cache_end, put_credential, put_file_refusal, put_keytab_end, put_record,
@@ -158,29 +161,96 @@ impl<R: Read> RecordLines for KeytabLines<'_, R> {
                 Ok(None)
             }
             Ok(Next::Done(stop)) => put_stop(text, self.form, count, &stop),
-            Err(fault) => put_fault(text, self.form, fault, self.watch),
+            Err(fault) => { put_keytab_fault(alloc, text, self.form, count, fault, self.watch) }
         }
     }
 }
 
-/// Appends the line of a refusal, which ends the run. Other faults have no line.
+/// Appends the line of a refused file, with the path of the field at fault.
+fn put_refusal(
+    text: &mut String,
+    form: Form,
+    place: u64,
+    why: FileWhy,
+    path: &Option<String>,
+) -> Result<(), RunFault>
+    ensures line { OnOk result (string_bytes text.new ≡ string_bytes text.old ++ file_refused_line form place why (option_map string_bytes path.now)) }
+    ensures fault { IfErr result (λ e. e ≡ RunFault.Memory) }
+{
+    match path {
+        None => put_file_refusal(text, form, place, why, None)?,
+        Some(path) => put_file_refusal(text, form, place, why, Some(path.as_str()))?,
+    }
+    Ok(())
+}
+
+/// Appends the line of a refusal with the path of the field at fault, which ends the run. Other
+/// faults have no line.
 fn put_fault(
     text: &mut String,
     form: Form,
     fault: FileFault,
+    path: &Option<String>,
     watch: &Watch,
 ) -> Result<Option<RunEnd>, RunFault>
-    ensures refused { IfOk result (AddsRefusal form fault (string_bytes text.old) (string_bytes text.new)) }
+    ensures refused { IfOk result (AddsRefusal (λ _. option_map string_bytes path.now) form fault (string_bytes text.old) (string_bytes text.new)) }
     ensures fault { IfErr result (λ e. IsWrite e → ⊥) }
 {
     match fault {
-        FileFault::Refused { place, why } => {
-            put_file_refusal(text, form, place, why, None)?;
+        FileFault::Refused { place, why, .. } => {
+            put_refusal(text, form, place, why, path)?;
             Ok(Some(RunEnd::Refused))
         }
         FileFault::Read => Err(RunFault::Read(watch.error())),
         FileFault::Memory => Err(RunFault::Memory),
     }
+}
+
+/// Appends the line of a refusal after a number of records of a keytab, as [`put_fault`] does.
+fn put_keytab_fault(
+    alloc: Global,
+    text: &mut String,
+    form: Form,
+    records: u64,
+    fault: FileFault,
+    watch: &Watch,
+) -> Result<Option<RunEnd>, RunFault>
+    ensures refused { IfOk result (AddsRefusal (keytab_path records) form fault (string_bytes text.old) (string_bytes text.new)) }
+    ensures fault { IfErr result (λ e. IsWrite e → ⊥) }
+{
+    let path = keytab_path(alloc, form, records, fault.field())?;
+    put_fault(text, form, fault, &path, watch)
+}
+
+/// Appends the line of a refusal after a number of credentials, as [`put_fault`] does.
+fn put_credential_fault(
+    alloc: Global,
+    text: &mut String,
+    form: Form,
+    credentials: u64,
+    fault: FileFault,
+    watch: &Watch,
+) -> Result<Option<RunEnd>, RunFault>
+    ensures refused { IfOk result (AddsRefusal (credential_path credentials) form fault (string_bytes text.old) (string_bytes text.new)) }
+    ensures fault { IfErr result (λ e. IsWrite e → ⊥) }
+{
+    let path = credential_path(alloc, form, credentials, fault.field())?;
+    put_fault(text, form, fault, &path, watch)
+}
+
+/// Appends the line of a refusal before the credentials of a cache, as [`put_fault`] does.
+fn put_start_fault(
+    alloc: Global,
+    text: &mut String,
+    form: Form,
+    fault: FileFault,
+    watch: &Watch,
+) -> Result<Option<RunEnd>, RunFault>
+    ensures refused { IfOk result (AddsRefusal start_path form fault (string_bytes text.old) (string_bytes text.new)) }
+    ensures fault { IfErr result (λ e. IsWrite e → ⊥) }
+{
+    let path = start_path(alloc, form, fault.field())?;
+    put_fault(text, form, fault, &path, watch)
 }
 
 /// A file that is at fault before its records.
@@ -196,11 +266,11 @@ impl RecordLines for NoLines<'_> {
 
     fn put_next(
         &mut self,
-        _alloc: Global,
+        alloc: Global,
         _count: u64,
         text: &mut String,
     ) -> Result<Option<RunEnd>, RunFault> {
-        put_fault(text, self.form, self.fault, self.watch)
+        put_start_fault(alloc, text, self.form, self.fault, self.watch)
     }
 }
 
@@ -266,7 +336,7 @@ impl<R: Read + Drop> RecordLines for CredentialLines<'_, R> {
                 Ok(None)
             }
             Ok(None) => put_end(text, self.form, count),
-            Err(fault) => put_fault(text, self.form, fault, self.watch),
+            Err(fault) => { put_credential_fault(alloc, text, self.form, count, fault, self.watch) }
         }
     }
 }

@@ -1,5 +1,5 @@
 -- What a reader of fields takes from where its octets come from.
-use Rattle.std.specs.Prelude.{ℕ, ◌+◌, ◌<◌, ◌≤◌, ◌≡◌, false, List, [], ◌++◌, length, Option}
+use Rattle.std.specs.Prelude.{ℕ, ◌+◌, ◌<◌, ◌≤◌, ◌≡◌, false, List, [], ◌++◌, length, Option, None}
 use Rattle.krb_file.specs.Fields.{passes}
 use Rattle.krb_file.specs.FieldReaders.{Held, MayHave, TakesTo}
 use Rattle.krb_file.specs.declared.fault.FileFault.{FileFault}
@@ -26,7 +26,7 @@ pub record FallsShort (had left : Held) (size : ℕ) : Type 0 where
 
 -- a fault of taking octets of the field that begins at a place
 abbrev pub FailsTaking : FileFault → ℕ → Held → Held → ℕ → Type 0
-FailsTaking (faults.Refused place reason) start had left size = (place ≡ start) × (reason ≡ why.Truncated) × FallsShort had left size
+FailsTaking (faults.Refused place reason field) start had left size = (place ≡ start) × (reason ≡ why.Truncated) × (field ≡ None) × FallsShort had left size
 FailsTaking faults.Read start had left size = Unit {0}
 FailsTaking faults.Memory start had left size = Unit {0}
 

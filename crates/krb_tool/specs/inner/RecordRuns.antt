@@ -5,6 +5,7 @@ use Rattle.std.specs.Io.KnownBytes.{Appends}
 use Rattle.krb_file.specs.FieldReaders.{Held}
 use Rattle.krb_file.specs.declared.fault.FileFault.{FileFault}
 use Rattle.krb_file.specs.declared.fault.FileFault.TheVariants as faults
+use Rattle.krb_file.specs.declared.field_name.FileField.{FileField}
 use Rattle.krb_keytab.specs.Reading.{Items as Records, items as keytab_records}
 use Rattle.krb_keytab.specs.Streaming.{Reads as ReadsRecords}
 use Rattle.krb_keytab.specs.declared.records.State.{State as RecordsState}
@@ -32,11 +33,11 @@ AddsLine IsLeft left old new (Err fault) = Unit {0}
 abbrev pub Adds : List ℕ → Option RunEnd → List ℕ → List ℕ → Option RunEnd → Type 0
 Adds line wanted old new ended = (ended ≡ wanted) × (new ≡ old ++ line)
 
--- The line of a refusal was added, which ends the run.
-abbrev pub AddsRefusal : Form → FileFault → List ℕ → List ℕ → Option RunEnd → Type 0
-AddsRefusal form (faults.Refused place why) old new ended = Adds (file_refused_line form place why None) (Some run.Refused) old new ended
-AddsRefusal form faults.Read old new ended = ⊥
-AddsRefusal form faults.Memory old new ended = ⊥
+-- The line of a refusal was added, with the path that the field at fault has, which ends the run.
+abbrev pub AddsRefusal : (Option FileField → Option (List ℕ)) → Form → FileFault → List ℕ → List ℕ → Option RunEnd → Type 0
+AddsRefusal path form (faults.Refused place why field) old new ended = Adds (file_refused_line form place why (path field)) (Some run.Refused) old new ended
+AddsRefusal path form faults.Read old new ended = ⊥
+AddsRefusal path form faults.Memory old new ended = ⊥
 
 -- the beginning of a text was written, and the rest is kept
 abbrev pub Moves : Option (List ℕ) → Option (List ℕ) → List ℕ → List ℕ → Type 0
@@ -66,6 +67,6 @@ pub record AreCredentialsLeft (form : Form) (held : Held) (start : Start) (state
 
 -- if a file is refused, the line of the refusal is what is left
 abbrev pub IsRefusal : Form → FileFault → RecordListing → Type 0
-IsRefusal form (faults.Refused place why) left = left ≡ refused_listing form (record { place = place; why = why })
+IsRefusal form (faults.Refused place why field) left = left ≡ refused_listing form (record { place = place; why = why; field = field })
 IsRefusal form faults.Read left = Unit {0}
 IsRefusal form faults.Memory left = Unit {0}

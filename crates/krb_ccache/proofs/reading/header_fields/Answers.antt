@@ -1,4 +1,4 @@
-use Rattle.std.proofs.Common.{◌≡◌, ◌+◌, ◌<◌, ◌≤◌, ℕ, Option, Some, ◌∙◌, ap, arith}
+use Rattle.std.proofs.Common.{◌≡◌, ◌+◌, ◌<◌, ◌≤◌, ℕ, Option, Some, length, ◌∙◌, ap, arith}
 use Rattle.std.proofs.lemmas.Result.{err_from_is_err_and}
 use Rattle.krb_file.specs.FieldReaders.{bounded}
 use Rattle.krb_file.proofs.FieldReaders.{Stays-then}
@@ -16,24 +16,27 @@ fields-init g c =
 pub fields-smaller : goal.fields-smaller
 fields-smaller g c =
     let h = g.F.FieldReader.held c.args.reader.now in
+    let index : c.len.result ≡ length c.fields.fields.items = omega arith in
     let before : (g.F.FieldReader.held c.fields.reader).place < header_end c.args.size h = omega (arith, c.place.ensures.value, c.from.ensures, c.place-in-fields.ensures.value, c.fields-test.true) in
-    front-less c.args.size h c.fields.fields.items (g.F.FieldReader.held c.fields.reader) (g.F.FieldReader.held c.header_field.new.reader) c.in_ok-field.field before c.fields.invariant.front c.in_ok-field.ensures.read
+    front-less c.args.size h c.fields.fields.items (g.F.FieldReader.held c.fields.reader) (g.F.FieldReader.held c.header_field.new.reader) c.in_ok-field.field before c.fields.invariant.front (rw index at c.in_ok-field.ensures.read)
 
 pub fields-preserved : goal.fields-preserved
 fields-preserved g c =
     let h = g.F.FieldReader.held c.args.reader.now in
+    let index : c.len.result ≡ length c.fields.fields.items = omega arith in
     let before : (g.F.FieldReader.held c.fields.reader).place < header_end c.args.size h = omega (arith, c.place.ensures.value, c.from.ensures, c.place-in-fields.ensures.value, c.fields-test.true) in
     record {
-      front = rw c.in_ok-push.ensures.items (front-more c.args.size h c.fields.fields.items (g.F.FieldReader.held c.fields.reader) (g.F.FieldReader.held c.header_field.new.reader) c.in_ok-field.field before c.fields.invariant.front c.in_ok-field.ensures.read);
+      front = rw c.in_ok-push.ensures.items (front-more c.args.size h c.fields.fields.items (g.F.FieldReader.held c.fields.reader) (g.F.FieldReader.held c.header_field.new.reader) c.in_ok-field.field before c.fields.invariant.front (rw index at c.in_ok-field.ensures.read));
       stays = Stays-then c.fields.invariant.stays c.in_ok-field.ensures.keeps.stays;
     }
 
 pub returns-in_err-field-clause-read : goal.returns-in_err-field-clause-read
 returns-in_err-field-clause-read g c =
     let h = g.F.FieldReader.held c.args.reader.now in
+    let index : c.len.result ≡ length c.fields.fields.items = omega arith in
     let p = err_from_is_err_and c.from_residual.result c.from_residual.ensures.1 in
     let before : (g.F.FieldReader.held c.fields.reader).place < header_end c.args.size h = omega (arith, c.place.ensures.value, c.from.ensures, c.place-in-fields.ensures.value, c.fields-test.true) in
-    rw (p.1, p.2) (front-fails c.args.size h c.in_err-field.field-0.0 g.F.FieldReader.MayFail c.fields.fields.items (g.F.FieldReader.held c.fields.reader) before c.fields.invariant.front c.in_err-field.ensures.read)
+    rw (p.1, p.2) (front-fails c.args.size h c.in_err-field.field-0.0 g.F.FieldReader.MayFail c.fields.fields.items (g.F.FieldReader.held c.fields.reader) before c.fields.invariant.front (rw index at c.in_err-field.ensures.read))
 
 pub returns-clause-read : goal.returns-clause-read
 returns-clause-read g c =

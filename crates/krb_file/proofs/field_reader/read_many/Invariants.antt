@@ -2,8 +2,8 @@ use Rattle.krb_file.specs.Fields.{times}
 use Rattle.krb_file.specs.FieldReaders.{HasRead, Keeps}
 use Rattle.krb_file.proofs.field_reader.read_many.Given as goal
 
-abbrev pub invariant-loop : goal.invariant-loop
-invariant-loop g l = record {
-  read : HasRead (times l.counter g.K.Field.reads) l.values.items (g.F.FieldReader.held l.fn.reader) (g.F.FieldReader.held l.reader);
+abbrev pub invariant-items : goal.invariant-items
+invariant-items g l = record {
+  read : HasRead (times l.index g.K.Field.reads) l.values.items (g.F.FieldReader.held l.fn.reader) (g.F.FieldReader.held l.reader);
   keeps : Keeps (g.F.FieldReader.held l.fn.reader) (g.F.FieldReader.held l.reader);
 }

@@ -1,11 +1,15 @@
+use Rattle.krb_file.specs.Fields.{named}
+use Rattle.krb_file.specs.FieldReaders.{skipped_at}
+use Rattle.krb_file.specs.declared.field_name.FieldName.TheVariants as fields
+use Rattle.krb_file.proofs.FieldReaders.{is_read}
 use Rattle.krb_keytab.proofs.HoleRead.{hole_read}
 use Rattle.krb_keytab.proofs.Reaching.{entry_stays}
 use Rattle.krb_keytab.proofs.reading.record_after.Goals as goal
 
 pub returns-in_ok-clean-clause-read : goal.returns-in_ok-clean-clause-read
 returns-in_ok-clean-clause-read g c =
-    hole_read c.args.length c.unsigned_abs-size.result c.from-else-length-gt0.result c.of.result c.in_ok-clean.clean (g.F.FieldReader.held c.args.reader.now) (g.F.FieldReader.held c.skip.new.self)
-    c.ranges.length c.if-length-eq0.false c.if-length-gt0.false c.unsigned_abs-size.ensures.value c.from-else-length-gt0.ensures c.of.ensures c.in_ok-clean.ensures.read
+    hole_read c.args.length c.unsigned_abs-size.result c.from-else-length-gt0.result c.of.result c.in_ok-clean.clean (g.F.FieldReader.held c.args.reader.now) (g.F.FieldReader.held c.skip_field.new.self)
+    c.ranges.length c.if-length-eq0.false c.if-length-gt0.false c.unsigned_abs-size.ensures.value c.from-else-length-gt0.ensures c.of.ensures (is_read (named fields.Hole) (skipped_at c.from-else-length-gt0.result) c.in_ok-clean.ensures.read)
 
 pub returns-in_ok-entry-clause-stays : goal.returns-in_ok-entry-clause-stays
 returns-in_ok-entry-clause-stays g c =

@@ -1,0 +1,58 @@
+-- The texts of the names of fields.
+use Rattle.std.specs.Prelude.{ℕ, List, ◌++◌, codes, Option, Some, None}
+use Rattle.std.specs.Fmt.{decimal}
+use Rattle.krb_file.specs.declared.field_name.FieldName.{FieldName}
+use Rattle.krb_file.specs.declared.field_name.FieldName.TheVariants as fields
+use Rattle.krb_file.specs.declared.field_name.FilePart.{FilePart}
+use Rattle.krb_file.specs.declared.field_name.FilePart.TheVariants as parts
+use Rattle.krb_file.specs.declared.field_name.FileField.{FileField}
+
+-- the one of a row, counted from 0
+abbrev pub numbered : List ℕ → ℕ → List ℕ
+numbered word index = word ++ codes "[" ++ decimal index ++ codes "]"
+
+abbrev pub name_text : FieldName → List ℕ
+name_text fields.Magic = codes "magic"
+name_text fields.Version = codes "version"
+name_text fields.Length = codes "length"
+name_text fields.Hole = codes "hole"
+name_text fields.ComponentCount = codes "component-count"
+name_text fields.Realm = codes "realm"
+name_text (fields.Component index) = numbered (codes "component") index
+name_text fields.NameType = codes "name-type"
+name_text fields.Timestamp = codes "timestamp"
+name_text fields.KeyVersion = codes "key-version"
+name_text fields.Enctype = codes "enctype"
+name_text fields.Key = codes "key"
+name_text fields.Rest = codes "rest"
+name_text fields.HeaderLength = codes "header-length"
+name_text fields.Tag = codes "tag"
+name_text fields.Value = codes "value"
+name_text fields.AuthTime = codes "authtime"
+name_text fields.StartTime = codes "starttime"
+name_text fields.EndTime = codes "endtime"
+name_text fields.RenewTill = codes "renew-till"
+name_text fields.IsSkey = codes "is-skey"
+name_text fields.TicketFlags = codes "ticket-flags"
+name_text fields.AddressCount = codes "address-count"
+name_text fields.AuthdataCount = codes "authdata-count"
+name_text fields.Type = codes "type"
+name_text fields.Octets = codes "octets"
+name_text fields.Ticket = codes "ticket"
+name_text fields.SecondTicket = codes "second-ticket"
+
+abbrev pub part_text : FilePart → List ℕ
+part_text (parts.Header index) = numbered (codes "header") index
+part_text parts.Principal = codes "principal"
+part_text parts.Client = codes "client"
+part_text parts.Server = codes "server"
+part_text (parts.Address index) = numbered (codes "address") index
+part_text (parts.Authdata index) = numbered (codes "authdata") index
+
+abbrev pub in_part_text : Option FilePart → List ℕ → List ℕ
+in_part_text None name = name
+in_part_text (Some part) name = part_text part ++ codes "." ++ name
+
+-- the field, after the part that it stands in
+abbrev pub field_text : FileField → List ℕ
+field_text field = in_part_text field.part (name_text field.name)
