@@ -7,8 +7,10 @@
 //! - [`contents_of`] returns the UDP datagram or the TCP segment that a packet carries, whose
 //!   octets are borrowed, or that it is something else or cannot be read.
 //!
-//! Fragments are not put together, and checksums are not checked. Nothing here
-//! knows a TCP connection or a message: `krb_flow` puts directions of connections together.
+//! A file that is refused is refused at its first field at fault, which a [`CaptureFault`] names.
+//!
+//! Fragments are not put together, and checksums are not checked. Nothing here knows a TCP
+//! connection or a message: `krb_flow` puts directions of connections together.
 #![tactic(auto)]
 
 mod block;
