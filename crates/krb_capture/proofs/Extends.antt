@@ -1,5 +1,5 @@
 -- What is found with more octets of a stream, and with others after them.
-use Rattle.std.proofs.Common.{◌≡◌, ℕ, Bool, true, false, List, [], ◌∷◌, ◌++◌, length, map, drop, refl, sym, ◌∙◌, ap, subst, append_assoc, append-nil}
+use Rattle.std.proofs.Common.{◌≡◌, ℕ, Bool, true, false, List, [], ◌++◌, map, drop, refl, sym, ◌∙◌, ap, subst, append_assoc, append-nil}
 use Rattle.krb_capture.specs.Found.{Found}
 use Rattle.krb_capture.specs.Streams.{Framed, entry_found, found_with, framed}
 use Rattle.krb_capture.specs.Taken.{IsOver, Keeps, KeepsUnless, PasswordsAreOver, Took, TookMessages, TookPasswords, Waits, WaitsUnless, passwords, service_of}

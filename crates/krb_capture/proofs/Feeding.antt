@@ -1,14 +1,21 @@
 -- What a decoder answers when it is fed.
-use Rattle.std.proofs.Common.{◌≡◌, ℕ, zero, suc, ◌+◌, ◌-◌, ◌<◌, ◌≤◌, ◌⊎◌, inl, inr, min, List, [], ◌++◌, length, take, drop, refl, sym, ◌∙◌, ap, subst, arith, append-nil, length-drop}
+use Rattle.std.proofs.Common.{◌≡◌, ℕ, zero, suc, ◌+◌, ◌-◌, ◌<◌, ◌≤◌, ◌⊎◌, inl, inr, min, List, ◌++◌, length, take, drop, refl, sym, ◌∙◌, ap, subst, arith, append-nil, length-drop}
 use Rattle.krb_der.specs.declared.verdict.Refusal.{Refusal}
 use Rattle.krb_msg.specs.Grammar.{messages}
 use Rattle.krb_frame.specs.Decoding.{status_of}
-use Rattle.krb_frame.specs.GoingOn.{Skipping, without, FeedsAfter}
+use Rattle.krb_frame.specs.GoingOn.{Skipping, FeedsAfter}
 use Rattle.krb_frame.specs.declared.decoder.Fed.{Fed}
 use Rattle.krb_frame.specs.declared.decoder.Status.{Status}
 use Rattle.krb_frame.specs.declared.decoder.Status.TheVariants as status
 use Rattle.krb_frame.proofs.Founds.{same-status}
-use Rattle.krb_capture.specs.Listed.{frames_due, status_in}
+use Rattle.krb_capture.specs.Listed.{status_in}
+
+-- one more if the decoder has a frame that is to be cleared or skipped
+abbrev pub frames_due : Status → ℕ
+frames_due status.More = 0
+frames_due status.Ready = 1
+frames_due status.Memory = 1
+frames_due (status.Refused refusal) = 1
 
 pub memory_more : status.Memory ≡ status.More → ⊥
 memory_more e = cc

@@ -1,5 +1,5 @@
 -- What is written of several findings, and what a path and a place of a finding have to do with it.
-use Rattle.std.proofs.Common.{◌≡◌, ℕ, ◌<◌, ◌≤◌, ◌^◌, inl, inr, Bool, true, false, List, [], ◌∷◌, ◌++◌, length, Some, None, refl, sym, ◌∙◌, ap, arith}
+use Rattle.std.proofs.Common.{◌≡◌, ℕ, ◌<◌, ◌^◌, inl, inr, Bool, true, false, List, [], ◌∷◌, ◌++◌, length, Some, None, refl, sym, ◌∙◌, ap, arith}
 use Rattle.std.specs.Prelude.{Option, pos, codes, nat_lt, ◌==◌, if◌then◌else◌, take, drop}
 use Rattle.std.proofs.lemmas.Bool.{cases_lt, lt-ltb}
 use Rattle.krb_der.specs.Octets.{number}
@@ -9,7 +9,7 @@ use Rattle.krb_der.specs.declared.verdict.Refusal.{Refusal}
 use Rattle.krb_der.specs.declared.verdict.Verdict.{Verdict}
 use Rattle.krb_der.specs.declared.verdict.Verdict.TheVariants as verdict
 use Rattle.krb_der.specs.declared.why.Why.TheVariants as why
-use Rattle.krb_list.specs.Captures.{captured_line, lost_line}
+use Rattle.krb_list.specs.Captures.{captured_line}
 use Rattle.krb_list.specs.Refusals.{path_in}
 use Rattle.krb_list.specs.Values.{Field, Number, Reason, printed, the}
 use Rattle.krb_list.specs.declared.form.Form.{Form}
@@ -20,7 +20,7 @@ use Rattle.krb_msg.proofs.Grammars.{refusal_is_final}
 use Rattle.krb_judge.specs.Parses.{refused, refusal_of}
 use Rattle.krb_judge.specs.Paths.{message_path}
 use Rattle.krb_frame.specs.GoingOn.{Fault}
-use Rattle.krb_capture.specs.Found.{Found, Faulty, Missing, Written, counted, with_all, with_found}
+use Rattle.krb_capture.specs.Found.{Found, Faulty, Written, counted, with_all, with_found}
 use Rattle.krb_capture.specs.Messages.{most_octets, path_of}
 use Rattle.krb_capture.specs.Streams.{entry_found, frame_path}
 

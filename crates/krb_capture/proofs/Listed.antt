@@ -1,13 +1,11 @@
 -- Frames listed one after another.
-use Rattle.std.proofs.Common.{◌≡◌, ℕ, ◌+◌, ◌^◌, ◌<◌, ◌≤◌, inl, inr, Bool, true, false, List, [], ◌∷◌, ◌++◌, length, map, take, drop, Some, None, refl, sym, ◌∙◌, ap, ap₂, subst, arith, append_assoc, append-nil, take-append-drop}
+use Rattle.std.proofs.Common.{◌≡◌, ℕ, ◌+◌, ◌^◌, ◌≤◌, inl, inr, Bool, true, false, List, [], ◌∷◌, ◌++◌, length, map, take, drop, Some, None, refl, sym, ◌∙◌, ap, subst, arith, append_assoc, append-nil, take-append-drop}
 use Rattle.std.specs.Prelude.{Option, is_some, ◌&&◌, nat_le, nat_lt, if◌then◌else◌}
-use Rattle.std.specs.List.{AllByRecursion}
 use Rattle.std.proofs.lemmas.Bool.{cases_lt, lt-leb, le-leb}
 use Rattle.std.proofs.lemmas.List.{drop_all, map-append}
 use Rattle.krb_der.specs.Octets.{number}
 use Rattle.krb_der.specs.declared.verdict.Refusal.{Refusal}
 use Rattle.krb_msg.specs.Grammar.{messages}
-use Rattle.krb_msg.specs.Reading.{message_read}
 use Rattle.krb_msg.specs.Seen.{IsMessageView, message_seen}
 use Rattle.krb_msg.specs.Stream.{Refused}
 use Rattle.krb_msg.specs.declared.message_view.MessageView.{MessageView}
@@ -19,7 +17,7 @@ use Rattle.krb_frame.proofs.Ends.{refused_end}
 use Rattle.krb_frame.proofs.Founds.{more-nothing}
 use Rattle.krb_list.specs.declared.origin.Origin.{Origin}
 use Rattle.krb_capture.specs.Found.{Whole, Written, with_all, with_found}
-use Rattle.krb_capture.specs.Listed.{IsStopped, Lists, ListsFront, ListsLast, ListsOne, ListsRefused, status_in}
+use Rattle.krb_capture.specs.Listed.{Lists, ListsFront, ListsLast, ListsOne, ListsRefused, status_in}
 use Rattle.krb_capture.specs.Streams.{entry_found}
 use Rattle.krb_capture.specs.Taken.{IsDone}
 use Rattle.krb_capture.proofs.Found.{with_all-append}

@@ -1,8 +1,7 @@
 -- What the frames of messages answer at the end.
-use Rattle.std.proofs.Common.{◌≡◌, ℕ, ◌+◌, Bool, true, false, List, [], ◌∷◌, ◌++◌, length, map, Some, refl, sym, ◌∙◌, ap, ap₂, subst, arith, append-nil}
+use Rattle.std.proofs.Common.{◌≡◌, ℕ, Bool, true, false, List, [], ◌∷◌, Some, refl, sym, ◌∙◌, ap, subst, append-nil}
 use Rattle.std.specs.Result.{result_err}
 use Rattle.krb_der.specs.declared.profile.Profile.TheVariants.{Lenient}
-use Rattle.krb_der.specs.declared.verdict.Refusal.{Refusal}
 use Rattle.krb_der.specs.declared.why.Why.TheVariants as why
 use Rattle.krb_msg.specs.Grammar.{messages}
 use Rattle.krb_msg.specs.Stream.{Frames, End, Boundary, Within, Refused, ends, frames}
@@ -11,7 +10,7 @@ use Rattle.krb_frame.specs.Decoding.{Decoding, Room, AreOfOne, finish_at, finish
 use Rattle.krb_frame.specs.GoingOn.{GoesOn, Skipping}
 use Rattle.krb_frame.specs.declared.decoder.Status.TheVariants as status
 use Rattle.krb_frame.proofs.Founds.{more-nothing}
-use Rattle.krb_capture.specs.Streams.{Framed, cut_refusal, entry_found, framed}
+use Rattle.krb_capture.specs.Streams.{Framed, cut_refusal, framed}
 use Rattle.krb_capture.specs.Taken.{IsOver, TookMessages, Waits, WaitsUnless}
 use Rattle.krb_capture.specs.declared.flow.Service.TheVariants as services
 use Rattle.krb_capture.specs.declared.message_frames.MessageFrames.{MessageFrames}

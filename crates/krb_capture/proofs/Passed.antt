@@ -1,6 +1,6 @@
 -- What is found in the frames of messages that change passwords, by what is kept of them.
-use Rattle.std.proofs.Common.{◌≡◌, ℕ, zero, suc, ◌+◌, ◌-◌, ◌^◌, ◌<◌, ◌≤◌, ◌⊎◌, inl, inr, Bool, true, false, List, [], ◌∷◌, ◌++◌, length, take, drop, Some, None, refl, sym, ◌∙◌, ap, ap₂, subst, arith, le_refl, append_assoc, append-nil, length-append, length-drop, length-take, drop_at}
-use Rattle.std.specs.Prelude.{nat_lt, nat_le, ◌==◌, if◌then◌else◌}
+use Rattle.std.proofs.Common.{◌≡◌, ℕ, zero, suc, ◌+◌, ◌^◌, ◌<◌, ◌≤◌, inl, inr, true, false, List, [], ◌∷◌, ◌++◌, length, take, drop, refl, sym, ◌∙◌, ap, ap₂, subst, arith, le_refl, append_assoc, append-nil, length-append, length-drop, drop_at}
+use Rattle.std.specs.Prelude.{nat_lt, if◌then◌else◌}
 use Rattle.std.proofs.lemmas.Bool.{lt-leb, le-leb, lt-ltb, le-ltb, eq-eqb, ne_eqb}
 use Rattle.std.proofs.lemmas.List.{drop_all, take-append-le, drop-append-le, take_at}
 use Rattle.std.proofs.Math.Seq.{drop-append-add}
@@ -12,7 +12,6 @@ use Rattle.krb_capture.specs.Passed.{Holds, ListsNext}
 use Rattle.krb_capture.specs.Passwords.{password_found}
 use Rattle.krb_capture.specs.Streams.{Framed, before_frames, framed, length_found, no_frames, password_frame, password_frames}
 use Rattle.krb_capture.specs.Taken.{IsAllowed, IsPart, Keeps, KeepsUnless, PasswordsAreOver, passwords}
-use Rattle.krb_capture.specs.declared.flow.Service.TheVariants as services
 use Rattle.krb_capture.specs.declared.password_frames.PasswordFrames.{PasswordFrames}
 
 module _ (limit : ℕ) where

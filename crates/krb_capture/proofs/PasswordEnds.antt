@@ -1,7 +1,7 @@
 -- What the frames of messages that change passwords answer at the end.
-use Rattle.std.proofs.Common.{◌≡◌, ℕ, ◌+◌, ◌^◌, ◌<◌, ◌≤◌, ◌⊎◌, inl, inr, Bool, true, false, List, [], ◌∷◌, ◌++◌, length, drop, Some, None, refl, sym, ◌∙◌, ap, subst, arith, append-nil}
+use Rattle.std.proofs.Common.{◌≡◌, ℕ, ◌^◌, ◌<◌, inl, inr, Bool, true, false, List, [], ◌∷◌, length, Some, None, refl, sym, ◌∙◌, ap, subst, arith, append-nil}
 use Rattle.krb_der.specs.declared.why.Why.TheVariants as why
-use Rattle.krb_capture.specs.Streams.{Framed, cut_refusal, framed, no_frames}
+use Rattle.krb_capture.specs.Streams.{Framed, cut_refusal, framed}
 use Rattle.krb_capture.specs.Taken.{IsPart, Keeps, KeepsUnless, PasswordsAreOver, TookPasswords, passwords}
 use Rattle.krb_capture.specs.declared.flow.Service.TheVariants as services
 use Rattle.krb_capture.specs.declared.password_frames.PasswordFrames.{PasswordFrames}

@@ -1,16 +1,15 @@
 -- What the frames of messages have to do with the octets that they took.
-use Rattle.std.proofs.Common.{◌≡◌, ℕ, Bool, true, false, List, [], ◌∷◌, ◌++◌, map, Some, None, refl, sym, ◌∙◌, ap, ap₂, subst, append_assoc, append-nil}
+use Rattle.std.proofs.Common.{◌≡◌, ℕ, Bool, true, false, List, [], ◌∷◌, ◌++◌, map, None, refl, sym, ◌∙◌, ap, subst, append_assoc, append-nil}
 use Rattle.std.specs.Prelude.{not}
 use Rattle.std.specs.List.{AllByRecursion}
 use Rattle.std.proofs.lemmas.List.{map-append}
 use Rattle.krb_der.specs.declared.profile.Profile.TheVariants.{Lenient}
-use Rattle.krb_der.specs.declared.verdict.Refusal.{Refusal}
 use Rattle.krb_msg.specs.Grammar.{messages}
 use Rattle.krb_frame.specs.Decoding.{status_of}
 use Rattle.krb_frame.specs.GoingOn.{Entry, Fault, Skipping, GoesOn, rest_to_come}
 use Rattle.krb_frame.specs.declared.decoder.Status.TheVariants as status
 use Rattle.krb_list.specs.declared.origin.Origin.{Origin}
-use Rattle.krb_capture.specs.Found.{Found, Written, with_all, with_found}
+use Rattle.krb_capture.specs.Found.{Written, with_all, with_found}
 use Rattle.krb_capture.specs.Listed.{Lists, ListsLast, ListsPiece, status_in}
 use Rattle.krb_capture.specs.Streams.{Framed, entry_found, found_with, framed}
 use Rattle.krb_capture.specs.Taken.{IsDone, IsOver, TookMessages, Waits, WaitsUnless}

@@ -1,5 +1,5 @@
 -- What is found in a UDP datagram, which is one message.
-use Rattle.std.specs.Prelude.{ℕ, ◌-◌, ◌==◌, Bool, true, false, if◌then◌else◌, List, [], ◌∷◌, length, Some, None, codes}
+use Rattle.std.specs.Prelude.{◌-◌, ◌==◌, Bool, true, false, if◌then◌else◌, List, [], ◌∷◌, length, Some, None, codes}
 use Rattle.krb_der.specs.declared.why.Why.TheVariants as why
 use Rattle.krb_packet.specs.Payloads.{Captured}
 use Rattle.krb_capture.specs.Found.{Found, Faulty, Missing}

@@ -1,5 +1,5 @@
 -- What is listed of the frames of messages, one after another, as their octets come.
-use Rattle.std.specs.Prelude.{ℕ, ◌≡◌, Bool, true, false, List, [], ◌∷◌, ◌++◌, map, None}
+use Rattle.std.specs.Prelude.{ℕ, ◌≡◌, Bool, true, false, List, [], ◌++◌, map, None}
 use Rattle.std.specs.List.{AllByRecursion}
 use Rattle.krb_der.specs.declared.verdict.Refusal.{Refusal}
 use Rattle.krb_msg.specs.Grammar.{messages}
@@ -58,10 +58,3 @@ pub record ListsLast (old new : Skipping) (piece : List ℕ) (origin : Origin) (
 abbrev pub ListsPiece : Bool → Skipping → Skipping → List ℕ → Origin → Written → Written → Type 0
 ListsPiece true old new piece origin before after = Lists old new piece origin before after × (status_in new ≡ status.More)
 ListsPiece false old new piece origin before after = ListsLast old new piece origin before after
-
--- one more if the decoder has a frame that is to be cleared or skipped
-abbrev pub frames_due : Status → ℕ
-frames_due status.More = 0
-frames_due status.Ready = 1
-frames_due status.Memory = 1
-frames_due (status.Refused refusal) = 1

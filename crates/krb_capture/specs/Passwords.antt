@@ -1,5 +1,5 @@
 -- Messages that change passwords (RFC 3244, 2): the length of all, the version, and the length of an AP-REQ or AP-REP, of two octets each; that; and the rest, a KRB-PRIV, or a KRB-ERROR if there is no AP-REP.
-use Rattle.std.specs.Prelude.{ℕ, ◌+◌, ◌-◌, nat_lt, ◌==◌, if◌then◌else◌, List, [], ◌∷◌, ◌++◌, length, take, drop, Option, Some, Result, Ok, Err, codes}
+use Rattle.std.specs.Prelude.{ℕ, ◌+◌, ◌-◌, nat_lt, if◌then◌else◌, List, [], ◌∷◌, ◌++◌, length, take, drop, Some, Result, Ok, Err, codes}
 use Rattle.std.specs.Int.{w16, from_be_bytes}
 use Rattle.krb_der.specs.declared.why.Why.{Why}
 use Rattle.krb_der.specs.declared.why.Why.TheVariants as why

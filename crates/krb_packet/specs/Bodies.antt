@@ -1,4 +1,4 @@
--- The blocks of a pcapng that are read, but for the fields that each has (draft-ietf-opsawg-pcapng, 4).
+-- The heads and the bodies of the blocks of a pcapng (draft-ietf-opsawg-pcapng, 3.1 and 4).
 use Rattle.std.specs.Prelude.{ℕ, ◌+◌, ◌-◌, ◌*◌, ◌%◌, ◌^◌, min, max, not, ◌||◌, ◌==◌, nat_lt, Option, Some, None, Result, Ok, Err, List, length, slice_get}
 use Rattle.std.specs.Int.{w16, w32}
 use Rattle.krb_der.specs.Octets.{when}

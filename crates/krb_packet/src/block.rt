@@ -21,20 +21,20 @@ pub(crate) const SECTION_HEADER: u32 = 0x0A0D_0D0A;
 /// The fewest octets that a block has: its type, and its length twice.
 pub(crate) const LEAST_BLOCK: u32 = 12;
 
-/// What a block is.
+/// What a block is. The blocks of the other types are passed over.
 #[derive(Clone, Copy, PartialEq, Eq, Debug)]
 pub enum BlockKind {
-    /// The header of a section, which ends the section before.
+    /// A section header, which ends the section before.
     Section,
-    /// An interface that packets are captured from.
+    /// An interface description.
     Interface,
-    /// A packet, as it was written once.
+    /// An obsolete packet block.
     OldPacket,
-    /// A packet without a time.
+    /// A simple packet block, which has no time.
     SimplePacket,
-    /// A packet.
+    /// An enhanced packet block.
     EnhancedPacket,
-    /// Another one, which is passed over.
+    /// Another one.
     Other,
 }
 

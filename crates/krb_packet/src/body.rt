@@ -128,7 +128,7 @@ fn timed_packet<F: FieldReader>(
     })
 }
 
-/// Reads the body of an enhanced packet.
+/// Reads the body of an enhanced packet block.
 fn enhanced_packet<F: FieldReader>(
     alloc: Global,
     order: Order,
@@ -144,7 +144,7 @@ fn enhanced_packet<F: FieldReader>(
     timed_packet(alloc, order, count, interface, reader)
 }
 
-/// Reads the body of a packet as it was written once.
+/// Reads the body of an obsolete packet block.
 fn old_packet<F: FieldReader>(
     alloc: Global,
     order: Order,
@@ -173,7 +173,7 @@ fn most_of(most: u32, original: u32) -> u32
     }
 }
 
-/// Reads the body of a simple packet, which is one of the first interface.
+/// Reads the body of a simple packet block, whose packet is one of the first interface.
 fn simple_packet<F: FieldReader>(
     alloc: Global,
     order: Order,

@@ -1,5 +1,6 @@
 use Rattle.std.proofs.Common.{◌+◌, length}
-use Rattle.krb_capture.specs.Listed.{ListsFront, frames_due, status_in}
+use Rattle.krb_capture.specs.Listed.{ListsFront, status_in}
+use Rattle.krb_capture.proofs.Feeding.{frames_due}
 use Rattle.krb_capture.proofs.message_frames.list_frames.Given as goal
 
 abbrev pub invariant-frames : goal.invariant-frames
