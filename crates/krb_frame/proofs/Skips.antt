@@ -1,9 +1,9 @@
 -- What a decoder that skips stands for when it is fed, and when a frame is cleared or skipped.
-use Rattle.std.proofs.Common.{◌≡◌, ℕ, zero, suc, ◌+◌, ◌-◌, ◌^◌, ◌<◌, ◌≤◌, ◌⊎◌, inl, inr, min, List, [], ◌∷◌, ◌++◌, length, map, take, drop, true, false, Bool, Some, None, refl, sym, ◌∙◌, ap, ap₂, subst, arith, append_assoc, append-nil, length-append, length-take, length-drop, drop_at}
-use Rattle.std.specs.Prelude.{Option, IfSome, nat_le, is_some, if◌then◌else◌}
+use Rattle.std.proofs.Common.{◌≡◌, ℕ, zero, suc, ◌+◌, ◌-◌, ◌^◌, ◌<◌, ◌≤◌, ◌⊎◌, inl, inr, min, List, [], ◌∷◌, ◌++◌, length, map, take, drop, true, Bool, Some, None, refl, sym, ◌∙◌, ap, ap₂, subst, arith, append_assoc, append-nil, length-take, length-drop, drop_at}
+use Rattle.std.specs.Prelude.{Option, IfSome, is_some, if◌then◌else◌}
 use Rattle.std.specs.Option.{option_map}
 use Rattle.std.proofs.lemmas.Bool.{cases_lt, lt-leb, le-leb}
-use Rattle.std.proofs.lemmas.List.{drop-append-le, drop_all, take_all}
+use Rattle.std.proofs.lemmas.List.{drop_all, take_all}
 use Rattle.std.proofs.Math.Seq.{take-add, drop-append-add}
 use Rattle.krb_der.specs.Octets.{number}
 use Rattle.krb_der.specs.declared.profile.Profile.TheVariants.{Lenient}
@@ -12,8 +12,8 @@ use Rattle.krb_der.specs.declared.why.Why.TheVariants as why
 use Rattle.krb_der.specs.declared.verdict.Refusal.{Refusal}
 use Rattle.krb_msg.specs.Term.{Term}
 use Rattle.krb_msg.specs.Stream.{Frames, End, Boundary, Within, Refused, ends, with_first, frames}
-use Rattle.krb_frame.specs.Decoding.{Decoding, Room, found, status_at, status_of, borrowed, first_of, after_next, AreOfOne, IsOfOneFrame}
-use Rattle.krb_frame.specs.Stands.{Stands, after_frames, frames_size}
+use Rattle.krb_frame.specs.Decoding.{Decoding, Room, found, status_at, status_of, borrowed, first_of, AreOfOne, IsOfOneFrame}
+use Rattle.krb_frame.specs.Stands.{Stands, frames_size}
 use Rattle.krb_frame.specs.Feeds.{Feeds, Clears}
 use Rattle.krb_frame.specs.GoingOn.{Entry, Contents, Fault, last_entry, entries, rest_of, rest_at, rest_to_come, GivesUp, Skipping, GoesOn, without, FeedsAfter, PassesEntry, ClearsEntry, Skips}
 use Rattle.krb_frame.specs.Frame.{framed}

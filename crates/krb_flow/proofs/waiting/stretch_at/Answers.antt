@@ -1,4 +1,4 @@
-use Rattle.std.proofs.Common.{◌+◌, ◌-◌, ◌≤◌, length, sym, ◌∙◌, arith}
+use Rattle.std.proofs.Common.{◌-◌, sym, ◌∙◌, arith}
 use Rattle.krb_flow.proofs.Runs.{IsFirstPast, first_past, none_past}
 use Rattle.krb_flow.proofs.waiting.stretch_at.Goals as goal
 use Rattle.krb_flow.proofs.waiting.stretch_at.Goals.{In-Some}
