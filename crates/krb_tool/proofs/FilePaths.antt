@@ -1,5 +1,5 @@
 -- The line of a refused file, by the path that its form shows.
-use Rattle.std.proofs.Common.{◌≡◌, ℕ, List, ◌++◌, ◌∷◌, [], pos, Option, Some, Result, Ok, Err, IfOk, sym, ◌∙◌, ap, codes}
+use Rattle.std.proofs.Common.{◌≡◌, ℕ, List, ◌++◌, ◌∷◌, pos, Option, Result, Ok, Err, IfOk, ◌∙◌, ap, codes}
 use Rattle.krb_file.specs.Faults.{file_reason_number, file_reason_name, fault_field}
 use Rattle.krb_file.specs.declared.fault.FileFault.{FileFault}
 use Rattle.krb_file.specs.declared.fault.FileFault.TheVariants as faults

@@ -1,6 +1,5 @@
 use Rattle.std.proofs.Common.{string_bytes}
 use Rattle.std.specs.Option.{option_map}
-use Rattle.krb_list.specs.Refusals.{path_in}
 use Rattle.krb_tool.specs.Paths.{start_path}
 use Rattle.krb_tool.proofs.FilePaths.{refusal_shown}
 use Rattle.krb_tool.proofs.record_run.put_start_fault.Goals as goal
