@@ -120,7 +120,8 @@ impl Capture {
         let Some(service) = Service::between(self.port, segment.source, segment.target) else {
             return Ok(());
         };
-        self.directions.take(segment, service, self.last, &mut self.listing)
+        self.directions
+            .take(segment, service, self.last, &mut self.listing)
     }
 
     /// Returns how many packets came, and how many records of each kind were listed.

@@ -170,13 +170,7 @@ impl Directions {
     }
 
     /// Keeps a direction by its number, or that it ended.
-    fn keep(
-        &mut self,
-        flow: Flow,
-        number: u64,
-        sending: Sending,
-        step: Step,
-    ) -> Result<(), Memory>
+    fn keep(&mut self, flow: Flow, number: u64, sending: Sending, step: Step) -> Result<(), Memory>
         ensures { OnOk result ((limit : ℕ) (table : Table) (sent : Sent) → HoldsTable self.old limit table → StandsFor sending limit sent → HoldsTable self.new limit (kept flow number step sent table)) }
     {
         self.keep_number(flow, number, step.began)?;

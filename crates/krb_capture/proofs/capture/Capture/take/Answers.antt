@@ -11,9 +11,9 @@ returns-clause-followed c = on_ok-map c.take_contents-taken.result
     (λ k settings progress h.
     let start : Progress = with_packet c.args.packet.now progress in
     let counted : c.count_packet.new.self.counts ≡ start.counts =
-            ap (λ w. w.counts) c.count_packet.ensures
-            ∙ ap {A = Written} (λ w. record w.counts { packets = and_more w.counts.packets 1 }) c.swap_text.ensures.listing
-            ∙ ap {A = CaptureCounts} (λ x. record x { packets = and_more x.packets 1 }) h.counts
+    ap (λ w. w.counts) c.count_packet.ensures
+    ∙ ap {A = Written} (λ w. record w.counts { packets = and_more w.counts.packets 1 }) c.swap_text.ensures.listing
+    ∙ ap {A = CaptureCounts} (λ x. record x { packets = and_more x.packets 1 }) h.counts
     in
     let r = k settings start (record {
       port = h.port;
@@ -40,9 +40,9 @@ returns-clause-listed c = on_ok-map c.take_contents-taken.result
     (λ k settings progress h.
     let start : Progress = with_packet c.args.packet.now progress in
     let counted : c.count_packet.new.self.counts ≡ start.counts =
-            ap (λ w. w.counts) c.count_packet.ensures
-            ∙ ap {A = Written} (λ w. record w.counts { packets = and_more w.counts.packets 1 }) c.swap_text.ensures.listing
-            ∙ ap {A = CaptureCounts} (λ x. record x { packets = and_more x.packets 1 }) h.counts
+    ap (λ w. w.counts) c.count_packet.ensures
+    ∙ ap {A = Written} (λ w. record w.counts { packets = and_more w.counts.packets 1 }) c.swap_text.ensures.listing
+    ∙ ap {A = CaptureCounts} (λ x. record x { packets = and_more x.packets 1 }) h.counts
     in
     c.swap_text-2.ensures.text
     ∙ k settings start (record {

@@ -38,16 +38,16 @@ returns-clause-found c = λ limit sent s.
     let took2 = c.in_ok-take.ensures.took c.args.self.now.limit at took1 in
     let took3 = c.in_ok-take-2.ensures.took c.args.self.now.limit (at ++ c.in_ok-taken.taken.octets.now) took2 in
     let listed = segment-listed c.over_tcp-origin.result sent.service c.args.self.now.limit sent.stream c.in_ok-taken.taken.octets.now c.as_slice.result.now
-            (record { before = c.in_ok-taken.taken.before; begins = c.in_ok-taken.taken.begins; octets = c.in_ok-taken.taken.octets.now ++ c.take.new.waited.items; end = c.in_ok-taken.taken.end })
-            c.args.self.now.frames c.begin.new.self.frames c.take-2.new.self c.take-3.new.self
-            c.args.listing.now c.list_end.new.listing c.begin.new.listing c.take-2.new.listing c.take-3.new.listing c.list_end-2.new.listing
-            s.frames (c.in_ok-begin.ensures.service (s.frames ∙ sym s.service) ∙ s.service) c.in_ok-take.ensures.service c.in_ok-take-2.ensures.service
-            took1 took2 (ap (λ y. c.in_ok-taken.taken.octets.now ++ y) (sym c.as_slice.ensures.value))
-            (c.in_ok-list_end.ensures c.args.self.now.limit sent.stream took0)
-            c.in_ok-begin.ensures.found
-            (c.in_ok-take.ensures.listed c.args.self.now.limit at took1)
-            (c.in_ok-take-2.ensures.listed c.args.self.now.limit (at ++ c.in_ok-taken.taken.octets.now) took2)
-            (c.in_ok-list_end-2.ensures c.args.self.now.limit ((at ++ c.in_ok-taken.taken.octets.now) ++ c.as_slice.result.now) took3)
+    (record { before = c.in_ok-taken.taken.before; begins = c.in_ok-taken.taken.begins; octets = c.in_ok-taken.taken.octets.now ++ c.take.new.waited.items; end = c.in_ok-taken.taken.end })
+    c.args.self.now.frames c.begin.new.self.frames c.take-2.new.self c.take-3.new.self
+    c.args.listing.now c.list_end.new.listing c.begin.new.listing c.take-2.new.listing c.take-3.new.listing c.list_end-2.new.listing
+    s.frames (c.in_ok-begin.ensures.service (s.frames ∙ sym s.service) ∙ s.service) c.in_ok-take.ensures.service c.in_ok-take-2.ensures.service
+    took1 took2 (ap (λ y. c.in_ok-taken.taken.octets.now ++ y) (sym c.as_slice.ensures.value))
+    (c.in_ok-list_end.ensures c.args.self.now.limit sent.stream took0)
+    c.in_ok-begin.ensures.found
+    (c.in_ok-take.ensures.listed c.args.self.now.limit at took1)
+    (c.in_ok-take-2.ensures.listed c.args.self.now.limit (at ++ c.in_ok-taken.taken.octets.now) took2)
+    (c.in_ok-list_end-2.ensures c.args.self.now.limit ((at ++ c.in_ok-taken.taken.octets.now) ++ c.as_slice.result.now) took3)
     in
     listed
     ∙ ap (λ o. with_all c.over_tcp-origin.result (outcome_found sent.service c.args.self.now.limit sent.stream o) c.args.listing.now) outcome
