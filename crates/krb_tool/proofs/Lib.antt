@@ -15,3 +15,4 @@ pub mod CountedPieces
 pub mod SourceRuns
 mod FaultPaths
 pub mod FilePaths
+mod CaptureLines
