@@ -33,7 +33,7 @@ AddsCaptureEnd capture old new ended =
 
 -- the record of a refused file was added; other faults have none
 abbrev pub AddsFileRefusal : FileFault → CaptureField → Capture → Form → List ℕ → List ℕ → Option RunEnd → Type 0
-AddsFileRefusal (faults.Refused place why) field capture form old new ended =
+AddsFileRefusal (faults.Refused place why unnamed) field capture form old new ended =
     (settings : Settings) (progress : Progress) → HasFollowed capture settings progress → form ≡ settings.form → (ended ≡ Some run.Refused) × (new ≡ old ++ capture_refused_line settings.form (all_counts progress) place why (Some (capture_field_text field)))
 AddsFileRefusal faults.Read field capture form old new ended = ⊥
 AddsFileRefusal faults.Memory field capture form old new ended = ⊥
