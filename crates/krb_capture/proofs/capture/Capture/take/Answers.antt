@@ -15,23 +15,24 @@ returns-clause-followed c = on_ok-map c.take_contents-taken.result
     ∙ ap {A = Written} (λ w. record w.counts { packets = and_more w.counts.packets 1 }) c.swap_text.ensures.listing
     ∙ ap {A = CaptureCounts} (λ x. record x { packets = and_more x.packets 1 }) h.counts
     in
-    let r = k settings start (record {
+    let followed : HasFollowed c.take_contents-taken.new.self settings (packet_taken settings c.args.packet.now progress).progress =
+    subst (λ contents. HasFollowed c.take_contents-taken.new.self settings (and_counted (contents_taken settings contents start)).progress) c.contents_of.ensures
+    (k settings start (record {
       port = h.port;
       form = ap (λ w. w.form) c.count_packet.ensures ∙ ap (λ w. w.form) c.swap_text.ensures.listing ∙ h.form;
       fragments = h.fragments;
       table = h.table;
       last = c.with-self.ensures;
       counts = counted;
-    }) in
-    subst (λ x. HasFollowed _ settings (and_counted (contents_taken settings x start)).progress) c.contents_of.ensures
-    (record {
-      port = r.port;
-      form = ap (λ w. w.form) c.swap_text-2.ensures.listing ∙ r.form;
-      fragments = r.fragments;
-      table = r.table;
-      last = r.last;
-      counts = ap (λ w. w.counts) c.swap_text-2.ensures.listing ∙ r.counts;
-    }))
+    })) in
+    record {
+      port = followed.port;
+      form = ap (λ w. w.form) c.swap_text-2.ensures.listing ∙ followed.form;
+      fragments = followed.fragments;
+      table = followed.table;
+      last = followed.last;
+      counts = ap (λ w. w.counts) c.swap_text-2.ensures.listing ∙ followed.counts;
+    })
     c.take_contents-taken.ensures.followed
 
 pub returns-clause-listed : goal.returns-clause-listed
