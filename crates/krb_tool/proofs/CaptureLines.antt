@@ -9,11 +9,12 @@ use Rattle.krb_packet.specs.declared.fault.CaptureFault.{CaptureFault}
 use Rattle.krb_packet.specs.declared.field.CaptureField.{CaptureField}
 use Rattle.krb_packet.specs.declared.packet.Packet.{Packet}
 use Rattle.krb_list.specs.declared.form.Form.{Form}
-use Rattle.krb_capture.specs.Captures.{HasFollowed, Progress, Settings, lines_of, packet_taken}
+use Rattle.krb_capture.specs.Captures.{HasFollowed, Progress, Settings, at_first, lines_of, packet_taken}
 use Rattle.krb_capture.specs.declared.capture.Capture.{Capture}
 use Rattle.krb_tool.specs.Captures.{capture_listing, listing_from}
 use Rattle.krb_tool.specs.Files.{RecordListing}
 use Rattle.krb_tool.specs.declared.run.RunEnd.{RunEnd}
+use Rattle.krb_tool.specs.declared.run.RunEnd.TheVariants as run
 use Rattle.krb_tool.specs.declared.run.RunFault.{RunFault}
 use Rattle.krb_tool.specs.inner.CaptureRuns.{AddsCaptureEnd, AddsFileRefusal, IsCaptureLeft}
 use Rattle.krb_tool.specs.inner.RecordRuns.{AddsLine}
@@ -30,9 +31,9 @@ there items front back item count counted parts =
     ap (drop (suc count)) (parts ∙ sym (append_assoc front (item ∷ []) back)) ∙ drop_at (front ++ item ∷ []) back (suc count) (omega (arith, counted, length-append front (item ∷ [])))
 
 -- the last records were added, if they alone are left
-ended_so : {IsLeft : RecordListing → Type 0} (ended : Option RunEnd) (end : RunEnd) (left last : RecordListing) {before after : List ℕ} → ended ≡ Some end → after ≡ before ++ last.last → left ≡ last → last.lines ≡ [] → last.end ≡ end → AddsLine IsLeft left before after (Ok ended)
-ended_so None end left last e a l n f = absurd cc
-ended_so {IsLeft} (Some x) end left last {before} {after} e a l n f =
+ended_so : (IsLeft : RecordListing → Type 0) (before after : List ℕ) (ended : Option RunEnd) (end : RunEnd) (left last : RecordListing) → ended ≡ Some end → after ≡ before ++ last.last → left ≡ last → last.lines ≡ [] → last.end ≡ end → AddsLine IsLeft left before after (Ok ended)
+ended_so IsLeft before after None end left last e a l n f = absurd cc
+ended_so IsLeft before after (Some x) end left last e a l n f =
     let x' : x ≡ end = cc in
     (a ∙ ap (λ y. before ++ y.last) (sym l), ap (λ y. y.lines) l ∙ n, x' ∙ sym f ∙ ap (λ y. y.end) (sym l))
 
@@ -48,8 +49,7 @@ module _ (form : Form) (old new : Reading) (was now : Capture) (count : ℕ) (le
       let given = promises is_left.file count is_left.reads in
       let taken = packet_taken is_left.settings packet is_left.progress in
       let first = here found given.0.front given.0.back packet count given.0.counted given.0.parts in
-      let rest = there found given.0.front given.0.back packet count given.0.counted given.0.parts in
-      (
+      let rest = there found given.0.front given.0.back packet count given.0.counted given.0.parts in (
         lines_of is_left.settings.form taken.found,
         listing_from is_left.settings given.0.back refusal taken.progress,
         listed is_left.settings is_left.progress is_left.followed,
@@ -62,7 +62,7 @@ module _ (form : Form) (old new : Reading) (was now : Capture) (count : ℕ) (le
           followed = followed is_left.settings is_left.progress is_left.followed;
           form_is = is_left.form_is;
           is = ap (λ xs. listing_from is_left.settings xs refusal taken.progress) (sym rest);
-        }
+        },
       )
 
   -- no packet is left
@@ -78,20 +78,23 @@ module _ (form : Form) (old new : Reading) (was now : Capture) (count : ℕ) (le
       let given = promises is_left.file count is_left.reads in
       let last = none_left given.counted None given.is in
       let added = adds is_left.settings is_left.progress is_left.followed in
-      ended_so ended _ left _ added.0 added.1 last refl refl
+      ended_so (IsCaptureLeft new now form (suc count)) before after ended _ left (listing_from is_left.settings [] None is_left.progress) added.0 added.1 last refl refl
 
-  pub refusal_added : (fault : CaptureFault) (r : Result (Option RunEnd) RunFault) → Promises old (Err fault) new → IfOk r (AddsFileRefusal fault.fault fault.field was form before after) → AddsLine (IsCaptureLeft new now form (suc count)) left before after r
-  refusal_added fault (Err e) promises adds = tt
-  refusal_added fault (Ok ended) promises adds = by fault.fault fault.field (promises is_left.file count is_left.reads) adds
+  -- after which nothing is left
+  pub refusal_added : (IsLeft : RecordListing → Type 0) (fault : CaptureFault) (r : Result (Option RunEnd) RunFault) → Promises old (Err fault) new → IfOk r (AddsFileRefusal fault.fault fault.field was form before after) → AddsLine IsLeft left before after r
+  refusal_added IsLeft fault (Err e) promises adds = tt
+  refusal_added IsLeft fault (Ok ended) promises adds = by fault.fault fault.field (promises is_left.file count is_left.reads) adds
     where
-      by : (file_fault : FileFault) (field : CaptureField) → GivesNext is_left.file count (Err (record { fault = file_fault; field = field })) new → AddsFileRefusal file_fault field was form before after ended → AddsLine (IsCaptureLeft new now form (suc count)) left before after (Ok ended)
+      by : (file_fault : FileFault) (field : CaptureField) → GivesNext is_left.file count (Err (record { fault = file_fault; field = field })) new → AddsFileRefusal file_fault field was form before after ended → AddsLine IsLeft left before after (Ok ended)
       by faults.Read field given adds = absurd adds
       by faults.Memory field given adds = absurd adds
       by (faults.Refused place why unnamed) field given adds =
-          let last = none_left given.counted _ given.is in
+          let refused : Option Refusal = Some (record { fault = record { place = place; why = why; field = unnamed }; field = field }) in
+          let last = none_left given.counted refused given.is in
           let added = adds is_left.settings is_left.progress is_left.followed is_left.form_is in
-          ended_so ended _ left _ added.0 added.1 last refl refl
+          ended_so IsLeft before after ended run.Refused left (listing_from is_left.settings [] refused is_left.progress) added.0 added.1 last refl refl
 
 -- before the first packet
-pub all_left : (settings : Settings) (file : List ℕ) (reading : Reading) (capture : Capture) (progress : Progress) → Reads reading file 0 → HasFollowed capture settings progress → (capture_listing settings file ≡ listing_from settings (packets file).packets (packets file).refusal progress) → IsCaptureLeft reading capture settings.form 0 (capture_listing settings file)
-all_left settings file reading capture progress reads followed e = record { file = file; settings = settings; progress = progress; reads = reads; followed = followed; form_is = refl; is = e }
+pub all_left : (settings : Settings) (file : List ℕ) (reading : Reading) (capture : Capture) → Reads reading file 0 → HasFollowed capture settings at_first → IsCaptureLeft reading capture settings.form 0 (capture_listing settings file)
+unfolding capture_listing
+all_left settings file reading capture reads followed = record { file = file; settings = settings; progress = at_first; reads = reads; followed = followed; form_is = refl; is = refl }

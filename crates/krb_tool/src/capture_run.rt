@@ -116,12 +116,14 @@ pub fn run_capture<R: Read, W: Write>(
     let watch = Watch::new();
     let watch = &watch;
     let reader = in_pieces(alloc, Watched { reader, watch })?;
+    let packets = Packets::new(reader);
+    let capture = Capture::new(alloc, form, limit, port);
     let mut text = String::new(alloc);
     list_records(
         alloc,
         &mut CaptureLines {
-            packets: Packets::new(reader),
-            capture: Capture::new(alloc, form, limit, port),
+            packets,
+            capture,
             form,
             watch,
         },
