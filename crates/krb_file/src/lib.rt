@@ -12,7 +12,8 @@
 //! A [`FileFault`] is a refusal at the first octet of a field, a read that failed, or out of
 //! memory.
 //!
-//! Nothing here knows the format of a keytab or of a cache: `krb_keytab` and `krb_ccache` do.
+//! Of keytabs and caches it knows the names of their fields; `krb_keytab` and `krb_ccache` know the
+//! formats.
 //! Nothing opens a file: readers are given.
 //!
 //! `specs/Fields` says how fields are spelled, and `specs/FieldReaders` what a reader returns.
