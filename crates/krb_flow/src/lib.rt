@@ -19,8 +19,6 @@ mod direction;
 pub mod law;
 mod serial;
 mod stream;
-#[cfg(test)]
-mod tests;
 mod waiting;
 
 pub use direction::{Beginning, Direction, State, Taken};

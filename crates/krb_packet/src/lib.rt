@@ -14,8 +14,6 @@
 
 mod assembly;
 mod block;
-#[cfg(test)]
-mod block_tests;
 mod blocks;
 mod body;
 mod contents;
@@ -32,10 +30,6 @@ mod packet;
 mod packets;
 mod payload;
 mod pcap;
-#[cfg(test)]
-mod tests;
-#[cfg(test)]
-mod tests_of_fragments;
 mod transport;
 
 pub use block::Section;

@@ -18,6 +18,8 @@ mod examples;
 #[cfg(test)]
 mod fakes;
 #[cfg(test)]
+mod flow;
+#[cfg(test)]
 mod frame;
 #[cfg(test)]
 mod judge;
@@ -27,6 +29,12 @@ mod keytab;
 mod list;
 #[cfg(test)]
 mod locating;
+#[cfg(test)]
+mod packet;
+#[cfg(test)]
+mod packet_blocks;
+#[cfg(test)]
+mod packet_fragments;
 #[cfg(test)]
 mod registry;
 #[cfg(test)]

@@ -1,7 +1,7 @@
 //! The first three blocks of a real pcapng, `mit-udp6`, in which a client of MIT krb5 asks for a ticket
 //! over IPv6; and what Wireshark shows of the packet in the last one.
 
-use crate::{Contents, Endpoint, LinkType, Packet, Packets, Time, contents_of};
+use krb_packet::{Contents, Endpoint, LinkType, Packet, Packets, Time, contents_of};
 use std::alloc::Global;
 use std::net::{IpAddr, Ipv6Addr};
 use std::process::Abort;

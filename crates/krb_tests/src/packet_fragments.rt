@@ -1,7 +1,7 @@
 //! The segment of the first packet of a real capture, `no-kdc`, cut into fragments as RFC 791, 3.2, and
 //! RFC 8200, 4.5, say; and what Wireshark shows of the segment.
 
-use crate::{Contents, Fragment, Fragments, LinkType, Packet, Reassembled, contents_of};
+use krb_packet::{Contents, Fragment, Fragments, LinkType, Packet, Reassembled, contents_of};
 use krb_der::Octets;
 use std::alloc::Global;
 use std::process::Abort;

@@ -1,7 +1,7 @@
 //! The first two packets of a real capture, `no-kdc`, in which a client of MIT krb5 asks for a connection
 //! to port 88 and is refused; and what Wireshark shows of them.
 
-use crate::{
+use krb_packet::{
     CaptureFault, CaptureField, Contents, Endpoint, LinkType, Packet, PacketField, Packets,
     Segment, contents_of,
 };

@@ -1,7 +1,7 @@
 //! Two directions, put together by hand from RFC 9293, 3.4. The stream `abcdefghij` has octet 0 at
 //! number FFFFFFFB, so octet 5 has number 0.
 
-use crate::{Beginning, Direction, End, Lost};
+use krb_flow::{Beginning, Direction, End, Lost};
 use krb_packet::{Endpoint, Payload, Segment};
 use std::alloc::Global;
 use std::net::{IpAddr, Ipv4Addr};
