@@ -1,5 +1,5 @@
 # krbls: build, run, test and measure. Needs the Rattle toolchain's `rt`; `make test` and `make bench` also need python3.
-.PHONY: run build install uninstall gate test edits fuzz bench clean
+.PHONY: run build changed install uninstall gate test edits fuzz bench clean
 
 # Where `make install` puts the program.
 PREFIX := /usr/local
@@ -13,10 +13,12 @@ uses = $(filter $(CRATES),$(shell sed -n 's/^$(1):\(.*\)/\1/p' crates.txt))
 run: build
 	bin/krbls stream < examples/ap-rep.stream
 
-# Proves all that the program uses, compiles it, and leaves it at bin/krbls. Crates that do not use each other are
-# proved side by side.
+# Proves all that the program uses, compiles it, and leaves it at bin/krbls: in a fresh checkout the crates side by side, and
+# if something was built here before, only what has changed since.
 build:
-	+$(MAKE) --no-print-directory -j $$(nproc) $(addprefix library-,$(call uses,krbls))
+	@if ls -d crates/*/out/rlib > /dev/null 2>&1; then $(MAKE) --no-print-directory changed; else tests/program; fi
+
+changed: $(addprefix library-,$(call uses,krbls))
 	cd crates/krbls && rt run -- stream < /dev/null > /dev/null
 	mkdir -p bin
 	cp crates/krbls/out/krbls bin/krbls
@@ -55,7 +57,7 @@ test:
 	tests/all
 
 # The must-fail edits that the gate leaves out.
-edits: build
+edits: changed
 	tests/edits
 
 # More than `make test` tries: 100000 made-up streams, each change of the messages of krb_damage and what it counts, and
