@@ -59,7 +59,7 @@ def connection(number, frame):
 
 
 def made(packets_of, frames, size):
-    """A capture of so many octets or some more, a stream of the same messages, and how many they are."""
+    """A capture of `size` octets or some more, a stream of the same messages, and how many they are."""
     capture, stream = tempfile.NamedTemporaryFile(suffix=".pcap"), tempfile.NamedTemporaryFile()
     capture.write(struct.pack(">IHHIIII", 0xA1B2C3D4, 2, 4, 0, 0, 1 << 18, ETHERNET))
     written = messages = 0

@@ -18,7 +18,7 @@ extern void krb5_free_kdc_rep(krb5_context, krb5_kdc_rep *);
 extern void krb5_free_ap_req(krb5_context, krb5_ap_req *);
 extern void krb5_free_ap_rep(krb5_context, krb5_ap_rep *);
 
-/* Decodes a message of TYPE by DECODE and gives it back by RELEASE, and returns the name, or no text if it is refused. */
+/* Decodes a message of TYPE by DECODE and frees it by RELEASE, and returns the name, or no text if it is refused. */
 #define DECODED(type, decode, release, name)          \
     {                                                 \
         type *message;                                \

@@ -36,7 +36,7 @@ def best_runs(commands, path, runs=7):
 
 def peak_octets(command, path):
     """The most memory that a run of a command had on a file, in octets, looked at while its output
-    is taken from it."""
+    is read."""
     most = 0
     with open(path, "rb") as octets, subprocess.Popen(command, stdin=octets, stdout=subprocess.PIPE) as run:
         while run.stdout.read(1 << 14):

@@ -1,4 +1,4 @@
-"""Captures that are made up or damaged: what a KDC is asked and answers, by UDP and TCP, in pcap and pcapng.
+"""Captures that are made up or damaged: requests to a KDC and its replies, by UDP and TCP, in pcap and pcapng.
 
 What is made follows the rules or nearly does, and all of it follows from the dice.
 """
@@ -43,7 +43,7 @@ class Ends(NamedTuple):
 
 
 class Piece(NamedTuple):
-    """A segment of a direction: where it begins, of which the octets after a SYN are at 0, its flags and octets."""
+    """A segment of a direction: its place (the octets after a SYN are at 0), its flags and octets."""
 
     place: int
     flags: int
@@ -205,7 +205,7 @@ class ConnectionMaker:
         return self.dice.choice([88] * 12 + [464] * 3 + [750, 53])
 
     def datagrams(self):
-        """A datagram and its answer."""
+        """A datagram and its reply."""
         port = self.port()
         ends = self.packets.ends(port)
         make = self.change_password if port == 464 else self.message
@@ -571,7 +571,7 @@ def many_fragments(maker):
 
 
 def much_that_waits(maker):
-    """A direction in which as many octets wait as may, and one in which one more does."""
+    """A direction in which the greatest number of octets wait, and one in which one more does."""
     pieces = []
     missing = 10
     for host, waiting in enumerate([MOST_AHEAD, MOST_AHEAD + 1]):

@@ -378,7 +378,7 @@ def file(dice, command, real):
 
 
 def time_near(dice, octets):
-    """A time to compare with: none, a bound, any number, or one next to four octets that stand there."""
+    """A time to compare with: none, a bound, any number, or one next to four octets of the file."""
     place = dice.randint(0, max(len(octets) - 4, 0))
     there = int.from_bytes(octets[place : place + 4], "big") + dice.choice([-1, 0, 1])
     return dice.choice([None, 0, 2**32 - 1, dice.randrange(2**32), min(max(there, 0), 2**32 - 1)])

@@ -2,7 +2,7 @@
 
 A table is one of the kinds that the heading before it names, or has the kind of a record in its first column.
 Each of its rows has fields and their values, and a kind may have several tables: the end of a stream and that of
-a keytab have other fields. The table of the heading Origin has the fields that stand before those of its kind in a
+a keytab have other fields. The table of the heading Origin has the fields that come before those of its kind in a
 record of a capture.
 """
 

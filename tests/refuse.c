@@ -1,4 +1,4 @@
-/* Loaded before the C library (LD_PRELOAD), it refuses allocations of a program, as malloc does where there is
+/* Loaded before the C library (LD_PRELOAD), it refuses allocations of a program, as malloc does if there is
    no memory: the allocation of the number REFUSED, counted from 1, and with REFUSED_ON=1 each after it too. As the
    program ends it writes how many it asked for to the file that ASKED names. For the C library of GNU. */
 #include <errno.h>

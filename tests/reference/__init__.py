@@ -3,14 +3,14 @@
 It was written from the rules alone (docs/FORMATS.md: the grammar of RFC 4120, appendix A, the order of
 judging, frames, keytabs, credential caches and lines; docs/LISTING.md: names and objects), and not from the
 code of krbls. `grammar` has the types and the messages, `judging` looks at one octet after another, and the
-first rule that one breaks is the refusal, with the path of the field that it stands in (`paths`); `messages`,
+first rule that one breaks is the refusal, with the path of the field that it is in (`paths`); `messages`,
 `frames` and `files` have the records, `values` what these consist of, with the names of numbers in
 `registries`, and `records` their forms.
 
-`captures` has the records of captures: `capture_files` gives their packets, `datagrams` what stands in these for
+`captures` has the records of captures: `capture_files` has their packets, `datagrams` what is in these for
 UDP and TCP, `directions` the streams of TCP, and `kpasswd` the messages that change passwords.
 
-`listing` gives the lines of a listing, and the status of the program.
+`listing` has the lines of a listing, and the status of the program.
 """
 
 import re
@@ -56,7 +56,7 @@ def shown(record, words):
 
 
 def taken_number(words, name):
-    """The number after an option, which both are taken out of the words; none if it is not there."""
+    """The number after an option, both of which are removed from the words; none if it is not there."""
     if f"--{name}" not in words:
         return {}
     place = words.index(f"--{name}")

@@ -57,7 +57,7 @@ class Interface(NamedTuple):
 
 
 def packets(octets):
-    """The packets of a capture file, which its first four octets tell apart."""
+    """The packets of a capture file, whose format its first four octets say."""
     fields = Fields(octets)
     magic = fields.take("magic", 4)
     if magic in PCAP_MAGICS:
@@ -89,7 +89,7 @@ def pcap_packets(fields, units):
 
 
 def pcap_link(fields):
-    """The link type in the header of a pcap, of which the magic was taken."""
+    """The link type in the header of a pcap, of which the magic was read."""
     place = fields.place
     version = fields.take("version", 4)
     if tuple(int.from_bytes(part, fields.order) for part in (version[:2], version[2:])) != PCAP_VERSION:
@@ -124,7 +124,7 @@ class Blocks:
         return self.fields.number(self.path(name), size, signed)
 
     def refuse(self, name, why, octets_before=0):
-        """Refuses a field that begins so many octets before the next one."""
+        """Refuses a field that begins this number of octets before the next one."""
         raise Refused(self.fields.place - octets_before, why, self.path(name))
 
     def block(self):
@@ -143,7 +143,7 @@ class Blocks:
         return packet
 
     def begin_section(self):
-        """The order of the octets of a section, which stands after the length of its header and says how to read it."""
+        """The byte order of a section, which follows the length of its header and says how to read it."""
         fields = self.fields
         place = fields.place
         fields.take(self.path("length"), 4)
@@ -155,7 +155,7 @@ class Blocks:
         self.interfaces = []
 
     def body(self, block_type, size):
-        """What a body of so many octets has, which all have to be there before it is read."""
+        """The content of a body of this size, all of which has to be there before it is read."""
         fields = self.fields
         begin = fields.place
         fields.take(self.path("body"), size)
@@ -209,7 +209,7 @@ class Blocks:
         return self.timed_packet(self.announced(4))
 
     def announced(self, size):
-        """The interface whose number stands in so many octets."""
+        """The interface whose number has this number of octets."""
         index = self.number("interface", size)
         if index >= len(self.interfaces):
             self.refuse("interface", "Overrun", size)

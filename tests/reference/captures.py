@@ -39,7 +39,7 @@ class Capture:
         return change_password if CHANGE_PASSWORD_PORT in ports else None
 
     def take(self, packet):
-        """The records that are due with one more packet."""
+        """The records of one more packet."""
         self.packet = packet
         self.counts["packets"] += 1
         try:
@@ -82,7 +82,7 @@ class Capture:
             yield record._replace(before=before)
 
     def end(self):
-        """The records that are due at the end of the file."""
+        """The records of the end of the file."""
         yield from self.records(self.directions.end_all())
 
     def totals(self):

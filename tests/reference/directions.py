@@ -4,7 +4,7 @@ from .frames import Frames
 from .records import Record
 from .values import number, path
 
-# How far ahead of the next octet that is due a segment may begin, and how many octets may wait.
+# How far after the next octet expected a segment may begin, and how many octets may wait.
 MOST_AHEAD = 1048576
 
 # How many directions are kept.
@@ -24,18 +24,18 @@ class Direction:
         self.first = first
         self.syn = syn
         self.frames = frames
-        # The place of the next octet that is due: all before it are taken.
+        # The place of the next octet expected: all before it are delivered.
         self.due = 0
         # The octets that came early, by their places.
         self.waiting = {}
-        # Up to where there are octets, captured or not.
+        # The place after the last octet, captured or not.
         self.seen = 0
         # The place of the FIN.
         self.fin = None
         self.has_ended = False
 
     def place(self, sequence_number):
-        """The place of an octet: that within 2^31 of the one that is due (RFC 9293, 3.4)."""
+        """The place of an octet: that within 2^31 of the next one expected (RFC 9293, 3.4)."""
         ahead = (sequence_number - self.first - self.due) % 2**32
         return self.due + (ahead if ahead < 2**31 else ahead - 2**32)
 
@@ -51,7 +51,7 @@ class Direction:
             yield from self.end()
 
     def keep(self, place, segment):
-        """Lets the octets of a segment wait, where no copy of them came before, and its FIN."""
+        """Lets the octets of a segment wait, except copies of those that came before, and its FIN."""
         end = place + segment.held.size
         for octet_place, octet in enumerate(segment.held.octets, place):
             if octet_place >= self.due:
@@ -107,7 +107,7 @@ class Directions:
                 yield flow, found
 
     def begin(self, flow, first, syn):
-        """Begins a direction anew, or one that takes the room of another where there is none."""
+        """Begins a direction, again or in place of another one if there are too many."""
         yield from self.end(flow)
         if flow not in self.kept and len(self.kept) == MOST_DIRECTIONS:
             ended = (other for other, direction in self.kept.items() if direction.has_ended)

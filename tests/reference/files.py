@@ -90,7 +90,7 @@ def file_listing(records_of, octets):
 
 
 def entry(fields, path):
-    """The record of an entry, of which the length was taken and is the room."""
+    """The record of an entry, whose length was read."""
     components = fields.number(f"{path}.component-count", 2)
     realm = fields.data(f"{path}.realm", 2)
     names = [fields.data(f"{path}.component[{k}]", 2) for k in range(components)]

@@ -14,7 +14,7 @@ LIMIT = 16777216
 class Frames:
     """The frames of a stream whose octets come one after another.
 
-    After a frame that is refused one goes on where it ends, if its length is known.
+    After a frame that is refused the next one begins at its end, if its length is known.
     """
 
     def __init__(self, read, limit=LIMIT):
@@ -86,7 +86,7 @@ def stream(octets, limit=LIMIT, messages=MESSAGES):
 
 
 def stream_going_on(octets, limit=LIMIT, messages=MESSAGES):
-    """The same of a stream in which one goes on after a frame that is refused, where that one ends."""
+    """The same of a stream whose frames are listed also after one that is refused."""
     records, listed, faults = [], 0, 0
     for found in found_in(octets, limit, messages):
         if isinstance(found, Refused):

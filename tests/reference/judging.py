@@ -13,7 +13,7 @@ REASONS = (
 
 
 class Refused(Exception):
-    """An octet at fault, why, and the path of the field that it stands in, where one is known."""
+    """An octet at fault, why, and the path of the field that it is in, if one is known."""
 
     def __init__(self, place, why, path=None):
         super().__init__(place, why, path)
@@ -22,7 +22,7 @@ class Refused(Exception):
         self.path = path
 
     def moved(self, octets):
-        """The same refusal with so many octets before it."""
+        """The same refusal with this number of octets before it."""
         return Refused(self.place + octets, self.why, self.path)
 
 

@@ -6,7 +6,7 @@ from .messages import record_or_refusal
 from .records import Record
 from .values import number
 
-# How many octets stand before the AP-REQ or AP-REP: three numbers.
+# How many octets are before the AP-REQ or AP-REP: three numbers.
 HEADER = 6
 
 
@@ -39,7 +39,7 @@ def header(fields, n):
 
 
 def part(octets, place):
-    """What is found in a part of the message that stands at a place, if there is one."""
+    """What is found in the part of the message at a place, if there is one."""
     if not octets:
         return []
     found = record_or_refusal(octets, len(octets))

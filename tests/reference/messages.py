@@ -27,7 +27,7 @@ MOST_TEXT = 16777216
 
 
 def notes(item, value, field=""):
-    """The numbers of what is to be noted of a value, which stands in some field, and of all its parts."""
+    """The numbers of the notes on a value, which is in some field, and on all its parts."""
     found = set()
     match item:
         case String(tag=0x1B):
@@ -197,7 +197,7 @@ def record_or_refusal(octets, n, messages=MESSAGES):
 
 
 def refused_input(why):
-    """A refusal of text that stands for no octets."""
+    """A refusal of text that is not hexadecimal."""
     return Record("refused", {"input": word(why)})
 
 

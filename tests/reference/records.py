@@ -11,12 +11,12 @@ class Record(NamedTuple):
     kind: str
     # The values by their names, in order.
     fields: dict
-    # Those that stand before the kind in a line, and between the kind and the others in an object.
+    # Those before the kind in a line, and between the kind and the others in an object.
     before: dict = {}
 
 
 def file(name):
-    """What stands before the listing of each of several files."""
+    """The record before the listing of each of several files."""
     return Record("file", {"name": file_name(name)})
 
 

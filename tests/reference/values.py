@@ -65,7 +65,7 @@ def escaped(octets, escapes="/@\\"):
 
 
 def in_object(octets):
-    """Y: the same in an object, where a blank, `/` and `@` are themselves."""
+    """Y: the same in an object, in which a blank, `/` and `@` are themselves."""
     return " ".join(escaped(part, "\\") for part in octets.split(b" "))
 
 
@@ -96,7 +96,7 @@ def file_time(seconds):
 
 
 def instant(nanoseconds):
-    """When a packet was captured, in nanoseconds since 1970-01-01, if that is told."""
+    """When a packet was captured, in nanoseconds since 1970-01-01, if the file says so."""
     seconds, fraction = divmod(nanoseconds or 0, 10**9)
     if not 0 < seconds < 2**32:
         return ABSENT
@@ -206,7 +206,7 @@ def type_members(value, registry, name="type"):
 
 
 def sealed(value):
-    """E: what is told of an EncryptedData."""
+    """E: what is printed of an EncryptedData."""
     etype, kvno, size = value["etype"], value.get("kvno"), len(value["cipher"])
     after = f":{'-' if kvno is None else kvno}:{size}"
     members = {**type_members(etype, ENCRYPTION_TYPES, "etype"), "kvno": kvno, "size": size}

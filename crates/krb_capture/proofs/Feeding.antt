@@ -7,7 +7,7 @@ use Rattle.krb_frame.specs.GoingOn.{Skipping, FeedsAfter}
 use Rattle.krb_frame.specs.declared.decoder.Fed.{Fed}
 use Rattle.krb_frame.specs.declared.decoder.Status.{Status}
 use Rattle.krb_frame.specs.declared.decoder.Status.TheVariants as status
-use Rattle.krb_frame.proofs.Founds.{same-status}
+use Rattle.krb_frame.proofs.DecoderFrames.{same-status}
 use Rattle.krb_capture.specs.Listed.{status_in}
 
 -- one more if the decoder has a frame that is to be cleared or skipped

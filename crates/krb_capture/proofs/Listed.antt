@@ -6,7 +6,7 @@ use Rattle.std.proofs.lemmas.List.{drop_all, map-append}
 use Rattle.krb_der.specs.Octets.{number}
 use Rattle.krb_der.specs.declared.verdict.Refusal.{Refusal}
 use Rattle.krb_msg.specs.Grammar.{messages}
-use Rattle.krb_msg.specs.Seen.{IsMessageView, message_seen}
+use Rattle.krb_msg.specs.ViewValues.{IsMessageView, message_of_view}
 use Rattle.krb_msg.specs.Stream.{Refused}
 use Rattle.krb_msg.specs.declared.message_view.MessageView.{MessageView}
 use Rattle.krb_frame.specs.Decoding.{AreOfOne, Decoding, borrowed, found, status_of}
@@ -14,7 +14,7 @@ use Rattle.krb_frame.specs.GoingOn.{Entry, Contents, Fault, Skipping, GoesOn, Fe
 use Rattle.krb_frame.specs.declared.decoder.Fed.{Fed}
 use Rattle.krb_frame.specs.declared.decoder.Status.TheVariants as status
 use Rattle.krb_frame.proofs.Ends.{refused_end}
-use Rattle.krb_frame.proofs.Founds.{more-nothing}
+use Rattle.krb_frame.proofs.DecoderFrames.{more-nothing}
 use Rattle.krb_list.specs.declared.origin.Origin.{Origin}
 use Rattle.krb_capture.specs.Found.{Whole, Written, with_all, with_found}
 use Rattle.krb_capture.specs.Listed.{Lists, ListsFront, ListsLast, ListsOne, ListsRefused, status_in}
@@ -88,13 +88,13 @@ pub front-all : (a b : Skipping) (piece rest : List ℕ) (n : ℕ) (origin : Ori
 front-all a b piece rest n origin u v l h = subst (λ x. Lists a b x origin u v) (sym (l.parts ∙ ap (λ x. l.used ++ x) (drop_all n rest h) ∙ append-nil l.used)) l.lists
 
 -- ---- the frame that is ready
-cleared_is : (old new : Skipping) (answer : Bool) (contents : List ℕ) → ClearsEntry (messages old.current.profile) old new answer → borrowed (messages old.current.profile) old.current ≡ Some contents → new.current ≡ record old.current { octets = []; room = new.current.room }
-cleared_is old new answer contents c e = c.clears.left ∙ ap (λ (o : Option (List ℕ)). if is_some o then record old.current { octets = []; room = new.current.room } else old.current) e
+cleared_is : (old new : Skipping) (answer : Bool) (contents : List ℕ) → ClearsEntry (messages old.current.profile) old new answer → borrowed (messages old.current.profile) old.current ≡ Some contents → new.current ≡ record old.current { octets = []; capacity = new.current.capacity }
+cleared_is old new answer contents c e = c.clears.left ∙ ap (λ (o : Option (List ℕ)). if is_some o then record old.current { octets = []; capacity = new.current.capacity } else old.current) e
 
-left_waits : (old new : Skipping) → new.current ≡ record old.current { octets = []; room = new.current.room } → status_in new ≡ status.More
-left_waits old new e = ap (λ (d : Decoding). status_of (messages d.profile) d) e ∙ more-nothing (messages old.current.profile) old.current.profile old.current.limit old.current.looks new.current.room
+left_waits : (old new : Skipping) → new.current ≡ record old.current { octets = []; capacity = new.current.capacity } → status_in new ≡ status.More
+left_waits old new e = ap (λ (d : Decoding). status_of (messages d.profile) d) e ∙ more-nothing (messages old.current.profile) old.current.profile old.current.limit old.current.looks new.current.capacity
 
-pub lists-ready : (old new : Skipping) (answer : Bool) (contents : List ℕ) (view : MessageView) (origin : Origin) (before after : Written) → borrowed (messages old.current.profile) old.current ≡ Some contents → ClearsEntry (messages old.current.profile) old new answer → IsMessageView contents view → after ≡ with_found origin (Whole (message_seen view)) before → ListsOne old new origin before after
+pub lists-ready : (old new : Skipping) (answer : Bool) (contents : List ℕ) (view : MessageView) (origin : Origin) (before after : Written) → borrowed (messages old.current.profile) old.current ≡ Some contents → ClearsEntry (messages old.current.profile) old new answer → IsMessageView contents view → after ≡ with_found origin (Whole (message_of_view view)) before → ListsOne old new origin before after
 lists-ready old new answer contents view origin before after b c v l =
     let left = cleared_is old new answer contents c b in
     record {
@@ -162,7 +162,7 @@ lists-refused old new refusal false origin before after st s l =
     (s.none none, record { refused = st; unknown = none; listed = l })
 lists-refused old new refusal true origin before after st s l =
     let o = some_of (rest_to_come (messages old.current.profile) old.current) s.is_known in
-    let left : new.current ≡ record old.current { octets = []; room = new.current.room } = (subst (GivesUp (messages old.current.profile) old.current new.current) o.1 s.gives_up).left in
+    let left : new.current ≡ record old.current { octets = []; capacity = new.current.capacity } = (subst (GivesUp (messages old.current.profile) old.current new.current) o.1 s.gives_up).left in
     record {
       lists = record {
         frames = Fault refusal.place refusal.why old.current.octets ∷ [];

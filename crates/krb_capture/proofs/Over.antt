@@ -5,11 +5,11 @@ use Rattle.krb_der.specs.declared.profile.Profile.TheVariants.{Lenient}
 use Rattle.krb_der.specs.declared.why.Why.TheVariants as why
 use Rattle.krb_msg.specs.Grammar.{messages}
 use Rattle.krb_msg.specs.Stream.{Frames, End, Boundary, Within, Refused, ends, frames}
-use Rattle.krb_msg.proofs.Fronts.{frames-nil}
-use Rattle.krb_frame.specs.Decoding.{Decoding, Room, AreOfOne, finish_at, finish_of, found, status_at, status_of}
+use Rattle.krb_msg.proofs.FramePrefixes.{frames-nil}
+use Rattle.krb_frame.specs.Decoding.{Decoding, Capacity, AreOfOne, finish_at, finish_of, found, status_at, status_of}
 use Rattle.krb_frame.specs.GoingOn.{GoesOn, Skipping}
 use Rattle.krb_frame.specs.declared.decoder.Status.TheVariants as status
-use Rattle.krb_frame.proofs.Founds.{more-nothing}
+use Rattle.krb_frame.proofs.DecoderFrames.{more-nothing}
 use Rattle.krb_capture.specs.Streams.{Framed, cut_refusal, framed}
 use Rattle.krb_capture.specs.Taken.{IsOver, TookMessages, Waits, WaitsUnless}
 use Rattle.krb_capture.specs.declared.flow.Service.TheVariants as services
@@ -17,7 +17,7 @@ use Rattle.krb_capture.specs.declared.message_frames.MessageFrames.{MessageFrame
 use Rattle.krb_capture.proofs.Framed.{framed-waiting}
 
 -- of a direction of which nothing came
-pub took-new : (decoder : Decoding) (s : Skipping) (limit looks : ℕ) (room : Room) → decoder ≡ record { profile = Lenient; limit = limit; octets = []; looks = looks; room = room } → s ≡ record { current = decoder; skipped = 0 } → (decoder.octets ≡ [] → GoesOn (messages decoder.profile) s [] []) → TookMessages (record { decoder = s; is_over = false }) limit []
+pub took-new : (decoder : Decoding) (s : Skipping) (limit looks : ℕ) (room : Capacity) → decoder ≡ record { profile = Lenient; limit = limit; octets = []; looks = looks; capacity = room } → s ≡ record { current = decoder; skipped = 0 } → (decoder.octets ≡ [] → GoesOn (messages decoder.profile) s [] []) → TookMessages (record { decoder = s; is_over = false }) limit []
 took-new decoder s limit looks room e f g =
     let same : s.current ≡ decoder = ap (λ (t : Skipping). t.current) f in
     record {

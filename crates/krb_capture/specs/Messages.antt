@@ -4,7 +4,7 @@ use Rattle.krb_der.specs.declared.profile.Profile.TheVariants.{Lenient}
 use Rattle.krb_der.specs.declared.verdict.Refusal.{Refusal}
 use Rattle.krb_der.specs.declared.why.Why.TheVariants as why
 use Rattle.krb_msg.specs.Judgement.{judgement}
-use Rattle.krb_msg.specs.Reading.{message_read}
+use Rattle.krb_msg.specs.ValueOfDer.{message_of_der}
 use Rattle.krb_judge.specs.Parses.{refused, refusal_of}
 use Rattle.krb_judge.specs.Paths.{message_path}
 use Rattle.krb_capture.specs.Found.{Found, Whole, Faulty, Missing}
@@ -23,7 +23,7 @@ refused_found before size octets refusal =
     Faulty (record { place = before + refusal.place; why = refusal.why }) (path_of size (take (refusal.place + 1) octets))
 
 abbrev pub found_unless : Option Refusal → ℕ → List ℕ → Found
-found_unless None before octets = Whole (message_read octets)
+found_unless None before octets = Whole (message_of_der octets)
 found_unless (Some refusal) before octets = refused_found before (length octets) octets refusal
 
 -- octets that are all there, after others

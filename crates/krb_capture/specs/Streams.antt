@@ -7,7 +7,7 @@ use Rattle.krb_der.specs.declared.verdict.Refusal.{Refusal}
 use Rattle.krb_der.specs.declared.why.Why.{Why}
 use Rattle.krb_der.specs.declared.why.Why.TheVariants as why
 use Rattle.krb_msg.specs.Grammar.{messages}
-use Rattle.krb_msg.specs.Reading.{message_read}
+use Rattle.krb_msg.specs.ValueOfDer.{message_of_der}
 use Rattle.krb_frame.specs.GoingOn.{Entry, Contents, Fault, entries}
 use Rattle.krb_flow.specs.declared.stream.End.{End}
 use Rattle.krb_flow.specs.declared.stream.End.TheVariants as ends
@@ -40,7 +40,7 @@ is_unknown (Contents contents) = false
 is_unknown (Fault place reason front) = nat_lt place (length front) && nat_le (2 ^ 31) (number (take 4 front))
 
 abbrev pub entry_found : Entry → Found
-entry_found (Contents contents) = Whole (message_read contents)
+entry_found (Contents contents) = Whole (message_of_der contents)
 entry_found (Fault place reason front) = Faulty (record { place = place; why = reason }) (frame_path front)
 
 -- the octets of the frame that is cut, if one is

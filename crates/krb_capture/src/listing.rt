@@ -2,7 +2,7 @@
 
 ghost use Rattle.std.specs.Prelude.{◌≡◌, ◌++◌, OnOk, string_bytes};
 ghost use Rattle.std.specs.Option.{option_copied, option_map};
-ghost use Rattle.krb_msg.specs.Seen.{MessageLists, message_seen};
+ghost use Rattle.krb_msg.specs.ViewValues.{MessageLists, message_of_view};
 ghost use Rattle.krb_list.specs.Captures.{capture_end_line, capture_refused_line};
 ghost use Rattle.krb_capture.specs.Found.{Whole, Faulty, Joined, Missing, Password, and_more, nothing_written, totals, with_found};
 
@@ -100,7 +100,7 @@ impl Listing {
         view: &MessageView<'_>,
     ) -> Result<(), Memory>
         requires { MessageLists view.now }
-        ensures { OnOk result (self.new ≡ with_found origin.now (Whole (message_seen view.now)) self.old) }
+        ensures { OnOk result (self.new ≡ with_found origin.now (Whole (message_of_view view.now)) self.old) }
     {
         put_captured_message(&mut self.text, self.form, origin, view)?;
         self.counts.messages = and_more(self.counts.messages, 1);

@@ -1,14 +1,14 @@
--- What readers of fields read of a cache, one item after another.
+-- The items of a cache that readers of fields read, one after another.
 use Rattle.std.proofs.Common.{◌≡◌, ℕ, ◌+◌, ◌-◌, ◌<◌, ◌≤◌, ◌⊎◌, inl, inr, Bool, true, false, Option, Some, None, Result, Ok, Err, List, [], ◌∷◌, ◌++◌, length, refl, sym, ◌∙◌, ap, subst, arith}
 use Rattle.krb_der.specs.Octets.{when}
-use Rattle.krb_file.specs.Fields.{Source, Fault, Bounds, Reader, onward, ◌>>=◌, gives, in_part, is_empty, within, Fails}
-use Rattle.krb_file.specs.FieldReaders.{Held, MayHave, source_at, HasRead, FailsBy, bounded}
+use Rattle.krb_file.specs.Fields.{Source, Fault, Bounds, Reader, and_then, ◌>>=◌, succeed, in_part, is_empty, within, Fails}
+use Rattle.krb_file.specs.FieldReaders.{Cursor, MayRemain, source_at, HasRead, FailsBy, bounded}
 use Rattle.krb_file.specs.declared.fault.FileFault.{FileFault}
 use Rattle.krb_file.specs.declared.fault.FileFault.TheVariants as faults
 use Rattle.krb_file.specs.declared.field_name.FilePart.TheVariants as parts
-use Rattle.krb_file.proofs.Fields.{done, ok_is, onward-ok, onward-err}
+use Rattle.krb_file.proofs.Fields.{done, ok_is, and_then-ok, and_then-err}
 use Rattle.krb_file.proofs.FieldReaders.{SomeRest, some_rest}
-use Rattle.krb_file.proofs.Loops.{with_front}
+use Rattle.krb_file.proofs.Loops.{with_prefix}
 use Rattle.krb_ccache.proofs.Loops.{field-goes_on, field-few, field-less, field-fails, fields-done}
 use Rattle.krb_ccache.specs.declared.reading.Start.{Start}
 use Rattle.krb_ccache.specs.Reading.{credential_at, header_field_at, header_fields_at, next_at, started, credentials_after, read_in}
@@ -21,7 +21,7 @@ module _ {A : Type 0} (kept : Credential → ℕ → A) (version : ℕ) where
   one = credential_at kept version
 
   abbrev more : Reader (Option A)
-  more = one >>= λ item. gives (Some item)
+  more = one >>= λ item. succeed (Some item)
 
   abbrev choice : Bounds → Source → Bool → Result (Option A × Source) Fault
   choice b s none = when none (λ _. Ok (None, s)) (λ _. more b s)
@@ -55,7 +55,7 @@ module _ {A : Type 0} (kept : Credential → ℕ → A) (version : ℕ) where
       go : (none : Bool) → is_empty s.octets ≡ none → choice b s none ≡ Ok (Some c, t) → IsNext b s t c
       go true test e = absurd (differ c t s (sym (ok_is (found None s) (found (Some c) t) e)))
       go false test e =
-          let a = onward-ok (one b s) (λ p. Ok (Some p.0, p.1)) (Some c, t) e in
+          let a = and_then-ok (one b s) (λ p. Ok (Some p.0, p.1)) (Some c, t) e in
           record { some = test; read = only a.0.0 a.0.1 (ok_is (found (Some a.0.0) a.0.1) (found (Some c) t) a.2) a.1 }
 
   pub is_end : (b : Bounds) (s t : Source) → next_at kept version b s ≡ Ok (None, t) → is_empty s.octets ≡ true
@@ -64,7 +64,7 @@ module _ {A : Type 0} (kept : Credential → ℕ → A) (version : ℕ) where
       go : (none : Bool) → is_empty s.octets ≡ none → choice b s none ≡ Ok (None, t) → is_empty s.octets ≡ true
       go true test e = test
       go false test e =
-          let a = onward-ok (one b s) (λ p. Ok (Some p.0, p.1)) (None, t) e in
+          let a = and_then-ok (one b s) (λ p. Ok (Some p.0, p.1)) (None, t) e in
           absurd (differ a.0.0 a.0.1 t (ok_is (found (Some a.0.0) a.0.1) (found None t) a.2))
 
   -- nothing is read at the end
@@ -74,7 +74,7 @@ module _ {A : Type 0} (kept : Credential → ℕ → A) (version : ℕ) where
       go : (none : Bool) → choice b s none ≡ Ok (None, t) → s ≡ t
       go true e = ap (λ (p : Option A × Source). p.1) (ok_is (found None s) (found None t) e)
       go false e =
-          let a = onward-ok (one b s) (λ p. Ok (Some p.0, p.1)) (None, t) e in
+          let a = and_then-ok (one b s) (λ p. Ok (Some p.0, p.1)) (None, t) e in
           absurd (differ a.0.0 a.0.1 t (ok_is (found (Some a.0.0) a.0.1) (found None t) a.2))
 
   pub is_fault : (b : Bounds) (s : Source) (f : Fault) → next_at kept version b s ≡ Err f → (is_empty s.octets ≡ false) × (one b s ≡ Err f)
@@ -86,10 +86,10 @@ module _ {A : Type 0} (kept : Credential → ℕ → A) (version : ℕ) where
 
       go : (none : Bool) → is_empty s.octets ≡ none → choice b s none ≡ Err f → (is_empty s.octets ≡ false) × (one b s ≡ Err f)
       go true test e = absurd (not_err (found None s) f e)
-      go false test e = (test, refused (onward-err (one b s) (λ p. Ok (Some p.0, p.1)) f e))
+      go false test e = (test, refused (and_then-err (one b s) (λ p. Ok (Some p.0, p.1)) f e))
 
 -- ---- a value was read, and then a fault was met
-pub then-fails : {A B : Type 0} (first : Reader A) (next : A → Reader B) (v : A) (old mid : Held) (e : FileFault) (MayFail : Type 0) → HasRead first v old mid → FailsBy e (next v) MayFail mid → FailsBy e (first >>= next) MayFail old
+pub then-fails : {A B : Type 0} (first : Reader A) (next : A → Reader B) (v : A) (old mid : Cursor) (e : FileFault) (MayFail : Type 0) → HasRead first v old mid → FailsBy e (next v) MayFail mid → FailsBy e (first >>= next) MayFail old
 then-fails first next v old mid faults.Memory MayFail read fails = tt
 then-fails first next v old mid faults.Read MayFail read fails = fails
 then-fails {A} {B} first next v old mid (faults.Refused place why field) MayFail read fails =
@@ -99,85 +99,85 @@ then-fails {A} {B} first next v old mid (faults.Refused place why field) MayFail
       octets = a.0;
       there = a.1;
       refused =
-          ap (λ (r : Result (A × Source) Fault). onward r (λ p. next p.0 old.bounds p.1)) a.2
+          ap (λ (r : Result (A × Source) Fault). and_then r (λ p. next p.0 old.bounds p.1)) a.2
           ∙ subst (λ (k : Bounds). next v k (source_at mid.place fails.octets) ≡ Err fault) read.same_bounds fails.refused;
     }
 
--- ---- the fields of a header, as a loop reads them
+-- ---- the fields of a header, read by a loop
 abbrev pub field_at : ℕ → Reader HeaderField
 field_at index = in_part (parts.Header index) header_field_at
 
--- Those in front were read; the rest of what may be left tells the others.
-pub record HaveFront (size end : ℕ) (front : List HeaderField) (s t : Held) : Type 0 where
+-- The first fields were read, and the others follow from whatever may remain.
+pub record HavePrefix (size end : ℕ) (prefix : List HeaderField) (s t : Cursor) : Type 0 where
   pub same_bounds : t.bounds ≡ s.bounds
-  pub from : (rest : List ℕ) → MayHave t rest → (octets : List ℕ) × MayHave s octets × (with_front front (header_fields_at (size - length front) (length front) s.bounds (source_at t.place rest)) ≡ header_fields_at size 0 s.bounds (source_at s.place octets))
-  pub few : length front + (end - t.place) ≤ size
+  pub from : (rest : List ℕ) → MayRemain t rest → (octets : List ℕ) × MayRemain s octets × (with_prefix prefix (header_fields_at (size - length prefix) (length prefix) s.bounds (source_at t.place rest)) ≡ header_fields_at size 0 s.bounds (source_at s.place octets))
+  pub few : length prefix + (end - t.place) ≤ size
 
-module _ (size : ℕ) (h : Held) where
-  -- where the header ends, and the reader within it
+module _ (size : ℕ) (h : Cursor) where
+  -- the end of the header, and the reader inside it
   abbrev pub header_end : ℕ
   header_end = h.place + size
 
-  abbrev pub inside : Held
+  abbrev pub inside : Cursor
   inside = bounded (Some (h.place + size)) h
 
-  whole_front : (r : Result (List HeaderField × Source) Fault) → with_front [] r ≡ r
-  whole_front (Ok (fields, s)) = refl
-  whole_front (Err f) = refl
+  whole_prefix : (r : Result (List HeaderField × Source) Fault) → with_prefix [] r ≡ r
+  whole_prefix (Ok (fields, s)) = refl
+  whole_prefix (Err f) = refl
 
-  all_left : (rest : List ℕ) → with_front [] (header_fields_at (size - 0) 0 inside.bounds (source_at inside.place rest)) ≡ header_fields_at size 0 inside.bounds (source_at inside.place rest)
+  all_left : (rest : List ℕ) → with_prefix [] (header_fields_at (size - 0) 0 inside.bounds (source_at inside.place rest)) ≡ header_fields_at size 0 inside.bounds (source_at inside.place rest)
   all_left rest =
       let e : size - 0 ≡ size = omega arith in
-      rw e (whole_front (header_fields_at size 0 inside.bounds (source_at inside.place rest)))
+      rw e (whole_prefix (header_fields_at size 0 inside.bounds (source_at inside.place rest)))
 
-  pub front-none : HaveFront size header_end [] inside inside
-  front-none = record {
+  pub prefix-none : HavePrefix size header_end [] inside inside
+  prefix-none = record {
     same_bounds = refl;
     from = λ rest there. (rest, there, all_left rest);
     few = omega arith;
   }
 
-  pub front-more : (front : List HeaderField) (t u : Held) (f : HeaderField) → t.place < header_end → HaveFront size header_end front inside t → HasRead (field_at (length front)) f t u → HaveFront size header_end (front ++ f ∷ []) inside u
-  front-more front t u f lt before item = record {
+  pub prefix-more : (prefix : List HeaderField) (t u : Cursor) (f : HeaderField) → t.place < header_end → HavePrefix size header_end prefix inside t → HasRead (field_at (length prefix)) f t u → HavePrefix size header_end (prefix ++ f ∷ []) inside u
+  prefix-more prefix t u f lt before item = record {
     same_bounds = item.same_bounds ∙ before.same_bounds;
     from = λ rest there.
         let b = item.from rest there in
         let a = before.from b.0 b.1 in
-        (a.0, a.1, field-goes_on h.bounds.limit size header_end front (source_at t.place b.0) (source_at u.place rest) f (header_fields_at size 0 inside.bounds (source_at inside.place a.0)) lt before.few (read rest there) a.2);
-    few = field-few h.bounds.limit size header_end front (source_at t.place (item.from now.rest now.there).0) (source_at u.place now.rest) f lt before.few (read now.rest now.there);
+        (a.0, a.1, field-goes_on h.bounds.limit size header_end prefix (source_at t.place b.0) (source_at u.place rest) f (header_fields_at size 0 inside.bounds (source_at inside.place a.0)) lt before.few (read rest there) a.2);
+    few = field-few h.bounds.limit size header_end prefix (source_at t.place (item.from now.rest now.there).0) (source_at u.place now.rest) f lt before.few (read now.rest now.there);
   }
     where
       now : SomeRest u
       now = some_rest u
 
-      read : (rest : List ℕ) (there : MayHave u rest) → field_at (length front) inside.bounds (source_at t.place (item.from rest there).0) ≡ Ok (f, source_at u.place rest)
-      read rest there = subst (λ (k : Bounds). field_at (length front) k (source_at t.place (item.from rest there).0) ≡ Ok (f, source_at u.place rest)) before.same_bounds (item.from rest there).2
+      read : (rest : List ℕ) (there : MayRemain u rest) → field_at (length prefix) inside.bounds (source_at t.place (item.from rest there).0) ≡ Ok (f, source_at u.place rest)
+      read rest there = subst (λ (k : Bounds). field_at (length prefix) k (source_at t.place (item.from rest there).0) ≡ Ok (f, source_at u.place rest)) before.same_bounds (item.from rest there).2
 
-  pub front-less : (front : List HeaderField) (t u : Held) (f : HeaderField) → t.place < header_end → HaveFront size header_end front inside t → HasRead (field_at (length front)) f t u → header_end - u.place < header_end - t.place
-  front-less front t u f lt before item =
+  pub prefix-less : (prefix : List HeaderField) (t u : Cursor) (f : HeaderField) → t.place < header_end → HavePrefix size header_end prefix inside t → HasRead (field_at (length prefix)) f t u → header_end - u.place < header_end - t.place
+  prefix-less prefix t u f lt before item =
       let now = some_rest u in
       let a = item.from now.rest now.there in
-      field-less (length front) header_end t.bounds (source_at t.place a.0) (source_at u.place now.rest) f lt a.2
+      field-less (length prefix) header_end t.bounds (source_at t.place a.0) (source_at u.place now.rest) f lt a.2
 
-  pub front-fails : (e : FileFault) (MayFail : Type 0) (front : List HeaderField) (t : Held) → t.place < header_end → HaveFront size header_end front inside t → FailsBy e (field_at (length front)) MayFail t → FailsBy e (within size (header_fields_at size 0)) MayFail h
-  front-fails faults.Memory MayFail front t lt before fails = tt
-  front-fails faults.Read MayFail front t lt before fails = fails
-  front-fails (faults.Refused place why field) MayFail front t lt before fails =
+  pub prefix-fails : (e : FileFault) (MayFail : Type 0) (prefix : List HeaderField) (t : Cursor) → t.place < header_end → HavePrefix size header_end prefix inside t → FailsBy e (field_at (length prefix)) MayFail t → FailsBy e (within size (header_fields_at size 0)) MayFail h
+  prefix-fails faults.Memory MayFail prefix t lt before fails = tt
+  prefix-fails faults.Read MayFail prefix t lt before fails = fails
+  prefix-fails (faults.Refused place why field) MayFail prefix t lt before fails =
       let fault : Fault = record { place = place; why = why; field = field } in
       let a = before.from fails.octets fails.there in
       record {
         octets = a.0;
         there = a.1;
-        refused = field-fails h.bounds.limit fault size header_end front (source_at t.place fails.octets) (header_fields_at size 0 inside.bounds (source_at inside.place a.0)) lt before.few
-            (subst (λ (k : Bounds). field_at (length front) k (source_at t.place fails.octets) ≡ Err fault) before.same_bounds fails.refused) a.2;
+        refused = field-fails h.bounds.limit fault size header_end prefix (source_at t.place fails.octets) (header_fields_at size 0 inside.bounds (source_at inside.place a.0)) lt before.few
+            (subst (λ (k : Bounds). field_at (length prefix) k (source_at t.place fails.octets) ≡ Err fault) before.same_bounds fails.refused) a.2;
       }
 
-  pub front-done : (front : List HeaderField) (t : Held) → header_end ≤ t.place → HaveFront size header_end front inside t → HasRead (within size (header_fields_at size 0)) front h (bounded h.bounds.end t)
-  front-done front t le before = record {
+  pub prefix-done : (prefix : List HeaderField) (t : Cursor) → header_end ≤ t.place → HavePrefix size header_end prefix inside t → HasRead (within size (header_fields_at size 0)) prefix h (bounded h.bounds.end t)
+  prefix-done prefix t le before = record {
     same_bounds = ap (λ (b : Bounds). let it : Bounds = record { end = h.bounds.end; limit = b.limit } in it) before.same_bounds;
     from = λ rest there.
         let a = before.from rest there in
-        (a.0, a.1, fields-done h.bounds.limit size header_end front (source_at t.place rest) (header_fields_at size 0 inside.bounds (source_at inside.place a.0)) le a.2);
+        (a.0, a.1, fields-done h.bounds.limit size header_end prefix (source_at t.place rest) (header_fields_at size 0 inside.bounds (source_at inside.place a.0)) le a.2);
   }
 
 -- ---- a whole file
@@ -186,14 +186,14 @@ module _ {A : Type 0} (kept : Credential → ℕ → A) (version : ℕ) where
   pair start credentials = (start, credentials)
 
   abbrev credentials_of : Result (Start × Source) Fault → Result (Start × List A) Fault
-  credentials_of start = onward start (λ found. onward (credentials_after kept version found.1) (λ credentials. Ok (pair found.0 credentials)))
+  credentials_of start = and_then start (λ found. and_then (credentials_after kept version found.1) (λ credentials. Ok (pair found.0 credentials)))
 
   pub whole-is : (file : List ℕ) (start : Start) (s : Source) (credentials : List A) → started version file ≡ Ok (start, s) → credentials_after kept version s ≡ Ok credentials → read_in kept version file ≡ Ok (start, credentials)
   whole-is file start s credentials begins then =
-      ap credentials_of begins ∙ ap (λ (r : Result (List A) Fault). onward r (λ found. Ok (pair start found))) then
+      ap credentials_of begins ∙ ap (λ (r : Result (List A) Fault). and_then r (λ found. Ok (pair start found))) then
 
   pub whole-fails : (e : FileFault) (file : List ℕ) (start : Start) (s : Source) → started version file ≡ Ok (start, s) → Fails e (credentials_after kept version s) → Fails e (read_in kept version file)
   whole-fails faults.Memory file start s begins fails = tt
   whole-fails faults.Read file start s begins fails = absurd fails
   whole-fails (faults.Refused place why field) file start s begins fails =
-      ap credentials_of begins ∙ ap (λ (r : Result (List A) Fault). onward r (λ found. Ok (pair start found))) fails
+      ap credentials_of begins ∙ ap (λ (r : Result (List A) Fault). and_then r (λ found. Ok (pair start found))) fails

@@ -1,11 +1,11 @@
--- Items up to the file's end.
+-- Items up to the end of the file.
 use Rattle.std.proofs.Common.{◌≡◌, ℕ, zero, suc, ◌+◌, ◌<◌, ◌≤◌, Bool, false, Option, None, Result, Ok, Err, List, [], ◌∷◌, ◌++◌, length, refl, sym, ◌∙◌, ap, subst, arith, length-append}
 use Rattle.std.proofs.lemmas.List.{nil_from_length}
 use Rattle.std.proofs.lemmas.List.Concat.{flat_map-cons}
 use Rattle.std.specs.List.{flat_map, AllByRecursion}
 use Rattle.krb_der.specs.Octets.{when, AreOctets}
 use Rattle.krb_file.specs.Fields.{Source, Fault, limited, Reader, is_empty}
-use Rattle.krb_file.proofs.Fields.{at, done, ok_is, err_is, onward-ok, Took, Reads}
+use Rattle.krb_file.proofs.Fields.{at, done, ok_is, err_is, and_then-ok, Took, Reads}
 use Rattle.krb_file.proofs.Steps.{IsFault, IsFault-then, Moved, Steps}
 use Rattle.krb_ccache.specs.Reading.{Items, no_items, item_and, items_within, items_after, all_items}
 use Rattle.krb_ccache.proofs.Headers.{inside_file}
@@ -27,7 +27,7 @@ module _ {A : Type 0} (item_at : Reader A) where
   pub items_after-fault : Steps item_at → (limit : Option ℕ) (s : Source) (f : Fault) → (items_after item_at limit s).end ≡ Err f → IsFault (limited limit) s f
   items_after-fault steps limit s f e = items-fault steps (length s.octets) limit s.place s.octets f e
 
--- ---- items that are read again of their spellings, under a limit
+-- ---- items that are read from their spellings, under a limit
 module _ {A : Type 0} (item_at : Reader A) (spell : A → List ℕ) (some : (v : A) → 0 < length (spell v)) (limit : Option ℕ) where
   abbrev pub ended : List A → ℕ → Items A
   ended found k = record { items = found; end = Ok k }
@@ -44,13 +44,13 @@ module _ {A : Type 0} (item_at : Reader A) (spell : A → List ℕ) (some : (v :
   items-again [] (suc bound) place again len = ap (ended []) (omega arith)
   items-again (v ∷ vs) zero place again len = absurd (omega (arith, ap length (flat_map-cons spell v vs), length-append (spell v) (flat_map spell vs), some v))
   items-again (v ∷ vs) (suc bound) place again len =
-      let back = flat_map spell vs in
-      let size : length (flat_map spell (v ∷ vs)) ≡ length (spell v) + length back = ap length (flat_map-cons spell v vs) ∙ length-append (spell v) back in
-      let first = again.0 place back in
+      let suffix = flat_map spell vs in
+      let size : length (flat_map spell (v ∷ vs)) ≡ length (spell v) + length suffix = ap length (flat_map-cons spell v vs) ∙ length-append (spell v) suffix in
+      let first = again.0 place suffix in
       let others = items-again vs bound (place + length (spell v)) again.1 (omega (arith, size, some v)) in
       let next = items_within bound item_at limit in
       ap (λ (x : List ℕ). items_within (suc bound) item_at limit (at place x)) (flat_map-cons spell v vs)
-      ∙ ap (λ (b : Bool). when b (λ _. no_items (Ok place)) (λ _. item_and (item_at (limited limit) (at place (spell v ++ back))) next)) (not_empty v back)
+      ∙ ap (λ (b : Bool). when b (λ _. no_items (Ok place)) (λ _. item_and (item_at (limited limit) (at place (spell v ++ suffix))) next)) (not_empty v suffix)
       ∙ ap (λ (r : Result (A × Source) Fault). item_and r next) first
       ∙ ap (λ (i : Items A). let it : Items A = record { items = v ∷ i.items; end = i.end } in it) others
       ∙ ap (ended (v ∷ vs)) (omega (arith, size))
@@ -91,7 +91,7 @@ module _ {A : Type 0} (item_at : Reader A) (spell : A → List ℕ) (Fits : A �
 
   all_items-ok : (found : Items A) (vs : List A) → all_items found ≡ Ok vs → (k : ℕ) × (found.end ≡ Ok k) × (found.items ≡ vs)
   all_items-ok found vs e =
-      let a = onward-ok found.end (λ k. done found.items) vs e in
+      let a = and_then-ok found.end (λ k. done found.items) vs e in
       (a.0, a.1, ok_is found.items vs a.2)
 
   pub all-sound : (limit : Option ℕ) (s : Source) (vs : List A) → AreOctets s.octets → all_items (items_after item_at limit s) ≡ Ok vs → (s.octets ≡ flat_map spell vs) × AllByRecursion Fits vs

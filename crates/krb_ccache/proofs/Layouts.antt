@@ -1,4 +1,4 @@
--- What the octets of a cache and of a credential are made of, in the order of their spelling.
+-- The parts of a cache and of a credential, in the order of their spelling.
 use Rattle.std.proofs.Common.{◌≡◌, ℕ, List, ◌∷◌, ◌++◌, ap, ap₂, ◌∙◌, append_assoc}
 use Rattle.std.specs.List.{flat_map}
 use Rattle.std.specs.Int.{w8, w16, w32, to_be_bytes}

@@ -6,7 +6,7 @@ pub mod Faults
 pub mod Stepwise
 pub mod Ccaches
 pub mod Loops
-pub mod Answered
+pub mod Results
 pub mod Followed
 pub mod Offsets
 pub mod Layouts

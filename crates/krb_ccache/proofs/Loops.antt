@@ -1,10 +1,10 @@
--- Items up to the end of a file read one after the other, as a loop reads them.
+-- Items up to the end of a file, read one after another by a loop.
 use Rattle.std.proofs.Common.{◌≡◌, ℕ, ◌<◌, ◌≤◌, ◌-◌, ◌+◌, zero, suc, Bool, true, false, leb, le-leb, Option, Some, None, Result, Ok, Err, List, [], ◌∷◌, ◌++◌, length, sym, ◌∙◌, ap, append_assoc, length-append, arith}
 use Rattle.std.proofs.lemmas.Bool.{lt-leb}
 use Rattle.std.proofs.lemmas.List.{append-nil}
-use Rattle.krb_file.specs.Fields.{Source, Reader, Bounds, Fault, limited, onward, ◌>>=◌, gives, in_part, Fails, is_empty}
+use Rattle.krb_file.specs.Fields.{Source, Reader, Bounds, Fault, limited, and_then, ◌>>=◌, succeed, in_part, Fails, is_empty}
 use Rattle.krb_der.specs.Octets.{when}
-use Rattle.krb_file.proofs.Loops.{with_front, regroup as fields-regroup}
+use Rattle.krb_file.proofs.Loops.{with_prefix, regroup as fields-regroup}
 use Rattle.krb_file.specs.declared.fault.FileFault.{FileFault}
 use Rattle.krb_file.specs.declared.fault.FileFault.TheVariants as faults
 use Rattle.krb_file.specs.declared.field_name.FilePart.TheVariants as parts
@@ -15,28 +15,28 @@ use Rattle.krb_ccache.proofs.Faults.{Steps-header_field_in}
 use Rattle.krb_ccache.proofs.Stepwise.{Shortens, Shortens-header_field_in, after-item, after-fault, after-end}
 
 module _ {A : Type 0} where
-  pub regroup : (front : List A) (x : A) (found : Items A) → before front (with_first x found) ≡ before (front ++ x ∷ []) found
-  regroup front x found = ap (λ (xs : List A). let it : Items A = record { items = xs; end = found.end } in it) (sym (append_assoc front (x ∷ []) found.items))
+  pub regroup : (prefix : List A) (x : A) (found : Items A) → before prefix (with_first x found) ≡ before (prefix ++ x ∷ []) found
+  regroup prefix x found = ap (λ (xs : List A). let it : Items A = record { items = xs; end = found.end } in it) (sym (append_assoc prefix (x ∷ []) found.items))
 
   abbrev ended : ℕ → List A → Result (List A) Fault
   ended k items = Ok items
 
 module _ {A : Type 0} (item_at : Reader A) (shortens : Shortens item_at) where
-  pub goes_on : (front : List A) (s t : Source) (x : A) (total : Items A) → is_empty s.octets ≡ false → item_at (limited None) s ≡ Ok (x, t) → before front (items_after item_at None s) ≡ total → before (front ++ x ∷ []) (items_after item_at None t) ≡ total
-  goes_on front s t x total some e so_far =
-      sym (ap (before front) (after-item item_at shortens None s x t some e) ∙ regroup front x (items_after item_at None t)) ∙ so_far
+  pub goes_on : (prefix : List A) (s t : Source) (x : A) (total : Items A) → is_empty s.octets ≡ false → item_at (limited None) s ≡ Ok (x, t) → before prefix (items_after item_at None s) ≡ total → before (prefix ++ x ∷ []) (items_after item_at None t) ≡ total
+  goes_on prefix s t x total some e so_far =
+      sym (ap (before prefix) (after-item item_at shortens None s x t some e) ∙ regroup prefix x (items_after item_at None t)) ∙ so_far
 
-  pub is_done : (front : List A) (s : Source) (total : Items A) → is_empty s.octets ≡ true → before front (items_after item_at None s) ≡ total → all_items total ≡ Ok front
-  is_done front s total none so_far =
-      ap all_items (sym so_far ∙ ap (before front) (after-end item_at shortens None s none))
-      ∙ ap (ended s.place) (append-nil front)
+  pub is_done : (prefix : List A) (s : Source) (total : Items A) → is_empty s.octets ≡ true → before prefix (items_after item_at None s) ≡ total → all_items total ≡ Ok prefix
+  is_done prefix s total none so_far =
+      ap all_items (sym so_far ∙ ap (before prefix) (after-end item_at shortens None s none))
+      ∙ ap (ended s.place) (append-nil prefix)
 
-  pub ends : (e : FileFault) (front : List A) (s : Source) (total : Items A) → is_empty s.octets ≡ false → Fails e (item_at (limited None) s) → before front (items_after item_at None s) ≡ total → Fails e (all_items total)
-  ends faults.Memory front s total some h so_far = tt
-  ends faults.Read front s total some h so_far = absurd h
-  ends (faults.Refused place why field) front s total some h so_far =
+  pub ends : (e : FileFault) (prefix : List A) (s : Source) (total : Items A) → is_empty s.octets ≡ false → Fails e (item_at (limited None) s) → before prefix (items_after item_at None s) ≡ total → Fails e (all_items total)
+  ends faults.Memory prefix s total some h so_far = tt
+  ends faults.Read prefix s total some h so_far = absurd h
+  ends (faults.Refused place why field) prefix s total some h so_far =
       let fault : Fault = record { place = place; why = why; field = field } in
-      ap all_items (sym so_far ∙ ap (before front) (after-fault item_at shortens None s fault some h))
+      ap all_items (sym so_far ∙ ap (before prefix) (after-fault item_at shortens None s fault some h))
 
 -- ---- the fields of a header
 abbrev field_at : ℕ → Reader HeaderField
@@ -48,51 +48,51 @@ field-moves index bounds s t f e = omega (arith, ((Steps-header_field_in index).
 pub field-less : (index end : ℕ) (bounds : Bounds) (s t : Source) (f : HeaderField) → s.place < end → field_at index bounds s ≡ Ok (f, t) → end - t.place < end - s.place
 field-less index end bounds s t f lt e = omega (arith, field-moves index bounds s t f e)
 
--- ---- the fields of a header that ends at a place, under a limit
+-- ---- the fields of a header with an end, under a limit
 module _ (limit : Option ℕ) where
   abbrev upto : ℕ → Bounds
   upto end = record { end = Some end; limit = limit }
 
   abbrev fields_left : ℕ → ℕ → List HeaderField → Source → Result (List HeaderField × Source) Fault
-  fields_left size end front s = with_front front (header_fields_at (size - length front) (length front) (upto end) s)
+  fields_left size end prefix s = with_prefix prefix (header_fields_at (size - length prefix) (length prefix) (upto end) s)
 
   abbrev next_field : ℕ → ℕ → ℕ → Source → Result (List HeaderField × Source) Fault
-  next_field bound before end s = (field_at before >>= λ first. header_fields_at bound (suc before) >>= λ others. gives (first ∷ others)) (upto end) s
+  next_field bound before end s = (field_at before >>= λ first. header_fields_at bound (suc before) >>= λ others. succeed (first ∷ others)) (upto end) s
 
-  fields_left-some : (size end : ℕ) (front : List HeaderField) (s : Source) (k : ℕ) → s.place < end → size - length front ≡ suc k → fields_left size end front s ≡ with_front front (next_field k (length front) end s)
-  fields_left-some size end front s k lt e =
+  fields_left-some : (size end : ℕ) (prefix : List HeaderField) (s : Source) (k : ℕ) → s.place < end → size - length prefix ≡ suc k → fields_left size end prefix s ≡ with_prefix prefix (next_field k (length prefix) end s)
+  fields_left-some size end prefix s k lt e =
       let not_yet : leb end s.place ≡ false = lt-leb end s.place lt in
-      ap (λ (bound : ℕ). with_front front (header_fields_at bound (length front) (upto end) s)) e
-      ∙ ap (λ (b : Bool). with_front front (when b (λ _. Ok ([], s)) (λ _. next_field k (length front) end s))) not_yet
+      ap (λ (bound : ℕ). with_prefix prefix (header_fields_at bound (length prefix) (upto end) s)) e
+      ∙ ap (λ (b : Bool). with_prefix prefix (when b (λ _. Ok ([], s)) (λ _. next_field k (length prefix) end s))) not_yet
 
-  pub field-goes_on : (size end : ℕ) (front : List HeaderField) (s t : Source) (f : HeaderField) (total : Result (List HeaderField × Source) Fault) → s.place < end → length front + (end - s.place) ≤ size → field_at (length front) (upto end) s ≡ Ok (f, t)
-      → with_front front (header_fields_at (size - length front) (length front) (upto end) s) ≡ total → with_front (front ++ f ∷ []) (header_fields_at (size - length (front ++ f ∷ [])) (length (front ++ f ∷ [])) (upto end) t) ≡ total
-  field-goes_on size end front s t f total lt few e so_far =
-      let k : ℕ = size - length (front ++ f ∷ []) in
-      let bound : size - length front ≡ suc (size - length (front ++ f ∷ [])) = omega (arith, length-append front (f ∷ [])) in
-      let after : suc (length front) ≡ length (front ++ f ∷ []) = omega (arith, length-append front (f ∷ [])) in
-      sym (fields_left-some size end front s k lt bound
-      ∙ ap (λ (r : Result (HeaderField × Source) Fault). with_front front (onward r (λ p. onward (header_fields_at k (suc (length front)) (upto end) p.1) (λ q. Ok (p.0 ∷ q.0, q.1))))) e
-      ∙ fields-regroup front f (header_fields_at k (suc (length front)) (upto end) t)
-      ∙ ap (λ (n : ℕ). with_front (front ++ f ∷ []) (header_fields_at k n (upto end) t)) after)
+  pub field-goes_on : (size end : ℕ) (prefix : List HeaderField) (s t : Source) (f : HeaderField) (total : Result (List HeaderField × Source) Fault) → s.place < end → length prefix + (end - s.place) ≤ size → field_at (length prefix) (upto end) s ≡ Ok (f, t)
+      → with_prefix prefix (header_fields_at (size - length prefix) (length prefix) (upto end) s) ≡ total → with_prefix (prefix ++ f ∷ []) (header_fields_at (size - length (prefix ++ f ∷ [])) (length (prefix ++ f ∷ [])) (upto end) t) ≡ total
+  field-goes_on size end prefix s t f total lt few e so_far =
+      let k : ℕ = size - length (prefix ++ f ∷ []) in
+      let bound : size - length prefix ≡ suc (size - length (prefix ++ f ∷ [])) = omega (arith, length-append prefix (f ∷ [])) in
+      let after : suc (length prefix) ≡ length (prefix ++ f ∷ []) = omega (arith, length-append prefix (f ∷ [])) in
+      sym (fields_left-some size end prefix s k lt bound
+      ∙ ap (λ (r : Result (HeaderField × Source) Fault). with_prefix prefix (and_then r (λ p. and_then (header_fields_at k (suc (length prefix)) (upto end) p.1) (λ q. Ok (p.0 ∷ q.0, q.1))))) e
+      ∙ fields-regroup prefix f (header_fields_at k (suc (length prefix)) (upto end) t)
+      ∙ ap (λ (n : ℕ). with_prefix (prefix ++ f ∷ []) (header_fields_at k n (upto end) t)) after)
       ∙ so_far
 
-  pub field-few : (size end : ℕ) (front : List HeaderField) (s t : Source) (f : HeaderField) → s.place < end → length front + (end - s.place) ≤ size → field_at (length front) (upto end) s ≡ Ok (f, t) → length (front ++ f ∷ []) + (end - t.place) ≤ size
-  field-few size end front s t f lt few e = omega (arith, field-moves (length front) (upto end) s t f e, length-append front (f ∷ []))
+  pub field-few : (size end : ℕ) (prefix : List HeaderField) (s t : Source) (f : HeaderField) → s.place < end → length prefix + (end - s.place) ≤ size → field_at (length prefix) (upto end) s ≡ Ok (f, t) → length (prefix ++ f ∷ []) + (end - t.place) ≤ size
+  field-few size end prefix s t f lt few e = omega (arith, field-moves (length prefix) (upto end) s t f e, length-append prefix (f ∷ []))
 
-  pub field-fails : (fault : Fault) (size end : ℕ) (front : List HeaderField) (s : Source) (total : Result (List HeaderField × Source) Fault) → s.place < end → length front + (end - s.place) ≤ size → field_at (length front) (upto end) s ≡ Err fault
-      → with_front front (header_fields_at (size - length front) (length front) (upto end) s) ≡ total → total ≡ Err fault
-  field-fails fault size end front s total lt few h so_far =
-      let k : ℕ = size - length front - 1 in
-      let bound : size - length front ≡ suc (size - length front - 1) = omega arith in
-      sym so_far ∙ fields_left-some size end front s k lt bound
-      ∙ ap (λ (r : Result (HeaderField × Source) Fault). with_front front (onward r (λ p. onward (header_fields_at k (suc (length front)) (upto end) p.1) (λ q. Ok (p.0 ∷ q.0, q.1))))) h
+  pub field-fails : (fault : Fault) (size end : ℕ) (prefix : List HeaderField) (s : Source) (total : Result (List HeaderField × Source) Fault) → s.place < end → length prefix + (end - s.place) ≤ size → field_at (length prefix) (upto end) s ≡ Err fault
+      → with_prefix prefix (header_fields_at (size - length prefix) (length prefix) (upto end) s) ≡ total → total ≡ Err fault
+  field-fails fault size end prefix s total lt few h so_far =
+      let k : ℕ = size - length prefix - 1 in
+      let bound : size - length prefix ≡ suc (size - length prefix - 1) = omega arith in
+      sym so_far ∙ fields_left-some size end prefix s k lt bound
+      ∙ ap (λ (r : Result (HeaderField × Source) Fault). with_prefix prefix (and_then r (λ p. and_then (header_fields_at k (suc (length prefix)) (upto end) p.1) (λ q. Ok (p.0 ∷ q.0, q.1))))) h
 
-  pub fields-done : (size end : ℕ) (front : List HeaderField) (s : Source) (total : Result (List HeaderField × Source) Fault) → end ≤ s.place → with_front front (header_fields_at (size - length front) (length front) (upto end) s) ≡ total → total ≡ Ok (front, s)
-  fields-done size end front s total le so_far = sym so_far ∙ go (size - length front)
+  pub fields-done : (size end : ℕ) (prefix : List HeaderField) (s : Source) (total : Result (List HeaderField × Source) Fault) → end ≤ s.place → with_prefix prefix (header_fields_at (size - length prefix) (length prefix) (upto end) s) ≡ total → total ≡ Ok (prefix, s)
+  fields-done size end prefix s total le so_far = sym so_far ∙ go (size - length prefix)
     where
-      go : (bound : ℕ) → with_front front (header_fields_at bound (length front) (upto end) s) ≡ Ok (front, s)
-      go zero = ap (λ (fields : List HeaderField). Ok (fields, s)) (append-nil front)
+      go : (bound : ℕ) → with_prefix prefix (header_fields_at bound (length prefix) (upto end) s) ≡ Ok (prefix, s)
+      go zero = ap (λ (fields : List HeaderField). Ok (fields, s)) (append-nil prefix)
       go (suc bound) =
           let at_end : leb end s.place ≡ true = le-leb end s.place le in
-          ap (λ (b : Bool). with_front front (when b (λ _. Ok ([], s)) (λ _. next_field bound (length front) end s))) at_end ∙ ap (λ (fields : List HeaderField). Ok (fields, s)) (append-nil front)
+          ap (λ (b : Bool). with_prefix prefix (when b (λ _. Ok ([], s)) (λ _. next_field bound (length prefix) end s))) at_end ∙ ap (λ (fields : List HeaderField). Ok (fields, s)) (append-nil prefix)

@@ -1,13 +1,13 @@
--- Readers that read the same and keep another part of it.
+-- Readers that read the same octets and keep different parts of the value.
 use Rattle.std.proofs.Common.{◌≡◌, ℕ, zero, suc, Option, Result, Ok, Err, List, [], ◌∷◌, length, map, refl, ◌∙◌, ap}
 use Rattle.std.specs.Int.{w16}
-use Rattle.krb_file.specs.Fields.{Source, Fault, Bounds, limited, Reader, onward, ◌>>=◌, gives, called, number_at}
+use Rattle.krb_file.specs.Fields.{Source, Fault, Bounds, limited, Reader, and_then, ◌>>=◌, succeed, called, number_at}
 use Rattle.krb_file.specs.declared.field_name.FieldName.TheVariants as field
 use Rattle.krb_file.specs.declared.field_name.FilePart.TheVariants as parts
 use Rattle.krb_file.proofs.Fields.{at}
 use Rattle.krb_ccache.specs.declared.value.Credential.{Credential}
 use Rattle.krb_ccache.specs.declared.value.Credential3.{Credential3}
-use Rattle.krb_ccache.specs.Reading.{principal_in, credential_from, again_at, credential_at, once, twice, Items, item_and, items_within, items_after}
+use Rattle.krb_ccache.specs.Reading.{principal_in, credential_from, again_at, credential_at, one_enctype, both_enctypes, Items, item_and, items_within, items_after}
 
 module _ {A B : Type 0} (part : A → B) where
   abbrev of_read : Result (A × Source) Fault → Result (B × Source) Fault
@@ -17,12 +17,12 @@ module _ {A B : Type 0} (part : A → B) where
   abbrev pub Mapped : Reader A → Reader B → Type 0
   Mapped reader other = (bounds : Bounds) (s : Source) → of_read (reader bounds s) ≡ other bounds s
 
-  onward-mapped : {X : Type 0} (r : Result (X × Source) Fault) (next : X → Reader A) (others : X → Reader B) (bounds : Bounds) → ((x : X) → Mapped (next x) (others x)) → of_read (onward r (λ p. next p.0 bounds p.1)) ≡ onward r (λ p. others p.0 bounds p.1)
-  onward-mapped (Ok p) next others bounds same = same p.0 bounds p.1
-  onward-mapped (Err f) next others bounds same = refl
+  and_then-mapped : {X : Type 0} (r : Result (X × Source) Fault) (next : X → Reader A) (others : X → Reader B) (bounds : Bounds) → ((x : X) → Mapped (next x) (others x)) → of_read (and_then r (λ p. next p.0 bounds p.1)) ≡ and_then r (λ p. others p.0 bounds p.1)
+  and_then-mapped (Ok p) next others bounds same = same p.0 bounds p.1
+  and_then-mapped (Err f) next others bounds same = refl
 
   Mapped-then : {X : Type 0} (reader : Reader X) (next : X → Reader A) (others : X → Reader B) → ((x : X) → Mapped (next x) (others x)) → Mapped (reader >>= next) (reader >>= others)
-  Mapped-then reader next others same bounds s = onward-mapped (reader bounds s) next others bounds same
+  Mapped-then reader next others same bounds s = and_then-mapped (reader bounds s) next others bounds same
 
   abbrev of_items : Items A → Items B
   of_items found = record { items = map part found.items; end = found.end }
@@ -47,10 +47,10 @@ module _ {A B : Type 0} (part : A → B) where
 abbrev pub credential_part : Credential3 → Credential
 credential_part c = c.credential
 
-pub Mapped-once : (version : ℕ) → Mapped credential_part (credential_at twice version) (credential_at once version)
-Mapped-once version =
+pub Mapped-one_enctype : (version : ℕ) → Mapped credential_part (credential_at both_enctypes version) (credential_at one_enctype version)
+Mapped-one_enctype version =
     Mapped-then credential_part (principal_in parts.Client) _ _ (λ client.
     Mapped-then credential_part (principal_in parts.Server) _ _ (λ server.
     Mapped-then credential_part (called field.Enctype (number_at w16)) _ _ (λ enctype.
     Mapped-then credential_part (again_at version enctype) _ _ (λ again.
-    Mapped-then credential_part (credential_from client server enctype) (λ credential. gives (twice credential again)) (λ credential. gives (once credential again)) (λ credential bounds s. refl)))))
+    Mapped-then credential_part (credential_from client server enctype) (λ credential. succeed (both_enctypes credential again)) (λ credential. succeed (one_enctype credential again)) (λ credential bounds s. refl)))))

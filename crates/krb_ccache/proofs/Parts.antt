@@ -1,21 +1,21 @@
--- The parts of a cache: what is read is spelled so, and what is spelled is read again.
+-- The parts of a cache: what is read is spelled by its octets, and what is spelled is read.
 use Rattle.std.proofs.Common.{◌≡◌, ℕ, ◌<◌, ◌+◌, ℤ, Result, List, [], ◌++◌, length, refl, sym, ◌∙◌, ap, subst, append_assoc}
 use Rattle.std.proofs.lemmas.List.{append-nil}
 use Rattle.std.specs.Int.{w8, w16, w32, to_be_bytes}
 use Rattle.std.specs.Int.RustNames.{FitsSigned}
-use Rattle.krb_file.specs.Fields.{signed, counted, Names, names, bound_of, IsCounted, AreNames, Source, Fault, Reader, onward, ◌>>=◌, gives, called, in_part, number_at, signed_at, counted_at, names_at}
+use Rattle.krb_file.specs.Fields.{signed, counted, Names, names, bound_of, IsCounted, AreNames, Source, Fault, Reader, and_then, ◌>>=◌, succeed, called, in_part, number_at, signed_at, counted_at, names_at}
 use Rattle.krb_file.specs.declared.field_name.FieldName.{FieldName}
 use Rattle.krb_file.specs.declared.field_name.FieldName.TheVariants as field
 use Rattle.krb_file.specs.declared.field_name.FilePart.{FilePart}
 use Rattle.krb_file.specs.declared.field_name.FilePart.TheVariants as parts
-use Rattle.krb_file.proofs.Fields.{Reads-called, Reads-in_part, at, done, ok_is, onward-ok, Took, Reads, Reads-as, wide8, wide16, wide32, Reads-number, Reads-signed, Reads-counted, Reads-names, Reads-list, Reads-then, Reads-fields, Reads-given, Fields, End, Field, Values, spell_fields, AllFit}
+use Rattle.krb_file.proofs.Fields.{Reads-called, Reads-in_part, at, done, ok_is, and_then-ok, Took, Reads, Reads-as, wide8, wide16, wide32, Reads-number, Reads-signed, Reads-counted, Reads-names, Reads-list, Reads-then, Reads-fields, Reads-given, Fields, End, Field, Values, spell_fields, AllFit}
 use Rattle.krb_ccache.specs.declared.value.Credential.{Credential}
 use Rattle.krb_ccache.specs.declared.value.Credential3.{Credential3}
 use Rattle.krb_ccache.specs.declared.value.FilePrincipal.{FilePrincipal}
 use Rattle.krb_ccache.specs.declared.value.HeaderField.{HeaderField}
 use Rattle.krb_ccache.specs.declared.value.Typed.{Typed}
-use Rattle.krb_ccache.specs.Spelling.{names_of, principal, PrincipalFits, typed, TypedFits, typed_list, TypedListFits, credential_front, credential_back, credential, CredentialFits, credential3, Credential3Fits, header_field, HeaderFieldFits}
-use Rattle.krb_ccache.specs.Reading.{principal_at, principal_in, typed_at, typed_list_at, credential_from, credential_at, once, twice, header_field_at}
+use Rattle.krb_ccache.specs.Spelling.{names_of, principal, PrincipalFits, typed, TypedFits, typed_list, TypedListFits, credential_before_key, credential_from_key, credential, CredentialFits, credential3, Credential3Fits, header_field, HeaderFieldFits}
+use Rattle.krb_ccache.specs.Reading.{principal_at, principal_in, typed_at, typed_list_at, credential_from, credential_at, one_enctype, both_enctypes, header_field_at}
 
 -- ---- fields that occur
 abbrev a_number32 : FieldName → Fields → Fields
@@ -107,10 +107,10 @@ back_fields =
     (list_field field.AddressCount parts.Address (list_field field.AuthdataCount parts.Authdata
     (data_field field.Ticket (data_field field.SecondTicket End))))))))))
 
-abbrev pub front_fields : Fields
-front_fields = principal_field parts.Client (principal_field parts.Server (a_number16 field.Enctype End))
+abbrev pub leading_fields : Fields
+leading_fields = principal_field parts.Client (principal_field parts.Server (a_number16 field.Enctype End))
 
-abbrev credential_of : Values front_fields → Values back_fields → Credential
+abbrev credential_of : Values leading_fields → Values back_fields → Credential
 credential_of f v = record {
   client = f.0;
   server = f.1.0;
@@ -128,8 +128,8 @@ credential_of f v = record {
   second_ticket = v.1.1.1.1.1.1.1.1.1.1.0;
 }
 
-abbrev pub front_parts : Credential → Values front_fields
-front_parts c = (c.client, (c.server, (c.enctype, tt)))
+abbrev pub leading_parts : Credential → Values leading_fields
+leading_parts c = (c.client, (c.server, (c.enctype, tt)))
 
 abbrev back_parts : Credential → Values back_fields
 back_parts c = (c.key, (c.authtime, (c.starttime, (c.endtime, (c.renew_till, (c.is_skey, (c.flags, (c.addresses, (c.authdata, (c.ticket, (c.second_ticket, tt)))))))))))
@@ -137,28 +137,28 @@ back_parts c = (c.key, (c.authtime, (c.starttime, (c.endtime, (c.renew_till, (c.
 abbrev pub BackFits : Credential → Type 0
 BackFits c = AllFit back_fields (back_parts c)
 
-abbrev pub from_key : Values front_fields → Reader Credential
+abbrev pub from_key : Values leading_fields → Reader Credential
 from_key f = credential_from f.0 f.1.0 f.1.1.0
 
 regroup : (a b c d e f g h i j k : List ℕ) → a ++ (b ++ (c ++ (d ++ (e ++ (f ++ (g ++ (h ++ (i ++ (j ++ (k ++ [])))))))))) ≡ a ++ b ++ c ++ d ++ e ++ f ++ g ++ h ++ i ++ j ++ k
 regroup a b c d e f g h i j k = simp (append_assoc, append-nil {A = ℕ})
 
-back-parts : (c : Credential) → spell_fields back_fields (back_parts c) ≡ credential_back c
-back-parts c = regroup (counted w32 c.key) (to_be_bytes w32 c.authtime) (to_be_bytes w32 c.starttime) (to_be_bytes w32 c.endtime) (to_be_bytes w32 c.renew_till) (to_be_bytes w8 c.is_skey) (to_be_bytes w32 c.flags) (typed_list c.addresses) (typed_list c.authdata) (counted w32 c.ticket) (counted w32 c.second_ticket)
+suffix-parts : (c : Credential) → spell_fields back_fields (back_parts c) ≡ credential_from_key c
+suffix-parts c = regroup (counted w32 c.key) (to_be_bytes w32 c.authtime) (to_be_bytes w32 c.starttime) (to_be_bytes w32 c.endtime) (to_be_bytes w32 c.renew_till) (to_be_bytes w8 c.is_skey) (to_be_bytes w32 c.flags) (typed_list c.addresses) (typed_list c.authdata) (counted w32 c.ticket) (counted w32 c.second_ticket)
 
-pub Reads-from_key : (f : Values front_fields) → Reads (from_key f) credential_back (λ c. BackFits c × (front_parts c ≡ f))
+pub Reads-from_key : (f : Values leading_fields) → Reads (from_key f) credential_from_key (λ c. BackFits c × (leading_parts c ≡ f))
 Reads-from_key f =
-    Reads-as (from_key f) _ credential_back _ _
-    (Reads-given back_fields Credential (credential_of f) back_parts (λ c. front_parts c ≡ f) (λ v. refl) (λ v. refl) (λ c e. ap (λ (g : Values front_fields). credential_of g (back_parts c)) (sym e)))
-    back-parts (λ c p. p) (λ c p. p)
+    Reads-as (from_key f) _ credential_from_key _ _
+    (Reads-given back_fields Credential (credential_of f) back_parts (λ c. leading_parts c ≡ f) (λ v. refl) (λ v. refl) (λ c e. ap (λ (g : Values leading_fields). credential_of g (back_parts c)) (sym e)))
+    suffix-parts (λ c p. p) (λ c p. p)
 
-regroup_front : (a b c : List ℕ) → a ++ (b ++ (c ++ [])) ≡ a ++ b ++ c
-regroup_front a b c = simp (append_assoc, append-nil {A = ℕ})
+regroup_prefix : (a b c : List ℕ) → a ++ (b ++ (c ++ [])) ≡ a ++ b ++ c
+regroup_prefix a b c = simp (append_assoc, append-nil {A = ℕ})
 
-front-parts : (c : Credential) → spell_fields front_fields (front_parts c) ≡ credential_front c
-front-parts c = regroup_front (principal c.client) (principal c.server) (to_be_bytes w16 c.enctype)
+prefix-parts : (c : Credential) → spell_fields leading_fields (leading_parts c) ≡ credential_before_key c
+prefix-parts c = regroup_prefix (principal c.client) (principal c.server) (to_be_bytes w16 c.enctype)
 
-fits_of : (c : Credential) → AllFit front_fields (front_parts c) → BackFits c → CredentialFits c
+fits_of : (c : Credential) → AllFit leading_fields (leading_parts c) → BackFits c → CredentialFits c
 fits_of c f b = record {
   client = f.0;
   server = f.1.0;
@@ -176,44 +176,44 @@ fits_of c f b = record {
   second_ticket = b.1.1.1.1.1.1.1.1.1.1.0;
 }
 
-front_fits : (c : Credential) → CredentialFits c → AllFit front_fields (front_parts c)
-front_fits c f = (f.client, (f.server, (f.enctype, tt)))
+leading_fit : (c : Credential) → CredentialFits c → AllFit leading_fields (leading_parts c)
+leading_fit c f = (f.client, (f.server, (f.enctype, tt)))
 
 back_fits : (c : Credential) → CredentialFits c → BackFits c
 back_fits c f = (f.key, (f.authtime, (f.starttime, (f.endtime, (f.renew_till, (f.is_skey, (f.flags, (f.addresses, (f.authdata, (f.ticket, (f.second_ticket, tt)))))))))))
 
--- ---- a value that is made of what is read, of which it is a part
+-- ---- a value of which a part is read
 module _ {A B : Type 0} (reader : Reader A) (spell : A → List ℕ) (Fits : A → Type 0) (laws : Reads reader spell Fits) (make : A → B) (part : B → A) (part_make : (v : A) → part (make v) ≡ v) where
-  Reads-made : Reads (reader >>= λ v. gives (make v)) (λ x. spell (part x)) (λ x. Fits (part x) × (make (part x) ≡ x))
+  Reads-made : Reads (reader >>= λ v. succeed (make v)) (λ x. spell (part x)) (λ x. Fits (part x) × (make (part x) ≡ x))
   Reads-made = record {
     sound = λ bounds s t x fits inside e.
-        let a = onward-ok (reader bounds s) (λ p. done (make p.0, p.1)) (x, t) e in
+        let a = and_then-ok (reader bounds s) (λ p. done (make p.0, p.1)) (x, t) e in
         let first = laws.sound bounds s a.0.1 a.0.0 fits inside a.1 in
         let whole : Took bounds (spell (part (make a.0.0))) s a.0.1 × (Fits (part (make a.0.0)) × (make (part (make a.0.0)) ≡ make a.0.0)) =
         (subst (λ (v : A). Took bounds (spell v) s a.0.1) (sym (part_make a.0.0)) first.0, (subst Fits (sym (part_make a.0.0)) first.1, ap make (part_make a.0.0))) in
         subst (λ (p : B × Source). Took bounds (spell (part p.0)) s p.1 × (Fits (part p.0) × (make (part p.0) ≡ p.0))) (ok_is (make a.0.0, a.0.1) (x, t) a.2) whole;
     again = λ bounds place rest x fits free inside.
-        ap (λ (r : Result (A × Source) Fault). onward r (λ p. done (make p.0, p.1))) (laws.again bounds place rest (part x) fits.0 free inside)
+        ap (λ (r : Result (A × Source) Fault). and_then r (λ p. done (make p.0, p.1))) (laws.again bounds place rest (part x) fits.0 free inside)
         ∙ ap (λ (y : B). done (y, at (place + length (spell (part x))) rest)) fits.1;
   }
 
 -- ---- a credential of version 4
-abbrev once_from_key : Values front_fields → Reader Credential
-once_from_key f = from_key f >>= λ credential. gives credential
+abbrev once_from_key : Values leading_fields → Reader Credential
+once_from_key f = from_key f >>= λ credential. succeed credential
 
-Reads-once : (f : Values front_fields) → Reads (once_from_key f) credential_back (λ c. BackFits c × (front_parts c ≡ f))
-Reads-once f =
-    Reads-as (once_from_key f) _ credential_back _ _
-    (Reads-made (from_key f) credential_back _ (Reads-from_key f) (λ c. c) (λ c. c) (λ c. refl))
+Reads-one_enctype : (f : Values leading_fields) → Reads (once_from_key f) credential_from_key (λ c. BackFits c × (leading_parts c ≡ f))
+Reads-one_enctype f =
+    Reads-as (once_from_key f) _ credential_from_key _ _
+    (Reads-made (from_key f) credential_from_key _ (Reads-from_key f) (λ c. c) (λ c. c) (λ c. refl))
     (λ c. refl) (λ c p. p.0) (λ c p. (p, refl))
 
-pub Reads-credential : Reads (credential_at once 4) credential CredentialFits
+pub Reads-credential : Reads (credential_at one_enctype 4) credential CredentialFits
 Reads-credential =
-    Reads-as (credential_at once 4) _ credential _ CredentialFits
-    (Reads-then front_fields Credential once_from_key front_parts credential_back BackFits Reads-once)
-    (λ c. ap (λ (x : List ℕ). x ++ credential_back c) (front-parts c))
+    Reads-as (credential_at one_enctype 4) _ credential _ CredentialFits
+    (Reads-then leading_fields Credential once_from_key leading_parts credential_from_key BackFits Reads-one_enctype)
+    (λ c. ap (λ (x : List ℕ). x ++ credential_from_key c) (prefix-parts c))
     (λ c p. fits_of c p.0 p.1)
-    (λ c p. (front_fits c p, back_fits c p))
+    (λ c p. (leading_fit c p, back_fits c p))
 
 -- ---- a credential of version 3
 abbrev front3_fields : Fields
@@ -222,37 +222,37 @@ front3_fields = principal_field parts.Client (principal_field parts.Server (a_nu
 abbrev front3_parts : Credential3 → Values front3_fields
 front3_parts c = (c.credential.client, (c.credential.server, (c.credential.enctype, (c.again, tt))))
 
--- without the encryption type as it stands again
-abbrev front_of_3 : Values front3_fields → Values front_fields
-front_of_3 f = (f.0, (f.1.0, (f.1.1.0, tt)))
+-- without the second encryption type
+abbrev leading_of_3 : Values front3_fields → Values leading_fields
+leading_of_3 f = (f.0, (f.1.0, (f.1.1.0, tt)))
 
 abbrev twice_from_key : Values front3_fields → Reader Credential3
-twice_from_key f = from_key (front_of_3 f) >>= λ credential. gives (twice credential f.1.1.1.0)
+twice_from_key f = from_key (leading_of_3 f) >>= λ credential. succeed (both_enctypes credential f.1.1.1.0)
 
-abbrev front3_of : Values front_fields → ℕ → Values front3_fields
+abbrev front3_of : Values leading_fields → ℕ → Values front3_fields
 front3_of f again = (f.0, (f.1.0, (f.1.1.0, (again, tt))))
 
-parts3 : (c : Credential3) (f : Values front3_fields) → front_parts c.credential ≡ front_of_3 f → twice c.credential f.1.1.1.0 ≡ c → front3_parts c ≡ f
-parts3 c f e m = ap (λ (x : Credential3). front3_of (front_parts c.credential) x.again) (sym m) ∙ ap (λ (g : Values front_fields). front3_of g f.1.1.1.0) e
+parts3 : (c : Credential3) (f : Values front3_fields) → leading_parts c.credential ≡ leading_of_3 f → both_enctypes c.credential f.1.1.1.0 ≡ c → front3_parts c ≡ f
+parts3 c f e m = ap (λ (x : Credential3). front3_of (leading_parts c.credential) x.again) (sym m) ∙ ap (λ (g : Values leading_fields). front3_of g f.1.1.1.0) e
 
-Reads-twice : (f : Values front3_fields) → Reads (twice_from_key f) (λ c. credential_back c.credential) (λ c. BackFits c.credential × (front3_parts c ≡ f))
-Reads-twice f =
+Reads-both_enctypes : (f : Values front3_fields) → Reads (twice_from_key f) (λ c. credential_from_key c.credential) (λ c. BackFits c.credential × (front3_parts c ≡ f))
+Reads-both_enctypes f =
     Reads-as (twice_from_key f) _ _ _ _
-    (Reads-made (from_key (front_of_3 f)) credential_back _ (Reads-from_key (front_of_3 f)) (λ c. twice c f.1.1.1.0) (λ c. c.credential) (λ c. refl))
+    (Reads-made (from_key (leading_of_3 f)) credential_from_key _ (Reads-from_key (leading_of_3 f)) (λ c. both_enctypes c f.1.1.1.0) (λ c. c.credential) (λ c. refl))
     (λ c. refl)
     (λ c p. (p.0.0, parts3 c f p.0.1 p.1))
-    (λ c p. ((p.0, ap front_of_3 p.1), ap (λ (g : Values front3_fields). twice c.credential g.1.1.1.0) (sym p.1)))
+    (λ c p. ((p.0, ap leading_of_3 p.1), ap (λ (g : Values front3_fields). both_enctypes c.credential g.1.1.1.0) (sym p.1)))
 
-regroup_front3 : (a b c d e : List ℕ) → (a ++ (b ++ (c ++ (d ++ [])))) ++ e ≡ (a ++ b ++ c) ++ d ++ e
-regroup_front3 a b c d e = simp (append_assoc, append-nil {A = ℕ})
+regroup_prefix3 : (a b c d e : List ℕ) → (a ++ (b ++ (c ++ (d ++ [])))) ++ e ≡ (a ++ b ++ c) ++ d ++ e
+regroup_prefix3 a b c d e = simp (append_assoc, append-nil {A = ℕ})
 
-front3-parts : (c : Credential3) → spell_fields front3_fields (front3_parts c) ++ credential_back c.credential ≡ credential3 c
-front3-parts c = regroup_front3 (principal c.credential.client) (principal c.credential.server) (to_be_bytes w16 c.credential.enctype) (to_be_bytes w16 c.again) (credential_back c.credential)
+prefix3-parts : (c : Credential3) → spell_fields front3_fields (front3_parts c) ++ credential_from_key c.credential ≡ credential3 c
+prefix3-parts c = regroup_prefix3 (principal c.credential.client) (principal c.credential.server) (to_be_bytes w16 c.credential.enctype) (to_be_bytes w16 c.again) (credential_from_key c.credential)
 
-pub Reads-credential3 : Reads (credential_at twice 3) credential3 Credential3Fits
+pub Reads-credential3 : Reads (credential_at both_enctypes 3) credential3 Credential3Fits
 Reads-credential3 =
-    Reads-as (credential_at twice 3) _ credential3 _ Credential3Fits
-    (Reads-then front3_fields Credential3 twice_from_key front3_parts (λ c. credential_back c.credential) (λ c. BackFits c.credential) Reads-twice)
-    front3-parts
+    Reads-as (credential_at both_enctypes 3) _ credential3 _ Credential3Fits
+    (Reads-then front3_fields Credential3 twice_from_key front3_parts (λ c. credential_from_key c.credential) (λ c. BackFits c.credential) Reads-both_enctypes)
+    prefix3-parts
     (λ c p. record { credential = fits_of c.credential (p.0.0, (p.0.1.0, (p.0.1.1.0, tt))) p.1; again = p.0.1.1.1.0 })
     (λ c p. ((p.credential.client, (p.credential.server, (p.credential.enctype, (p.again, tt)))), back_fits c.credential p.credential))

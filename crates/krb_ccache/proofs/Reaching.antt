@@ -1,29 +1,29 @@
--- A credential reaches its end: nothing that was taken for it stays ahead.
+-- A credential is read to its end: no octet that was fetched for it stays ahead.
 use Rattle.std.proofs.Common.{ℕ, ◌+◌, Option, Some, arith}
 use Rattle.std.specs.Int.{w8, w16, w32}
-use Rattle.krb_file.specs.Fields.{gives, called, in_part, number_at, signed_at, counted_at, times, component_at, names_at}
-use Rattle.krb_file.specs.FieldReaders.{Held, Stays, LooksTo, HasRead, bounded}
+use Rattle.krb_file.specs.Fields.{succeed, called, in_part, number_at, signed_at, counted_at, times, component_at, names_at}
+use Rattle.krb_file.specs.FieldReaders.{Cursor, Stays, LooksAheadTo, HasRead, bounded}
 use Rattle.krb_file.specs.declared.field_name.FieldName.{FieldName}
 use Rattle.krb_file.specs.declared.field_name.FieldName.TheVariants as field
 use Rattle.krb_file.specs.declared.field_name.FilePart.{FilePart}
 use Rattle.krb_file.specs.declared.field_name.FilePart.TheVariants as parts
-use Rattle.krb_file.proofs.Steps.{Steps-gives, Steps-component, Steps-times}
+use Rattle.krb_file.proofs.Steps.{Steps-succeed, Steps-component, Steps-times}
 use Rattle.krb_file.proofs.Reaching.{AtLeast, AtLeast-then, AtLeast-none, AtLeast-called, AtLeast-in_part, AtLeast-number, AtLeast-signed, AtLeast-counted, goes_on, item_stays}
 use Rattle.krb_ccache.specs.declared.value.Credential.{Credential}
 use Rattle.krb_ccache.specs.declared.value.FilePrincipal.{FilePrincipal}
 use Rattle.krb_ccache.specs.Reading.{principal_at, principal_in, typed_at, typed_list_at, credential_from, again_at, credential_at}
 use Rattle.krb_ccache.proofs.Faults.{Steps-typed_items, Steps-again}
 
--- ---- a header, whose fields have an end of their own
-pub Stays-bounded : (size : ℕ) (held : Held) → Stays held (bounded (Some (held.place + size)) held)
-Stays-bounded size held = record { on = omega arith; within = λ ahead. omega arith }
+-- ---- a header, whose fields have their own end
+pub Stays-bounded : (size : ℕ) (cursor : Cursor) → Stays cursor (bounded (Some (cursor.place + size)) cursor)
+Stays-bounded size cursor = record { on = omega arith; within = λ ahead. omega arith }
 
-pub ends_inside : (outer : Option ℕ) (old new : Held) → Stays old new → Stays old (bounded outer new)
+pub ends_inside : (outer : Option ℕ) (old new : Cursor) → Stays old new → Stays old (bounded outer new)
 ends_inside outer old new stays = record { on = stays.on; within = stays.within }
 
--- ---- how many octets there are at least
-nothing : {A : Type 0} (value : A) → AtLeast 0 (gives value)
-nothing value = AtLeast-none (gives value) (Steps-gives value)
+-- ---- the least number of octets
+nothing : {A : Type 0} (value : A) → AtLeast 0 (succeed value)
+nothing value = AtLeast-none (succeed value) (Steps-succeed value)
 
 AtLeast-names : AtLeast 8 (names_at w32)
 AtLeast-names =
@@ -67,6 +67,6 @@ AtLeast-credential kept version =
     AtLeast-then 0 41 (again_at version enctype) _ (AtLeast-none (again_at version enctype) (Steps-again version enctype)) (λ again.
     AtLeast-then 41 0 (credential_from client server enctype) _ (AtLeast-from_key client server enctype) (λ credential. nothing (kept credential again))))))
 
-pub credential_stays : {A : Type 0} (kept : Credential → ℕ → A) (version : ℕ) (item : A) (old mid some new : Held) → LooksTo 67 old mid → LooksTo 1 mid some → HasRead (credential_at kept version) item some new → Stays some new → Stays old new
+pub credential_stays : {A : Type 0} (kept : Credential → ℕ → A) (version : ℕ) (item : A) (old mid some new : Cursor) → LooksAheadTo 67 old mid → LooksAheadTo 1 mid some → HasRead (credential_at kept version) item some new → Stays some new → Stays old new
 credential_stays kept version item old mid some new looks more read stays =
     item_stays 67 old mid some new (omega arith) looks more stays (goes_on 67 (credential_at kept version) item some new (AtLeast-credential kept version) read)

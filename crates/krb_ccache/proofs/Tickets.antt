@@ -1,14 +1,14 @@
--- What parsing a ticket field tells of the credential.
+-- The contents of a ticket field, by parsing it.
 use Rattle.std.proofs.Common.{◌≡◌, ◌≢◌, ◌↔◌, ℕ, ◌^◌, ◌<◌, false, Option, Some, None, Result, Err, List, [], ◌∷◌, length, refl, sym, ◌∙◌, ap, subst, arith}
 use Rattle.std.specs.Prelude.{IsErrOf}
 use Rattle.krb_der.specs.declared.profile.Profile.TheVariants as profiles
 use Rattle.krb_der.specs.Octets.{when}
 use Rattle.krb_der.specs.declared.verdict.Refusal.{Refusal}
 use Rattle.krb_msg.specs.Grammar.{ticket}
-use Rattle.krb_msg.specs.Reading.{value_read}
+use Rattle.krb_msg.specs.ValueOfDer.{value_of_der}
 use Rattle.krb_msg.specs.Views.{ticket_of, ticket_value}
 use Rattle.krb_msg.specs.declared.ticket.Ticket.{Ticket}
-use Rattle.krb_msg.proofs.Read.{value_is_read}
+use Rattle.krb_msg.proofs.ValueOfDer.{value_of_der_is_value}
 use Rattle.krb_judge.specs.declared.parsing.ParseFault.{ParseFault}
 use Rattle.krb_judge.specs.declared.parsing.ParseFault.TheVariants as faults
 use Rattle.krb_judge.specs.Parses.{ticket_refusal, AreOfTicket}
@@ -32,12 +32,12 @@ whole-by octets refuses = go (ticket_refusal profiles.Lenient octets) refl
     go None e = e
     go (Some r) e = let no : ◌≡◌ {A = Result Ticket ParseFault} (Err faults.Memory) (Err (faults.Refused r)) = (refuses r).1 e in absurd cc
 
--- ---- a Ticket is read of its DER
+-- ---- a Ticket is read from its DER
 small : (octets form : List ℕ) → form ≡ octets → length octets < 2 ^ 31 → length form < 2 ^ 32
 small octets form e short = omega (arith, ap length e)
 
 ticket_is_read : (octets : List ℕ) (t : Ticket) → AreOfTicket profiles.Lenient octets t → ticket_read octets ≡ t
-ticket_is_read octets t are = ap (λ (o : List ℕ). ticket_of (value_read ticket o)) (sym are.form) ∙ ap ticket_of (value_is_read ticket (ticket_value t) refl (small octets _ are.form are.short))
+ticket_is_read octets t are = ap (λ (o : List ℕ). ticket_of (value_of_der ticket o)) (sym are.form) ∙ ap ticket_of (value_of_der_is_value ticket (ticket_value t) refl (small octets _ are.form are.short))
 
 -- ---- the state, if there is no configuration entry and the field is not empty
 judged-some : (octets : List ℕ) → octets ≢ [] → field_state octets ≡ judged_state (ticket_refusal profiles.Lenient octets) octets

@@ -17,15 +17,15 @@ use Rattle.krb_ccache.specs.declared.value.Header.{Header}
 use Rattle.krb_ccache.specs.declared.value.HeaderField.{HeaderField}
 use Rattle.krb_ccache.specs.Spelling.{ccache, cache3, upgraded, offset, is_config, masked}
 use Rattle.krb_ccache.specs.Reading.{read, read3}
-use Rattle.krb_ccache.specs.Streaming.{begun}
+use Rattle.krb_ccache.specs.Streaming.{file_start}
 use Rattle.krb_ccache.specs.Writing.{is_too_long}
 
 -- ---- a cache of u@A: an offset of 0, a configuration entry and a credential for h@A
 abbrev user_octets : List ℕ
 user_octets = hex (codes "00000001 00000001 00000001 41 00000001 75")
 
-abbrev front_octets : List ℕ
-front_octets = hex (codes "0504 000C 0001 0008 00000000 00000000") ++ user_octets
+abbrev start_octets : List ℕ
+start_octets = hex (codes "0504 000C 0001 0008 00000000 00000000") ++ user_octets
 
 abbrev config_octets : List ℕ
 config_octets =
@@ -45,7 +45,7 @@ abbrev credential_octets : List ℕ
 credential_octets = credential_with (hex (codes "0012"))
 
 abbrev cache_octets : List ℕ
-cache_octets = front_octets ++ config_octets ++ credential_octets
+cache_octets = start_octets ++ config_octets ++ credential_octets
 
 abbrev user : FilePrincipal
 user = record { name_type = pos 1; realm = codes "A"; components = codes "u" ∷ [] }
@@ -104,8 +104,8 @@ cache_can_be_written = refl
 header_offset : offset header ≡ Some (pos 0, pos 0)
 header_offset = refl
 
-config_told : map is_config cache.credentials ≡ true ∷ false ∷ []
-config_told = refl
+config_is_recognized : map is_config cache.credentials ≡ true ∷ false ∷ []
+config_is_recognized = refl
 
 key_masked : masked cache ≡ record cache { credentials = config ∷ record credential { key = 0 ∷ 0 ∷ [] } ∷ [] }
 key_masked = refl
@@ -124,12 +124,12 @@ offset_after_others = refl
 offset_none : offset (record { fields = field 1 (7 ∷ []) ∷ [] }) ≡ None
 offset_none = refl
 
--- ---- the front of a file
+-- ---- the first octets of a file
 abbrev is_read : {A : Type 0} → Result A Fault → Bool
 is_read (Ok value) = true
 is_read (Err fault) = false
 
--- the numbers of octets, from 0 to k, whose front of a file is read
+-- the numbers n, from 0 to k, for which the first n octets of a file are read
 abbrev lengths_read : {A : Type 0} → (List ℕ → Result A Fault) → List ℕ → ℕ → List ℕ
 lengths_read reads file zero = when (is_read (reads [])) (λ _. 0 ∷ []) (λ _. [])
 lengths_read reads file (suc k) = lengths_read reads file k ++ when (is_read (reads (take (suc k) file))) (λ _. suc k ∷ []) (λ _. [])
@@ -162,12 +162,12 @@ value_overruns = refl
 header_cut : read (hex (codes "0504 000C 0001")) ≡ Err (fault 6 why.Truncated (Some (parts.Header 0)) words.Value)
 header_cut = refl
 
--- a number of addresses that are not there is looked at one address after another, and so at none
+-- addresses are read one after another, so the first one that is missing is refused, however many are announced
 addresses_announced : read (take 221 cache_octets ++ hex (codes "FFFFFFFF")) ≡ Err (fault 225 why.Truncated (Some (parts.Address 0)) words.Type)
 addresses_announced = refl
 
 -- ---- a limit on fields of octets
-header_too_long : begun (Some 1) cache_octets ≡ Err (fault 8 why.TooLong (Some (parts.Header 0)) words.Value)
+header_too_long : file_start (Some 1) cache_octets ≡ Err (fault 8 why.TooLong (Some (parts.Header 0)) words.Value)
 header_too_long = refl
 
 -- ---- a cache of version 3 of u@A: the credential for h@A
@@ -183,7 +183,7 @@ cache3_read = refl
 cache3_written : cache3 (cache_of_3 18) ≡ cache3_octets
 cache3_written = refl
 
--- the encryption type as it is written again may differ
+-- the second encryption type may differ
 again_differs : read3 (hex (codes "0503") ++ user_octets ++ credential_with (hex (codes "0012 0011"))) ≡ Ok (cache_of_3 17)
 again_differs = refl
 
@@ -200,11 +200,11 @@ again_cut = refl
 nothing_after_3 : read3 (hex (codes "0503")) ≡ Err (fault 2 why.Truncated (Some parts.Principal) words.NameType)
 nothing_after_3 = refl
 
-start_cut : begun None (hex (codes "0503")) ≡ Err (fault 2 why.Truncated (Some parts.Principal) words.NameType)
+start_cut : file_start None (hex (codes "0503")) ≡ Err (fault 2 why.Truncated (Some parts.Principal) words.NameType)
 start_cut = refl
 
 not_three : read3 (hex (codes "0504")) ≡ Err (fault 1 why.Version None words.Version)
 not_three = refl
 
-not_three_or_four : begun None (hex (codes "0502")) ≡ Err (fault 1 why.Version None words.Version)
+not_three_or_four : file_start None (hex (codes "0502")) ≡ Err (fault 1 why.Version None words.Version)
 not_three_or_four = refl

@@ -1,4 +1,4 @@
--- Credential cache files (MIT krb5), versions 4 and 3: the one spelling of each cache.
+-- Credential cache files (MIT krb5) of versions 4 and 3: the octets that spell each cache.
 use Rattle.std.specs.Prelude.{ℕ, ℤ, ◌^◌, ◌<◌, ◌≡◌, Bool, false, ◌&&◌, ◌==◌, codes, List, [], ◌∷◌, ◌++◌, length, map, take, drop, Option, Some, None}
 use Rattle.std.specs.List.{flat_map, AllByRecursion}
 use Rattle.std.specs.Int.{w8, w16, w32, to_be_bytes, from_be_bytes, cast_signed}
@@ -29,7 +29,7 @@ pub record PrincipalFits (p : FilePrincipal) : Type 0 where
 
 -- ---- addresses and authorization data
 
--- a kind, and octets after their number
+-- the type, and the octets after their length
 abbrev pub typed : Typed → List ℕ
 typed t = to_be_bytes w16 t.kind ++ counted w32 t.octets
 
@@ -47,12 +47,12 @@ pub record TypedListFits (ts : List Typed) : Type 0 where
 -- ---- a credential
 
 -- up to the encryption type
-abbrev pub credential_front : Credential → List ℕ
-credential_front c = principal c.client ++ principal c.server ++ to_be_bytes w16 c.enctype
+abbrev pub credential_before_key : Credential → List ℕ
+credential_before_key c = principal c.client ++ principal c.server ++ to_be_bytes w16 c.enctype
 
 -- from the key on
-abbrev pub credential_back : Credential → List ℕ
-credential_back c =
+abbrev pub credential_from_key : Credential → List ℕ
+credential_from_key c =
     counted w32 c.key
     ++ to_be_bytes w32 c.authtime
     ++ to_be_bytes w32 c.starttime
@@ -66,7 +66,7 @@ credential_back c =
     ++ counted w32 c.second_ticket
 
 abbrev pub credential : Credential → List ℕ
-credential c = credential_front c ++ credential_back c
+credential c = credential_before_key c ++ credential_from_key c
 
 pub record CredentialFits (c : Credential) : Type 0 where
   pub client : PrincipalFits c.client
@@ -92,7 +92,7 @@ header_field f = to_be_bytes w16 f.tag ++ counted w16 f.value
 abbrev pub header_fields : List HeaderField → List ℕ
 header_fields fields = flat_map header_field fields
 
--- the fields, after the number of their octets
+-- the fields, after their length
 abbrev pub header : Header → List ℕ
 header h = counted w16 (header_fields h.fields)
 
@@ -110,7 +110,7 @@ pub record HeaderFits (h : Header) : Type 0 where
 abbrev pub ccache : Ccache → List ℕ
 ccache v = 5 ∷ 4 ∷ header v.header ++ principal v.principal ++ flat_map credential v.credentials
 
--- each number and each length can be spelled
+-- Each number and each length has a spelling.
 pub record CcacheFits (v : Ccache) : Type 0 where
   pub header : HeaderFits v.header
   pub principal : PrincipalFits v.principal
@@ -120,10 +120,10 @@ pub record CcacheSpells (v : Ccache) (b : List ℕ) : Type 0 where
   pub fits : CcacheFits v
   pub octets : b ≡ ccache v
 
--- ---- a cache of version 3: no header, and the encryption type of each credential again before its key
+-- ---- a cache of version 3: no header, and the encryption type of each credential twice
 
 abbrev pub credential3 : Credential3 → List ℕ
-credential3 c = credential_front c.credential ++ to_be_bytes w16 c.again ++ credential_back c.credential
+credential3 c = credential_before_key c.credential ++ to_be_bytes w16 c.again ++ credential_from_key c.credential
 
 abbrev pub cache3 : Cache3 → List ℕ
 cache3 v = 5 ∷ 3 ∷ principal v.principal ++ flat_map credential3 v.credentials
@@ -149,7 +149,7 @@ upgraded v = record { header = no_header; principal = v.principal; credentials =
 
 -- ---- what is read out of a cache
 
--- the two numbers of the first field with tag 1 and eight octets
+-- the seconds and microseconds in the first field with tag 1 and eight octets
 abbrev pub offset_of : List HeaderField → Option (ℤ × ℤ)
 offset_of [] = None
 offset_of (f ∷ fields) =
@@ -164,16 +164,16 @@ abbrev pub first_is : List (List ℕ) → List ℕ → Bool
 first_is [] octets = false
 first_is (first ∷ others) octets = bytes_eq first octets
 
--- A configuration entry, by the realm and the first component of its server.
+-- whether a credential is a configuration entry, by the realm and the first component of its server
 abbrev pub is_config : Credential → Bool
 is_config c = bytes_eq c.server.realm (codes "X-CACHECONF:") && first_is c.server.components (codes "krb5_ccache_conf_data")
 
--- ---- without what the keys are
+-- ---- keys masked
 
 abbrev pub masked_credential : Credential → Credential
 masked_credential c = record c { key = zeros (length c.key) }
 
--- every octet of each key 00
+-- the cache with each octet of each key 00
 abbrev pub masked : Ccache → Ccache
 masked v = record v { credentials = map masked_credential v.credentials }
 

@@ -1,11 +1,11 @@
--- What stands in the ticket field of a credential.
+-- The contents of the ticket field of a credential.
 use Rattle.std.specs.Prelude.{ℕ, List, [], ◌∷◌, Option, Some, None}
 use Rattle.krb_der.specs.declared.profile.Profile.TheVariants as profiles
 use Rattle.krb_der.specs.Octets.{when}
 use Rattle.krb_der.specs.declared.verdict.Refusal.{Refusal}
 use Rattle.krb_msg.specs.Grammar.{ticket}
-use Rattle.krb_msg.specs.Reading.{value_read}
-use Rattle.krb_msg.specs.Seen.{TicketLists, ticket_seen}
+use Rattle.krb_msg.specs.ValueOfDer.{value_of_der}
+use Rattle.krb_msg.specs.ViewValues.{TicketLists, ticket_of_view}
 use Rattle.krb_msg.specs.Views.{ticket_of}
 use Rattle.krb_msg.specs.declared.ticket.Ticket.{Ticket}
 use Rattle.krb_judge.specs.Parses.{ticket_refusal, AreOfTicket}
@@ -16,11 +16,11 @@ use Rattle.krb_ccache.specs.declared.ticket.TicketStateView.{TicketStateView}
 use Rattle.krb_ccache.specs.declared.ticket.TicketStateView.TheVariants as views
 use Rattle.krb_ccache.specs.Spelling.{is_config}
 
--- the Ticket whose DER octets are
+-- the Ticket whose DER these octets are
 abbrev pub ticket_read : List ℕ → Ticket
-ticket_read octets = ticket_of (value_read ticket octets)
+ticket_read octets = ticket_of (value_of_der ticket octets)
 
--- octets that are not refused as a Ticket are one
+-- the Ticket of octets that are not refused
 abbrev pub judged_state : Option Refusal → List ℕ → TicketState
 judged_state None octets = states.Ticket (ticket_read octets)
 judged_state (Some refusal) octets = states.Refused refusal
@@ -29,32 +29,32 @@ abbrev pub field_state : List ℕ → TicketState
 field_state [] = states.Absent
 field_state (octet ∷ octets) = judged_state (ticket_refusal profiles.Lenient (octet ∷ octets)) (octet ∷ octets)
 
--- A configuration entry is told first, then an empty field, and then whether the octets are a Ticket.
+-- the contents of the ticket field: a configuration entry's value, else nothing, else a Ticket or a refusal
 unfoldable pub state_of : Credential → TicketState
 state_of c = when (is_config c) (λ _. states.Config) (λ _. field_state c.ticket)
 
--- the state whose octets are borrowed, as the state
+-- the contents that borrowed contents stand for
 abbrev pub state_viewed : TicketStateView → TicketState
 state_viewed views.Absent = states.Absent
 state_viewed views.Config = states.Config
-state_viewed (views.Ticket view) = states.Ticket (ticket_seen view)
+state_viewed (views.Ticket view) = states.Ticket (ticket_of_view view)
 state_viewed (views.Refused refusal) = states.Refused refusal
 
--- what is known of it
+-- what is known of borrowed contents
 abbrev pub StateLists : TicketStateView → Type 0
 StateLists views.Absent = Unit {0}
 StateLists views.Config = Unit {0}
 StateLists (views.Ticket view) = TicketLists view
 StateLists (views.Refused refusal) = Unit {0}
 
--- a Ticket is told only of its DER
+-- if the contents are a Ticket, the octets are its DER
 abbrev pub IsOfDer : List ℕ → TicketState → Type 0
 IsOfDer octets states.Absent = Unit {0}
 IsOfDer octets states.Config = Unit {0}
 IsOfDer octets (states.Ticket t) = AreOfTicket profiles.Lenient octets t
 IsOfDer octets (states.Refused refusal) = Unit {0}
 
--- memory is taken for a Ticket alone
+-- whether the contents are a Ticket, for which alone memory is allocated
 abbrev pub IsTicket : TicketState → Type 0
 IsTicket states.Absent = ⊥
 IsTicket states.Config = ⊥

@@ -1,4 +1,4 @@
--- What keeps a cache from being written.
+-- Why a cache cannot be written.
 use Rattle.std.specs.Prelude.{Bool, ◌||◌, nat_lt, List, length}
 use Rattle.std.specs.List.{list_any}
 use Rattle.krb_file.specs.Parts.{is_long16, is_long32, greatest}
@@ -10,7 +10,7 @@ use Rattle.krb_ccache.specs.declared.value.HeaderField.{HeaderField}
 use Rattle.krb_ccache.specs.declared.value.Typed.{Typed}
 use Rattle.krb_ccache.specs.Spelling.{header_fields, ccache}
 
--- ---- the parts of a cache of which a number cannot say how long they are
+-- ---- parts of a cache that are too long for a length of 16 or 32 bits
 
 abbrev pub is_long_principal : FilePrincipal → Bool
 is_long_principal p = is_long32 p.components || is_long32 p.realm || list_any is_long32 p.components
@@ -42,6 +42,6 @@ is_long_ccache v = is_long_header v.header || is_long_principal v.principal || l
 
 -- ---- the file
 
--- What keeps a cache from being written: a part that is too long, or more octets than a file may have.
+-- whether a cache cannot be written: a part of it is too long, or it has more octets than a file may have
 abbrev pub is_too_long : Ccache → Bool
 is_too_long v = is_long_ccache v || nat_lt greatest (length (ccache v))

@@ -3,9 +3,9 @@
 ghost use Rattle.std.specs.Prelude.{◌≡◌, ℕ, List, [], None, Some, Ok, Err, IfOk, IfErr, OnOk};
 ghost use Rattle.krb_ccache.specs.declared.credentials.State.TheVariants as states;
 ghost use Rattle.krb_file.specs.declared.fault.FileFault.{FileFault as FaultValue};
-ghost use Rattle.krb_file.specs.Fields.{StandsIn};
+ghost use Rattle.krb_file.specs.Fields.{IsStreamFaultIn};
 ghost use Rattle.krb_file.specs.FieldReaders.{Stays};
-ghost use Rattle.krb_ccache.specs.Streaming.{Reads, FailsStart, GivesNext};
+ghost use Rattle.krb_ccache.specs.Streaming.{Reads, FailsStart, ReturnsNext};
 
 use crate::reading::{Start, beginning, next};
 use crate::value::{Credential, FilePrincipal, Header};
@@ -41,10 +41,10 @@ impl<R: Read + Drop> Credentials<R> {
     pub fn start(alloc: Global, reader: R, limit: FieldLimit) -> Result<Credentials<R>, FileFault>
         ensures begins { IfOk result (λ made. (file : List ℕ) → R.remaining reader ≡ Some file → Reads (Some limit) made.reader made.start made.state file 0) }
         // No octet after the default principal was read.
-        ensures reach { IfOk result (λ made. made.reader.ahead ≡ []) }
+        ensures fetched { IfOk result (λ made. made.reader.ahead ≡ []) }
         ensures fault { IfErr result (λ fault. (file : List ℕ) → R.remaining reader ≡ Some file → FailsStart (Some limit) file fault) }
         // A refusal is at a place of the file or at its end.
-        ensures refused { IfErr result (λ fault. (file : List ℕ) → R.remaining reader ≡ Some file → StandsIn file fault) }
+        ensures refused { IfErr result (λ fault. (file : List ℕ) → R.remaining reader ≡ Some file → IsStreamFaultIn file fault) }
     {
         let mut reader = StreamReader::new(reader, limit);
         let start = beginning(alloc, &[3, 4], &mut reader)?;
@@ -84,11 +84,11 @@ impl<R: Read + Drop> Credentials<R> {
     pub fn next_credential(&mut self, alloc: Global) -> Result<Option<Credential>, FileFault>
         // The credentials of the file that is read, one after another, and then the end or the
         // fault.
-        ensures next { (file : List ℕ) (limit : ℕ) (given : ℕ) → Reads (Some limit) self.old.reader self.old.start self.old.state file given → GivesNext (Some limit) file given result self.new.reader self.new.start self.new.state }
+        ensures next { (file : List ℕ) (limit : ℕ) (given : ℕ) → Reads (Some limit) self.old.reader self.old.start self.old.state file given → ReturnsNext (Some limit) file given result self.new.reader self.new.start self.new.state }
         // A refusal is at a place of the file or at its end.
-        ensures refused { (file : List ℕ) (limit : ℕ) (given : ℕ) → Reads (Some limit) self.old.reader self.old.start self.old.state file given → IfErr result (StandsIn file) }
+        ensures refused { (file : List ℕ) (limit : ℕ) (given : ℕ) → Reads (Some limit) self.old.reader self.old.start self.old.state file given → IfErr result (IsStreamFaultIn file) }
         // No octet after what is returned was read, if none was read ahead before.
-        ensures reach { OnOk result (self.old.reader.ahead ≡ [] → self.new.reader.ahead ≡ []) }
+        ensures fetched { OnOk result (self.old.reader.ahead ≡ [] → self.new.reader.ahead ≡ []) }
         ensures same_start { self.new.start ≡ self.old.start }
         ensures ends { result ≡ Ok None → self.new.state ≡ states.Done }
         // After the end or a fault nothing more is read.
@@ -97,7 +97,7 @@ impl<R: Read + Drop> Credentials<R> {
         ensures fails { IfErr result (λ fault. self.new.state ≡ states.Failed fault) }
     {
         match self.state {
-            State::Open => self.next_open(alloc),
+            State::Open => self.read_next(alloc),
             State::Done => Ok(None),
             State::Failed(fault) => Err(fault),
         }
@@ -126,10 +126,10 @@ impl<R: Read + Drop> Credentials<R> {
         self.reader.give_back(second_ticket);
     }
 
-    /// Returns the next credential of a reader that came neither to the end nor to a fault.
-    fn next_open(&mut self, alloc: Global) -> Result<Option<Credential>, FileFault>
-        ensures next { (file : List ℕ) (limit : ℕ) (given : ℕ) → Reads (Some limit) self.old.reader self.old.start self.old.state file given → GivesNext (Some limit) file given result self.new.reader self.new.start self.new.state }
-        ensures refused { (file : List ℕ) (limit : ℕ) (given : ℕ) → Reads (Some limit) self.old.reader self.old.start self.old.state file given → IfErr result (StandsIn file) }
+    /// Returns the next credential of a reader that has reached neither the end nor a fault.
+    fn read_next(&mut self, alloc: Global) -> Result<Option<Credential>, FileFault>
+        ensures next { (file : List ℕ) (limit : ℕ) (given : ℕ) → Reads (Some limit) self.old.reader self.old.start self.old.state file given → ReturnsNext (Some limit) file given result self.new.reader self.new.start self.new.state }
+        ensures refused { (file : List ℕ) (limit : ℕ) (given : ℕ) → Reads (Some limit) self.old.reader self.old.start self.old.state file given → IfErr result (IsStreamFaultIn file) }
         ensures stays { OnOk result (Stays self.old.reader self.new.reader) }
         ensures same_start { self.new.start ≡ self.old.start }
         ensures ends { result ≡ Ok None → self.new.state ≡ states.Done }

@@ -16,7 +16,7 @@
 //! and not when a cache is read. Nothing here opens a file: `krb_tool` lists what a reader reads.
 //!
 //! `specs/` reads from the bottom: `Spelling` (which octets spell a cache), `Reading` (a file from
-//! left to right, up to the first fault), `Writing` (what keeps a cache from being written),
+//! left to right, up to the first fault), `Writing` (why a cache cannot be written),
 //! `Tickets` (what a ticket field holds), `Streaming` (the same as `Reading`, one credential after
 //! another), and `Laws`, which the functions of [`law`] prove.
 #![tactic(auto)]

@@ -10,7 +10,7 @@ use std::fmt;
 /// alone.
 #[derive(Clone, Copy, PartialEq, Eq, Debug)]
 pub struct CredentialPath {
-    /// The number of credentials before the one that the field stands in.
+    /// The number of credentials before the one that the field is in.
     pub credentials: u64,
     /// The field.
     pub field: FileField,

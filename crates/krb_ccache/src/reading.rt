@@ -1,7 +1,7 @@
 //! Reading caches.
 
 ghost use Rattle.std.specs.Prelude.{◌≡◌, ℕ, None, Ok, IfOk, IfErr, OnOk};
-ghost use Rattle.krb_file.specs.Fields.{Gives, IsFaultIn, Reader, in_part, within, times};
+ghost use Rattle.krb_file.specs.Fields.{Agrees, IsFaultIn, Reader, in_part, within, times};
 ghost use Rattle.krb_file.specs.declared.field_name.FieldName.TheVariants as field;
 ghost use Rattle.krb_file.specs.declared.field_name.FilePart.TheVariants as parts;
 ghost use Rattle.krb_file.specs.FieldReaders.{Follows, Stays, Keeps, Slice, source_at};
@@ -9,7 +9,7 @@ ghost use Rattle.krb_ccache.specs.declared.value.Cache3.{Cache3 as Cache3Value};
 ghost use Rattle.krb_ccache.specs.declared.value.Ccache.{Ccache as CcacheValue};
 ghost use Rattle.krb_ccache.specs.declared.value.Credential.{Credential as CredentialValue};
 ghost use Rattle.krb_ccache.specs.Spelling.{CcacheSpells, Spells3};
-ghost use Rattle.krb_ccache.specs.Reading.{principal_at, principal_in, typed_at, typed_list_at, credential_from, again_at, credential_at, once, twice, header_field_at, header_fields_at, header_at, header_in, start_at, next_at, credentials_after, read_in, read, read3};
+ghost use Rattle.krb_ccache.specs.Reading.{principal_at, principal_in, typed_at, typed_list_at, credential_from, again_at, credential_at, one_enctype, both_enctypes, header_field_at, header_fields_at, header_at, header_in, start_at, next_at, credentials_after, read_in, read, read3};
 
 use crate::value::{
     Cache3, Ccache, Credential, Credential3, FilePrincipal, Header, HeaderField, Typed,
@@ -25,12 +25,12 @@ fn principal_fields<F: FieldReader>(
     alloc: Global,
     reader: &mut F,
 ) -> Result<FilePrincipal, FileFault>
-    ensures read { Follows (λ principal. principal) result principal_at F.MayFail (F.held reader.old) (F.held reader.new) }
-    ensures keeps { Keeps (F.held reader.old) (F.held reader.new) }
+    ensures read { Follows (λ principal. principal) result principal_at F.MayFail (F.cursor reader.old) (F.cursor reader.new) }
+    ensures keeps { Keeps (F.cursor reader.old) (F.cursor reader.new) }
 {
     let name_type = reader.signed_field32(FieldName::NameType)?;
-    let mut realm = reader.room(alloc);
-    let mut components = reader.list(alloc);
+    let mut realm = reader.spare_octets(alloc);
+    let mut components = reader.spare_list(alloc);
     reader.names32(alloc, &mut realm, &mut components)?;
     Ok(FilePrincipal {
         name_type,
@@ -45,19 +45,19 @@ fn principal<F: FieldReader>(
     part: FilePart,
     reader: &mut F,
 ) -> Result<FilePrincipal, FileFault>
-    ensures read { Follows (λ principal. principal) result (principal_in part) F.MayFail (F.held reader.old) (F.held reader.new) }
-    ensures keeps { Keeps (F.held reader.old) (F.held reader.new) }
+    ensures read { Follows (λ principal. principal) result (principal_in part) F.MayFail (F.cursor reader.old) (F.cursor reader.new) }
+    ensures keeps { Keeps (F.cursor reader.old) (F.cursor reader.new) }
 {
     in_part(part, principal_fields(alloc, reader))
 }
 
-/// Reads a kind, and octets after their number.
+/// Reads a type, and octets after their length.
 fn typed_fields<F: FieldReader>(alloc: Global, reader: &mut F) -> Result<Typed, FileFault>
-    ensures read { Follows (λ typed. typed) result typed_at F.MayFail (F.held reader.old) (F.held reader.new) }
-    ensures keeps { Keeps (F.held reader.old) (F.held reader.new) }
+    ensures read { Follows (λ typed. typed) result typed_at F.MayFail (F.cursor reader.old) (F.cursor reader.new) }
+    ensures keeps { Keeps (F.cursor reader.old) (F.cursor reader.new) }
 {
     let kind = reader.field16(FieldName::Type)?;
-    let mut octets = reader.room(alloc);
+    let mut octets = reader.spare_octets(alloc);
     reader.counted_field32(alloc, FieldName::Octets, &mut octets)?;
     Ok(Typed {
         kind,
@@ -67,8 +67,8 @@ fn typed_fields<F: FieldReader>(alloc: Global, reader: &mut F) -> Result<Typed, 
 
 /// Reads the address, or the element of authorization data, that is this part.
 fn typed<F: FieldReader>(alloc: Global, part: FilePart, reader: &mut F) -> Result<Typed, FileFault>
-    ensures read { Follows (λ typed. typed) result (in_part part typed_at) F.MayFail (F.held reader.old) (F.held reader.new) }
-    ensures keeps { Keeps (F.held reader.old) (F.held reader.new) }
+    ensures read { Follows (λ typed. typed) result (in_part part typed_at) F.MayFail (F.cursor reader.old) (F.cursor reader.new) }
+    ensures keeps { Keeps (F.cursor reader.old) (F.cursor reader.new) }
 {
     in_part(part, typed_fields(alloc, reader))
 }
@@ -101,8 +101,8 @@ impl Field for AuthdataItem {
 
 /// Reads addresses, after their number.
 fn addresses<F: FieldReader>(alloc: Global, reader: &mut F) -> Result<Many<Typed>, FileFault>
-    ensures read { Follows (λ list. list) result (typed_list_at field.AddressCount parts.Address) F.MayFail (F.held reader.old) (F.held reader.new) }
-    ensures keeps { Keeps (F.held reader.old) (F.held reader.new) }
+    ensures read { Follows (λ list. list) result (typed_list_at field.AddressCount parts.Address) F.MayFail (F.cursor reader.old) (F.cursor reader.new) }
+    ensures keeps { Keeps (F.cursor reader.old) (F.cursor reader.new) }
 {
     let count = reader.field32(FieldName::AddressCount)?;
     let mut list = Vec::new(alloc);
@@ -112,8 +112,8 @@ fn addresses<F: FieldReader>(alloc: Global, reader: &mut F) -> Result<Many<Typed
 
 /// Reads authorization data, after the number of its elements.
 fn authdata<F: FieldReader>(alloc: Global, reader: &mut F) -> Result<Many<Typed>, FileFault>
-    ensures read { Follows (λ list. list) result (typed_list_at field.AuthdataCount parts.Authdata) F.MayFail (F.held reader.old) (F.held reader.new) }
-    ensures keeps { Keeps (F.held reader.old) (F.held reader.new) }
+    ensures read { Follows (λ list. list) result (typed_list_at field.AuthdataCount parts.Authdata) F.MayFail (F.cursor reader.old) (F.cursor reader.new) }
+    ensures keeps { Keeps (F.cursor reader.old) (F.cursor reader.new) }
 {
     let count = reader.field32(FieldName::AuthdataCount)?;
     let mut list = Vec::new(alloc);
@@ -132,10 +132,10 @@ fn credential_from<F: FieldReader>(
     enctype: u16,
     reader: &mut F,
 ) -> Result<Credential, FileFault>
-    ensures read { Follows (λ credential. credential) result (credential_from client server enctype) F.MayFail (F.held reader.old) (F.held reader.new) }
-    ensures stays { OnOk result (Stays (F.held reader.old) (F.held reader.new)) }
+    ensures read { Follows (λ credential. credential) result (credential_from client server enctype) F.MayFail (F.cursor reader.old) (F.cursor reader.new) }
+    ensures stays { OnOk result (Stays (F.cursor reader.old) (F.cursor reader.new)) }
 {
-    let mut key = reader.room(alloc);
+    let mut key = reader.spare_octets(alloc);
     reader.counted_field32(alloc, FieldName::Key, &mut key)?;
     reader.look_ahead(LEAST_AFTER_KEY)?;
     let authtime = reader.field32(FieldName::AuthTime)?;
@@ -146,9 +146,9 @@ fn credential_from<F: FieldReader>(
     let flags = reader.field32(FieldName::TicketFlags)?;
     let addresses = addresses(alloc, reader)?;
     let authdata = authdata(alloc, reader)?;
-    let mut ticket = reader.room(alloc);
+    let mut ticket = reader.spare_octets(alloc);
     reader.counted_field32(alloc, FieldName::Ticket, &mut ticket)?;
-    let mut second_ticket = reader.room(alloc);
+    let mut second_ticket = reader.spare_octets(alloc);
     reader.counted_field32(alloc, FieldName::SecondTicket, &mut second_ticket)?;
     Ok(Credential {
         client,
@@ -168,18 +168,18 @@ fn credential_from<F: FieldReader>(
     })
 }
 
-/// A type of what is kept of a credential that is read.
+/// What a credential that is read is kept as.
 pub(crate) trait Kept: Drop {
-    /// What is kept of a credential whose second encryption type is this number.
+    /// The value that is kept of a credential and its second encryption type.
     ghost kept: { CredentialValue → ℕ → Self };
 
-    /// Returns what is kept of a credential, `again` being its second encryption type.
+    /// Returns the value that is kept of a credential and its second encryption type, `again`.
     fn keep(credential: Credential, again: u16) -> Self
         ensures { result ≡ kept credential again };
 }
 
 impl Kept for Credential {
-    ghost kept = { once };
+    ghost kept = { one_enctype };
 
     fn keep(credential: Credential, _again: u16) -> Credential {
         credential
@@ -187,7 +187,7 @@ impl Kept for Credential {
 }
 
 impl Kept for Credential3 {
-    ghost kept = { twice };
+    ghost kept = { both_enctypes };
 
     fn keep(credential: Credential, again: u16) -> Credential3 {
         Credential3 { credential, again }
@@ -196,8 +196,8 @@ impl Kept for Credential3 {
 
 /// Reads the second encryption type, which version 4 does not have.
 fn again<F: FieldReader>(version: u8, enctype: u16, reader: &mut F) -> Result<u16, FileFault>
-    ensures read { Follows (λ again. again) result (again_at version enctype) F.MayFail (F.held reader.old) (F.held reader.new) }
-    ensures keeps { Keeps (F.held reader.old) (F.held reader.new) }
+    ensures read { Follows (λ again. again) result (again_at version enctype) F.MayFail (F.cursor reader.old) (F.cursor reader.new) }
+    ensures keeps { Keeps (F.cursor reader.old) (F.cursor reader.new) }
 {
     if version == 3 {
         return reader.field16(FieldName::Enctype);
@@ -212,8 +212,8 @@ fn credential<K: Kept, F: FieldReader>(
     version: u8,
     reader: &mut F,
 ) -> Result<K, FileFault>
-    ensures read { Follows (λ item. item) result (credential_at K.kept version) F.MayFail (F.held reader.old) (F.held reader.new) }
-    ensures stays { OnOk result (Stays (F.held reader.old) (F.held reader.new)) }
+    ensures read { Follows (λ item. item) result (credential_at K.kept version) F.MayFail (F.cursor reader.old) (F.cursor reader.new) }
+    ensures stays { OnOk result (Stays (F.cursor reader.old) (F.cursor reader.new)) }
 {
     let client = principal(alloc, FilePart::Client, reader)?;
     let server = principal(alloc, FilePart::Server, reader)?;
@@ -232,8 +232,8 @@ pub(crate) fn next<K: Kept, F: FieldReader>(
     version: u8,
     reader: &mut F,
 ) -> Result<Option<K>, FileFault>
-    ensures read { Follows (λ next. next) result (next_at K.kept version) F.MayFail (F.held reader.old) (F.held reader.new) }
-    ensures stays { OnOk result (Stays (F.held reader.old) (F.held reader.new)) }
+    ensures read { Follows (λ next. next) result (next_at K.kept version) F.MayFail (F.cursor reader.old) (F.cursor reader.new) }
+    ensures stays { OnOk result (Stays (F.cursor reader.old) (F.cursor reader.new)) }
 {
     reader.look_ahead(LEAST_CREDENTIAL)?;
     if reader.is_empty()? {
@@ -248,11 +248,11 @@ fn header_field_fields<F: FieldReader>(
     alloc: Global,
     reader: &mut F,
 ) -> Result<HeaderField, FileFault>
-    ensures read { Follows (λ field. field) result header_field_at F.MayFail (F.held reader.old) (F.held reader.new) }
-    ensures keeps { Keeps (F.held reader.old) (F.held reader.new) }
+    ensures read { Follows (λ field. field) result header_field_at F.MayFail (F.cursor reader.old) (F.cursor reader.new) }
+    ensures keeps { Keeps (F.cursor reader.old) (F.cursor reader.new) }
 {
     let tag = reader.field16(FieldName::Tag)?;
-    let mut value = reader.room(alloc);
+    let mut value = reader.spare_octets(alloc);
     reader.counted_field16(alloc, FieldName::Value, &mut value)?;
     Ok(HeaderField {
         tag,
@@ -266,8 +266,8 @@ fn header_field<F: FieldReader>(
     index: usize,
     reader: &mut F,
 ) -> Result<HeaderField, FileFault>
-    ensures read { Follows (λ field. field) result (in_part (parts.Header index) header_field_at) F.MayFail (F.held reader.old) (F.held reader.new) }
-    ensures keeps { Keeps (F.held reader.old) (F.held reader.new) }
+    ensures read { Follows (λ field. field) result (in_part (parts.Header index) header_field_at) F.MayFail (F.cursor reader.old) (F.cursor reader.new) }
+    ensures keeps { Keeps (F.cursor reader.old) (F.cursor reader.new) }
 {
     let part = FilePart::Header(index as u64);
     in_part(part, header_field_fields(alloc, reader))
@@ -279,8 +279,8 @@ fn header_fields<F: FieldReader>(
     size: u16,
     reader: &mut F,
 ) -> Result<Many<HeaderField>, FileFault>
-    ensures read { Follows (λ fields. fields) result (within size (header_fields_at size 0)) F.MayFail (F.held reader.old) (F.held reader.new) }
-    ensures stays { OnOk result (Stays (F.held reader.old) (F.held reader.new)) }
+    ensures read { Follows (λ fields. fields) result (within size (header_fields_at size 0)) F.MayFail (F.cursor reader.old) (F.cursor reader.new) }
+    ensures stays { OnOk result (Stays (F.cursor reader.old) (F.cursor reader.new)) }
 {
     let outer = reader.end();
     let end = reader.place() + u64::from(size);
@@ -296,8 +296,8 @@ fn header_fields<F: FieldReader>(
 
 /// Reads the header.
 fn header<F: FieldReader>(alloc: Global, reader: &mut F) -> Result<Header, FileFault>
-    ensures read { Follows (λ header. header) result header_at F.MayFail (F.held reader.old) (F.held reader.new) }
-    ensures stays { OnOk result (Stays (F.held reader.old) (F.held reader.new)) }
+    ensures read { Follows (λ header. header) result header_at F.MayFail (F.cursor reader.old) (F.cursor reader.new) }
+    ensures stays { OnOk result (Stays (F.cursor reader.old) (F.cursor reader.new)) }
 {
     let size = reader.field16(FieldName::HeaderLength)?;
     let fields = header_fields(alloc, size, reader)?;
@@ -310,8 +310,8 @@ fn header_in<F: FieldReader>(
     version: u8,
     reader: &mut F,
 ) -> Result<Header, FileFault>
-    ensures read { Follows (λ header. header) result (header_in version) F.MayFail (F.held reader.old) (F.held reader.new) }
-    ensures stays { OnOk result (Stays (F.held reader.old) (F.held reader.new)) }
+    ensures read { Follows (λ header. header) result (header_in version) F.MayFail (F.cursor reader.old) (F.cursor reader.new) }
+    ensures stays { OnOk result (Stays (F.cursor reader.old) (F.cursor reader.new)) }
 {
     if version == 3 {
         let fields = Many::new(Vec::new(alloc));
@@ -338,8 +338,8 @@ pub(crate) fn beginning<F: FieldReader>(
     versions: &[u8],
     reader: &mut F,
 ) -> Result<Start, FileFault>
-    ensures read { Follows (λ start. start) result (start_at versions.now) F.MayFail (F.held reader.old) (F.held reader.new) }
-    ensures stays { OnOk result (Stays (F.held reader.old) (F.held reader.new)) }
+    ensures read { Follows (λ start. start) result (start_at versions.now) F.MayFail (F.cursor reader.old) (F.cursor reader.new) }
+    ensures stays { OnOk result (Stays (F.cursor reader.old) (F.cursor reader.new)) }
 {
     let version = reader.version(versions)?;
     let header = header_in(alloc, version, reader)?;
@@ -358,7 +358,7 @@ fn credentials<K: Kept>(
     reader: &mut SliceReader<'_>,
 ) -> Result<Many<K>, FileFault>
     requires { reader.old.end ≡ None }
-    ensures { Gives (λ credentials. credentials) result (credentials_after K.kept version (source_at reader.old.place reader.old.octets)) }
+    ensures { Agrees (λ credentials. credentials) result (credentials_after K.kept version (source_at reader.old.place reader.old.octets)) }
 {
     let mut credentials = Vec::new(alloc);
     'credentials: while let Some(item) = next(alloc, version, reader)? {
@@ -369,7 +369,7 @@ fn credentials<K: Kept>(
 
 /// Reads a file of a version: what is before the credentials, and the credentials.
 fn file<K: Kept>(alloc: Global, version: u8, octets: &[u8]) -> Result<(Start, Many<K>), FileFault>
-    ensures { Gives (λ found. found) result (read_in K.kept version octets.now) }
+    ensures { Agrees (λ found. found) result (read_in K.kept version octets.now) }
 {
     let mut reader = SliceReader::new(octets);
     let start = beginning(alloc, &[version], &mut reader)?;
@@ -379,7 +379,7 @@ fn file<K: Kept>(alloc: Global, version: u8, octets: &[u8]) -> Result<(Start, Ma
 
 /// Reads a cache of version 4.
 fn whole(alloc: Global, octets: &[u8]) -> Result<Ccache, FileFault>
-    ensures { Gives (λ ccache. ccache) result (read octets.now) }
+    ensures { Agrees (λ ccache. ccache) result (read octets.now) }
 {
     let (start, credentials) = file(alloc, 4, octets)?;
     let Start {
@@ -396,7 +396,7 @@ fn whole(alloc: Global, octets: &[u8]) -> Result<Ccache, FileFault>
 
 /// Reads a cache of version 3.
 fn whole3(alloc: Global, octets: &[u8]) -> Result<Cache3, FileFault>
-    ensures { Gives (λ cache. cache) result (read3 octets.now) }
+    ensures { Agrees (λ cache. cache) result (read3 octets.now) }
 {
     let (start, credentials) = file(alloc, 3, octets)?;
     Ok(Cache3 {
@@ -413,9 +413,9 @@ pub fn read(alloc: Global, octets: &[u8]) -> Result<Ccache, FileFault>
     // What is read is spelled by the octets.
     ensures found { IfOk result (λ ccache. CcacheSpells ccache octets.now) }
     // What octets spell is read, unless memory ran out.
-    ensures only { (ccache : CcacheValue) → CcacheSpells ccache octets.now → Gives (λ ccache. ccache) result (Ok ccache) }
+    ensures only { (ccache : CcacheValue) → CcacheSpells ccache octets.now → Agrees (λ ccache. ccache) result (Ok ccache) }
     // Which fault it is.
-    ensures exact { Gives (λ ccache. ccache) result (read octets.now) }
+    ensures exact { Agrees (λ ccache. ccache) result (read octets.now) }
     ensures refused { IfErr result (IsFaultIn octets.now) }
 {
     whole(alloc, octets)
@@ -427,9 +427,9 @@ pub fn read3(alloc: Global, octets: &[u8]) -> Result<Cache3, FileFault>
     // What is read is spelled by the octets.
     ensures found { IfOk result (λ cache. Spells3 cache octets.now) }
     // What octets spell is read, unless memory ran out.
-    ensures only { (cache : Cache3Value) → Spells3 cache octets.now → Gives (λ cache. cache) result (Ok cache) }
+    ensures only { (cache : Cache3Value) → Spells3 cache octets.now → Agrees (λ cache. cache) result (Ok cache) }
     // Which fault it is.
-    ensures exact { Gives (λ cache. cache) result (read3 octets.now) }
+    ensures exact { Agrees (λ cache. cache) result (read3 octets.now) }
     ensures refused { IfErr result (IsFaultIn octets.now) }
 {
     whole3(alloc, octets)

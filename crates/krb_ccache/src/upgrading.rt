@@ -32,7 +32,7 @@ pub fn upgrade(alloc: Global, cache: Cache3) -> Result<Ccache, Cache3>
 /// Moves credentials within the capacity of `to`.
 fn move_credentials(from: Vec<Credential3>, to: &mut Vec<Credential>)
     requires none { to.old.items ≡ [] }
-    requires room { length from.items ≤ vec_capacity to.old }
+    requires spare_capacity { length from.items ≤ vec_capacity to.old }
     ensures { to.new.items ≡ map (λ c. c.credential) from.items }
 {
     for item in from {

@@ -139,8 +139,8 @@ impl Credential {
         let flags = Then(self.is_skey, Then(self.flags, lists));
         let ends = Then(self.endtime, Then(self.renew_till, flags));
         let times = Then(self.authtime, Then(self.starttime, ends));
-        let back = Then(&self.key, times);
-        Then(&self.client, Then(&self.server, Then(self.enctype, back)))
+        let suffix = Then(&self.key, times);
+        Then(&self.client, Then(&self.server, Then(self.enctype, suffix)))
     }
 }
 

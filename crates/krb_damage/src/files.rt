@@ -213,14 +213,14 @@ impl Format {
     }
 
     /// Returns how many prefixes of octets are a file.
-    pub(crate) fn fronts(self, alloc: Global, octets: &[u8]) -> Option<u64> {
-        let mut fronts = 0u64;
+    pub(crate) fn prefixes(self, alloc: Global, octets: &[u8]) -> Option<u64> {
+        let mut prefixes = 0u64;
         for count in 0..=octets.len() {
             if self.is_whole(alloc, &octets[..count], 1)? {
-                fronts = fronts.saturating_add(1);
+                prefixes = prefixes.saturating_add(1);
             }
         }
-        Some(fronts)
+        Some(prefixes)
     }
 
     /// Returns whether a file is written as it was read, whole and one record after another, from

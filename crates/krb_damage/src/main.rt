@@ -42,7 +42,7 @@ use growth::report_calls;
 use krb_der::{Profile, Refusal, Verdict, why_number};
 use krb_frame::Status;
 use krb_scan::{Mark, Scanner};
-use messages::{changed, fronts, verdict};
+use messages::{changed, prefixes, verdict};
 use scanning::step_all;
 use std::alloc::Global;
 use std::process::ExitCode;
@@ -62,10 +62,10 @@ enum Subject {
 impl Subject {
     /// Returns how many prefixes of octets are whole, or `None` if answers differ, or out of
     /// memory.
-    fn fronts(self, alloc: Global, octets: &[u8]) -> Option<u64> {
+    fn prefixes(self, alloc: Global, octets: &[u8]) -> Option<u64> {
         match self {
-            Subject::Frame(profile) => fronts(alloc, profile, octets),
-            Subject::File(format) => format.fronts(alloc, octets),
+            Subject::Frame(profile) => prefixes(alloc, profile, octets),
+            Subject::File(format) => format.prefixes(alloc, octets),
         }
     }
 
@@ -85,7 +85,7 @@ impl Subject {
 #[derive(Clone, Copy)]
 struct Counts {
     /// How many prefixes of them are whole.
-    fronts: u64,
+    prefixes: u64,
     /// How many changes were made.
     changes: u64,
     /// After how many changes they are whole.
@@ -95,7 +95,7 @@ struct Counts {
 
 /// Cuts octets, and makes each change to them, one at a time.
 fn tried(alloc: Global, subject: Subject, octets: &mut [u8], failed: Failed) -> Option<Counts> {
-    let fronts = subject.fronts(alloc, octets)?;
+    let prefixes = subject.prefixes(alloc, octets)?;
     let mut changes = 0u64;
     let mut whole = 0u64;
     for place in 0..octets.len() {
@@ -112,7 +112,7 @@ fn tried(alloc: Global, subject: Subject, octets: &mut [u8], failed: Failed) -> 
         octets[place] = kept;
     }
     Some(Counts {
-        fronts,
+        prefixes,
         changes,
         whole,
         failed,
@@ -147,12 +147,12 @@ fn report(rt: &impl Print, name: &str, counts: Option<Counts>) -> io::Result<boo
         return Ok(false);
     };
     let Counts {
-        fronts,
+        prefixes,
         changes,
         whole,
         failed: Failed { reads, writes },
     } = counts;
-    print!(rt; "{name}: {fronts} fronts, {changes} changes, {whole} of them whole, ")?;
+    print!(rt; "{name}: {prefixes} prefixes, {changes} changes, {whole} of them whole, ")?;
     println!(rt; "{reads} reads and {writes} writes failed")?;
     Ok(true)
 }

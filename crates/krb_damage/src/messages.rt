@@ -5,7 +5,7 @@ ghost use Rattle.std.specs.Prelude.{◌^◌, ◌<◌, length};
 use crate::Counts;
 use crate::ends::Run;
 use crate::scanning::scanned;
-use krb_der::{GiveBack, Profile, Refusal, Room, Verdict, Why};
+use krb_der::{GiveBack, Profile, Refusal, SpareVectors, Verdict, Why};
 use krb_frame::{Decoder, Limit, Status};
 use krb_judge::{ParseFault, judge_in, parse_in};
 use krb_msg::{Message, encode};
@@ -49,7 +49,7 @@ fn parsed(alloc: Global, profile: Profile, octets: &[u8]) -> Option<Verdict> {
     match parse_in(alloc, profile, octets) {
         Ok(message) => {
             let comes_again = is_encoded(alloc, &message, octets);
-            message.give_back(&mut Room::new());
+            message.give_back(&mut SpareVectors::new());
             comes_again.then_some(Verdict::Whole)
         }
         Err(ParseFault::Refused(refusal)) => Some(Verdict::Refused(refusal)),
@@ -145,7 +145,7 @@ fn wanted(verdict: Verdict, octets: &[u8]) -> Answer {
 
 /// Returns at how many places a stream of one frame may end, as a decoder and a listing say: before
 /// the frame and after it; elsewhere it is truncated. Returns 0 for a frame that is refused.
-pub(crate) fn fronts(alloc: Global, profile: Profile, frame: &[u8]) -> Option<u64> {
+pub(crate) fn prefixes(alloc: Global, profile: Profile, frame: &[u8]) -> Option<u64> {
     if verdict(alloc, profile, frame.get(LENGTH_OCTETS..)?, 0)? != Verdict::Whole {
         return Some(0);
     }

@@ -1,4 +1,4 @@
--- What a call does that appends octets into room that is there.
+-- Calls that append octets to a vector with the capacity for them.
 use Rattle.std.specs.Prelude.{ℕ, ◌≡◌, ◌+◌, List, ◌++◌, length}
 use Rattle.std.specs.Global.{Vec}
 use Rattle.std.specs.Vec.{vec_len, vec_capacity}

@@ -1,4 +1,4 @@
--- What the scalars stand for.
+-- The ranges and shapes of the scalars.
 use Rattle.std.specs.Prelude.{ℕ, zero, suc, ℤ, pos, negsuc, ◌-◌, ◌/◌, ◌%◌, ◌^◌, ◌≡◌, ◌≤◌, ◌≤ℤ◌, Bool, eqb, List, [], ◌∷◌, slice_index}
 
 -- from -2147483648 to 2147483647 (RFC 4120, 5.2.4)

@@ -23,7 +23,7 @@ pub trait Der {
     /// allocates nothing.
     fn put(&self, out: &mut Vec<u8>)
         requires short { length (der self.now) ≤ 2147483647 }
-        requires room { vec_len out.old + length (der self.now) ≤ vec_capacity out.old }
+        requires capacity { vec_len out.old + length (der self.now) ≤ vec_capacity out.old }
         ensures { Puts (der self.now) out.old out.new };
 
     /// Each value has at least one octet.

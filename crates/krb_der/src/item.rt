@@ -70,7 +70,7 @@ pub fn put_octets(out: &mut Vec<u8>, octets: &[u8])
 /// of `out`.
 pub fn put_item(out: &mut Vec<u8>, tag: u8, contents: &[u8])
     requires short { length (item tag contents.now) ≤ 2147483647 }
-    requires room { vec_len out.old + length (item tag contents.now) ≤ vec_capacity out.old }
+    requires capacity { vec_len out.old + length (item tag contents.now) ≤ vec_capacity out.old }
     ensures { Puts (item tag contents.now) out.old out.new }
 {
     put_header(out, tag, contents.len() as u32);

@@ -9,7 +9,7 @@
 //!   returns the vector. The other types have calls like these; if not every argument has a value,
 //!   `new` returns an `Option`, as [`Wide32::new`] does.
 //! - [`Der::size`] returns the number of DER octets of a value, and [`Der::put`] appends them.
-//! - [`Room::take`] returns a vector that a value left to be used again, or a new one.
+//! - [`SpareVectors::take`] returns a vector that a value left to be used again, or a new one.
 //!
 //! A [`Refusal`] says which octet is at fault and why ([`Why`]), a [`Verdict`] what the first
 //! octets of a message decide, and [`Memory`] that an allocation failed.
@@ -33,7 +33,7 @@ mod micros;
 mod number;
 mod octets;
 mod profile;
-mod room;
+mod spare;
 mod verdict;
 mod why;
 mod wide32;
@@ -50,7 +50,7 @@ pub use micros::Micros;
 pub use number::{integer_size, integer_value, number_of, put_integer};
 pub use octets::Octets;
 pub use profile::Profile;
-pub use room::{GiveBack, Room};
+pub use spare::{GiveBack, SpareVectors};
 pub use verdict::{Refusal, Verdict};
 pub use why::{Why, why_number, why_text};
 pub use wide32::Wide32;

@@ -103,7 +103,7 @@ fn size_of_values<T: Der>(values: &[T]) -> u64
 /// Appends the DER octets of the values in order, within the capacity of `out`.
 fn put_values<T: Der>(out: &mut Vec<u8>, values: &[T])
     requires short { length (flat_map T.der values.now) ≤ 2147483647 }
-    requires room { vec_len out.old + length (flat_map T.der values.now) ≤ vec_capacity out.old }
+    requires capacity { vec_len out.old + length (flat_map T.der values.now) ≤ vec_capacity out.old }
     ensures { Puts (flat_map T.der values.now) out.old out.new }
 {
     for value in values {

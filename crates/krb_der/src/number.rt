@@ -26,7 +26,7 @@ pub(crate) fn number_size(bound: u64, number: u64) -> u64
 pub(crate) fn put_number(out: &mut Vec<u8>, bound: u64, number: u64)
     requires bound { 0 < bound }
     requires octets { bound ≤ 256 }
-    requires room { vec_len out.old + length (spelled bound number) ≤ vec_capacity out.old }
+    requires capacity { vec_len out.old + length (spelled bound number) ≤ vec_capacity out.old }
     ensures { Puts (spelled bound number) out.old out.new }
 {
     if number < bound {

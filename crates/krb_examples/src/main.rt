@@ -184,8 +184,8 @@ fn listed(alloc: Global, file: &[u8]) -> (Vec<u8>, u8) {
 
 /// Returns whether words are a command that lists a keytab.
 fn is_keytab_command(alloc: Global, words: &[String]) -> Result<bool, WordsFault> {
-    let order = read_words(alloc, words)?;
-    Ok(matches!(order.job, Job::Keytab))
+    let command_line = read_words(alloc, words)?;
+    Ok(matches!(command_line.job, Job::Keytab))
 }
 
 /// A stream of a frame that is refused at its contents octet, and of an AP-REP.

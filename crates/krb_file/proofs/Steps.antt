@@ -1,15 +1,15 @@
--- Reading moves on within the file, and a fault stands within the file or at its end; with no field limit none is too long.
+-- Reading moves forward within the file, a fault is at a place of the file or at its end, and without a field limit none is TooLong.
 use Rattle.std.proofs.Common.{◌≡◌, ℕ, zero, suc, ◌+◌, ◌≤◌, ◌⊎◌, inl, inr, Bool, true, false, ltb, Option, Some, None, Result, Ok, Err, List, [], ◌∷◌, length, take, drop, refl, subst, arith, length-drop, ℤ, ap, ◌∙◌, sym, ◌<◌}
 use Rattle.std.specs.Int.{Width, w8, byte_len, from_be_bytes, cast_signed, w32}
 use Rattle.krb_der.specs.Octets.{when}
-use Rattle.krb_file.specs.Fields.{Source, Fault, Bounds, Reader, ◌>>=◌, gives, refused, passes, next_octets_at, octets_at, room, rest_at, number_at, signed_at, counted_at, times, component_at, names_at, named, placed, called, in_part, within, is_one_of, expect, version_at}
+use Rattle.krb_file.specs.Fields.{Source, Fault, Bounds, Reader, ◌>>=◌, succeed, refused, exceeds, next_octets_at, octets_at, octets_to_end, rest_at, number_at, signed_at, counted_at, times, component_at, names_at, with_name, with_part, called, in_part, within, is_one_of, expect, version_at}
 use Rattle.krb_file.specs.declared.fault.FileWhy.{FileWhy}
 use Rattle.krb_file.specs.declared.fault.FileWhy.TheVariants as why
 use Rattle.krb_file.specs.declared.field_name.FieldName.{FieldName}
 use Rattle.krb_file.specs.declared.field_name.FieldName.TheVariants as words
 use Rattle.krb_file.specs.declared.field_name.FilePart.{FilePart}
 use Rattle.krb_file.specs.declared.field_name.FileField.{FileField}
-use Rattle.krb_file.proofs.Fields.{refused_at-ok, refused_at-err, at_field, at, done, failed, ok_is, err_is, onward-ok, onward-err, piece-ok, when-err_err, when-ok_else}
+use Rattle.krb_file.proofs.Fields.{refused_at-ok, refused_at-err, at_field, at, done, failed, ok_is, err_is, and_then-ok, and_then-err, piece-ok, when-err_err, when-ok_else}
 
 pub record IsFault (bounds : Bounds) (s : Source) (f : Fault) : Type 0 where
   pub from : s.place ≤ f.place
@@ -33,22 +33,22 @@ IsFault-then bounds s t f p q = record { from = omega (arith, p.on, q.from); upt
 pub Steps-then : {A B : Type 0} (reader : Reader A) (next : A → Reader B) → Steps reader → ((value : A) → Steps (next value)) → Steps (reader >>= next)
 Steps-then {A} {B} reader next first others = record {
   moves = λ bounds s v t e.
-      let a = onward-ok (reader bounds s) (λ p. next p.0 bounds p.1) (v, t) e in
+      let a = and_then-ok (reader bounds s) (λ p. next p.0 bounds p.1) (v, t) e in
       Moved-then s a.0.1 t (first.moves bounds s a.0.0 a.0.1 a.1) ((others a.0.0).moves bounds a.0.1 v t a.2);
   faults = λ bounds s f e.
-      elim (onward-err (reader bounds s) (λ p. next p.0 bounds p.1) f e) [
+      elim (and_then-err (reader bounds s) (λ p. next p.0 bounds p.1) f e) [
         | inl a ↦ first.faults bounds s f a
         | inr a ↦ IsFault-then bounds s a.0.1 f (first.moves bounds s a.0.0 a.0.1 a.1) ((others a.0.0).faults bounds a.0.1 f a.2)
       ];
 }
 
-pub Steps-gives : {A : Type 0} (value : A) → Steps (gives value)
-Steps-gives {A} value = record {
+pub Steps-succeed : {A : Type 0} (value : A) → Steps (succeed value)
+Steps-succeed {A} value = record {
   moves = λ bounds s v t e. subst (λ (p : A × Source). Moved s p.1) (ok_is (value, s) (v, t) e) (record { on = omega arith; same = refl });
   faults = λ bounds s f e. absurd cc;
 }
 
--- ---- the same reader, but what it refuses is another field
+-- ---- the same reader, whose faults are of another field
 Steps-at : {A : Type 0} (field : Option FileField → Option FileField) (reader : Reader A) → Steps reader → Steps (at_field field reader)
 Steps-at field reader steps = record {
   moves = λ bounds s v t e. steps.moves bounds s v t (refused_at-ok field (reader bounds s) (v, t) e);
@@ -59,17 +59,17 @@ Steps-at field reader steps = record {
 }
 
 pub Steps-called : {A : Type 0} (name : FieldName) (reader : Reader A) → Steps reader → Steps (called name reader)
-Steps-called name reader steps = Steps-at (named name) reader steps
+Steps-called name reader steps = Steps-at (with_name name) reader steps
 
 pub Steps-in_part : {A : Type 0} (part : FilePart) (reader : Reader A) → Steps reader → Steps (in_part part reader)
-Steps-in_part part reader steps = Steps-at (placed part) reader steps
+Steps-in_part part reader steps = Steps-at (with_part part) reader steps
 
 -- ---- n octets
 fault_here : (limit : Option ℕ) (bounds : Bounds) (s : Source) (reason : FileWhy) (f : Fault) → (bounds.limit ≡ None → reason ≡ why.TooLong → ⊥) → record { place = s.place; why = reason; field = None } ≡ f → IsFault bounds s f
 fault_here limit bounds s reason f free e = subst (IsFault bounds s) e (record { from = omega arith; upto = omega arith; limited = free })
 
 piece-faults : (limit : Option ℕ) (size : ℕ) (bounds : Bounds) (s : Source) (f : Fault) → (bounds.limit ≡ None → limit ≡ None) → next_octets_at limit size bounds s ≡ Err f → IsFault bounds s f
-piece-faults limit size bounds s f free e = overrun (when-err_err (passes (s.place + size) bounds.end) _ f (λ _. when (passes size limit) (λ _. refused s why.TooLong) last) e)
+piece-faults limit size bounds s f free e = overrun (when-err_err (exceeds (s.place + size) bounds.end) _ f (λ _. when (exceeds size limit) (λ _. refused s why.TooLong) last) e)
   where
     taken : Unit {0} → Result (List ℕ × Source) Fault
     taken u = Ok (take size s.octets, at (s.place + size) (drop size s.octets))
@@ -77,20 +77,20 @@ piece-faults limit size bounds s f free e = overrun (when-err_err (passes (s.pla
     last : Unit {0} → Result (List ℕ × Source) Fault
     last u = when (ltb (length s.octets) size) (λ _. refused s why.Truncated) taken
 
-    no_limit : limit ≡ None → passes size limit ≡ true → ⊥
-    no_limit e t = let h : passes size limit ≡ false = rw e in absurd cc
+    no_limit : limit ≡ None → exceeds size limit ≡ true → ⊥
+    no_limit e t = let h : exceeds size limit ≡ false = rw e in absurd cc
 
     truncated : ((ltb (length s.octets) size ≡ true) × (record { place = s.place; why = why.Truncated; field = None } ≡ f)) ⊎ (taken tt ≡ Err f) → IsFault bounds s f
     truncated (inl p) = fault_here limit bounds s why.Truncated f (λ _ e. absurd cc) p.1
     truncated (inr p) = absurd cc
 
-    too_long : ((passes size limit ≡ true) × (record { place = s.place; why = why.TooLong; field = None } ≡ f)) ⊎ (last tt ≡ Err f) → IsFault bounds s f
+    too_long : ((exceeds size limit ≡ true) × (record { place = s.place; why = why.TooLong; field = None } ≡ f)) ⊎ (last tt ≡ Err f) → IsFault bounds s f
     too_long (inl p) = fault_here limit bounds s why.TooLong f (λ none _. no_limit (free none) p.0) p.1
     too_long (inr p) = truncated (when-err_err (ltb (length s.octets) size) _ f taken p)
 
-    overrun : ((passes (s.place + size) bounds.end ≡ true) × (record { place = s.place; why = why.Overrun; field = None } ≡ f)) ⊎ (when (passes size limit) (λ _. refused s why.TooLong) last ≡ Err f) → IsFault bounds s f
+    overrun : ((exceeds (s.place + size) bounds.end ≡ true) × (record { place = s.place; why = why.Overrun; field = None } ≡ f)) ⊎ (when (exceeds size limit) (λ _. refused s why.TooLong) last ≡ Err f) → IsFault bounds s f
     overrun (inl p) = fault_here limit bounds s why.Overrun f (λ _ e. absurd cc) p.1
-    overrun (inr p) = too_long (when-err_err (passes size limit) _ f last p)
+    overrun (inr p) = too_long (when-err_err (exceeds size limit) _ f last p)
 
 piece-moves : (limit : Option ℕ) (size : ℕ) (bounds : Bounds) (s : Source) (v : List ℕ) (t : Source) → next_octets_at limit size bounds s ≡ Ok (v, t) → Moved s t
 piece-moves limit size bounds s v t e =
@@ -105,25 +105,25 @@ Steps-octets size = record { moves = λ bounds s v t e. piece-moves bounds.limit
 
 pub Steps-rest : Steps rest_at
 Steps-rest = record {
-  moves = λ bounds s v t e. (Steps-octets (room bounds.end s.place)).moves bounds s v t e;
-  faults = λ bounds s f e. (Steps-octets (room bounds.end s.place)).faults bounds s f e;
+  moves = λ bounds s v t e. (Steps-octets (octets_to_end bounds.end s.place)).moves bounds s v t e;
+  faults = λ bounds s f e. (Steps-octets (octets_to_end bounds.end s.place)).faults bounds s f e;
 }
 
--- ---- what is made of these
+-- ---- readers made of these
 pub Steps-number : (w : Width) → Steps (number_at w)
-Steps-number w = Steps-then (next_octets_at None (byte_len w)) _ (Steps-piece (byte_len w)) (λ octets. Steps-gives (from_be_bytes w octets))
+Steps-number w = Steps-then (next_octets_at None (byte_len w)) _ (Steps-piece (byte_len w)) (λ octets. Steps-succeed (from_be_bytes w octets))
 
 pub Steps-signed : (w : Width) → Steps (signed_at w)
-Steps-signed w = Steps-then (number_at w) _ (Steps-number w) (λ n. Steps-gives (cast_signed w n))
+Steps-signed w = Steps-then (number_at w) _ (Steps-number w) (λ n. Steps-succeed (cast_signed w n))
 
 pub Steps-counted : (w : Width) → Steps (counted_at w)
 Steps-counted w = Steps-then (number_at w) octets_at (Steps-number w) Steps-octets
 
 pub Steps-times : {A : Type 0} (item_at : ℕ → Reader A) → ((index : ℕ) → Steps (item_at index)) → (n : ℕ) → Steps (times n item_at)
-Steps-times item_at steps zero = Steps-gives []
+Steps-times item_at steps zero = Steps-succeed []
 Steps-times item_at steps (suc n) =
     Steps-then (item_at 0) _ (steps 0) (λ first.
-    Steps-then (times n (λ index. item_at (suc index))) _ (Steps-times (λ index. item_at (suc index)) (λ index. steps (suc index)) n) (λ others. Steps-gives (first ∷ others)))
+    Steps-then (times n (λ index. item_at (suc index))) _ (Steps-times (λ index. item_at (suc index)) (λ index. steps (suc index)) n) (λ others. Steps-succeed (first ∷ others)))
 
 pub Steps-component : (w : Width) (index : ℕ) → Steps (component_at w index)
 Steps-component w index = Steps-called (words.Component index) (counted_at w) (Steps-counted w)
@@ -132,7 +132,7 @@ pub Steps-names : (w : Width) → Steps (names_at w)
 Steps-names w =
     Steps-then (called words.ComponentCount (number_at w)) _ (Steps-called words.ComponentCount (number_at w) (Steps-number w)) (λ count.
     Steps-then (called words.Realm (counted_at w)) _ (Steps-called words.Realm (counted_at w) (Steps-counted w)) (λ realm.
-    Steps-then (times count (component_at w)) _ (Steps-times (component_at w) (Steps-component w) count) (λ components. Steps-gives (record { realm = realm; components = components }))))
+    Steps-then (times count (component_at w)) _ (Steps-times (component_at w) (Steps-component w) count) (λ components. Steps-succeed (record { realm = realm; components = components }))))
 
 pub Steps-within : {A : Type 0} (size : ℕ) (inner : Reader A) → Steps inner → Steps (within size inner)
 Steps-within size inner steps = record {
@@ -147,11 +147,11 @@ expect_otherwise false x y d f e = err_is (ℕ × Source) d f e
 pub Steps-expect : (wanted : List ℕ) (reason : FileWhy) → (reason ≡ why.TooLong → ⊥) → Steps (expect wanted reason)
 Steps-expect wanted reason other = record {
   moves = λ bounds s v t e.
-      let a = onward-ok (number_at w8 bounds s) (λ p. when (is_one_of p.0 wanted) (λ _. done p) (λ _. refused s reason)) (v, t) e in
+      let a = and_then-ok (number_at w8 bounds s) (λ p. when (is_one_of p.0 wanted) (λ _. done p) (λ _. refused s reason)) (v, t) e in
       let b = when-ok_else (is_one_of a.0.0 wanted) _ a.0 (v, t) a.2 in
       subst (λ (p : ℕ × Source). Moved s p.1) b.1 ((Steps-number w8).moves bounds s a.0.0 a.0.1 a.1);
   faults = λ bounds s f e.
-      elim (onward-err (number_at w8 bounds s) (λ p. when (is_one_of p.0 wanted) (λ _. done p) (λ _. refused s reason)) f e) [
+      elim (and_then-err (number_at w8 bounds s) (λ p. when (is_one_of p.0 wanted) (λ _. done p) (λ _. refused s reason)) f e) [
         | inl a ↦ (Steps-number w8).faults bounds s f a
         | inr a ↦ fault_here None bounds s reason f (λ _ h. other h) (expect_otherwise (is_one_of a.0.0 wanted) a.0 f _ f a.2)
       ];
@@ -162,11 +162,11 @@ Steps-version versions =
     Steps-then (called words.Magic (expect (5 ∷ []) why.Magic)) _ (Steps-called words.Magic (expect (5 ∷ []) why.Magic) (Steps-expect (5 ∷ []) why.Magic (λ e. cc)))
     (λ _. Steps-called words.Version (expect versions why.Version) (Steps-expect versions why.Version (λ e. cc)))
 
--- a number of 32 bits takes octets, whatever follows
+-- a number of 32 bits has octets, whatever follows
 pub signed-shorter : (bounds : Bounds) (s : Source) (z : ℤ) (t : Source) → signed_at w32 bounds s ≡ Ok (z, t) → length t.octets < length s.octets
 signed-shorter bounds s z t e =
-    let a = onward-ok (number_at w32 bounds s) (λ p. Ok (cast_signed w32 p.0, p.1)) (z, t) e in
-    let b = onward-ok (next_octets_at None 4 bounds s) (λ p. Ok (from_be_bytes w32 p.0, p.1)) a.0 a.1 in
+    let a = and_then-ok (number_at w32 bounds s) (λ p. Ok (cast_signed w32 p.0, p.1)) (z, t) e in
+    let b = and_then-ok (next_octets_at None 4 bounds s) (λ p. Ok (from_be_bytes w32 p.0, p.1)) a.0 a.1 in
     let p = piece-ok None 4 bounds s b.0.1 b.0.0 b.1 in
     let first : b.0.1 ≡ a.0.1 = ap (λ (x : ℕ × Source). x.1) (ok_is (from_be_bytes w32 b.0.0, b.0.1) a.0 b.2) in
     let second : a.0.1 ≡ t = ap (λ (x : ℤ × Source). x.1) (ok_is (cast_signed w32 a.0.0, a.0.1) (z, t) a.2) in

@@ -1,4 +1,4 @@
--- The numbers and the names of the reasons why a file is refused, and what a fault of a file prints.
+-- The numbers and the names of the reasons for which a file is refused, and the text of a fault.
 use Rattle.std.specs.Prelude.{ℕ, List, ◌++◌, codes, Option, None}
 use Rattle.std.specs.Fmt.{decimal}
 use Rattle.krb_file.specs.declared.fault.FileFault.{FileFault}

@@ -1,4 +1,4 @@
--- The fields of files: how they are spelled, and how they are read from left to right, up to the first fault.
+-- The fields of files: the octets that spell each of them, and how they are read from left to right, up to the first fault.
 use Rattle.std.specs.Prelude.{ℕ, zero, suc, ℤ, ◌+◌, ◌-◌, ◌*◌, ◌^◌, ◌<◌, ◌≤◌, ◌≡◌, Bool, true, false, ◌==◌, nat_lt, nat_le, Option, Some, None, Result, Ok, Err, List, [], ◌∷◌, ◌++◌, length, take, drop}
 use Rattle.std.specs.List.{flat_map, list_all, list_any, AllByRecursion}
 use Rattle.std.specs.Int.{Width, w8, byte_len, from_be_bytes, to_be_bytes, cast_signed, cast_unsigned}
@@ -12,16 +12,16 @@ use Rattle.krb_file.specs.declared.field_name.FieldName.TheVariants as fields
 use Rattle.krb_file.specs.declared.field_name.FilePart.{FilePart}
 use Rattle.krb_file.specs.declared.field_name.FileField.{FileField}
 
--- ---- Spelling. Numbers have their highest octet first.
+-- ---- Spelling. Numbers are big-endian.
 
 abbrev pub signed : Width → ℤ → List ℕ
 signed width z = to_be_bytes width (cast_unsigned width z)
 
--- octets after their number
+-- octets after their length
 abbrev pub counted : Width → List ℕ → List ℕ
 counted width octets = to_be_bytes width (length octets) ++ octets
 
--- A realm and components, after the number of the components.
+-- The number of components, the realm, and the components.
 pub record Names : Type 0 where
   pub realm : List ℕ
   pub components : List (List ℕ)
@@ -36,7 +36,7 @@ zeros (suc n) = 0 ∷ zeros n
 abbrev pub are_zero : List ℕ → Bool
 are_zero octets = list_all (λ octet. octet == 0) octets
 
--- ---- what has a spelling
+-- ---- Which values have a spelling.
 
 abbrev pub bound_of : Width → ℕ
 bound_of width = 2 ^ (8 * byte_len width)
@@ -50,7 +50,7 @@ pub record AreNames (width : Width) (n : Names) : Type 0 where
   pub realm : IsCounted width n.realm
   pub components : AllByRecursion (IsCounted width) n.components
 
--- ---- Reading. The octets of a file that are left, and the place of the first of them.
+-- ---- Reading. A source: the octets of a file that are not read yet, and the place of the first of them.
 
 pub record Source : Type 0 where
   pub place : ℕ
@@ -60,17 +60,17 @@ abbrev pub is_empty : List ℕ → Bool
 is_empty [] = true
 is_empty (octet ∷ octets) = false
 
--- the whole file
+-- the source of a whole file
 abbrev pub source_of : List ℕ → Source
 source_of file = record { place = 0; octets = file }
 
--- the first octet of the field at fault, the reason, and which field it is, if its reader names it
+-- A fault: the place of the first octet of the field at fault, the reason, and which field it is, if its reader names it.
 pub record Fault : Type 0 where
   pub place : ℕ
   pub why : FileWhy
   pub field : Option FileField
 
--- What bounds a field: the place where the entry or the header that it stands in ends, and how many octets a field of octets may have.
+-- What bounds a field: the place at which its entry or header ends, and the greatest length of a field of octets.
 pub record Bounds : Type 0 where
   pub end : Option ℕ
   pub limit : Option ℕ
@@ -84,83 +84,83 @@ ended end = record { end = end; limit = None }
 abbrev pub Reader : Type 0 → Type 0
 Reader A = Bounds → Source → Result (A × Source) Fault
 
-abbrev pub onward : {A B : Type 0} → Result A Fault → (A → Result B Fault) → Result B Fault
-onward (Ok value) next = next value
-onward (Err fault) next = Err fault
+abbrev pub and_then : {A B : Type 0} → Result A Fault → (A → Result B Fault) → Result B Fault
+and_then (Ok value) next = next value
+and_then (Err fault) next = Err fault
 
 infixl 10 ◌>>=◌
 abbrev pub ◌>>=◌ : {A B : Type 0} → Reader A → (A → Reader B) → Reader B
-first >>= next = λ bounds source. onward (first bounds source) (λ read. next read.0 bounds read.1)
+first >>= next = λ bounds source. and_then (first bounds source) (λ read. next read.0 bounds read.1)
 
-abbrev pub gives : {A : Type 0} → A → Reader A
-gives value = λ bounds source. Ok (value, source)
+abbrev pub succeed : {A : Type 0} → A → Reader A
+succeed value = λ bounds source. Ok (value, source)
 
 abbrev pub refused : {A : Type 0} → Source → FileWhy → Result A Fault
 refused source reason = Err (record { place = source.place; why = reason; field = None })
 
 -- ---- Which field is at fault.
 
--- The field of this name.
-abbrev pub named : FieldName → Option FileField → Option FileField
-named name field = Some (record { part = None; name = name })
+-- the field of this name, in no part
+abbrev pub with_name : FieldName → Option FileField → Option FileField
+with_name name field = Some (record { part = None; name = name })
 
--- The same field, in this part.
-abbrev pub placed : FilePart → Option FileField → Option FileField
-placed part None = None
-placed part (Some field) = Some (record field { part = Some part })
+-- the same field, in this part
+abbrev pub with_part : FilePart → Option FileField → Option FileField
+with_part part None = None
+with_part part (Some field) = Some (record field { part = Some part })
 
 abbrev pub refused_at : {A : Type 0} → (Option FileField → Option FileField) → Result A Fault → Result A Fault
 refused_at field (Ok value) = Ok value
 refused_at field (Err fault) = Err (record fault { field = field fault.field })
 
--- The same reader, but what it refuses is the field of this name.
+-- the same reader, whose faults are of the field of this name
 abbrev pub called : {A : Type 0} → FieldName → Reader A → Reader A
-called name reader = λ bounds source. refused_at (named name) (reader bounds source)
+called name reader = λ bounds source. refused_at (with_name name) (reader bounds source)
 
--- The same reader, whose fields stand in this part.
+-- the same reader, whose fields are in this part
 abbrev pub in_part : {A : Type 0} → FilePart → Reader A → Reader A
-in_part part reader = λ bounds source. refused_at (placed part) (reader bounds source)
+in_part part reader = λ bounds source. refused_at (with_part part) (reader bounds source)
 
--- ---- What fields are read.
+-- ---- Readers of fields.
 
-abbrev pub passes : ℕ → Option ℕ → Bool
-passes n None = false
-passes n (Some most) = nat_lt most n
+abbrev pub exceeds : ℕ → Option ℕ → Bool
+exceeds n None = false
+exceeds n (Some most) = nat_lt most n
 
--- the next n octets, under a limit
+-- the next n octets, at most `limit` of them: Overrun, then TooLong, then Truncated
 abbrev pub next_octets_at : Option ℕ → ℕ → Reader (List ℕ)
 next_octets_at limit size = λ bounds source.
-    when (passes (source.place + size) bounds.end) (λ _. refused source why.Overrun) (λ _.
-    when (passes size limit) (λ _. refused source why.TooLong) (λ _.
+    when (exceeds (source.place + size) bounds.end) (λ _. refused source why.Overrun) (λ _.
+    when (exceeds size limit) (λ _. refused source why.TooLong) (λ _.
     when (nat_lt (length source.octets) size) (λ _. refused source why.Truncated) (λ _.
     Ok (take size source.octets, record { place = source.place + size; octets = drop size source.octets }))))
 
--- a field of octets, which alone has the field limit
+-- a field of octets; the field limit applies to these fields alone
 abbrev pub octets_at : ℕ → Reader (List ℕ)
 octets_at size = λ bounds source. next_octets_at bounds.limit size bounds source
 
 abbrev pub number_at : Width → Reader ℕ
 number_at width = do
   octets ← next_octets_at None (byte_len width)
-  gives (from_be_bytes width octets)
+  succeed (from_be_bytes width octets)
 
 abbrev pub signed_at : Width → Reader ℤ
 signed_at width = do
   n ← number_at width
-  gives (cast_signed width n)
+  succeed (cast_signed width n)
 
 abbrev pub counted_at : Width → Reader (List ℕ)
 counted_at width = do
   size ← number_at width
   octets_at size
 
--- so many items, each read by its number from 0
+-- n items, each read by its index, from 0
 abbrev pub times : {A : Type 0} → ℕ → (ℕ → Reader A) → Reader (List A)
-times zero item_at = gives []
+times zero item_at = succeed []
 times (suc n) item_at = do
   first ← item_at 0
   others ← times n (λ index. item_at (suc index))
-  gives (first ∷ others)
+  succeed (first ∷ others)
 
 abbrev pub component_at : Width → ℕ → Reader (List ℕ)
 component_at width index = called (fields.Component index) (counted_at width)
@@ -170,21 +170,21 @@ names_at width = do
   count ← called fields.ComponentCount (number_at width)
   realm ← called fields.Realm (counted_at width)
   components ← times count (component_at width)
-  gives (record { realm = realm; components = components })
+  succeed (record { realm = realm; components = components })
 
--- what is left up to the end of the entry or the header
-abbrev pub room : Option ℕ → ℕ → ℕ
-room None place = 0
-room (Some end) place = end - place
+-- the number of octets up to the end of the entry or the header
+abbrev pub octets_to_end : Option ℕ → ℕ → ℕ
+octets_to_end None place = 0
+octets_to_end (Some end) place = end - place
 
 abbrev pub rest_at : Reader (List ℕ)
-rest_at = λ bounds source. octets_at (room bounds.end source.place) bounds source
+rest_at = λ bounds source. octets_at (octets_to_end bounds.end source.place) bounds source
 
--- in an entry or a header of n octets from here on
+-- the same reader, in an entry or a header that has n octets
 abbrev pub within : {A : Type 0} → ℕ → Reader A → Reader A
 within size inner = λ bounds source. inner (record { end = Some (source.place + size); limit = bounds.limit }) source
 
--- the entry or the header is read whole
+-- whether the entry or the header is read to its end
 abbrev pub reaches : ℕ → Option ℕ → Bool
 reaches place None = false
 reaches place (Some end) = nat_le end place
@@ -195,29 +195,29 @@ is_at_end bounds source = reaches source.place bounds.end
 abbrev pub is_one_of : ℕ → List ℕ → Bool
 is_one_of octet wanted = list_any (λ other. octet == other) wanted
 
--- an octet that is one of these
+-- an octet that is one of `wanted`
 abbrev pub expect : List ℕ → FileWhy → Reader ℕ
 expect wanted reason = λ bounds source.
-    onward (number_at w8 bounds source) (λ read. when (is_one_of read.0 wanted) (λ _. Ok read) (λ _. refused source reason))
+    and_then (number_at w8 bounds source) (λ read. when (is_one_of read.0 wanted) (λ _. Ok read) (λ _. refused source reason))
 
--- the first two octets of a file: 5, and a version
+-- the first two octets of a file: 5, and one of these versions
 abbrev pub version_at : List ℕ → Reader ℕ
 version_at versions = do
   five ← called fields.Magic (expect (5 ∷ []) why.Magic)
   called fields.Version (expect versions why.Version)
 
--- ---- What the code gives. A function's result, seen by view, is what reading gives, unless memory ran out.
+-- ---- Results of functions. The result of a function, seen by `view`, agrees with that of a definition unless the function ran out of memory.
 
 abbrev pub Fails : {B : Type 0} → FileFault → Result B Fault → Type 0
 Fails (faults.Refused place why field) read = read ≡ Err (record { place = place; why = why; field = field })
 Fails faults.Read read = ⊥
 Fails faults.Memory read = Unit {0}
 
-abbrev pub Gives : {A B : Type 0} → (A → B) → Result A FileFault → Result B Fault → Type 0
-Gives view (Ok x) read = read ≡ Ok (view x)
-Gives view (Err e) read = Fails e read
+abbrev pub Agrees : {A B : Type 0} → (A → B) → Result A FileFault → Result B Fault → Type 0
+Agrees view (Ok x) read = read ≡ Ok (view x)
+Agrees view (Err e) read = Fails e read
 
--- The same result, but what is refused is another field.
+-- the same result, whose fault is of another field
 abbrev pub fault_at : (Option FileField → Option FileField) → FileFault → FileFault
 fault_at field (faults.Refused place why before) = faults.Refused place why (field before)
 fault_at field faults.Read = faults.Read
@@ -227,14 +227,14 @@ abbrev pub fails_at : {A : Type 0} → (Option FileField → Option FileField) �
 fails_at field (Ok value) = Ok value
 fails_at field (Err fault) = Err (fault_at field fault)
 
--- What the reader of a whole file answers if it gives none: a refusal in the file or at its end, which no limit brings, or out of memory.
+-- A fault of reading a whole file, to which no limit applies: a refusal at a place of the file or at its end, not as TooLong, or out of memory.
 abbrev pub IsFaultIn : List ℕ → FileFault → Type 0
 IsFaultIn file (faults.Refused place reason field) = (place ≤ length file) × (reason ≡ why.TooLong → ⊥)
 IsFaultIn file faults.Read = ⊥
 IsFaultIn file faults.Memory = Unit {0}
 
--- A fault of a file that is read as it comes: a refusal in the file or at its end, a failed read, or out of memory.
-abbrev pub StandsIn : List ℕ → FileFault → Type 0
-StandsIn file (faults.Refused place reason field) = place ≤ length file
-StandsIn file faults.Read = Unit {0}
-StandsIn file faults.Memory = Unit {0}
+-- A fault of reading a file as it comes: a refusal at a place of the file or at its end, a read that failed, or out of memory.
+abbrev pub IsStreamFaultIn : List ℕ → FileFault → Type 0
+IsStreamFaultIn file (faults.Refused place reason field) = place ≤ length file
+IsStreamFaultIn file faults.Read = Unit {0}
+IsStreamFaultIn file faults.Memory = Unit {0}

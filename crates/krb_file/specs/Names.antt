@@ -1,4 +1,4 @@
--- The texts of the names of fields.
+-- The names of fields as text.
 use Rattle.std.specs.Prelude.{ℕ, List, ◌++◌, codes, Option, Some, None}
 use Rattle.std.specs.Fmt.{decimal}
 use Rattle.krb_file.specs.declared.field_name.FieldName.{FieldName}
@@ -7,7 +7,7 @@ use Rattle.krb_file.specs.declared.field_name.FilePart.{FilePart}
 use Rattle.krb_file.specs.declared.field_name.FilePart.TheVariants as parts
 use Rattle.krb_file.specs.declared.field_name.FileField.{FileField}
 
--- the one of a row, counted from 0
+-- a word, and an index from 0 in brackets
 abbrev pub numbered : List ℕ → ℕ → List ℕ
 numbered word index = word ++ codes "[" ++ decimal index ++ codes "]"
 
@@ -53,6 +53,6 @@ abbrev pub in_part_text : Option FilePart → List ℕ → List ℕ
 in_part_text None name = name
 in_part_text (Some part) name = part_text part ++ codes "." ++ name
 
--- the field, after the part that it stands in
+-- the name of a field, after its part if it is in one
 abbrev pub field_text : FileField → List ℕ
 field_text field = in_part_text field.part (name_text field.name)

@@ -82,15 +82,15 @@ impl Ahead {
         Ok(())
     }
 
-    /// Reads ahead if no octets are left: as many as the reader returns at once, at most `most`. At
-    /// the end of the reader there are none.
+    /// Reads ahead if no octets are left: what the reader returns at once, at most `most` octets. At
+    /// the end of the reader that is nothing.
     pub(crate) fn refill<R: Read>(
         &mut self,
         reader: &mut R,
         asks: &mut u64,
         most: u64,
     ) -> Result<(), FileFault>
-        requires room { 0 < most }
+        requires some { 0 < most }
         requires few { asks.old ≤ 2 ^ 40 }
         ensures taken { OnOk result (Consumes (R.remaining reader.old) (R.remaining reader.new) self.new) }
         ensures end { OnOk result (self.new ≡ [] → IsAtEnd (R.remaining reader.new)) }
@@ -102,10 +102,10 @@ impl Ahead {
         ensures asked { asks.old ≤ asks.new }
         ensures still_few { asks.new ≤ 2 ^ 40 }
     {
-        let room = most.min(MOST as u64) as usize;
+        let size = most.min(MOST as u64) as usize;
         self.passed = 0;
         self.filled = 0;
-        self.filled = ask(reader, asks, &mut self.octets[..room])?;
+        self.filled = ask(reader, asks, &mut self.octets[..size])?;
         Ok(())
     }
 }

@@ -2,7 +2,7 @@
 
 ghost use Rattle.std.specs.Prelude.{◌≡◌, Some};
 ghost use Rattle.krb_file.specs.Faults.{file_reason_number, file_reason_name, file_fault_text, fault_field};
-ghost use Rattle.krb_file.specs.Fields.{named, placed, fault_at, fails_at};
+ghost use Rattle.krb_file.specs.Fields.{with_name, with_part, fault_at, fails_at};
 ghost use Rattle.krb_file.specs.declared.fault.FileFault.TheVariants.{Memory};
 
 use crate::field_name::{FieldName, FileField, FilePart};
@@ -74,7 +74,7 @@ impl FileFault {
 
     /// Returns the same fault, but of the field of this name.
     fn of_field(self, name: FieldName) -> FileFault
-        ensures { result ≡ fault_at (named name) self }
+        ensures { result ≡ fault_at (with_name name) self }
     {
         match self {
             FileFault::Refused { place, why, .. } => FileFault::Refused {
@@ -89,7 +89,7 @@ impl FileFault {
 
     /// Returns the same fault, with its field in this part.
     fn of_part(self, part: FilePart) -> FileFault
-        ensures { result ≡ fault_at (placed part) self }
+        ensures { result ≡ fault_at (with_part part) self }
     {
         match self {
             FileFault::Refused {
@@ -112,7 +112,7 @@ impl FileFault {
 /// Returns what was read, or the fault of the field of this name.
 #[inline(always)]
 pub(crate) fn called<T>(name: FieldName, read: Result<T, FileFault>) -> Result<T, FileFault>
-    ensures { result ≡ fails_at (named name) read }
+    ensures { result ≡ fails_at (with_name name) read }
 {
     match read {
         Ok(value) => Ok(value),
@@ -123,7 +123,7 @@ pub(crate) fn called<T>(name: FieldName, read: Result<T, FileFault>) -> Result<T
 /// Returns what was read, or the fault, with its field in this part.
 #[inline(always)]
 pub fn in_part<T>(part: FilePart, read: Result<T, FileFault>) -> Result<T, FileFault>
-    ensures { result ≡ fails_at (placed part) read }
+    ensures { result ≡ fails_at (with_part part) read }
 {
     match read {
         Ok(value) => Ok(value),

@@ -5,7 +5,7 @@ ghost use Rattle.krb_file.specs.Names.{field_text, name_text, part_text};
 
 use std::fmt;
 
-/// The name of a field, in the record, the header, the principal or the list that it stands in.
+/// The name of a field, in its record, header, principal or list.
 #[derive(Clone, Copy, PartialEq, Eq, Debug)]
 pub enum FieldName {
     /// The first octet of a file.
@@ -20,7 +20,7 @@ pub enum FieldName {
     ComponentCount,
     /// The realm of a principal.
     Realm,
-    /// The component of a principal after so many others.
+    /// A component of a principal, by its index from 0.
     Component(u32),
     /// The type of a principal.
     NameType,
@@ -69,7 +69,7 @@ pub enum FieldName {
 /// A part of a credential cache or of a credential, which has fields of its own.
 #[derive(Clone, Copy, PartialEq, Eq, Debug)]
 pub enum FilePart {
-    /// The field of the header after so many others.
+    /// A field of the header, by its index from 0.
     Header(u64),
     /// The default principal.
     Principal,
@@ -77,13 +77,13 @@ pub enum FilePart {
     Client,
     /// The server of a credential.
     Server,
-    /// The address after so many others.
+    /// An address, by its index from 0.
     Address(u32),
-    /// The element of authorization data after so many others.
+    /// An element of authorization data, by its index from 0.
     Authdata(u32),
 }
 
-/// A field of a file: its name, and the part that it stands in, if it stands in one.
+/// A field of a file: its name, and its part, if it is in one.
 #[derive(Clone, Copy, PartialEq, Eq, Debug)]
 pub struct FileField {
     /// The part.

@@ -2,8 +2,8 @@
 
 ghost use Rattle.std.specs.Prelude.{◌≡◌, ℕ, ◌+◌, ◌^◌, ◌<◌, ◌≤◌, [], length, None, Some};
 ghost use Rattle.std.specs.Int.{w8, w16, w32};
-ghost use Rattle.krb_file.specs.Fields.{gives, called, next_octets_at, octets_at, number_at, signed_at, counted_at, component_at, names_at, rest_at, times, is_one_of, expect, version_at, Reader};
-ghost use Rattle.krb_file.specs.FieldReaders.{Held, Follows, Keeps, TakesTo, LooksTo, ended_at, skipped_at, bounded};
+ghost use Rattle.krb_file.specs.Fields.{succeed, called, next_octets_at, octets_at, number_at, signed_at, counted_at, component_at, names_at, rest_at, times, is_one_of, expect, version_at, Reader};
+ghost use Rattle.krb_file.specs.FieldReaders.{Cursor, Follows, Keeps, FetchesTo, LooksAheadTo, ended_at, skipped_at, bounded};
 
 use crate::fault::{FileFault, FileWhy, called};
 use crate::field_name::FieldName;
@@ -20,72 +20,72 @@ use std::alloc::Global;
 /// those that were skipped, and none after the end of the entry or header that the field at fault
 /// is in.
 pub trait FieldReader {
-    /// The octets that are left, the place, the end and the limit.
-    ghost held: { Self → Held };
+    /// The octets that are not read yet, the place, the end and the limit.
+    ghost cursor: { Self → Cursor };
 
     /// Whether the device that the octets come from may fail.
     ghost MayFail: { Type 0 };
 
     /// Returns the place of the next octet, counted from 0.
     fn place(&self) -> u64
-        ensures value { result ≡ (held self.now).place }
+        ensures value { result ≡ (cursor self.now).place }
         ensures bound { result < 2 ^ 63 };
 
     /// Returns the end of the entry or of the header that the next field is in, if it is in one.
     fn end(&self) -> Option<u64>
-        ensures { result ≡ (held self.now).bounds.end };
+        ensures { result ≡ (cursor self.now).bounds.end };
 
     /// Sets the end of the entry or of the header that the next field is in.
     fn set_end(&mut self, end: Option<u64>)
-        ensures { held self.new ≡ bounded end (held self.old) };
+        ensures { cursor self.new ≡ bounded end (cursor self.old) };
 
     /// Returns whether no octet is left.
     fn is_empty(&mut self) -> Result<bool, FileFault>
-        ensures read { Follows (λ empty. empty) result ended_at MayFail (held self.old) (held self.new) }
-        ensures looks { LooksTo 1 (held self.old) (held self.new) };
+        ensures read { Follows (λ empty. empty) result ended_at MayFail (cursor self.old) (cursor self.new) }
+        ensures looks { LooksAheadTo 1 (cursor self.old) (cursor self.new) };
 
     /// Announces that `size` more octets belong to what is read, so that the reader may read them
     /// ahead of their fields.
     fn look_ahead(&mut self, size: u64) -> Result<(), FileFault>
-        ensures read { Follows (λ done. done) result (gives tt) MayFail (held self.old) (held self.new) }
-        ensures looks { LooksTo size (held self.old) (held self.new) };
+        ensures read { Follows (λ done. done) result (succeed tt) MayFail (cursor self.old) (cursor self.new) }
+        ensures looks { LooksAheadTo size (cursor self.old) (cursor self.new) };
 
     /// Reads the next octets of a field that is not a field of octets, at most 65536, and fills
     /// `octets` with them.
     fn fill(&mut self, octets: &mut [u8]) -> Result<(), FileFault>
         requires { length octets.old ≤ 2 ^ 16 }
-        ensures read { Follows (λ _. octets.new) result (next_octets_at None (length octets.old)) MayFail (held self.old) (held self.new) }
-        ensures keeps { Keeps (held self.old) (held self.new) }
-        ensures within { TakesTo ((held self.old).place + length octets.old) (held self.old) (held self.new) };
+        ensures read { Follows (λ _. octets.new) result (next_octets_at None (length octets.old)) MayFail (cursor self.old) (cursor self.new) }
+        ensures keeps { Keeps (cursor self.old) (cursor self.new) }
+        ensures within { FetchesTo ((cursor self.old).place + length octets.old) (cursor self.old) (cursor self.new) };
 
     /// Returns an empty vector: one that was given back, if there is one.
-    fn room(&mut self, alloc: Global) -> Vec<u8>
+    fn spare_octets(&mut self, alloc: Global) -> Vec<u8>
         ensures empty { result.items ≡ [] }
-        ensures same { held self.new ≡ held self.old };
+        ensures same { cursor self.new ≡ cursor self.old };
 
     /// Returns an empty list: one that was given back, if there is one.
-    fn list(&mut self, alloc: Global) -> Vec<KString>
+    fn spare_list(&mut self, alloc: Global) -> Vec<KString>
         ensures empty { result.items ≡ [] }
-        ensures same { held self.new ≡ held self.old };
+        ensures same { cursor self.new ≡ cursor self.old };
 
     /// Reads a field of `size` octets into `octets`, in place of its octets.
     fn octets(&mut self, alloc: Global, size: u64, octets: &mut Vec<u8>) -> Result<(), FileFault>
-        ensures read { Follows (λ _. octets.new.items) result (octets_at size) MayFail (held self.old) (held self.new) }
-        ensures keeps { Keeps (held self.old) (held self.new) }
-        ensures within { TakesTo ((held self.old).place + size) (held self.old) (held self.new) };
+        ensures read { Follows (λ _. octets.new.items) result (octets_at size) MayFail (cursor self.old) (cursor self.new) }
+        ensures keeps { Keeps (cursor self.old) (cursor self.new) }
+        ensures within { FetchesTo ((cursor self.old).place + size) (cursor self.old) (cursor self.new) };
 
     /// Skips `size` octets, to which no limit applies, and returns whether all of them are 00.
     fn skip(&mut self, size: u64) -> Result<bool, FileFault>
-        ensures read { Follows (λ zeros. zeros) result (skipped_at size) MayFail (held self.old) (held self.new) }
-        ensures keeps { Keeps (held self.old) (held self.new) }
-        ensures within { TakesTo ((held self.old).place + size) (held self.old) (held self.new) };
+        ensures read { Follows (λ zeros. zeros) result (skipped_at size) MayFail (cursor self.old) (cursor self.new) }
+        ensures keeps { Keeps (cursor self.old) (cursor self.new) }
+        ensures within { FetchesTo ((cursor self.old).place + size) (cursor self.old) (cursor self.new) };
 
     /// Reads a number of 8 bits.
     #[inline(always)]
     final fn number8(&mut self) -> Result<u8, FileFault>
-        ensures read { Follows (λ number. number) result (number_at w8) MayFail (held self.old) (held self.new) }
-        ensures keeps { Keeps (held self.old) (held self.new) }
-        ensures within { TakesTo ((held self.old).place + 1) (held self.old) (held self.new) }
+        ensures read { Follows (λ number. number) result (number_at w8) MayFail (cursor self.old) (cursor self.new) }
+        ensures keeps { Keeps (cursor self.old) (cursor self.new) }
+        ensures within { FetchesTo ((cursor self.old).place + 1) (cursor self.old) (cursor self.new) }
     {
         let mut octets = [0; 1];
         self.fill(&mut octets)?;
@@ -95,9 +95,9 @@ pub trait FieldReader {
     /// Reads a number of 16 bits.
     #[inline(always)]
     final fn number16(&mut self) -> Result<u16, FileFault>
-        ensures read { Follows (λ number. number) result (number_at w16) MayFail (held self.old) (held self.new) }
-        ensures keeps { Keeps (held self.old) (held self.new) }
-        ensures within { TakesTo ((held self.old).place + 2) (held self.old) (held self.new) }
+        ensures read { Follows (λ number. number) result (number_at w16) MayFail (cursor self.old) (cursor self.new) }
+        ensures keeps { Keeps (cursor self.old) (cursor self.new) }
+        ensures within { FetchesTo ((cursor self.old).place + 2) (cursor self.old) (cursor self.new) }
     {
         let mut octets = [0; 2];
         self.fill(&mut octets)?;
@@ -107,9 +107,9 @@ pub trait FieldReader {
     /// Reads a number of 32 bits.
     #[inline(always)]
     final fn number32(&mut self) -> Result<u32, FileFault>
-        ensures read { Follows (λ number. number) result (number_at w32) MayFail (held self.old) (held self.new) }
-        ensures keeps { Keeps (held self.old) (held self.new) }
-        ensures within { TakesTo ((held self.old).place + 4) (held self.old) (held self.new) }
+        ensures read { Follows (λ number. number) result (number_at w32) MayFail (cursor self.old) (cursor self.new) }
+        ensures keeps { Keeps (cursor self.old) (cursor self.new) }
+        ensures within { FetchesTo ((cursor self.old).place + 4) (cursor self.old) (cursor self.new) }
     {
         let mut octets = [0; 4];
         self.fill(&mut octets)?;
@@ -119,9 +119,9 @@ pub trait FieldReader {
     /// Reads a number of 32 bits with a sign, in two's complement.
     #[inline(always)]
     final fn signed32(&mut self) -> Result<i32, FileFault>
-        ensures read { Follows (λ number. number) result (signed_at w32) MayFail (held self.old) (held self.new) }
-        ensures keeps { Keeps (held self.old) (held self.new) }
-        ensures within { TakesTo ((held self.old).place + 4) (held self.old) (held self.new) }
+        ensures read { Follows (λ number. number) result (signed_at w32) MayFail (cursor self.old) (cursor self.new) }
+        ensures keeps { Keeps (cursor self.old) (cursor self.new) }
+        ensures within { FetchesTo ((cursor self.old).place + 4) (cursor self.old) (cursor self.new) }
     {
         let mut octets = [0; 4];
         self.fill(&mut octets)?;
@@ -130,8 +130,8 @@ pub trait FieldReader {
 
     /// Reads octets after their number of 16 bits, as [`octets`](FieldReader::octets) does.
     final fn counted16(&mut self, alloc: Global, octets: &mut Vec<u8>) -> Result<(), FileFault>
-        ensures read { Follows (λ _. octets.new.items) result (counted_at w16) MayFail (held self.old) (held self.new) }
-        ensures keeps { Keeps (held self.old) (held self.new) }
+        ensures read { Follows (λ _. octets.new.items) result (counted_at w16) MayFail (cursor self.old) (cursor self.new) }
+        ensures keeps { Keeps (cursor self.old) (cursor self.new) }
     {
         let size = self.number16()?;
         self.octets(alloc, u64::from(size), octets)
@@ -139,8 +139,8 @@ pub trait FieldReader {
 
     /// Reads octets after their number of 32 bits, as [`octets`](FieldReader::octets) does.
     final fn counted32(&mut self, alloc: Global, octets: &mut Vec<u8>) -> Result<(), FileFault>
-        ensures read { Follows (λ _. octets.new.items) result (counted_at w32) MayFail (held self.old) (held self.new) }
-        ensures keeps { Keeps (held self.old) (held self.new) }
+        ensures read { Follows (λ _. octets.new.items) result (counted_at w32) MayFail (cursor self.old) (cursor self.new) }
+        ensures keeps { Keeps (cursor self.old) (cursor self.new) }
     {
         let size = self.number32()?;
         self.octets(alloc, u64::from(size), octets)
@@ -148,8 +148,8 @@ pub trait FieldReader {
 
     /// Reads what is left of the entry, as [`octets`](FieldReader::octets) does.
     final fn rest(&mut self, alloc: Global, octets: &mut Vec<u8>) -> Result<(), FileFault>
-        ensures read { Follows (λ _. octets.new.items) result rest_at MayFail (held self.old) (held self.new) }
-        ensures keeps { Keeps (held self.old) (held self.new) }
+        ensures read { Follows (λ _. octets.new.items) result rest_at MayFail (cursor self.old) (cursor self.new) }
+        ensures keeps { Keeps (cursor self.old) (cursor self.new) }
     {
         let size = match self.end() {
             Some(end) => end.saturating_sub(self.place()),
@@ -161,8 +161,8 @@ pub trait FieldReader {
     /// Reads a number of 8 bits, the field of this name.
     #[inline(always)]
     final fn field8(&mut self, name: FieldName) -> Result<u8, FileFault>
-        ensures read { Follows (λ number. number) result (called name (number_at w8)) MayFail (held self.old) (held self.new) }
-        ensures keeps { Keeps (held self.old) (held self.new) }
+        ensures read { Follows (λ number. number) result (called name (number_at w8)) MayFail (cursor self.old) (cursor self.new) }
+        ensures keeps { Keeps (cursor self.old) (cursor self.new) }
     {
         called(name, self.number8())
     }
@@ -170,8 +170,8 @@ pub trait FieldReader {
     /// Reads a number of 16 bits, the field of this name.
     #[inline(always)]
     final fn field16(&mut self, name: FieldName) -> Result<u16, FileFault>
-        ensures read { Follows (λ number. number) result (called name (number_at w16)) MayFail (held self.old) (held self.new) }
-        ensures keeps { Keeps (held self.old) (held self.new) }
+        ensures read { Follows (λ number. number) result (called name (number_at w16)) MayFail (cursor self.old) (cursor self.new) }
+        ensures keeps { Keeps (cursor self.old) (cursor self.new) }
     {
         called(name, self.number16())
     }
@@ -179,8 +179,8 @@ pub trait FieldReader {
     /// Reads a number of 32 bits, the field of this name.
     #[inline(always)]
     final fn field32(&mut self, name: FieldName) -> Result<u32, FileFault>
-        ensures read { Follows (λ number. number) result (called name (number_at w32)) MayFail (held self.old) (held self.new) }
-        ensures keeps { Keeps (held self.old) (held self.new) }
+        ensures read { Follows (λ number. number) result (called name (number_at w32)) MayFail (cursor self.old) (cursor self.new) }
+        ensures keeps { Keeps (cursor self.old) (cursor self.new) }
     {
         called(name, self.number32())
     }
@@ -188,9 +188,9 @@ pub trait FieldReader {
     /// Reads a number of 32 bits with a sign, in two's complement, the field of this name.
     #[inline(always)]
     final fn signed_field32(&mut self, name: FieldName) -> Result<i32, FileFault>
-        ensures read { Follows (λ number. number) result (called name (signed_at w32)) MayFail (held self.old) (held self.new) }
-        ensures keeps { Keeps (held self.old) (held self.new) }
-        ensures within { TakesTo ((held self.old).place + 4) (held self.old) (held self.new) }
+        ensures read { Follows (λ number. number) result (called name (signed_at w32)) MayFail (cursor self.old) (cursor self.new) }
+        ensures keeps { Keeps (cursor self.old) (cursor self.new) }
+        ensures within { FetchesTo ((cursor self.old).place + 4) (cursor self.old) (cursor self.new) }
     {
         called(name, self.signed32())
     }
@@ -202,8 +202,8 @@ pub trait FieldReader {
         name: FieldName,
         octets: &mut Vec<u8>,
     ) -> Result<(), FileFault>
-        ensures read { Follows (λ _. octets.new.items) result (called name (counted_at w16)) MayFail (held self.old) (held self.new) }
-        ensures keeps { Keeps (held self.old) (held self.new) }
+        ensures read { Follows (λ _. octets.new.items) result (called name (counted_at w16)) MayFail (cursor self.old) (cursor self.new) }
+        ensures keeps { Keeps (cursor self.old) (cursor self.new) }
     {
         called(name, self.counted16(alloc, octets))
     }
@@ -215,8 +215,8 @@ pub trait FieldReader {
         name: FieldName,
         octets: &mut Vec<u8>,
     ) -> Result<(), FileFault>
-        ensures read { Follows (λ _. octets.new.items) result (called name (counted_at w32)) MayFail (held self.old) (held self.new) }
-        ensures keeps { Keeps (held self.old) (held self.new) }
+        ensures read { Follows (λ _. octets.new.items) result (called name (counted_at w32)) MayFail (cursor self.old) (cursor self.new) }
+        ensures keeps { Keeps (cursor self.old) (cursor self.new) }
     {
         called(name, self.counted32(alloc, octets))
     }
@@ -228,17 +228,17 @@ pub trait FieldReader {
         name: FieldName,
         octets: &mut Vec<u8>,
     ) -> Result<(), FileFault>
-        ensures read { Follows (λ _. octets.new.items) result (called name rest_at) MayFail (held self.old) (held self.new) }
-        ensures keeps { Keeps (held self.old) (held self.new) }
+        ensures read { Follows (λ _. octets.new.items) result (called name rest_at) MayFail (cursor self.old) (cursor self.new) }
+        ensures keeps { Keeps (cursor self.old) (cursor self.new) }
     {
         called(name, self.rest(alloc, octets))
     }
 
     /// Skips the field of this name, of `size` octets, as [`skip`](FieldReader::skip) does.
     final fn skip_field(&mut self, name: FieldName, size: u64) -> Result<bool, FileFault>
-        ensures read { Follows (λ zeros. zeros) result (called name (skipped_at size)) MayFail (held self.old) (held self.new) }
-        ensures keeps { Keeps (held self.old) (held self.new) }
-        ensures within { TakesTo ((held self.old).place + size) (held self.old) (held self.new) }
+        ensures read { Follows (λ zeros. zeros) result (called name (skipped_at size)) MayFail (cursor self.old) (cursor self.new) }
+        ensures keeps { Keeps (cursor self.old) (cursor self.new) }
+        ensures within { FetchesTo ((cursor self.old).place + size) (cursor self.old) (cursor self.new) }
     {
         called(name, self.skip(size))
     }
@@ -252,8 +252,8 @@ pub trait FieldReader {
         components: &mut Vec<KString>,
     ) -> Result<(), FileFault>
         requires { components.old.items ≡ [] }
-        ensures read { Follows (λ _. record { realm = realm.new.items; components = components.new.items }) result (names_at w16) MayFail (held self.old) (held self.new) }
-        ensures keeps { Keeps (held self.old) (held self.new) }
+        ensures read { Follows (λ _. record { realm = realm.new.items; components = components.new.items }) result (names_at w16) MayFail (cursor self.old) (cursor self.new) }
+        ensures keeps { Keeps (cursor self.old) (cursor self.new) }
     {
         let count = self.field16(FieldName::ComponentCount)?;
         self.counted_field16(alloc, FieldName::Realm, realm)?;
@@ -269,8 +269,8 @@ pub trait FieldReader {
         components: &mut Vec<KString>,
     ) -> Result<(), FileFault>
         requires { components.old.items ≡ [] }
-        ensures read { Follows (λ _. record { realm = realm.new.items; components = components.new.items }) result (names_at w32) MayFail (held self.old) (held self.new) }
-        ensures keeps { Keeps (held self.old) (held self.new) }
+        ensures read { Follows (λ _. record { realm = realm.new.items; components = components.new.items }) result (names_at w32) MayFail (cursor self.old) (cursor self.new) }
+        ensures keeps { Keeps (cursor self.old) (cursor self.new) }
     {
         let count = self.field32(FieldName::ComponentCount)?;
         self.counted_field32(alloc, FieldName::Realm, realm)?;
@@ -279,9 +279,9 @@ pub trait FieldReader {
 
     /// Reads an octet if it is one of `wanted`, and refuses it at its place if it is not.
     final fn expect(&mut self, wanted: &[u8], why: FileWhy) -> Result<u8, FileFault>
-        ensures read { Follows (λ octet. octet) result (expect wanted.now why) MayFail (held self.old) (held self.new) }
-        ensures keeps { Keeps (held self.old) (held self.new) }
-        ensures within { TakesTo ((held self.old).place + 1) (held self.old) (held self.new) }
+        ensures read { Follows (λ octet. octet) result (expect wanted.now why) MayFail (cursor self.old) (cursor self.new) }
+        ensures keeps { Keeps (cursor self.old) (cursor self.new) }
+        ensures within { FetchesTo ((cursor self.old).place + 1) (cursor self.old) (cursor self.new) }
     {
         let place = self.place();
         let octet = self.number8()?;
@@ -303,9 +303,9 @@ pub trait FieldReader {
         wanted: &[u8],
         why: FileWhy,
     ) -> Result<u8, FileFault>
-        ensures read { Follows (λ octet. octet) result (called name (expect wanted.now why)) MayFail (held self.old) (held self.new) }
-        ensures keeps { Keeps (held self.old) (held self.new) }
-        ensures within { TakesTo ((held self.old).place + 1) (held self.old) (held self.new) }
+        ensures read { Follows (λ octet. octet) result (called name (expect wanted.now why)) MayFail (cursor self.old) (cursor self.new) }
+        ensures keeps { Keeps (cursor self.old) (cursor self.new) }
+        ensures within { FetchesTo ((cursor self.old).place + 1) (cursor self.old) (cursor self.new) }
     {
         called(name, self.expect(wanted, why))
     }
@@ -313,9 +313,9 @@ pub trait FieldReader {
     /// Reads the first two octets of a file, which are 05 and one of `versions`, and returns the
     /// version.
     final fn version(&mut self, versions: &[u8]) -> Result<u8, FileFault>
-        ensures read { Follows (λ version. version) result (version_at versions.now) MayFail (held self.old) (held self.new) }
-        ensures keeps { Keeps (held self.old) (held self.new) }
-        ensures within { TakesTo ((held self.old).place + 2) (held self.old) (held self.new) }
+        ensures read { Follows (λ version. version) result (version_at versions.now) MayFail (cursor self.old) (cursor self.new) }
+        ensures keeps { Keeps (cursor self.old) (cursor self.new) }
+        ensures within { FetchesTo ((cursor self.old).place + 2) (cursor self.old) (cursor self.new) }
     {
         self.expect_field(FieldName::Magic, &[5], FileWhy::Magic)?;
         self.expect_field(FieldName::Version, versions, FileWhy::Version)
@@ -334,17 +334,17 @@ pub trait Field {
     /// The type of what is read.
     type Value: Drop;
 
-    /// How the one after so many others is read from octets.
+    /// How the field of an index, from 0, is read from octets.
     ghost reads: { ℕ → Reader Self.Value };
 
-    /// Reads the one after `index` others. Octets that are kept are copied once.
+    /// Reads the field of an index, from 0. Octets that are kept are copied once.
     fn read<F: FieldReader>(
         alloc: Global,
         index: u32,
         reader: &mut F,
     ) -> Result<Self::Value, FileFault>
-        ensures read { Follows (λ value. value) result (reads index) F.MayFail (F.held reader.old) (F.held reader.new) }
-        ensures keeps { Keeps (F.held reader.old) (F.held reader.new) };
+        ensures read { Follows (λ value. value) result (reads index) F.MayFail (F.cursor reader.old) (F.cursor reader.new) }
+        ensures keeps { Keeps (F.cursor reader.old) (F.cursor reader.new) };
 }
 
 /// A component of a principal: a string after the number of its octets in 16 bits.
@@ -360,7 +360,7 @@ impl Field for String16 {
         index: u32,
         reader: &mut F,
     ) -> Result<KString, FileFault> {
-        let mut octets = reader.room(alloc);
+        let mut octets = reader.spare_octets(alloc);
         reader.counted_field16(alloc, FieldName::Component(index), &mut octets)?;
         Ok(KString::new(octets))
     }
@@ -379,7 +379,7 @@ impl Field for String32 {
         index: u32,
         reader: &mut F,
     ) -> Result<KString, FileFault> {
-        let mut octets = reader.room(alloc);
+        let mut octets = reader.spare_octets(alloc);
         reader.counted_field32(alloc, FieldName::Component(index), &mut octets)?;
         Ok(KString::new(octets))
     }
@@ -394,8 +394,8 @@ pub fn read_many<K: Field, F: FieldReader>(
     values: &mut Vec<K::Value>,
 ) -> Result<(), FileFault>
     requires { values.old.items ≡ [] }
-    ensures read { Follows (λ _. values.new.items) result (times count K.reads) F.MayFail (F.held reader.old) (F.held reader.new) }
-    ensures keeps { Keeps (F.held reader.old) (F.held reader.new) }
+    ensures read { Follows (λ _. values.new.items) result (times count K.reads) F.MayFail (F.cursor reader.old) (F.cursor reader.new) }
+    ensures keeps { Keeps (F.cursor reader.old) (F.cursor reader.new) }
 {
     'items: for index in 0..count {
         values.push(K::read(alloc, index, reader)?)?;

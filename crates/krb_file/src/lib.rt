@@ -14,7 +14,7 @@
 //!
 //! Of keytabs and caches it knows the names of their fields; `krb_keytab` and `krb_ccache` know the
 //! formats.
-//! Nothing opens a file: readers are given.
+//! Nothing opens a file: the caller passes a reader.
 //!
 //! `specs/Fields` says how fields are spelled, and `specs/FieldReaders` what a reader returns.
 #![tactic(auto)]

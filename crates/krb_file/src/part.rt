@@ -10,7 +10,7 @@ ghost use Rattle.std.specs.Vec.{vec_len, vec_capacity};
 ghost use Rattle.krb_der.specs.Puts.{Puts};
 ghost use Rattle.krb_der.specs.Octets.{AreOctets};
 ghost use Rattle.krb_file.specs.Fields.{signed, counted, IsCounted};
-ghost use Rattle.krb_file.specs.Parts.{is_long16, is_long32, held};
+ghost use Rattle.krb_file.specs.Parts.{is_long16, is_long32, capped};
 
 use crate::field_reader::String16;
 use krb_der::{KString, Octets, put_octets, size_of};
@@ -35,19 +35,19 @@ pub trait Part {
     /// length or a count in the part is too great for the 16 or 32 bits that it is written in.
     fn size(&self) -> Option<u64>
         ensures none { IsNone result ↔ (is_long self.now ≡ true) }
-        ensures some { IfSome result (λ size. size ≡ held (length (octets self.now))) }
+        ensures some { IfSome result (λ size. size ≡ capped (length (octets self.now))) }
         ensures fits { IfSome result (λ _. Fits self.now) };
 
     /// Appends the octets within the capacity of `out`.
     fn put(&self, out: &mut Vec<u8>)
         requires short { is_long self.now ≡ false }
-        requires room { vec_len out.old + length (octets self.now) ≤ vec_capacity out.old }
+        requires spare_capacity { vec_len out.old + length (octets self.now) ≤ vec_capacity out.old }
         ensures { Puts (octets self.now) out.old out.new };
 }
 
 /// Returns the sum of two numbers of octets, or 2^40 + 1 if it is more.
-fn add_held(size: u64, more: u64) -> u64
-    ensures { result ≡ held (size + more) }
+fn add_capped(size: u64, more: u64) -> u64
+    ensures { result ≡ capped (size + more) }
 {
     size.saturating_add(more).min(GREATEST_FILE + 1)
 }
@@ -237,7 +237,7 @@ impl<A: Part, B: Part> Part for Then<A, B> {
     fn size(&self) -> Option<u64> {
         let first = self.0.size()?;
         let second = self.1.size()?;
-        Some(add_held(first, second))
+        Some(add_capped(first, second))
     }
 
     fn put(&self, out: &mut Vec<u8>) {
@@ -328,13 +328,13 @@ trait Spelled {
     /// Returns the number of octets of an item, as [`size`](Part::size) of a part does.
     fn size(value: &Self::Value) -> Option<u64>
         ensures none { IsNone result ↔ (is_long value.now ≡ true) }
-        ensures some { IfSome result (λ size. size ≡ held (length (octets value.now))) }
+        ensures some { IfSome result (λ size. size ≡ capped (length (octets value.now))) }
         ensures fits { IfSome result (λ _. Fits value.now) };
 
     /// Appends the octets of an item within the capacity of `out`.
     fn put(value: &Self::Value, out: &mut Vec<u8>)
         requires short { is_long value.now ≡ false }
-        requires room { vec_len out.old + length (octets value.now) ≤ vec_capacity out.old }
+        requires spare_capacity { vec_len out.old + length (octets value.now) ≤ vec_capacity out.old }
         ensures { Puts (octets value.now) out.old out.new };
 }
 
@@ -466,12 +466,12 @@ impl<P: Part> Part for Measured<P> {
 /// `None` if a length or a count in one is too great for the 16 or 32 bits that it is written in.
 fn size_of_each<K: Spelled>(items: &[K::Value]) -> Option<u64>
     ensures none { IsNone result ↔ (list_any K.is_long items.now ≡ true) }
-    ensures some { IfSome result (λ size. size ≡ held (length (flat_map K.octets items.now))) }
+    ensures some { IfSome result (λ size. size ≡ capped (length (flat_map K.octets items.now))) }
     ensures fits { IfSome result (λ _. AllByRecursion K.Fits items.now) }
 {
     let mut size = 0;
     for item in items {
-        size = add_held(size, K::size(item)?);
+        size = add_capped(size, K::size(item)?);
     }
     Some(size)
 }
@@ -479,7 +479,7 @@ fn size_of_each<K: Spelled>(items: &[K::Value]) -> Option<u64>
 /// Appends the octets of the items in order, within the capacity of `out`.
 fn put_each<K: Spelled>(out: &mut Vec<u8>, items: &[K::Value])
     requires short { list_any K.is_long items.now ≡ false }
-    requires room { vec_len out.old + length (flat_map K.octets items.now) ≤ vec_capacity out.old }
+    requires spare_capacity { vec_len out.old + length (flat_map K.octets items.now) ≤ vec_capacity out.old }
     ensures { Puts (flat_map K.octets items.now) out.old out.new }
 {
     for item in items {

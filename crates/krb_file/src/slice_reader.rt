@@ -29,7 +29,7 @@ impl<'a> Model for SliceReader<'a> {
 
 ghost use Rattle.std.specs.Prelude.{◌≡◌, ◌+◌, None, length, IfOk};
 ghost use Rattle.krb_file.specs.Fields.{next_octets_at, are_zero};
-ghost use Rattle.krb_file.specs.FieldReaders.{Follows, Keeps, TakesTo, of_slice};
+ghost use Rattle.krb_file.specs.FieldReaders.{Follows, Keeps, FetchesTo, of_slice};
 
 impl<'a> SliceReader<'a> {
     /// Returns a reader of a whole file.
@@ -48,7 +48,7 @@ impl<'a> SliceReader<'a> {
         ensures size { IfOk result (λ taken. length taken.now ≡ size) }
         ensures read { Follows (λ taken. taken.now) result (next_octets_at None size) ⊥ (of_slice self.old) (of_slice self.new) }
         ensures keeps { Keeps (of_slice self.old) (of_slice self.new) }
-        ensures within { TakesTo (self.old.place + size) (of_slice self.old) (of_slice self.new) }
+        ensures within { FetchesTo (self.old.place + size) (of_slice self.old) (of_slice self.new) }
     {
         let place = self.place;
         if self
@@ -76,7 +76,7 @@ impl<'a> SliceReader<'a> {
 }
 
 impl<'a> FieldReader for SliceReader<'a> {
-    ghost held = { λ reader. of_slice reader };
+    ghost cursor = { λ reader. of_slice reader };
 
     ghost MayFail = { ⊥ };
 
@@ -106,11 +106,11 @@ impl<'a> FieldReader for SliceReader<'a> {
         Ok(())
     }
 
-    fn room(&mut self, alloc: Global) -> Vec<u8> {
+    fn spare_octets(&mut self, alloc: Global) -> Vec<u8> {
         Vec::new(alloc)
     }
 
-    fn list(&mut self, alloc: Global) -> Vec<KString> {
+    fn spare_list(&mut self, alloc: Global) -> Vec<KString> {
         Vec::new(alloc)
     }
 

@@ -5,7 +5,7 @@ use crate::fault::{FileFault, FileWhy};
 use crate::field_limit::FieldLimit;
 use crate::field_reader::FieldReader;
 use crate::slice_reader::are_zero;
-use krb_der::{GiveBack, KString, Room};
+use krb_der::{GiveBack, KString, SpareVectors};
 use std::alloc::Global;
 use std::io::Read;
 use std::marker::Model;
@@ -13,16 +13,17 @@ use std::marker::Model;
 /// The greatest number of reads.
 const MOST_ASKS: u64 = 1 << 40;
 
-/// The greatest number of octets of a field that are read first. After that at most as many are
-/// read at once as came before.
+/// The greatest number of octets of a field that are read first. After that at most the number of
+/// octets that came before is read at once.
 const LEAST_PIECE: u64 = 4096;
 
 /// The greatest number of octets that are read at once, 4 MiB.
 const GREATEST_PIECE: u64 = 1 << 22;
 
-/// A reader of the fields of anything that can be read. It reads when a field needs octets, when it
-/// is asked whether any are left, and when it is told how many belong to what is read, and never
-/// more than these. It reads at most 2^40 times, and not after the end.
+/// A reader of the fields of anything that can be read. It reads when a field needs octets, when
+/// [`is_empty`](FieldReader::is_empty) asks whether any are left, and when
+/// [`look_ahead`](FieldReader::look_ahead) announces how many follow, and never more than these.
+/// It reads at most 2^40 times, and not after the end.
 #[derive(Drop)]
 pub struct StreamReader<R: Read> {
     reader: R,
@@ -37,15 +38,15 @@ pub struct StreamReader<R: Read> {
     ended: bool,
     asks: u64,
     /// Vectors for fields of octets.
-    spare: Room,
+    spare: SpareVectors,
 }
 
 impl<R: Read> Model for StreamReader<R> {
     ghost use Rattle.std.specs.Prelude.{◌+◌, ◌*◌, ◌^◌, ◌≤◌, Some, length};
-    ghost use Rattle.krb_file.specs.FieldReaders.{Held, left_of};
+    ghost use Rattle.krb_file.specs.FieldReaders.{Cursor, left_of};
     ghost use Rattle.krb_file.specs.inner.Takes.{AreNear};
 
-    ghost Value = { Held };
+    ghost Value = { Cursor };
 
     ghost view = { λ s. record { ahead = s.ahead; left = left_of s.ended (R.remaining s.reader); place = s.place; bounds = record { end = s.end; limit = Some s.limit } } };
 
@@ -54,8 +55,8 @@ impl<R: Read> Model for StreamReader<R> {
 
 ghost use Rattle.std.specs.Prelude.{◌≡◌, ◌+◌, ◌^◌, ◌<◌, ◌≤◌, false, [], length, take, None, Some, IfOk, IfErr, OnOk};
 ghost use Rattle.std.specs.Io.KnownBytes.{Consumes, IsAtEnd};
-ghost use Rattle.krb_file.specs.Fields.{passes, next_octets_at, octets_at};
-ghost use Rattle.krb_file.specs.FieldReaders.{MayHave, FailsBy, Follows, Stays, Keeps, TakesTo, LooksTo};
+ghost use Rattle.krb_file.specs.Fields.{exceeds, next_octets_at, octets_at};
+ghost use Rattle.krb_file.specs.FieldReaders.{MayRemain, FailsBy, Follows, Stays, Keeps, FetchesTo, LooksAheadTo};
 ghost use Rattle.krb_file.specs.inner.Takes.{Takes, Within, FailsTaking, AreNear};
 
 /// Reads from a reader, and returns how many octets came: 0 at its end.
@@ -64,7 +65,7 @@ pub(crate) fn ask<R: Read>(
     asks: &mut u64,
     octets: &mut [u8],
 ) -> Result<usize, FileFault>
-    requires room { 0 < length octets.old }
+    requires some { 0 < length octets.old }
     requires few { asks.old ≤ 2 ^ 40 }
     ensures count { IfOk result (λ count. count ≤ length octets.new) }
     ensures taken { IfOk result (λ count. Consumes (R.remaining reader.old) (R.remaining reader.new) (take count octets.new)) }
@@ -99,7 +100,7 @@ impl<R: Read> StreamReader<R> {
             near: 0,
             ended: false,
             asks: 0,
-            spare: Room::new(),
+            spare: SpareVectors::new(),
         }
     }
 
@@ -110,12 +111,12 @@ impl<R: Read> StreamReader<R> {
         value.give_back(&mut self.spare);
     }
 
-    /// Reads ahead unless octets are left of those read before: as many as come at once, at most
-    /// `most`.
-    fn see(&mut self, most: u64) -> Result<(), FileFault>
+    /// Reads ahead unless octets are left of those read before: what comes at once, at most `most`
+    /// octets.
+    fn read_ahead(&mut self, most: u64) -> Result<(), FileFault>
         requires { 0 < most }
         ensures same { OnOk result (Takes self.old self.new []) }
-        ensures looks { LooksTo most self.old self.new }
+        ensures looks { LooksAheadTo most self.old self.new }
         ensures end { OnOk result (self.new.ahead ≡ [] → self.new.left ≡ Some []) }
         ensures fault { IfErr result (λ e. e ≡ FileFault.Read) }
     {
@@ -129,21 +130,21 @@ impl<R: Read> StreamReader<R> {
         Ok(())
     }
 
-    /// Moves octets into `octets`, as many as come at once, and returns how many: 0 if none is
+    /// Moves the octets that come at once into `octets`, and returns their number: 0 if none is
     /// left.
     fn take(&mut self, octets: &mut [u8]) -> Result<usize, FileFault>
-        requires room { 0 < length octets.old }
+        requires some { 0 < length octets.old }
         requires few { length octets.old ≤ 2 ^ 22 }
         ensures count { IfOk result (λ count. count ≤ length octets.new) }
         ensures taken { IfOk result (λ count. Takes self.old self.new (take count octets.new)) }
         ensures stays { Stays self.old self.new }
         ensures within { Within (length octets.old) self.old self.new }
-        ensures end { IfOk result (λ count. count ≡ 0 → MayHave self.new []) }
+        ensures end { IfOk result (λ count. count ≡ 0 → MayRemain self.new []) }
         ensures fault { IfErr result (λ e. e ≡ FileFault.Read) }
     {
         let count = octets.len().min(self.ahead.count());
         if count > 0 {
-            self.fill_ahead(&mut octets[..count]);
+            self.take_ahead(&mut octets[..count]);
             return Ok(count);
         }
         if self.ended {
@@ -157,7 +158,7 @@ impl<R: Read> StreamReader<R> {
     }
 
     /// Moves octets that were read ahead, until they end or `octets` is full. It clears `near`.
-    fn fill_ahead(&mut self, octets: &mut [u8])
+    fn take_ahead(&mut self, octets: &mut [u8])
         requires { length octets.old ≤ length self.old.ahead }
         ensures taken { Takes self.old self.new octets.new }
         ensures stays { Stays self.old self.new }
@@ -191,19 +192,19 @@ impl<R: Read> StreamReader<R> {
         Ok(())
     }
 
-    /// Reads `room` octets into `piece`, in place of its octets, as
+    /// Reads `count` octets into `piece`, in place of its octets, as
     /// [`take_all`](StreamReader::take_all) does.
-    fn take_piece(&mut self, start: u64, room: usize, piece: &mut Vec<u8>) -> Result<(), FileFault>
-        requires { room ≤ 2 ^ 22 }
+    fn take_piece(&mut self, start: u64, count: usize, piece: &mut Vec<u8>) -> Result<(), FileFault>
+        requires { count ≤ 2 ^ 22 }
         ensures taken { OnOk result (Takes self.old self.new piece.new.items) }
         ensures stays { Stays self.old self.new }
-        ensures within { Within room self.old self.new }
-        ensures room { OnOk result (length piece.new.items ≡ room) }
-        ensures fault { IfErr result (λ e. FailsTaking e start self.old self.new room) }
+        ensures within { Within count self.old self.new }
+        ensures size { OnOk result (length piece.new.items ≡ count) }
+        ensures fault { IfErr result (λ e. FailsTaking e start self.old self.new count) }
     {
         piece.clear();
-        piece.reserve_exact(room)?;
-        piece.resize(room, 0)?;
+        piece.reserve_exact(count)?;
+        piece.resize(count, 0)?;
         self.take_all(start, piece.as_mut_slice())
     }
 
@@ -214,8 +215,8 @@ impl<R: Read> StreamReader<R> {
         size: u64,
         octets: &mut Vec<u8>,
     ) -> Result<(), FileFault>
-        requires inside { passes (self.old.place + size) self.old.bounds.end ≡ false }
-        requires under { passes size self.old.bounds.limit ≡ false }
+        requires inside { exceeds (self.old.place + size) self.old.bounds.end ≡ false }
+        requires under { exceeds size self.old.bounds.limit ≡ false }
         ensures read { Follows (λ _. octets.new.items) result (octets_at size) (Unit {0}) self.old self.new }
         ensures stays { Stays self.old self.new }
         ensures within { Within size self.old self.new }
@@ -225,8 +226,8 @@ impl<R: Read> StreamReader<R> {
         let mut piece = Vec::new(alloc);
         'pieces: while (octets.len() as u64) < size {
             let came = octets.len() as u64;
-            let room = (size - came).min(came).min(GREATEST_PIECE);
-            self.take_piece(place, room as usize, &mut piece)?;
+            let count = (size - came).min(came).min(GREATEST_PIECE);
+            self.take_piece(place, count as usize, &mut piece)?;
             octets.extend_from_slice(piece.as_slice())?;
         }
         Ok(())
@@ -240,8 +241,8 @@ impl<R: Read> StreamReader<R> {
     }
 
     /// Returns whether `size` octets pass the end of the entry or of the header that they are in.
-    fn passes_end(&self, size: u64) -> bool
-        ensures { result ≡ passes (self.now.place + size) self.now.bounds.end }
+    fn exceeds_end(&self, size: u64) -> bool
+        ensures { result ≡ exceeds (self.now.place + size) self.now.bounds.end }
     {
         match self.end {
             Some(end) => end < self.place || end - self.place < size,
@@ -251,12 +252,12 @@ impl<R: Read> StreamReader<R> {
 
     /// Refuses a field that passes the end of what it is in, or is longer than `most`.
     fn check(&self, size: u64, most: Option<u64>) -> Result<(), FileFault>
-        ensures inside { OnOk result (passes (self.now.place + size) self.now.bounds.end ≡ false) }
-        ensures under { OnOk result (passes size most ≡ false) }
+        ensures inside { OnOk result (exceeds (self.now.place + size) self.now.bounds.end ≡ false) }
+        ensures under { OnOk result (exceeds size most ≡ false) }
         ensures fault { IfErr result (λ e. FailsBy e (next_octets_at most size) (Unit {0}) self.now) }
     {
         let place = self.at();
-        if self.passes_end(size) {
+        if self.exceeds_end(size) {
             return Err(FileFault::Refused {
                 place,
                 why: FileWhy::Overrun,
@@ -275,8 +276,8 @@ impl<R: Read> StreamReader<R> {
 
     /// Refuses a field of octets that passes the end of what it is in, or is longer than the limit.
     fn check_octets(&self, size: u64) -> Result<(), FileFault>
-        ensures inside { OnOk result (passes (self.now.place + size) self.now.bounds.end ≡ false) }
-        ensures under { OnOk result (passes size self.now.bounds.limit ≡ false) }
+        ensures inside { OnOk result (exceeds (self.now.place + size) self.now.bounds.end ≡ false) }
+        ensures under { OnOk result (exceeds size self.now.bounds.limit ≡ false) }
         ensures fault { IfErr result (λ e. FailsBy e (octets_at size) (Unit {0}) self.now) }
     {
         let most = self.limit.get() as u64;
@@ -290,7 +291,7 @@ impl<R: Read> StreamReader<R> {
         requires { length octets.old ≤ 2 ^ 16 }
         ensures read { Follows (λ _. octets.new) result (next_octets_at None (length octets.old)) (Unit {0}) self.old self.new }
         ensures keeps { Keeps self.old self.new }
-        ensures within { TakesTo (self.old.place + length octets.old) self.old self.new }
+        ensures within { FetchesTo (self.old.place + length octets.old) self.old self.new }
     {
         let place = self.place;
         self.check(octets.len() as u64, None)?;
@@ -307,7 +308,7 @@ impl<R: Read> StreamReader<R> {
     ) -> Result<(), FileFault>
         ensures read { Follows (λ _. octets.new.items) result (octets_at size) (Unit {0}) self.old self.new }
         ensures keeps { Keeps self.old self.new }
-        ensures within { TakesTo (self.old.place + size) self.old self.new }
+        ensures within { FetchesTo (self.old.place + size) self.old self.new }
     {
         self.check_octets(size)?;
         self.take_octets(alloc, size, octets)
@@ -315,7 +316,7 @@ impl<R: Read> StreamReader<R> {
 }
 
 impl<R: Read> FieldReader for StreamReader<R> {
-    ghost held = { λ reader. reader };
+    ghost cursor = { λ reader. reader };
 
     ghost MayFail = { Unit {0} };
 
@@ -333,13 +334,13 @@ impl<R: Read> FieldReader for StreamReader<R> {
     }
 
     fn is_empty(&mut self) -> Result<bool, FileFault> {
-        self.see(1)?;
+        self.read_ahead(1)?;
         Ok(self.ahead.count() == 0)
     }
 
     fn look_ahead(&mut self, size: u64) -> Result<(), FileFault> {
         if size > 0 {
-            self.see(size)?;
+            self.read_ahead(size)?;
         }
         Ok(())
     }
@@ -356,11 +357,11 @@ impl<R: Read> FieldReader for StreamReader<R> {
     }
 
     #[inline(always)]
-    fn room(&mut self, alloc: Global) -> Vec<u8> {
+    fn spare_octets(&mut self, alloc: Global) -> Vec<u8> {
         self.spare.take(alloc)
     }
 
-    fn list(&mut self, alloc: Global) -> Vec<KString> {
+    fn spare_list(&mut self, alloc: Global) -> Vec<KString> {
         self.spare.take_list(alloc)
     }
 
@@ -382,12 +383,12 @@ impl<R: Read> FieldReader for StreamReader<R> {
         let mut zeros = true;
         let mut left = size;
         'pieces: while left > 0 {
-            let room = left.min(LEAST_PIECE);
-            let piece = &mut buffer[..room as usize];
+            let count = left.min(LEAST_PIECE);
+            let piece = &mut buffer[..count as usize];
             self.take_all(place, piece)?;
             let more = are_zero(piece);
             zeros = zeros & more;
-            left -= room;
+            left -= count;
         }
         Ok(zeros)
     }
@@ -400,17 +401,17 @@ fn near(ahead: usize, place: u64, end: Option<u64>, limit: FieldLimit) -> usize
     ensures { AreNear result ahead place end limit }
 {
     let most = (ahead as u64).min(limit.get() as u64);
-    let room = match end {
+    let count = match end {
         Some(end) if end < place => return 0,
         Some(end) => most.min(end - place),
         None => most,
     };
-    room as usize + 1
+    count as usize + 1
 }
 
 /// Returns whether a number of octets is greater than `most`, if there is such a limit.
 fn is_longer(size: u64, most: Option<u64>) -> bool
-    ensures { result ≡ passes size most }
+    ensures { result ≡ exceeds size most }
 {
     match most {
         Some(most) => most < size,

@@ -1,4 +1,4 @@
--- Octets that were captured: each is taken or waits, and so all of a stream is taken.
+-- Octets that were captured: each is delivered or waits, and so all of a stream is delivered.
 use Rattle.std.proofs.Common.{◌≡◌, ℕ, zero, suc, ◌+◌, ◌-◌, ◌%◌, ◌^◌, ◌<◌, ◌≤◌, ◌==◌, ◌⊎◌, inl, inr, Bool, true, false, ◌||◌, cond, is_some, Option, Some, None, List, [], ◌∷◌, ◌++◌, length, drop, refl, sym, ap, subst, ◌∙◌, arith, length-append}
 use Rattle.std.specs.Prelude.{slice_get, nat_lt}
 use Rattle.std.specs.Ordering.{nat_cmp, match_ordering, is_eq}
@@ -21,10 +21,10 @@ use Rattle.krb_flow.specs.declared.direction.State.TheVariants.{Fresh, Open, End
 use Rattle.krb_flow.specs.Serial.{behind, distance}
 use Rattle.krb_flow.specs.Waiting.{Waiting, keep_one, keep, ready, early}
 use Rattle.krb_flow.specs.Progress.{Progress}
-use Rattle.krb_flow.specs.Directions.{taking, Outcome, first_number, distance_to, start, end_place, kept, taken, earlier, onward, is_passed, is_reached, is_over, ending, at_syn, at_data, begins, unless_over, goes_on, joined, step}
+use Rattle.krb_flow.specs.Directions.{deliver, Outcome, first_number, distance_to, start, end_place, kept, delivered, earlier, advanced, is_skipped, is_reached, is_over, ending, at_syn, at_data, begins, unless_over, goes_on, joined, step}
 use Rattle.krb_flow.specs.declared.stream.TheConstants.{MOST_WAITING}
-use Rattle.krb_flow.specs.Laws.{at_first, IsFirst, Stands, Piece, IsPiece, PiecesOf, taken_of, IsFair, AllFair, IsCaptured, TakesAll}
-use Rattle.krb_flow.proofs.Pieces.{takes_the_stream, when_both, number_of, same_number, ahead_by, behind_by}
+use Rattle.krb_flow.specs.Laws.{at_first, IsFirst, HasAt, Piece, IsPiece, PiecesOf, delivered_of, IsFair, AllFair, IsCaptured, DeliversAll}
+use Rattle.krb_flow.proofs.Pieces.{delivers_the_stream, when_both, number_of, same_number, ahead_by, behind_by}
 
 -- ---- which places wait
 
@@ -52,26 +52,26 @@ waits_inserted place octet (entry ∷ entries) =
       | Greater ↦ λ is. inr (waits_inserted place octet entries)
     ] refl
 
-held_waits : (place : ℕ) (waiting : Waiting) → is_some (lookup (is_at (nat_cmp place)) waiting) ≡ true → Waits place waiting
+occupied_waits : (place : ℕ) (waiting : Waiting) → is_some (lookup (is_at (nat_cmp place)) waiting) ≡ true → Waits place waiting
 unfolding Waits
-held_waits place [] held = cc
-held_waits place (entry ∷ entries) held =
+occupied_waits place [] occupied = cc
+occupied_waits place (entry ∷ entries) occupied =
     elim (nat_cmp place entry.0) as (λ (r : Ordering). nat_cmp place entry.0 ≡ r → is_some (cond (is_eq r) (Some entry.1) (lookup (is_at (nat_cmp place)) entries)) ≡ true → (place ≡ entry.0) ⊎ Waits place entries) [
-      | Less ↦ λ is there. inr (held_waits place entries there)
+      | Less ↦ λ is there. inr (occupied_waits place entries there)
       | Equal ↦ λ is there. inl (ranked place entry.0 Equal (sym is))
-      | Greater ↦ λ is there. inr (held_waits place entries there)
-    ] refl held
+      | Greater ↦ λ is there. inr (occupied_waits place entries there)
+    ] refl occupied
 
 kept_one_waits : (place octet : ℕ) (waiting : Waiting) → Waits place (keep_one place octet waiting)
 kept_one_waits place octet waiting =
-    elim (is_some (lookup (is_at (nat_cmp place)) waiting)) as (λ (held : Bool). is_some (lookup (is_at (nat_cmp place)) waiting) ≡ held → Waits place (when held (λ _. waiting) (λ _. insert_entry nat_cmp waiting place octet))) [
-      | true ↦ λ held. held_waits place waiting held
-      | false ↦ λ held. waits_inserted place octet waiting
+    elim (is_some (lookup (is_at (nat_cmp place)) waiting)) as (λ (occupied : Bool). is_some (lookup (is_at (nat_cmp place)) waiting) ≡ occupied → Waits place (when occupied (λ _. waiting) (λ _. insert_entry nat_cmp waiting place octet))) [
+      | true ↦ λ occupied. occupied_waits place waiting occupied
+      | false ↦ λ occupied. waits_inserted place octet waiting
     ] refl
 
 waits_with_one : (place other octet : ℕ) (waiting : Waiting) → Waits place waiting → Waits place (keep_one other octet waiting)
 waits_with_one place other octet waiting waits =
-    elim (is_some (lookup (is_at (nat_cmp other)) waiting)) as (λ (held : Bool). Waits place (when held (λ _. waiting) (λ _. insert_entry nat_cmp waiting other octet))) [
+    elim (is_some (lookup (is_at (nat_cmp other)) waiting)) as (λ (occupied : Bool). Waits place (when occupied (λ _. waiting) (λ _. insert_entry nat_cmp waiting other octet))) [
       | true ↦ waits
       | false ↦ waits_with place other octet waiting waits
     ]
@@ -90,20 +90,20 @@ kept_waits place other (octet ∷ octets) waiting after before =
           waits_still place (other + 1) octets (keep_one other octet waiting) (subst (λ (n : ℕ). Waits n (keep_one other octet waiting)) here (kept_one_waits other octet waiting))
     ]
 
-further : (place due octet : ℕ) (octets : List ℕ) (waiting : Waiting) → (place < due + 1 + length octets) ⊎ Waits place waiting → (place < due + length (octet ∷ octets)) ⊎ Waits place waiting
-further place due octet octets waiting (inl before) = inl (omega arith)
-further place due octet octets waiting (inr waits) = inr waits
+further : (place expected octet : ℕ) (octets : List ℕ) (waiting : Waiting) → (place < expected + 1 + length octets) ⊎ Waits place waiting → (place < expected + length (octet ∷ octets)) ⊎ Waits place waiting
+further place expected octet octets waiting (inl before) = inl (omega arith)
+further place expected octet octets waiting (inr waits) = inr waits
 
-ready_or_early : (place due : ℕ) (waiting : Waiting) → Waits place waiting → (place < due + length (ready due waiting)) ⊎ Waits place (early due waiting)
+ready_or_early : (place expected : ℕ) (waiting : Waiting) → Waits place waiting → (place < expected + length (ready expected waiting)) ⊎ Waits place (early expected waiting)
 unfolding Waits
-ready_or_early place due [] waits = absurd waits
-ready_or_early place due (entry ∷ entries) waits =
-    elim (entry.0 == due) as (λ (b : Bool). (entry.0 == due) ≡ b → (place < due + length (when b (λ _. entry.1 ∷ ready (due + 1) entries) (λ _. []))) ⊎ Waits place (when b (λ _. early (due + 1) entries) (λ _. entry ∷ entries))) [
+ready_or_early place expected [] waits = absurd waits
+ready_or_early place expected (entry ∷ entries) waits =
+    elim (entry.0 == expected) as (λ (b : Bool). (entry.0 == expected) ≡ b → (place < expected + length (when b (λ _. entry.1 ∷ ready (expected + 1) entries) (λ _. []))) ⊎ Waits place (when b (λ _. early (expected + 1) entries) (λ _. entry ∷ entries))) [
       | true ↦ λ is.
-          let here : entry.0 ≡ due = eqb-true entry.0 due is in
+          let here : entry.0 ≡ expected = eqb-true entry.0 expected is in
           elim waits [
             | inl same ↦ inl (omega arith)
-            | inr more ↦ further place due entry.1 (ready (due + 1) entries) (early (due + 1) entries) (ready_or_early place (due + 1) entries more)
+            | inr more ↦ further place expected entry.1 (ready (expected + 1) entries) (early (expected + 1) entries) (ready_or_early place (expected + 1) entries more)
           ]
       | false ↦ λ is. inr waits
     ] refl
@@ -131,7 +131,7 @@ insert_sorted from place octet (entry ∷ entries) le sorted =
 
 one_sorted : (from place octet : ℕ) (waiting : Waiting) → from ≤ place → Sorted from waiting → Sorted from (keep_one place octet waiting)
 one_sorted from place octet waiting le sorted =
-    elim (is_some (lookup (is_at (nat_cmp place)) waiting)) as (λ (held : Bool). Sorted from (when held (λ _. waiting) (λ _. insert_entry nat_cmp waiting place octet))) [
+    elim (is_some (lookup (is_at (nat_cmp place)) waiting)) as (λ (occupied : Bool). Sorted from (when occupied (λ _. waiting) (λ _. insert_entry nat_cmp waiting place octet))) [
       | true ↦ sorted
       | false ↦ insert_sorted from place octet waiting le sorted
     ]
@@ -140,19 +140,19 @@ kept_sorted : (from place : ℕ) (octets : List ℕ) (waiting : Waiting) → fro
 kept_sorted from place [] waiting le sorted = sorted
 kept_sorted from place (octet ∷ octets) waiting le sorted = kept_sorted from (place + 1) octets (keep_one place octet waiting) (omega arith) (one_sorted from place octet waiting le sorted)
 
-early_sorted : (due : ℕ) (waiting : Waiting) → Sorted due waiting → Sorted (suc (due + length (ready due waiting))) (early due waiting)
+early_sorted : (expected : ℕ) (waiting : Waiting) → Sorted expected waiting → Sorted (suc (expected + length (ready expected waiting))) (early expected waiting)
 unfolding Sorted
-early_sorted due [] sorted = tt
-early_sorted due (entry ∷ entries) sorted =
-    elim (entry.0 == due) as (λ (b : Bool). (entry.0 == due) ≡ b → Sorted (suc (due + length (when b (λ _. entry.1 ∷ ready (due + 1) entries) (λ _. [])))) (when b (λ _. early (due + 1) entries) (λ _. entry ∷ entries))) [
+early_sorted expected [] sorted = tt
+early_sorted expected (entry ∷ entries) sorted =
+    elim (entry.0 == expected) as (λ (b : Bool). (entry.0 == expected) ≡ b → Sorted (suc (expected + length (when b (λ _. entry.1 ∷ ready (expected + 1) entries) (λ _. [])))) (when b (λ _. early (expected + 1) entries) (λ _. entry ∷ entries))) [
       | true ↦ λ is.
-          let here : entry.0 ≡ due = eqb-true entry.0 due is in
-          let next : suc entry.0 ≡ due + 1 = omega arith in
-          let sum : suc (due + 1 + length (ready (due + 1) entries)) ≡ suc (due + length (entry.1 ∷ ready (due + 1) entries)) = omega arith in
-          subst (λ (n : ℕ). Sorted n (early (due + 1) entries)) sum (early_sorted (due + 1) entries (subst (λ (n : ℕ). Sorted n entries) next sorted.1))
+          let here : entry.0 ≡ expected = eqb-true entry.0 expected is in
+          let next : suc entry.0 ≡ expected + 1 = omega arith in
+          let sum : suc (expected + 1 + length (ready (expected + 1) entries)) ≡ suc (expected + length (entry.1 ∷ ready (expected + 1) entries)) = omega arith in
+          subst (λ (n : ℕ). Sorted n (early (expected + 1) entries)) sum (early_sorted (expected + 1) entries (subst (λ (n : ℕ). Sorted n entries) next sorted.1))
       | false ↦ λ is.
-          let first : due ≤ entry.0 = sorted.0 in
-          let apart : entry.0 ≡ due → ⊥ = eqb-false entry.0 due is in
+          let first : expected ≤ entry.0 = sorted.0 in
+          let apart : entry.0 ≡ expected → ⊥ = eqb-false entry.0 expected is in
           (omega arith, sorted.1)
     ] refl
 
@@ -169,44 +169,44 @@ not_waiting place (entry ∷ entries) sorted waits =
 -- ---- a segment
 
 abbrev Clear : Progress → Type 0
-Clear progress = Sorted (suc progress.due) progress.waiting
+Clear progress = Sorted (suc progress.expected) progress.waiting
 
 abbrev Was : ℕ → Progress → Type 0
-Was place progress = (place < progress.due) ⊎ Waits place progress.waiting
+Was place progress = (place < progress.expected) ⊎ Waits place progress.waiting
 
-onward_clear : (progress : Progress) (segment : Segment) → Clear progress → Clear (onward progress segment)
+onward_clear : (progress : Progress) (segment : Segment) → Clear progress → Clear (advanced progress segment)
 onward_clear progress segment clear =
     let by = distance_to progress segment in
-    early_sorted progress.due (kept progress segment)
-    (kept_sorted progress.due (start progress.due by) (drop (behind by) segment.payload.octets) progress.waiting (omega arith) (sorted_lower (suc progress.due) progress.due progress.waiting (omega arith) clear))
+    early_sorted progress.expected (kept progress segment)
+    (kept_sorted progress.expected (start progress.expected by) (drop (behind by) segment.payload.octets) progress.waiting (omega arith) (sorted_lower (suc progress.expected) progress.expected progress.waiting (omega arith) clear))
 
-onward_was : (place : ℕ) (progress : Progress) (segment : Segment) → Was place progress → Was place (onward progress segment)
+onward_was : (place : ℕ) (progress : Progress) (segment : Segment) → Was place progress → Was place (advanced progress segment)
 onward_was place progress segment (inl before) = inl (omega arith)
 onward_was place progress segment (inr waits) =
     let by = distance_to progress segment in
-    ready_or_early place progress.due (kept progress segment) (waits_still place (start progress.due by) (drop (behind by) segment.payload.octets) progress.waiting waits)
+    ready_or_early place progress.expected (kept progress segment) (waits_still place (start progress.expected by) (drop (behind by) segment.payload.octets) progress.waiting waits)
 
 abbrev Covers : ℕ → ℕ → List ℕ → Distance → Type 0
-Covers place due octets by = (start due by ≤ place) × (place < start due by + length (drop (behind by) octets))
+Covers place expected octets by = (start expected by ≤ place) × (place < start expected by + length (drop (behind by) octets))
 
-covers_by : (first due from place : ℕ) (octets : List ℕ) → due ≤ from + 2 ^ 31 → from < due + 2 ^ 31 → from ≤ place → place < from + length octets → due ≤ place → Covers place due octets (distance (number_of first due) (number_of first from))
-covers_by first due from place octets after before low high later =
-    elim (cases_lt from due) [
+covers_by : (first expected from place : ℕ) (octets : List ℕ) → expected ≤ from + 2 ^ 31 → from < expected + 2 ^ 31 → from ≤ place → place < from + length octets → expected ≤ place → Covers place expected octets (distance (number_of first expected) (number_of first from))
+covers_by first expected from place octets after before low high later =
+    elim (cases_lt from expected) [
       | inl sooner ↦
-          let size : length (drop (due - from) octets) ≡ length octets - (due - from) = length-drop (due - from) octets in
-          subst (Covers place due octets) (behind_by first due from sooner after) (omega arith, omega arith)
-      | inr not_sooner ↦ subst (Covers place due octets) (ahead_by first due from not_sooner before) (omega arith, omega arith)
+          let size : length (drop (expected - from) octets) ≡ length octets - (expected - from) = length-drop (expected - from) octets in
+          subst (Covers place expected octets) (behind_by first expected from sooner after) (omega arith, omega arith)
+      | inr not_sooner ↦ subst (Covers place expected octets) (ahead_by first expected from not_sooner before) (omega arith, omega arith)
     ]
 
-onward_captures : (stream : List ℕ) (place : ℕ) (progress : Progress) (piece : Piece) → IsPiece stream progress piece → piece.0 ≤ place → place < piece.0 + length piece.1.payload.octets → Was place (onward progress piece.1)
+onward_captures : (stream : List ℕ) (place : ℕ) (progress : Progress) (piece : Piece) → IsPiece stream progress piece → piece.0 ≤ place → place < piece.0 + length piece.1.payload.octets → Was place (advanced progress piece.1)
 onward_captures stream place progress piece is low high =
-    elim (cases_lt place progress.due) [
+    elim (cases_lt place progress.expected) [
       | inl before ↦ inl (omega arith)
       | inr later ↦
           let number : number_of progress.first piece.0 ≡ first_number piece.1 = sym (same_number progress.first piece.0) ∙ sym is.number in
           let by = distance_to progress piece.1 in
-          let covers : Covers place progress.due piece.1.payload.octets by = subst (λ (n : ℕ). Covers place progress.due piece.1.payload.octets (distance (number_of progress.first progress.due) n)) number (covers_by progress.first progress.due piece.0 place piece.1.payload.octets is.after is.before low high later) in
-          ready_or_early place progress.due (kept progress piece.1) (kept_waits place (start progress.due by) (drop (behind by) piece.1.payload.octets) progress.waiting covers.0 covers.1)
+          let covers : Covers place progress.expected piece.1.payload.octets by = subst (λ (n : ℕ). Covers place progress.expected piece.1.payload.octets (distance (number_of progress.first progress.expected) n)) number (covers_by progress.first progress.expected piece.0 place piece.1.payload.octets is.after is.before low high later) in
+          ready_or_early place progress.expected (kept progress piece.1) (kept_waits place (start progress.expected by) (drop (behind by) piece.1.payload.octets) progress.waiting covers.0 covers.1)
     ]
 
 -- ---- a FIN
@@ -221,35 +221,35 @@ earlier_at_end size None other at more = more
 earlier_at_end size (Some one) None at more = at
 earlier_at_end size (Some one) (Some other) at more = omega arith
 
-end_at : (size due : ℕ) (by : Distance) (count : ℕ) → start due by + count ≡ behind by + size → AtEnd size (end_place due by count)
+end_at : (size expected : ℕ) (by : Distance) (count : ℕ) → start expected by + count ≡ behind by + size → AtEnd size (end_place expected by count)
 unfolding AtEnd
-end_at size due by count is =
-    when_both (AtEnd size) (nat_lt (start due by + count) (behind by)) (λ _. None) (λ _. Some (start due by + count - behind by)) tt (omega arith)
+end_at size expected by count is =
+    when_both (AtEnd size) (nat_lt (start expected by + count) (behind by)) (λ _. None) (λ _. Some (start expected by + count - behind by)) tt (omega arith)
 
-end_is : (size first due place count : ℕ) → due ≤ place + 2 ^ 31 → place < due + 2 ^ 31 → place + count ≡ size → AtEnd size (end_place due (distance (number_of first due) (number_of first place)) count)
-end_is size first due place count after before is =
-    elim (cases_lt place due) [
-      | inl sooner ↦ subst (λ (by : Distance). AtEnd size (end_place due by count)) (behind_by first due place sooner after) (end_at size due (Behind (due - place)) count (omega arith))
-      | inr later ↦ subst (λ (by : Distance). AtEnd size (end_place due by count)) (ahead_by first due place later before) (end_at size due (Ahead (place - due)) count (omega arith))
+end_is : (size first expected place count : ℕ) → expected ≤ place + 2 ^ 31 → place < expected + 2 ^ 31 → place + count ≡ size → AtEnd size (end_place expected (distance (number_of first expected) (number_of first place)) count)
+end_is size first expected place count after before is =
+    elim (cases_lt place expected) [
+      | inl sooner ↦ subst (λ (by : Distance). AtEnd size (end_place expected by count)) (behind_by first expected place sooner after) (end_at size expected (Behind (expected - place)) count (omega arith))
+      | inr later ↦ subst (λ (by : Distance). AtEnd size (end_place expected by count)) (ahead_by first expected place later before) (end_at size expected (Ahead (place - expected)) count (omega arith))
     ]
 
-fin_at_end : (stream : List ℕ) (progress : Progress) (piece : Piece) → IsPiece stream progress piece → IsFair stream progress piece → AtEnd (length stream) progress.fin → AtEnd (length stream) (onward progress piece.1).fin
+fin_at_end : (stream : List ℕ) (progress : Progress) (piece : Piece) → IsPiece stream progress piece → IsFair stream progress piece → AtEnd (length stream) progress.fin → AtEnd (length stream) (advanced progress piece.1).fin
 fin_at_end stream progress piece is fair at =
     let count = piece.1.payload.size in
     let number : number_of progress.first piece.0 ≡ first_number piece.1 = sym (same_number progress.first piece.0) ∙ sym is.number in
-    elim piece.1.fin as (λ (fin : Bool). piece.1.fin ≡ fin → AtEnd (length stream) (when fin (λ _. earlier (end_place progress.due (distance_to progress piece.1) count) progress.fin) (λ _. progress.fin))) [
+    elim piece.1.fin as (λ (fin : Bool). piece.1.fin ≡ fin → AtEnd (length stream) (when fin (λ _. earlier (end_place progress.expected (distance_to progress piece.1) count) progress.fin) (λ _. progress.fin))) [
       | true ↦ λ there.
-          earlier_at_end (length stream) (end_place progress.due (distance_to progress piece.1) count) progress.fin
-          (subst (λ (n : ℕ). AtEnd (length stream) (end_place progress.due (distance (number_of progress.first progress.due) n) count)) number
-          (end_is (length stream) progress.first progress.due piece.0 count is.after is.before (fair.fin there)))
+          earlier_at_end (length stream) (end_place progress.expected (distance_to progress piece.1) count) progress.fin
+          (subst (λ (n : ℕ). AtEnd (length stream) (end_place progress.expected (distance (number_of progress.first progress.expected) n) count)) number
+          (end_is (length stream) progress.first progress.expected piece.0 count is.after is.before (fair.fin there)))
           at
       | false ↦ λ there. at
     ] refl
 
-reached : (size : ℕ) (fin : Option ℕ) (due : ℕ) → AtEnd size fin → is_reached fin due ≡ true → size ≤ due
+reached : (size : ℕ) (fin : Option ℕ) (expected : ℕ) → AtEnd size fin → is_reached fin expected ≡ true → size ≤ expected
 unfolding AtEnd
-reached size None due at is = cc
-reached size (Some place) due at is = let le : place ≤ due = leb-true place due is in omega arith
+reached size None expected at is = cc
+reached size (Some place) expected at is = let le : place ≤ expected = leb-true place expected is in omega arith
 
 by_fin : (fin many : Bool) → (fin || many) ≡ true → many ≡ false → fin ≡ true
 by_fin true many over few = refl
@@ -257,7 +257,7 @@ by_fin false many over few = cc
 
 -- ---- all segments
 
--- what a segment comes to that is taken: the direction is open still, or it is over
+-- after a segment is delivered the direction is still open, or it is over
 abbrev GoesOn : Progress → List ℕ → Outcome × State → Type 0
 GoesOn next octets went = (went.0.octets ≡ octets) × ((went.1 ≡ Open next) ⊎ ((went.1 ≡ Ended) × (is_over next ≡ true)))
 
@@ -268,30 +268,30 @@ gone_on before how progress next octets =
       | false ↦ λ over. (refl, inl refl)
     ] refl
 
-passed_not : (before : Option End) (how : Option Beginning) (progress : Progress) (segment : Segment) → is_passed progress segment ≡ false → GoesOn (onward progress segment) (taken progress segment) (joined (before, how, Open progress) (unless_over (taking progress segment)))
+passed_not : (before : Option End) (how : Option Beginning) (progress : Progress) (segment : Segment) → is_skipped progress segment ≡ false → GoesOn (advanced progress segment) (delivered progress segment) (joined (before, how, Open progress) (unless_over (deliver progress segment)))
 passed_not before how progress segment near =
-    let next = onward progress segment in
-    let octets = taken progress segment in
+    let next = advanced progress segment in
+    let octets = delivered progress segment in
     let ByPassed : Bool → Type 0 = λ passed. GoesOn next octets (joined (before, how, Open progress) (unless_over (when passed (λ _. ([], progress)) (λ _. (octets, next))))) in
     subst ByPassed (sym near) (gone_on before how progress next octets)
 
-step_goes : (progress : Progress) (segment : Segment) → segment.syn ≡ false → segment.rst ≡ false → is_passed progress segment ≡ false → GoesOn (onward progress segment) (taken progress segment) (step (Open progress) segment)
+step_goes : (progress : Progress) (segment : Segment) → segment.syn ≡ false → segment.rst ≡ false → is_skipped progress segment ≡ false → GoesOn (advanced progress segment) (delivered progress segment) (step (Open progress) segment)
 step_goes progress segment plain no_reset near =
-    let next = onward progress segment in
-    let octets = taken progress segment in
+    let next = advanced progress segment in
+    let octets = delivered progress segment in
     let ByRst : Bool → Type 0 = λ rst. GoesOn next octets (when rst (λ _. (record { before = None; begins = None; octets = []; end = Some (ending progress) }, Ended)) (λ _. joined (begins (Open progress) segment) (goes_on (begins (Open progress) segment).2 segment))) in
     let BySyn : Bool → Type 0 = λ syn. let begun = when syn (λ _. at_syn (Open progress) ((segment.sequence + 1) % 2 ^ 32)) (λ _. at_data (Open progress) segment) in GoesOn next octets (joined begun (goes_on begun.2 segment)) in
     subst ByRst (sym no_reset) (subst BySyn (sym plain) (passed_not None None progress segment near))
 
-first_goes : (segment : Segment) → segment.syn ≡ true → segment.rst ≡ false → is_passed (at_first segment) segment ≡ false → GoesOn (onward (at_first segment) segment) (taken (at_first segment) segment) (step Fresh segment)
+first_goes : (segment : Segment) → segment.syn ≡ true → segment.rst ≡ false → is_skipped (at_first segment) segment ≡ false → GoesOn (advanced (at_first segment) segment) (delivered (at_first segment) segment) (step Fresh segment)
 first_goes segment is_syn no_reset near =
-    let next = onward (at_first segment) segment in
-    let octets = taken (at_first segment) segment in
+    let next = advanced (at_first segment) segment in
+    let octets = delivered (at_first segment) segment in
     let ByRst : Bool → Type 0 = λ rst. GoesOn next octets (when rst (λ _. (record { before = None; begins = None; octets = []; end = None }, Fresh)) (λ _. joined (begins Fresh segment) (goes_on (begins Fresh segment).2 segment))) in
     let BySyn : Bool → Type 0 = λ syn. let begun = when syn (λ _. at_syn Fresh ((segment.sequence + 1) % 2 ^ 32)) (λ _. at_data Fresh segment) in GoesOn next octets (joined begun (goes_on begun.2 segment)) in
     subst ByRst (sym no_reset) (subst BySyn (sym is_syn) (passed_not None (Some Syn) (at_first segment) segment near))
 
-still_was : (stream : List ℕ) (place : ℕ) (progress : Progress) (piece : Piece) (pieces : List Piece) → IsPiece stream progress piece → Was place progress ⊎ IsCaptured place (piece ∷ pieces) → Was place (onward progress piece.1) ⊎ IsCaptured place pieces
+still_was : (stream : List ℕ) (place : ℕ) (progress : Progress) (piece : Piece) (pieces : List Piece) → IsPiece stream progress piece → Was place progress ⊎ IsCaptured place (piece ∷ pieces) → Was place (advanced progress piece.1) ⊎ IsCaptured place pieces
 still_was stream place progress piece pieces is (inl was) = inl (onward_was place progress piece.1 was)
 still_was stream place progress piece pieces is (inr (inl here)) = inl (onward_captures stream place progress piece is here.0 here.1)
 still_was stream place progress piece pieces is (inr (inr later)) = inr later
@@ -300,51 +300,51 @@ no_more : (place : ℕ) (progress : Progress) → Was place progress ⊎ IsCaptu
 no_more place progress (inl was) = was
 no_more place progress (inr captured) = absurd captured
 
-all_due : (stream : List ℕ) (progress : Progress) → Clear progress → ((place : ℕ) → place < length stream → Was place progress ⊎ IsCaptured place []) → length stream ≤ progress.due
-all_due stream progress clear were =
-    elim (cases_lt progress.due (length stream)) [
+all_expected : (stream : List ℕ) (progress : Progress) → Clear progress → ((place : ℕ) → place < length stream → Was place progress ⊎ IsCaptured place []) → length stream ≤ progress.expected
+all_expected stream progress clear were =
+    elim (cases_lt progress.expected (length stream)) [
       | inl short ↦
-          absurd (elim (no_more progress.due progress (were progress.due short)) [ inl before ↦ omega arith | inr waits ↦ not_waiting progress.due progress.waiting clear waits ])
+          absurd (elim (no_more progress.expected progress (were progress.expected short)) [ inl before ↦ omega arith | inr waits ↦ not_waiting progress.expected progress.waiting clear waits ])
       | inr full ↦ full
     ]
 
--- the numbers of the octets that are taken with a segment, and after it
-sums : (size due : ℕ) (octets went rest : List ℕ) → went ≡ octets → size ≤ due + length octets + length rest → size ≤ due + length (went ++ rest)
-sums size due octets went rest same le = let count = ap length same in simp length-append (omega arith)
+-- the number of octets that are delivered with a segment and with those after it
+sums : (size expected : ℕ) (octets went rest : List ℕ) → went ≡ octets → size ≤ expected + length octets + length rest → size ≤ expected + length (went ++ rest)
+sums size expected octets went rest same le = let count = ap length same in simp length-append (omega arith)
 
--- a segment, and those after it if the direction is open still
-reach_on : (stream : List ℕ) (pieces : List Piece) (p : Progress) (piece : Piece) (went : Outcome × State) → IsPiece stream p piece → IsFair stream p piece → AtEnd (length stream) p.fin → GoesOn (onward p piece.1) (taken p piece.1) went → (went.1 ≡ Open (onward p piece.1) → AtEnd (length stream) (onward p piece.1).fin → length stream ≤ (onward p piece.1).due + length (taken_of went.1 pieces)) → length stream ≤ p.due + length (went.0.octets ++ taken_of went.1 pieces)
+-- a segment, and those after it if the direction is still open
+reach_on : (stream : List ℕ) (pieces : List Piece) (p : Progress) (piece : Piece) (went : Outcome × State) → IsPiece stream p piece → IsFair stream p piece → AtEnd (length stream) p.fin → GoesOn (advanced p piece.1) (delivered p piece.1) went → (went.1 ≡ Open (advanced p piece.1) → AtEnd (length stream) (advanced p piece.1).fin → length stream ≤ (advanced p piece.1).expected + length (delivered_of went.1 pieces)) → length stream ≤ p.expected + length (went.0.octets ++ delivered_of went.1 pieces)
 reach_on stream pieces p piece went is fair at goes later =
-    let next = onward p piece.1 in
+    let next = advanced p piece.1 in
     let fin = fin_at_end stream p piece is fair at in
-    sums (length stream) p.due (taken p piece.1) went.0.octets (taken_of went.1 pieces) goes.0
+    sums (length stream) p.expected (delivered p piece.1) went.0.octets (delivered_of went.1 pieces) goes.0
     (elim goes.1 [
       | inl opens ↦ later opens fin
       | inr over ↦
-          let full : length stream ≤ next.due = reached (length stream) next.fin next.due fin (by_fin (is_reached next.fin next.due) (nat_lt MOST_WAITING (length next.waiting)) over.1 fair.few_wait) in
+          let full : length stream ≤ next.expected = reached (length stream) next.fin next.expected fin (by_fin (is_reached next.fin next.expected) (nat_lt MOST_WAITING (length next.waiting)) over.1 fair.few_wait) in
           omega arith
     ])
 
-all_reach : (stream : List ℕ) (pieces : List Piece) (p : Progress) → Clear p → AtEnd (length stream) p.fin → ((place : ℕ) → place < length stream → Was place p ⊎ IsCaptured place pieces) → PiecesOf stream (Open p) pieces → AllFair stream (Open p) pieces → length stream ≤ p.due + length (taken_of (Open p) pieces)
-all_reach stream [] p clear at were of fair = let due = all_due stream p clear were in omega arith
+all_reach : (stream : List ℕ) (pieces : List Piece) (p : Progress) → Clear p → AtEnd (length stream) p.fin → ((place : ℕ) → place < length stream → Was place p ⊎ IsCaptured place pieces) → PiecesOf stream (Open p) pieces → AllFair stream (Open p) pieces → length stream ≤ p.expected + length (delivered_of (Open p) pieces)
+all_reach stream [] p clear at were of fair = let expected = all_expected stream p clear were in omega arith
 all_reach stream (piece ∷ pieces) p clear at were of fair =
     reach_on stream pieces p piece (step (Open p) piece.1) of.0.1 fair.0 at (step_goes p piece.1 of.0.0 fair.0.no_reset fair.0.near)
     (λ opens fin.
-    subst (λ (state : State). length stream ≤ (onward p piece.1).due + length (taken_of state pieces)) (sym opens)
-    (all_reach stream pieces (onward p piece.1) (onward_clear p piece.1 clear) fin
+    subst (λ (state : State). length stream ≤ (advanced p piece.1).expected + length (delivered_of state pieces)) (sym opens)
+    (all_reach stream pieces (advanced p piece.1) (onward_clear p piece.1 clear) fin
     (λ place below. still_was stream place p piece pieces of.0.1 (were place below))
     (subst (λ (state : State). PiecesOf stream state pieces) opens of.1)
     (subst (λ (state : State). AllFair stream state pieces) opens fair.1)))
 
 -- from a SYN on
-first_reach : (stream : List ℕ) (piece : Piece) (pieces : List Piece) → ((place : ℕ) → place < length stream → IsCaptured place (piece ∷ pieces)) → PiecesOf stream Fresh (piece ∷ pieces) → AllFair stream Fresh (piece ∷ pieces) → length stream ≤ 0 + length (taken_of Fresh (piece ∷ pieces))
+first_reach : (stream : List ℕ) (piece : Piece) (pieces : List Piece) → ((place : ℕ) → place < length stream → IsCaptured place (piece ∷ pieces)) → PiecesOf stream Fresh (piece ∷ pieces) → AllFair stream Fresh (piece ∷ pieces) → length stream ≤ 0 + length (delivered_of Fresh (piece ∷ pieces))
 unfolding Sorted AtEnd
 first_reach stream piece pieces captured of fair =
     let p = at_first piece.1 in
     reach_on stream pieces p piece (step Fresh piece.1) of.0.2 fair.0 tt (first_goes piece.1 of.0.0 of.0.1 fair.0.near)
     (λ opens fin.
-    subst (λ (state : State). length stream ≤ (onward p piece.1).due + length (taken_of state pieces)) (sym opens)
-    (all_reach stream pieces (onward p piece.1) (onward_clear p piece.1 tt) fin
+    subst (λ (state : State). length stream ≤ (advanced p piece.1).expected + length (delivered_of state pieces)) (sym opens)
+    (all_reach stream pieces (advanced p piece.1) (onward_clear p piece.1 tt) fin
     (λ place below. still_was stream place p piece pieces of.0.2 (inr (captured place below)))
     (subst (λ (state : State). PiecesOf stream state pieces) opens of.1)
     (subst (λ (state : State). AllFair stream state pieces) opens fair.1)))
@@ -353,14 +353,14 @@ nothing : (size : ℕ) → ((place : ℕ) → place < size → IsCaptured place 
 nothing zero captured = omega arith
 nothing (suc size) captured = absurd (captured 0 (omega arith))
 
-reach : (stream : List ℕ) (state : State) (pieces : List Piece) → IsFirst state → PiecesOf stream state pieces → AllFair stream state pieces → ((place : ℕ) → place < length stream → IsCaptured place pieces) → length stream ≤ 0 + length (taken_of state pieces)
+reach : (stream : List ℕ) (state : State) (pieces : List Piece) → IsFirst state → PiecesOf stream state pieces → AllFair stream state pieces → ((place : ℕ) → place < length stream → IsCaptured place pieces) → length stream ≤ 0 + length (delivered_of state pieces)
 unfolding Sorted AtEnd
 reach stream Fresh [] first of fair captured = let none = nothing (length stream) captured in omega arith
 reach stream Fresh (piece ∷ pieces) first of fair captured = first_reach stream piece pieces captured of fair
 reach stream (Open progress) pieces first of fair captured =
-    let due : progress.due ≡ 0 = ap (λ (p : Progress). p.due) first in
+    let expected : progress.expected ≡ 0 = ap (λ (p : Progress). p.expected) first in
     let full = all_reach stream pieces progress
-    (subst (λ (p : Progress). Sorted (suc p.due) p.waiting) (sym first) tt)
+    (subst (λ (p : Progress). Sorted (suc p.expected) p.waiting) (sym first) tt)
     (subst (λ (p : Progress). AtEnd (length stream) p.fin) (sym first) tt)
     (λ place below. inr (captured place below)) of fair in
     omega arith
@@ -375,11 +375,11 @@ got (first ∷ stream) (suc place) octet is =
     let next : suc (place + 1) ≡ suc place + 1 = omega arith in
     subst (λ (n : ℕ). drop place stream ≡ octet ∷ drop n (first ∷ stream)) next (got stream place octet is)
 
-fills : (stream : List ℕ) (place : ℕ) (octets : List ℕ) → Stands stream place octets → length stream ≤ place + length octets → octets ≡ drop place stream
-fills stream place [] stands full = sym (drop_of_length-le stream (omega arith))
-fills stream place (octet ∷ octets) stands full =
-    ap (λ (os : List ℕ). octet ∷ os) (fills stream (place + 1) octets stands.1 (omega arith))
-    ∙ sym (got stream place octet stands.0)
+fills : (stream : List ℕ) (place : ℕ) (octets : List ℕ) → HasAt stream place octets → length stream ≤ place + length octets → octets ≡ drop place stream
+fills stream place [] has_octets full = sym (drop_of_length-le stream (omega arith))
+fills stream place (octet ∷ octets) has_octets full =
+    ap (λ (os : List ℕ). octet ∷ os) (fills stream (place + 1) octets has_octets.1 (omega arith))
+    ∙ sym (got stream place octet has_octets.0)
 
-pub takes_all : TakesAll
-takes_all stream state pieces first of fair captured = fills stream 0 (taken_of state pieces) (takes_the_stream stream state pieces first of) (reach stream state pieces first of fair captured)
+pub delivers_all : DeliversAll
+delivers_all stream state pieces first of fair captured = fills stream 0 (delivered_of state pieces) (delivers_the_stream stream state pieces first of) (reach stream state pieces first of fair captured)

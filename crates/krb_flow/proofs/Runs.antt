@@ -1,4 +1,4 @@
--- Octets that wait in runs: what is kept with them, what of them is ready, and how many they are.
+-- Octets that wait in runs: those that are kept with them, those that are ready, and their number.
 use Rattle.std.proofs.Common.{◌≡◌, ℕ, zero, suc, ◌+◌, ◌-◌, ◌^◌, ◌<◌, ◌≤◌, inl, inr, Bool, true, false, cond, Option, Some, None, List, [], ◌∷◌, ◌++◌, length, take, drop, refl, sym, ap, subst, ◌∙◌, arith, add-zero, append-nil, append_assoc, length-append}
 use Rattle.std.specs.Prelude.{slice_get, IsSome, IfSome}
 use Rattle.std.specs.Global.{Vec}
@@ -17,10 +17,10 @@ use Rattle.std.proofs.lemmas.Bool.Decides.{nat_tests}
 use Rattle.std.proofs.lemmas.List.{nil_from_length}
 use Rattle.krb_flow.specs.Waiting.{Waiting, keep_one, keep, ready, early}
 use Rattle.krb_flow.specs.inner.Runs.{Runs, places, waiting_in, AreApart, AreFree}
-use Rattle.krb_flow.specs.inner.Stretches.{AreHeld}
+use Rattle.krb_flow.specs.inner.Stretches.{AreOccupied}
 use Rattle.krb_flow.proofs.Places.{IsFrom, from_fewer, kept_one_after, kept_after, kept_at, ready_at, early_at, next_place}
 
--- ---- octets that stand from a place on
+-- ---- octets from a place on
 
 pub count_places : (place : ℕ) (octets : List ℕ) → length (places place octets) ≡ length octets
 count_places place [] = refl
@@ -51,9 +51,9 @@ kept_past first place (octet ∷ run) octets waiting after =
     kept_after first octet place octets (places (first + 1) run ++ waiting) (omega arith)
     ∙ ap (λ (w : Waiting). (first, octet) ∷ w) (kept_past (first + 1) place run octets waiting (omega arith))
 
--- octets where a run is
-held_here : (place first octet other : ℕ) (waiting : Waiting) → place ≡ first → keep_one place octet ((first, other) ∷ waiting) ≡ (first, other) ∷ waiting
-held_here place first octet other waiting same = rw (le-ltb place first (omega arith), eq-eqb place first same) refl
+-- octets at the places of a run
+occupied_here : (place first octet other : ℕ) (waiting : Waiting) → place ≡ first → keep_one place octet ((first, other) ∷ waiting) ≡ (first, other) ∷ waiting
+occupied_here place first octet other waiting same = rw (le-ltb place first (omega arith), eq-eqb place first same) refl
 
 one_within : (first place octet : ℕ) (run : List ℕ) (waiting : Waiting) → first ≤ place → place < first + length run → keep_one place octet (places first run ++ waiting) ≡ places first run ++ waiting
 one_within first place octet [] waiting after before = absurd (omega arith)
@@ -62,7 +62,7 @@ one_within first place octet (other ∷ run) waiting after before =
       | inl later ↦
           kept_one_after first other place octet (places (first + 1) run ++ waiting) later
           ∙ ap (λ (w : Waiting). (first, other) ∷ w) (one_within (first + 1) place octet run waiting (omega arith) (omega arith))
-      | inr here ↦ held_here place first octet other (places (first + 1) run ++ waiting) (omega arith)
+      | inr here ↦ occupied_here place first octet other (places (first + 1) run ++ waiting) (omega arith)
     ]
 
 kept_within : (first place : ℕ) (run octets : List ℕ) (waiting : Waiting) → first ≤ place → place + length octets ≤ first + length run → keep place octets (places first run ++ waiting) ≡ places first run ++ waiting
@@ -79,7 +79,7 @@ kept_in_two place (suc count) (octet ∷ octets) waiting =
     subst (λ (n : ℕ). keep n (drop count octets) (keep (place + 1) (take count octets) (keep_one place octet waiting)) ≡ keep (place + 1) octets (keep_one place octet waiting)) (next_place place count)
     (kept_in_two (place + 1) count octets (keep_one place octet waiting))
 
--- ---- what runs have
+-- ---- the octets of runs
 
 pub apart_from : (low : ℕ) (runs : Runs) → AreApart low runs → IsFrom low (waiting_in runs)
 unfolding IsFrom
@@ -123,7 +123,7 @@ apart_after place count low (run ∷ runs) le fits apart free =
       | inr after ↦ (some, omega arith, apart.2)
     ]
 
--- ---- a run put among others
+-- ---- a run inserted among others
 
 -- no run ends at a place before all of them
 no_run : (place low : ℕ) (runs : Runs) → place ≤ low → AreApart low runs → (lookup (is_at (nat_cmp place)) runs ≡ None) × (remove_entry (is_at (nat_cmp place)) runs ≡ runs)
@@ -188,7 +188,7 @@ put_behind low place octets first runs new after apart put =
       apart = (apart.0, room, put.apart);
     }
 
--- what the run has that ends at a place
+-- the octets of the run that ends at a place
 abbrev pub ends_at : ℕ → Runs → Vec ℕ → List ℕ
 ends_at place runs empty = (unwrap_or (lookup (is_at (nat_cmp place)) runs) empty).items
 
@@ -333,7 +333,7 @@ pub record IsFirstPast (place : ℕ) (runs : Runs) (run : ℕ × Vec ℕ) : Type
   pub past : place < run.0
   pub some : 0 < length run.1.items
   pub whole : length run.1.items ≤ run.0
-  pub held : run.0 - length run.1.items ≤ place → AreHeld place (run.0 - place) runs
+  pub occupied : run.0 - length run.1.items ≤ place → AreOccupied place (run.0 - place) runs
   pub free : (count : ℕ) → place + count + length run.1.items ≤ run.0 → AreFree place count runs
 
 past_here : (place low : ℕ) (first : ℕ × Vec ℕ) (runs : Runs) → AreApart low (first ∷ runs) → place < first.0 → IsFirstPast place (first ∷ runs) first
@@ -343,7 +343,7 @@ past_here place low first runs apart past =
       past = past;
       some = apart.0;
       whole = omega arith;
-      held = λ within octets few. kept_within (first.0 - length first.1.items) place first.1.items octets (waiting_in runs) within (omega arith);
+      occupied = λ within octets few. kept_within (first.0 - length first.1.items) place first.1.items octets (waiting_in runs) within (omega arith);
       free = λ count after. (inr after, free_before place count first.0 runs (omega arith) apart.2);
     }
 
@@ -355,9 +355,9 @@ past_later place low first run runs apart before next =
       past = next.past;
       some = next.some;
       whole = next.whole;
-      held = λ within octets few.
+      occupied = λ within octets few.
           kept_past start place first.1.items octets (waiting_in runs) (omega arith)
-          ∙ ap (λ (w : Waiting). places start first.1.items ++ w) (next.held within octets few);
+          ∙ ap (λ (w : Waiting). places start first.1.items ++ w) (next.occupied within octets few);
       free = λ count after. (inl before, next.free count after);
     }
 
@@ -406,7 +406,7 @@ from_first low (first ∷ runs) run apart is =
     let room : low + length first.1.items ≤ first.0 = apart.1 in
     subst (λ (r : ℕ × Vec ℕ). IsFrom (r.0 - length r.1.items) (waiting_in (first ∷ runs))) same (apart_from (first.0 - length first.1.items) (first ∷ runs) (apart.0, omega arith, apart.2))
 
--- what is ready, of a run that begins there
+-- the octets that are ready, if a run begins at the place expected
 ready_run : (place : ℕ) (run : List ℕ) (waiting : Waiting) → ready place (places place run ++ waiting) ≡ run ++ ready (place + length run) waiting
 ready_run place [] waiting = rw (add-zero place) refl
 ready_run place (octet ∷ run) waiting =
@@ -421,10 +421,10 @@ early_run place (octet ∷ run) waiting =
     ∙ early_run (place + 1) run waiting
     ∙ ap (λ (n : ℕ). early n waiting) (next_place place (length run))
 
--- The first run is due, and then those after it.
-pub record GoesOut (due : ℕ) (run : Vec ℕ) (old new : Runs) : Type 0 where
-  pub ready : ready due (waiting_in old) ≡ run.items ++ ready (due + length run.items) (waiting_in new)
-  pub early : early due (waiting_in old) ≡ early (due + length run.items) (waiting_in new)
+-- The first run is ready, and then those after it.
+pub record GoesOut (expected : ℕ) (run : Vec ℕ) (old new : Runs) : Type 0 where
+  pub ready : ready expected (waiting_in old) ≡ run.items ++ ready (expected + length run.items) (waiting_in new)
+  pub early : early expected (waiting_in old) ≡ early (expected + length run.items) (waiting_in new)
   pub count : length (waiting_in old) ≡ length run.items + length (waiting_in new)
   pub apart : AreApart 0 new
 
@@ -434,8 +434,8 @@ apart_lower low lower (run ∷ runs) le apart =
     let room : low + length run.1.items ≤ run.0 = apart.1 in
     (apart.0, omega arith, apart.2)
 
-goes_out : (due : ℕ) (run : ℕ × Vec ℕ) (runs : Runs) → AreApart 0 (run ∷ runs) → run.0 - length run.1.items ≡ due → GoesOut due run.1 (run ∷ runs) runs
-goes_out due run runs apart here =
+goes_out : (expected : ℕ) (run : ℕ × Vec ℕ) (runs : Runs) → AreApart 0 (run ∷ runs) → run.0 - length run.1.items ≡ expected → GoesOut expected run.1 (run ∷ runs) runs
+goes_out expected run runs apart here =
     let start : ℕ = run.0 - length run.1.items in
     record {
       ready = subst (λ (n : ℕ). ready n (waiting_in (run ∷ runs)) ≡ run.1.items ++ ready (n + length run.1.items) (waiting_in runs)) here (ready_run start run.1.items (waiting_in runs));
@@ -444,7 +444,7 @@ goes_out due run runs apart here =
       apart = apart_lower run.0 0 runs (omega arith) apart.2;
     }
 
--- what `pop_first` leaves
+-- the runs after `pop_first`
 popped : (old new : Runs) (first : Option (ℕ × Vec ℕ)) (run : ℕ × Vec ℕ) → slice_get old 0 ≡ Some run → (0 < length old → IsSome first) → IfSome first (λ p. old ≡ p ∷ new) → old ≡ run ∷ new
 popped [] new first run is some removal = cc
 popped (head ∷ old) new None run is some removal = let none = some (omega arith) in cc
@@ -453,29 +453,29 @@ popped (head ∷ old) new (Some p) run is some removal =
     let same : p ≡ run = cc in
     removal ∙ ap (λ (q : ℕ × Vec ℕ). q ∷ new) same
 
-pub pops_out : (due : ℕ) (old new : Runs) (first : Option (ℕ × Vec ℕ)) (run : ℕ × Vec ℕ) → AreApart 0 old → slice_get old 0 ≡ Some run → (0 < length old → IsSome first) → IfSome first (λ p. old ≡ p ∷ new) → run.0 - length run.1.items ≡ due → GoesOut due run.1 old new
-pops_out due old new first run apart is some removal here =
+pub pops_out : (expected : ℕ) (old new : Runs) (first : Option (ℕ × Vec ℕ)) (run : ℕ × Vec ℕ) → AreApart 0 old → slice_get old 0 ≡ Some run → (0 < length old → IsSome first) → IfSome first (λ p. old ≡ p ∷ new) → run.0 - length run.1.items ≡ expected → GoesOut expected run.1 old new
+pops_out expected old new first run apart is some removal here =
     let all : old ≡ run ∷ new = popped old new first run is some removal in
-    subst (λ (l : Runs). GoesOut due run.1 l new) (sym all) (goes_out due run new (subst (AreApart 0) all apart) here)
+    subst (λ (l : Runs). GoesOut expected run.1 l new) (sym all) (goes_out expected run new (subst (AreApart 0) all apart) here)
 
--- it goes after what was released
-pub released_more : (due : ℕ) (before run after : List ℕ) (old new : Runs) (v : Vec ℕ) → v.items ≡ run → after ≡ before ++ run → GoesOut (due + length before) v old new → (after ++ ready (due + length after) (waiting_in new) ≡ before ++ ready (due + length before) (waiting_in old)) × (early (due + length after) (waiting_in new) ≡ early (due + length before) (waiting_in old))
-released_more due before run after old new v same is goes =
-    let next : due + length after ≡ due + length before + length v.items = omega (arith, ap length is, ap length same, length-append before run) in (
+-- the first run follows what was released
+pub released_more : (expected : ℕ) (before run after : List ℕ) (old new : Runs) (v : Vec ℕ) → v.items ≡ run → after ≡ before ++ run → GoesOut (expected + length before) v old new → (after ++ ready (expected + length after) (waiting_in new) ≡ before ++ ready (expected + length before) (waiting_in old)) × (early (expected + length after) (waiting_in new) ≡ early (expected + length before) (waiting_in old))
+released_more expected before run after old new v same is goes =
+    let next : expected + length after ≡ expected + length before + length v.items = omega (arith, ap length is, ap length same, length-append before run) in (
       ap (λ (n : ℕ). after ++ ready n (waiting_in new)) next
-          ∙ ap (λ (l : List ℕ). l ++ ready (due + length before + length v.items) (waiting_in new)) (is ∙ ap (λ (l : List ℕ). before ++ l) (sym same))
-          ∙ append_assoc before v.items (ready (due + length before + length v.items) (waiting_in new))
+          ∙ ap (λ (l : List ℕ). l ++ ready (expected + length before + length v.items) (waiting_in new)) (is ∙ ap (λ (l : List ℕ). before ++ l) (sym same))
+          ∙ append_assoc before v.items (ready (expected + length before + length v.items) (waiting_in new))
           ∙ ap (λ (l : List ℕ). before ++ l) (sym goes.ready),
       ap (λ (n : ℕ). early n (waiting_in new)) next ∙ sym goes.early,
     )
 
--- or it is not
-pub goes_on_waiting : (due low : ℕ) (runs : Runs) (run : ℕ × Vec ℕ) → AreApart low runs → slice_get runs 0 ≡ Some run → (run.0 - length run.1.items ≡ due → ⊥) → (ready due (waiting_in runs) ≡ []) × (early due (waiting_in runs) ≡ waiting_in runs)
-goes_on_waiting due low [] run apart is other = cc
-goes_on_waiting due low (first ∷ runs) run apart is other =
+-- or it does not
+pub goes_on_waiting : (expected low : ℕ) (runs : Runs) (run : ℕ × Vec ℕ) → AreApart low runs → slice_get runs 0 ≡ Some run → (run.0 - length run.1.items ≡ expected → ⊥) → (ready expected (waiting_in runs) ≡ []) × (early expected (waiting_in runs) ≡ waiting_in runs)
+goes_on_waiting expected low [] run apart is other = cc
+goes_on_waiting expected low (first ∷ runs) run apart is other =
     let same : first ≡ run = cc in
     stops_at (first.0 - length first.1.items) first.1.items apart.0 (λ here. other (ap (λ (r : ℕ × Vec ℕ). r.0 - length r.1.items) (sym same) ∙ here))
   where
-    stops_at : (start : ℕ) (octets : List ℕ) → 0 < length octets → (start ≡ due → ⊥) → (ready due (places start octets ++ waiting_in runs) ≡ []) × (early due (places start octets ++ waiting_in runs) ≡ places start octets ++ waiting_in runs)
+    stops_at : (start : ℕ) (octets : List ℕ) → 0 < length octets → (start ≡ expected → ⊥) → (ready expected (places start octets ++ waiting_in runs) ≡ []) × (early expected (places start octets ++ waiting_in runs) ≡ places start octets ++ waiting_in runs)
     stops_at start [] some other = absurd (omega arith)
-    stops_at start (octet ∷ octets) some other = (rw (ne_eqb start due other) refl, rw (ne_eqb start due other) refl)
+    stops_at start (octet ∷ octets) some other = (rw (ne_eqb start expected other) refl, rw (ne_eqb start expected other) refl)

@@ -1,4 +1,4 @@
--- A direction of a TCP connection: what comes of its segments, in the order in which they were captured (RFC 9293, 3.4 and 3.10).
+-- A direction of a TCP connection: the outcome of each of its segments, in the order in which they were captured (RFC 9293, 3.4 and 3.10).
 use Rattle.std.specs.Prelude.{ℕ, ◌+◌, ◌-◌, ◌%◌, ◌^◌, max, min, Bool, true, false, not, ◌&&◌, ◌||◌, ◌==◌, nat_lt, nat_le, Option, Some, None, List, [], ◌∷◌, ◌++◌, length, drop}
 use Rattle.std.specs.Int.{from_bool}
 use Rattle.krb_der.specs.Octets.{when}
@@ -16,39 +16,39 @@ use Rattle.krb_flow.specs.declared.direction.Taken.{Taken}
 use Rattle.krb_flow.specs.declared.direction.State.{State}
 use Rattle.krb_flow.specs.declared.direction.State.TheVariants.{Fresh, Open, Ended}
 
--- ---- where the octets of a segment stand
+-- ---- the places of the octets of a segment
 
--- the first one's number: a SYN has one before it
+-- the sequence number of the first octet; that of a SYN is the one before
 abbrev pub first_number : Segment → ℕ
 first_number segment = (segment.sequence + from_bool segment.syn) % 2 ^ 32
 
--- how far that is from the next octet that is due
+-- its distance from that of the next octet expected
 abbrev pub distance_to : Progress → Segment → Distance
-distance_to progress segment = distance ((progress.first + progress.due % 2 ^ 32) % 2 ^ 32) (first_number segment)
+distance_to progress segment = distance ((progress.first + progress.expected % 2 ^ 32) % 2 ^ 32) (first_number segment)
 
--- the place of the first one that is not before the one due
+-- the place of the first octet that is not before the one expected
 abbrev pub start : ℕ → Distance → ℕ
-start due distance = due + ahead distance
+start expected distance = expected + ahead distance
 
--- the place after the last one on the wire, unless that is before octet 0
+-- the place after the last octet on the wire, unless that is before octet 0
 abbrev pub end_place : ℕ → Distance → ℕ → Option ℕ
-end_place due distance size = when (nat_lt (start due distance + size) (behind distance)) (λ _. None) (λ _. Some (start due distance + size - behind distance))
+end_place expected distance size = when (nat_lt (start expected distance + size) (behind distance)) (λ _. None) (λ _. Some (start expected distance + size - behind distance))
 
--- ---- a segment taken
+-- ---- a segment is delivered
 
--- one that begins too far ahead, or goes past the greatest place, is passed over
-abbrev pub is_passed : Progress → Segment → Bool
-is_passed progress segment = nat_lt MOST_AHEAD (ahead (distance_to progress segment)) || nat_le MOST_OCTETS (progress.due + segment.payload.size)
+-- whether a segment is skipped: it begins too far ahead, or would pass the greatest place
+abbrev pub is_skipped : Progress → Segment → Bool
+is_skipped progress segment = nat_lt MOST_AHEAD (ahead (distance_to progress segment)) || nat_le MOST_OCTETS (progress.expected + segment.payload.size)
 
--- What waits with it: octets before the one due were taken, so these are copies.
+-- the octets that wait, with those of the segment; its octets before the one expected are copies of delivered ones
 abbrev pub kept : Progress → Segment → Waiting
 kept progress segment =
     let distance = distance_to progress segment in
-    keep (start progress.due distance) (drop (behind distance) segment.payload.octets) progress.waiting
+    keep (start progress.expected distance) (drop (behind distance) segment.payload.octets) progress.waiting
 
--- an octet is taken once all before it are
-abbrev pub taken : Progress → Segment → List ℕ
-taken progress segment = ready progress.due (kept progress segment)
+-- the octets that are delivered with a segment: an octet is delivered once all before it are
+abbrev pub delivered : Progress → Segment → List ℕ
+delivered progress segment = ready progress.expected (kept progress segment)
 
 abbrev pub later : Option ℕ → ℕ → ℕ
 later None place = place
@@ -61,45 +61,45 @@ earlier (Some other) (Some place) = Some (min place other)
 
 abbrev pub seen_with : Progress → Segment → ℕ
 seen_with progress segment =
-    when (nat_lt 0 segment.payload.size || segment.fin) (λ _. later (end_place progress.due (distance_to progress segment) segment.payload.size) progress.seen) (λ _. progress.seen)
+    when (nat_lt 0 segment.payload.size || segment.fin) (λ _. later (end_place progress.expected (distance_to progress segment) segment.payload.size) progress.seen) (λ _. progress.seen)
 
--- a FIN stands after the octets of its segment
+-- the place of the FIN, which follows the octets of its segment
 abbrev pub fin_with : Progress → Segment → Option ℕ
 fin_with progress segment =
-    when segment.fin (λ _. earlier (end_place progress.due (distance_to progress segment) segment.payload.size) progress.fin) (λ _. progress.fin)
+    when segment.fin (λ _. earlier (end_place progress.expected (distance_to progress segment) segment.payload.size) progress.fin) (λ _. progress.fin)
 
-abbrev pub onward : Progress → Segment → Progress
-onward progress segment = record progress {
-  due = progress.due + length (taken progress segment);
-  waiting = early progress.due (kept progress segment);
+abbrev pub advanced : Progress → Segment → Progress
+advanced progress segment = record progress {
+  expected = progress.expected + length (delivered progress segment);
+  waiting = early progress.expected (kept progress segment);
   seen = seen_with progress segment;
   fin = fin_with progress segment;
 }
 
--- the octets taken, and what it comes to
-abbrev pub taking : Progress → Segment → List ℕ × Progress
-taking progress segment = when (is_passed progress segment) (λ _. ([], progress)) (λ _. (taken progress segment, onward progress segment))
+-- the octets that are delivered with a segment, and the progress then
+abbrev pub deliver : Progress → Segment → List ℕ × Progress
+deliver progress segment = when (is_skipped progress segment) (λ _. ([], progress)) (λ _. (delivered progress segment, advanced progress segment))
 
 -- ---- the end
 
--- all before the FIN were taken, or too many wait
+-- whether all octets before the FIN were delivered, or too many wait
 abbrev pub is_reached : Option ℕ → ℕ → Bool
-is_reached None due = false
-is_reached (Some fin) due = nat_le fin due
+is_reached None expected = false
+is_reached (Some fin) expected = nat_le fin expected
 
 abbrev pub is_over : Progress → Bool
-is_over progress = is_reached progress.fin progress.due || nat_lt MOST_WAITING (length progress.waiting)
+is_over progress = is_reached progress.fin progress.expected || nat_lt MOST_WAITING (length progress.waiting)
 
--- The octets that are known to be missing are those up to the first one that waits, or else up to the last one that was seen.
+-- The octets that are known to be missing are those before the first one that waits, or else up to the last one that was seen.
 abbrev pub first_place : Waiting → ℕ → ℕ
 first_place [] seen = seen
 first_place (entry ∷ entries) seen = entry.0
 
 abbrev pub missing : ℕ → ℕ → End
-missing due place = when (nat_lt due place) (λ _. ends.Lost (record { place = due; octets = place - due })) (λ _. ends.Complete)
+missing expected place = when (nat_lt expected place) (λ _. ends.Lost (record { place = expected; octets = place - expected })) (λ _. ends.Complete)
 
 abbrev pub ending : Progress → End
-ending progress = missing progress.due (first_place progress.waiting progress.seen)
+ending progress = missing progress.expected (first_place progress.waiting progress.seen)
 
 -- ---- a direction, which may begin again
 
@@ -113,7 +113,7 @@ ended Fresh = Fresh
 ended (Open progress) = Ended
 ended Ended = Ended
 
--- the SYN that it began with, captured again
+-- whether a SYN is a copy of the one that the direction began with
 abbrev pub is_copy : State → ℕ → Bool
 is_copy Fresh first = false
 is_copy (Open progress) first = not progress.joined && (progress.first == first)
@@ -124,54 +124,54 @@ is_fresh Fresh = true
 is_fresh (Open progress) = false
 is_fresh Ended = false
 
--- how what was there ended, how it began, and the state then
+-- how the direction before ended, how this one began, and the state then
 abbrev pub Begun : Type 0
 Begun = Option End × Option Beginning × State
 
--- any other SYN begins it anew: octet 0 is the one after its number
+-- any other SYN begins the direction again; octet 0 has the sequence number after that of the SYN
 abbrev pub at_syn : State → ℕ → Begun
 at_syn state first = when (is_copy state first) (λ _. (None, None, state)) (λ _. (end_of state, Some beginnings.Syn, Open (begun first false)))
 
--- data that come before any SYN begin it at their first octet
+-- data before any SYN begin the direction at their first octet
 abbrev pub at_data : State → Segment → Begun
 at_data state segment = when (is_fresh state && nat_lt 0 segment.payload.size) (λ _. (None, Some beginnings.Joined, Open (begun segment.sequence true))) (λ _. (None, None, state))
 
 abbrev pub begins : State → Segment → Begun
 begins state segment = when segment.syn (λ _. at_syn state ((segment.sequence + 1) % 2 ^ 32)) (λ _. at_data state segment)
 
--- the octets taken, how it ended with them, and the state then
-abbrev pub Gone : Type 0
-Gone = List ℕ × Option End × State
+-- the octets that are delivered, how the direction ended with them, and the state then
+abbrev pub Delivery : Type 0
+Delivery = List ℕ × Option End × State
 
-abbrev pub unless_over : List ℕ × Progress → Gone
+abbrev pub unless_over : List ℕ × Progress → Delivery
 unless_over went = when (is_over went.1) (λ _. (went.0, Some (ending went.1), Ended)) (λ _. (went.0, None, Open went.1))
 
-abbrev pub goes_on : State → Segment → Gone
+abbrev pub goes_on : State → Segment → Delivery
 goes_on Fresh segment = ([], None, Fresh)
-goes_on (Open progress) segment = unless_over (taking progress segment)
+goes_on (Open progress) segment = unless_over (deliver progress segment)
 goes_on Ended segment = ([], None, Ended)
 
--- What comes of a segment: how what was there before a SYN ended, how the direction began, the octets that are taken, and how it ended.
+-- The outcome of a segment: how the direction before a SYN ended, how this one began, the octets that are delivered, and how it ended.
 pub record Outcome : Type 0 where
   pub before : Option End
   pub begins : Option Beginning
   pub octets : List ℕ
   pub end : Option End
 
--- what code returns of it: the octets borrowed from the segment, and those that waited
+-- the outcome that a function returns: the octets borrowed from the segment, and those that waited
 abbrev pub outcome_of : Taken → List ℕ → Outcome
-outcome_of taken waited = record { before = taken.before; begins = taken.begins; octets = taken.octets.now ++ waited; end = taken.end }
+outcome_of delivered waited = record { before = delivered.before; begins = delivered.begins; octets = delivered.octets.now ++ waited; end = delivered.end }
 
-abbrev pub joined : Begun → Gone → Outcome × State
+abbrev pub joined : Begun → Delivery → Outcome × State
 joined begun gone = (record { before = begun.0; begins = begun.1; octets = gone.0; end = gone.1 }, gone.2)
 
--- a RST ends it
+-- the outcome of a segment, and the state then; a RST ends the direction
 abbrev pub step : State → Segment → Outcome × State
 step state segment =
     when segment.rst (λ _. (record { before = None; begins = None; octets = []; end = end_of state }, ended state)) (λ _.
     let begun = begins state segment in joined begun (goes_on begun.2 segment))
 
--- what comes of all of them, and what is known at the end of the capture
+-- the outcomes of all segments, and the state after them
 abbrev pub outcomes : State → List Segment → List Outcome
 outcomes state [] = []
 outcomes state (segment ∷ segments) = (step state segment).0 ∷ outcomes (step state segment).1 segments

@@ -4,20 +4,20 @@ use Rattle.krb_der.specs.Octets.{when}
 use Rattle.krb_flow.specs.declared.serial.Distance.{Distance}
 use Rattle.krb_flow.specs.declared.serial.Distance.TheVariants.{Ahead, Behind}
 
--- how many numbers after a first one a second one is
+-- how many numbers after a first one a second one comes
 abbrev pub from_to : ℕ → ℕ → ℕ
 from_to first second = (second + (2 ^ 32 - first)) % 2 ^ 32
 
--- How far a number is from the one that is due. The nearer way round decides: after it within 2^31, and else before it.
+-- The distance of a number from the one that is expected: the shorter way round, after it if that is less than 2^31, and else before it.
 abbrev pub distance : ℕ → ℕ → Distance
-distance due number = when (nat_lt (from_to due number) (2 ^ 31)) (λ _. Ahead (from_to due number)) (λ _. Behind (from_to number due))
+distance expected number = when (nat_lt (from_to expected number) (2 ^ 31)) (λ _. Ahead (from_to expected number)) (λ _. Behind (from_to number expected))
 
--- what a distance says of the two numbers, by nothing but sums
+-- what a distance says of two numbers, as a sum
 abbrev pub Separates : ℕ → ℕ → Distance → Type 0
-Separates due number (Ahead count) = (count < 2 ^ 31) × (number ≡ (due + count) % 2 ^ 32)
-Separates due number (Behind count) = (0 < count) × (count ≤ 2 ^ 31) × (due ≡ (number + count) % 2 ^ 32)
+Separates expected number (Ahead count) = (count < 2 ^ 31) × (number ≡ (expected + count) % 2 ^ 32)
+Separates expected number (Behind count) = (0 < count) × (count ≤ 2 ^ 31) × (expected ≡ (number + count) % 2 ^ 32)
 
--- how many numbers after the one that is due, and how many before it
+-- how many numbers after the one that is expected, and how many before it
 abbrev pub ahead : Distance → ℕ
 ahead (Ahead count) = count
 ahead (Behind count) = 0

@@ -67,7 +67,7 @@ impl Direction {
         segment: &Segment<'a>,
         waited: &mut Vec<u8>,
     ) -> Result<Taken<'a>, Memory>
-        ensures outcome { IfOk result (λ taken. outcome_of taken waited.new.items ≡ (step self.old.state segment.now).0) }
+        ensures outcome { IfOk result (λ delivered. outcome_of delivered waited.new.items ≡ (step self.old.state segment.now).0) }
         ensures state { OnOk result (self.new.state ≡ (step self.old.state segment.now).1) }
         ensures memory { OnErr result (self.new.state ≡ states.Ended) }
     {

@@ -3,7 +3,7 @@
 //!
 //! The main calls:
 //!
-//! - [`Direction::take`] returns what comes of a segment ([`Taken`]): how the direction begins or
+//! - [`Direction::take`] returns the outcome of a segment ([`Taken`]): how the direction begins or
 //!   ends, and the octets that are next in it, whether they were captured in order or not.
 //! - [`Direction::end`] ends a direction, and returns what is known of its octets then.
 //!
@@ -11,7 +11,7 @@
 //! of them. Nothing here reads packets or keeps a table of connections, and neither acknowledgments
 //! nor times are looked at: `krb_packet` reads captures.
 //!
-//! The laws of [`law`] say that sequence numbers are compared rightly, and that what is taken is
+//! The laws of [`law`] say that sequence numbers are compared rightly, and that what is delivered is
 //! the stream, however it is cut into segments.
 #![tactic(auto)]
 

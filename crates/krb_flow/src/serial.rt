@@ -14,14 +14,14 @@ pub enum Distance {
 
 impl Distance {
     /// Returns how far a sequence number is from the one that is due.
-    pub fn between(due: u32, number: u32) -> Distance
-        ensures { result ≡ distance due number }
+    pub fn between(expected: u32, number: u32) -> Distance
+        ensures { result ≡ distance expected number }
     {
-        let ahead = number.wrapping_sub(due);
+        let ahead = number.wrapping_sub(expected);
         if ahead < 1 << 31 {
             Distance::Ahead(ahead)
         } else {
-            Distance::Behind(due.wrapping_sub(number))
+            Distance::Behind(expected.wrapping_sub(number))
         }
     }
 

@@ -39,7 +39,7 @@ pub enum End {
 pub struct Stream {
     first: u32,
     joined: bool,
-    due: u64,
+    expected: u64,
     waiting: Runs,
     seen: u64,
     fin: Option<u64>,
@@ -50,20 +50,20 @@ impl Model for Stream {
 
     ghost Value = { Progress };
 
-    ghost view = { λ stream. record { first = stream.first; joined = stream.joined; due = stream.due; waiting = stream.waiting; seen = stream.seen; fin = stream.fin } };
+    ghost view = { λ stream. record { first = stream.first; joined = stream.joined; expected = stream.expected; waiting = stream.waiting; seen = stream.seen; fin = stream.fin } };
 }
 
 ghost use Rattle.std.specs.Prelude.{◌≡◌, ℕ, ◌+◌, ◌++◌, ◌<◌, ◌≤◌, ◌^◌, ◌||◌, ◌&&◌, ◌==◌, not, nat_lt, nat_le, length, IfOk, OnOk};
 ghost use Rattle.krb_der.specs.Octets.{when};
 ghost use Rattle.krb_flow.specs.Progress.{begun};
-ghost use Rattle.krb_flow.specs.Directions.{distance_to, earlier, end_place, ending, is_over, is_passed, later, onward, taken, taking};
+ghost use Rattle.krb_flow.specs.Directions.{distance_to, earlier, end_place, ending, is_over, is_skipped, later, advanced, delivered, deliver};
 
 /// Returns the place after a segment of `size` octets, unless that is before octet 0.
-fn end_place(due: u64, distance: Distance, size: u64) -> Option<u64>
-    requires { due + size < MOST_OCTETS }
-    ensures { result ≡ end_place due distance size }
+fn end_place(expected: u64, distance: Distance, size: u64) -> Option<u64>
+    requires { expected + size < MOST_OCTETS }
+    ensures { result ≡ end_place expected distance size }
 {
-    let end = due + u64::from(distance.ahead()) + size;
+    let end = expected + u64::from(distance.ahead()) + size;
     end.checked_sub(u64::from(distance.behind()))
 }
 
@@ -107,7 +107,7 @@ impl Stream {
         Stream {
             first,
             joined,
-            due: 0,
+            expected: 0,
             waiting: Runs::new(alloc),
             seen: 0,
             fin: None,
@@ -126,17 +126,17 @@ impl Stream {
         ensures { result ≡ distance_to self.now segment.now }
     {
         let number = segment.sequence.wrapping_add(u32::from(segment.syn));
-        let due = self.first.wrapping_add((self.due % (1 << 32)) as u32);
-        Distance::between(due, number)
+        let expected = self.first.wrapping_add((self.expected % (1 << 32)) as u32);
+        Distance::between(expected, number)
     }
 
     /// Returns whether a segment that is so far is passed over.
     fn passes_over(&self, segment: &Segment<'_>, distance: Distance) -> bool
         requires { distance ≡ distance_to self.now segment.now }
-        ensures { result ≡ is_passed self.now segment.now }
+        ensures { result ≡ is_skipped self.now segment.now }
     {
         (distance.ahead() > MOST_AHEAD)
-            | (self.due.saturating_add(segment.payload.size()) >= MOST_OCTETS)
+            | (self.expected.saturating_add(segment.payload.size()) >= MOST_OCTETS)
     }
 
     /// Takes a segment. Returns those of its octets that are taken at once, borrowed; those that
@@ -146,8 +146,8 @@ impl Stream {
         segment: &Segment<'a>,
         waited: &mut Vec<u8>,
     ) -> Result<&'a [u8], Memory>
-        ensures octets { IfOk result (λ front. front.now ++ waited.new.items ≡ (taking self.old segment.now).0) }
-        ensures state { OnOk result (self.new ≡ (taking self.old segment.now).1) }
+        ensures octets { IfOk result (λ prefix. prefix.now ++ waited.new.items ≡ (deliver self.old segment.now).0) }
+        ensures state { OnOk result (self.new ≡ (deliver self.old segment.now).1) }
     {
         let distance = self.distance_to(segment);
         if self.passes_over(segment, distance) {
@@ -165,21 +165,21 @@ impl Stream {
         waited: &mut Vec<u8>,
     ) -> Result<&'a [u8], Memory>
         requires distance { distance ≡ distance_to self.old segment.now }
-        requires near { self.old.due + segment.now.payload.size < MOST_OCTETS }
-        ensures octets { IfOk result (λ front. front.now ++ waited.new.items ≡ taken self.old segment.now) }
-        ensures state { OnOk result (self.new ≡ onward self.old segment.now) }
+        requires near { self.old.expected + segment.now.payload.size < MOST_OCTETS }
+        ensures octets { IfOk result (λ prefix. prefix.now ++ waited.new.items ≡ delivered self.old segment.now) }
+        ensures state { OnOk result (self.new ≡ advanced self.old segment.now) }
     {
         let octets = segment.payload.octets();
         let octets = &octets[octets.len().min(distance.behind() as usize)..];
         let size = segment.payload.size();
-        let end = end_place(self.due, distance, size);
+        let end = end_place(self.expected, distance, size);
         self.seen = seen_with(self.seen, end, size > 0 || segment.fin);
         self.fin = fin_with(self.fin, end, segment.fin);
-        let front = self
+        let prefix = self
             .waiting
-            .pass(self.due, distance.ahead(), octets, waited)?;
-        self.due = place_after(self.due, front, waited.as_slice());
-        Ok(front)
+            .pass(self.expected, distance.ahead(), octets, waited)?;
+        self.expected = place_after(self.expected, prefix, waited.as_slice());
+        Ok(prefix)
     }
 
     /// Returns whether it is over: all octets before the FIN were taken, or too many wait.
@@ -187,7 +187,7 @@ impl Stream {
         ensures { result ≡ is_over self.now }
     {
         let at_fin = match self.fin {
-            Some(fin) => fin <= self.due,
+            Some(fin) => fin <= self.expected,
             None => false,
         };
         at_fin | (self.waiting.len() > MOST_WAITING)
@@ -198,10 +198,10 @@ impl Stream {
         ensures { result ≡ ending self.now }
     {
         let place = self.waiting.first_place().unwrap_or(self.seen);
-        if self.due < place {
+        if self.expected < place {
             End::Lost(Lost {
-                place: self.due,
-                octets: place - self.due,
+                place: self.expected,
+                octets: place - self.expected,
             })
         } else {
             End::Complete

@@ -45,7 +45,7 @@ impl Model for Runs {
 #[derive(Clone, Copy)]
 enum Stretch {
     /// So many octets wait there.
-    Held(u64),
+    Occupied(u64),
     /// So many places are free.
     Free(u64),
 }
@@ -67,7 +67,7 @@ fn stretch_at(runs: &BTreeMap<u64, Vec<u8>>, place: u64) -> Stretch
         Some((&end, run)) => {
             let first = end - run.len() as u64;
             if first <= place {
-                Stretch::Held(end - place)
+                Stretch::Occupied(end - place)
             } else {
                 Stretch::Free(first - place)
             }
@@ -129,7 +129,7 @@ fn keep_first(
     ensures { IfOk result (KeepsSome place octets.now runs.old.entries runs.new.entries) }
 {
     match stretch_at(runs, place) {
-        Stretch::Held(count) => Ok(Kept {
+        Stretch::Occupied(count) => Ok(Kept {
             seen: octets.len().min(count as usize),
             kept: 0,
         }),
@@ -215,15 +215,15 @@ impl Runs {
 
     /// Moves the octets that stand from a place on, up to the first one that is missing, into a
     /// vector, which has them alone then.
-    fn release(&mut self, due: u64, released: &mut Vec<u8>) -> Result<(), Memory>
-        requires { due < 2 ^ 63 }
-        ensures octets { OnOk result (released.new.items ≡ ready due self.old) }
-        ensures waiting { OnOk result (self.new ≡ early due self.old) }
+    fn release(&mut self, expected: u64, released: &mut Vec<u8>) -> Result<(), Memory>
+        requires { expected < 2 ^ 63 }
+        ensures octets { OnOk result (released.new.items ≡ ready expected self.old) }
+        ensures waiting { OnOk result (self.new ≡ early expected self.old) }
     {
         released.clear();
         while let Some((&end, run)) = self.runs.first_key_value() {
             let count = run.len();
-            if end - count as u64 != due + released.len() as u64 {
+            if end - count as u64 != expected + released.len() as u64 {
                 break;
             }
             released.extend_from_slice(run.as_slice())?;
@@ -235,16 +235,16 @@ impl Runs {
 
     /// Returns how many of `count` octets, which stand so far ahead of the place that is due, are due
     /// and before all that wait.
-    fn front(&self, due: u64, ahead: u32, count: usize) -> usize
+    fn prefix(&self, expected: u64, ahead: u32, count: usize) -> usize
         ensures few { result ≤ count }
         ensures here { 0 < result → ahead ≡ 0 }
-        ensures before { 0 < result → All (λ place. due + result ≤ place) (keys_of self.now) }
+        ensures before { 0 < result → All (λ place. expected + result ≤ place) (keys_of self.now) }
     {
         if ahead > 0 {
             return 0;
         }
         match self.first_place() {
-            Some(first) => count.min(first.saturating_sub(due) as usize),
+            Some(first) => count.min(first.saturating_sub(expected) as usize),
             None => count,
         }
     }
@@ -253,20 +253,20 @@ impl Runs {
     /// taken at once, borrowed, and moves those that waited and are taken after them into `released`.
     pub(crate) fn pass<'a>(
         &mut self,
-        due: u64,
+        expected: u64,
         ahead: u32,
         octets: &'a [u8],
         released: &mut Vec<u8>,
     ) -> Result<&'a [u8], Memory>
-        requires { due + length octets.now < 2 ^ 63 }
-        ensures few { IfOk result (λ front. length front.now ≤ length octets.now) }
-        ensures octets { IfOk result (λ front. front.now ++ released.new.items ≡ ready due (keep (due + ahead) octets.now self.old)) }
-        ensures waiting { OnOk result (self.new ≡ early due (keep (due + ahead) octets.now self.old)) }
+        requires { expected + length octets.now < 2 ^ 63 }
+        ensures few { IfOk result (λ prefix. length prefix.now ≤ length octets.now) }
+        ensures octets { IfOk result (λ prefix. prefix.now ++ released.new.items ≡ ready expected (keep (expected + ahead) octets.now self.old)) }
+        ensures waiting { OnOk result (self.new ≡ early expected (keep (expected + ahead) octets.now self.old)) }
     {
-        let (front, rest) = octets.split_at(self.front(due, ahead, octets.len()));
-        let after = due + front.len() as u64;
+        let (prefix, rest) = octets.split_at(self.prefix(expected, ahead, octets.len()));
+        let after = expected + prefix.len() as u64;
         self.keep(after + u64::from(ahead), rest)?;
         self.release(after, released)?;
-        Ok(front)
+        Ok(prefix)
     }
 }

@@ -1,4 +1,4 @@
--- What the end of a stream tells, and what a refusal leaves.
+-- A decoder that has decoded a stream, by the end of the stream; and a stream after a refusal.
 use Rattle.std.proofs.Common.{◌≡◌, ℕ, suc, ◌+◌, ◌^◌, ◌<◌, ◌≤◌, ◌⊎◌, inl, inr, List, [], ◌∷◌, ◌++◌, length, take, drop, Some, None, refl, sym, ◌∙◌, ap, arith, append_assoc, append-nil, length-append, length-take, take-append-drop}
 use Rattle.std.specs.Prelude.{if◌then◌else◌, is_some}
 use Rattle.std.proofs.lemmas.Bool.{cases_lt}
@@ -9,11 +9,11 @@ use Rattle.krb_der.specs.declared.verdict.Refusal.{Refusal}
 use Rattle.krb_msg.specs.Term.{Term}
 use Rattle.krb_msg.specs.Judgement.{Outcome, Open, Bad, Done, message_outcome, verdict_of}
 use Rattle.krb_msg.specs.Stream.{Frames, End, Boundary, Within, Refused, ends, with_first, frames}
-use Rattle.krb_msg.proofs.Fronts.{MayFollow, frames-high, frames-long, frames-empty, frames-open, frames-bad, frames-done, frames-short, frames-nil}
+use Rattle.krb_msg.proofs.FramePrefixes.{MayFollow, frames-high, frames-long, frames-empty, frames-open, frames-bad, frames-done, frames-short, frames-nil}
 use Rattle.krb_msg.proofs.Grammars.{refused_outcome, refusal_is_final}
 use Rattle.krb_frame.specs.Decoding.{Decoding, found, status_at, first_of, AreOfOne}
-use Rattle.krb_frame.specs.Stands.{Stands, EndsWith, after_frames}
-use Rattle.krb_frame.specs.Laws.{HasOfStream}
+use Rattle.krb_frame.specs.Decoded.{HasDecoded, EndsWith, after_frames}
+use Rattle.krb_frame.specs.Laws.{MatchesStream}
 use Rattle.krb_frame.specs.declared.decoder.Status.TheVariants as status
 
 -- ---- octets after a refusal
@@ -66,21 +66,21 @@ module _ (messages : List Term) where
       long : 4 ≤ length (octets ++ more)
       long = omega (arith, four, length-append octets more)
 
-      front : number (take 4 (octets ++ more)) ≡ number (take 4 octets)
-      front = ap number (take-append-le 4 octets more four)
+      prefix : number (take 4 (octets ++ more)) ≡ number (take 4 octets)
+      prefix = ap number (take-append-le 4 octets more four)
 
       abbrev n : ℕ
       n = number (take 4 octets)
 
-      -- the contents that are there, with or without more octets
+      -- the contents that are present, with or without more octets
       begins : (k : ℕ) → k ≤ length (take n (drop 4 octets)) → take k (take n (drop 4 (octets ++ more))) ≡ take k (take n (drop 4 octets))
       begins k h =
-          let room : k ≤ n = omega (arith, h, length-take n (drop 4 octets)) in
+          let within : k ≤ n = omega (arith, h, length-take n (drop 4 octets)) in
           let there : k ≤ length (drop 4 octets) = omega (arith, h, length-take n (drop 4 octets)) in
-          take-take k n (drop 4 (octets ++ more)) room
+          take-take k n (drop 4 (octets ++ more)) within
           ∙ ap (take k) (drop-append-le 4 octets more four)
           ∙ take-append-le k (drop 4 octets) more there
-          ∙ sym (take-take k n (drop 4 octets) room)
+          ∙ sym (take-take k n (drop 4 octets) within)
 
       judged : MayFollow messages limit n → (outcome : Outcome) → message_outcome messages n (take n (drop 4 octets)) ≡ outcome → frames messages limit (octets ++ more) ≡ ends (Refused place reason)
       judged m Open o = absurd (no_within (length octets) place reason (sym (frames-open messages limit octets n four refl m o) ∙ e))
@@ -91,12 +91,12 @@ module _ (messages : List Term) where
           let f = refusal_is_final messages n (take n (drop 4 octets)) offset other l (ap verdict_of o) in
           let same = f.same (take n (drop 4 (octets ++ more))) k (begins (suc offset) (omega (arith, f.within))) in
           let bad = refused_outcome (message_outcome messages n (take n (drop 4 (octets ++ more)))) offset other same in
-          frames-bad messages limit (octets ++ more) n offset other long front m bad ∙ (sym (frames-bad messages limit octets n offset other four refl m o) ∙ e)
+          frames-bad messages limit (octets ++ more) n offset other long prefix m bad ∙ (sym (frames-bad messages limit octets n offset other four refl m o) ∙ e)
 
       of_number : (n < 2 ^ 31) ⊎ (2 ^ 31 ≤ n) → (limit < n) ⊎ (n ≤ limit) → (0 < n) ⊎ (n ≤ 0) → frames messages limit (octets ++ more) ≡ ends (Refused place reason)
-      of_number (inr h) c d = frames-high messages limit (octets ++ more) n long front h ∙ (sym (frames-high messages limit octets n four refl h) ∙ e)
-      of_number (inl s) (inl h) d = frames-long messages limit (octets ++ more) n long front s h ∙ (sym (frames-long messages limit octets n four refl s h) ∙ e)
-      of_number (inl s) (inr w) (inr z) = frames-empty messages limit (octets ++ more) long (front ∙ omega arith) ∙ (sym (frames-empty messages limit octets four (omega arith)) ∙ e)
+      of_number (inr h) c d = frames-high messages limit (octets ++ more) n long prefix h ∙ (sym (frames-high messages limit octets n four refl h) ∙ e)
+      of_number (inl s) (inl h) d = frames-long messages limit (octets ++ more) n long prefix s h ∙ (sym (frames-long messages limit octets n four refl s h) ∙ e)
+      of_number (inl s) (inr w) (inr z) = frames-empty messages limit (octets ++ more) long (prefix ∙ omega arith) ∙ (sym (frames-empty messages limit octets four (omega arith)) ∙ e)
       of_number (inl s) (inr w) (inl p) = judged (record { some = p; short = s; within = w }) (message_outcome messages n (take n (drop 4 octets))) refl
 
     pub refused_more : frames messages limit (octets ++ more) ≡ ends (Refused place reason)
@@ -141,15 +141,15 @@ module _ (messages : List Term) where
     is_within (first ∷ []) (Refused place reason) present a e = absurd a
     is_within (first ∷ second ∷ others) end present a e = absurd a
 
-  pub found_of : (d : Decoding) (stream : List ℕ) (cleared : List (List ℕ)) → Stands messages d stream cleared → frames messages d.limit stream ≡ after_frames cleared (found messages d)
+  pub found_of : (d : Decoding) (stream : List ℕ) (cleared : List (List ℕ)) → HasDecoded messages d stream cleared → frames messages d.limit stream ≡ after_frames cleared (found messages d)
   unfolding found
   found_of d stream cleared s =
       ap (frames messages d.limit) (sym (append-nil stream))
       ∙ s.goes_on []
       ∙ ap (λ l. after_frames cleared (frames messages d.limit l)) (append-nil d.octets)
 
-  pub standing_tells : (d : Decoding) (stream : List ℕ) (cleared : List (List ℕ)) → Stands messages d stream cleared → HasOfStream messages d stream cleared
-  standing_tells d stream cleared s = record {
+  pub decoder_matches_stream : (d : Decoding) (stream : List ℕ) (cleared : List (List ℕ)) → HasDecoded messages d stream cleared → MatchesStream messages d stream cleared
+  decoder_matches_stream d stream cleared s = record {
     found_all = all;
     counted = ap (λ f. length f.contents) all ∙ length-append cleared (found messages d).contents ∙ ap (λ k. length cleared + k) (one_more d.octets (found messages d).contents (found messages d).end s.one);
     ready = λ contents e.
@@ -179,10 +179,10 @@ module _ (messages : List Term) where
             ∙ ap (λ l. (s.last.before ++ take 4 d.octets) ++ l) e;
       }
 
-  pub refusal_ends : (d : Decoding) (stream more : List ℕ) (cleared : List (List ℕ)) (place : ℕ) (reason : Why) → Stands messages d stream cleared → (frames messages d.limit stream).end ≡ Refused place reason → frames messages d.limit (stream ++ more) ≡ frames messages d.limit stream
+  pub refusal_ends : (d : Decoding) (stream more : List ℕ) (cleared : List (List ℕ)) (place : ℕ) (reason : Why) → HasDecoded messages d stream cleared → (frames messages d.limit stream).end ≡ Refused place reason → frames messages d.limit (stream ++ more) ≡ frames messages d.limit stream
   unfolding found
   refusal_ends d stream more cleared place reason s e =
-      let t = standing_tells d stream cleared s in
+      let t = decoder_matches_stream d stream cleared s in
       let r = refused_end (found messages d).contents (found messages d).end (record { place = place; why = reason }) ((t.refused place reason).0 e) in
       let f : found messages d ≡ ends (Refused place reason) = λ i. record { contents = r.0 i; end = r.1 i } in
       s.goes_on more ∙ ap (after_frames cleared) (refused_more d.limit d.octets more place reason f ∙ sym f) ∙ sym t.found_all

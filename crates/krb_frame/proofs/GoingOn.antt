@@ -1,6 +1,6 @@
--- The frames of a stream in which one goes on after a refusal, one after another.
-use Rattle.std.proofs.Common.{◌≡◌, ℕ, zero, suc, ◌+◌, ◌-◌, ◌^◌, ◌<◌, ◌≤◌, ◌⊎◌, inl, inr, List, [], ◌∷◌, ◌++◌, length, map, take, drop, refl, sym, ◌∙◌, ap, subst, arith, le_refl, append_assoc, append-nil, length-append, length-take, length-drop}
-use Rattle.std.specs.Prelude.{nat_le, if◌then◌else◌, Some, None}
+-- The frames of a stream that is decoded further after a refusal, one after another.
+use Rattle.std.proofs.Common.{◌≡◌, ℕ, zero, suc, ◌+◌, ◌-◌, ◌^◌, ◌<◌, ◌≤◌, ◌⊎◌, inl, inr, List, [], ◌∷◌, ◌++◌, length, map, take, drop, refl, sym, ◌∙◌, ap, arith, le_refl, append_assoc, append-nil, length-append, length-take, length-drop}
+use Rattle.std.specs.Prelude.{Some, None}
 use Rattle.std.proofs.lemmas.Bool.{cases_lt, lt-leb, le-leb}
 use Rattle.std.proofs.lemmas.List.{take-append-le, take_at}
 use Rattle.std.proofs.lemmas.List.Sums.{sum_by-cons}
@@ -12,15 +12,15 @@ use Rattle.krb_der.specs.declared.why.Why.{Why}
 use Rattle.krb_msg.specs.Term.{Term}
 use Rattle.krb_msg.specs.Judgement.{Outcome, Open, Bad, Done, message_outcome, verdict_of}
 use Rattle.krb_msg.specs.Stream.{Frames, End, Boundary, Within, Refused, ends, with_first, frames}
-use Rattle.krb_msg.proofs.Fronts.{MayFollow, frames-long, frames-empty, frames-open, frames-bad, frames-done, frames-nil}
+use Rattle.krb_msg.proofs.FramePrefixes.{MayFollow, frames-long, frames-empty, frames-open, frames-bad, frames-done, frames-nil}
 use Rattle.krb_msg.proofs.Grammars.{refusal_is_final}
-use Rattle.krb_frame.specs.Decoding.{Decoding, Room, IsAmple, decoding_of, octets_of}
-use Rattle.krb_frame.specs.inner.Phases.{IsAt, HasRefused, phase_status}
+use Rattle.krb_frame.specs.Decoding.{Decoding, Capacity, IsAmple, decoding_of, octets_of}
+use Rattle.krb_frame.specs.inner.Phases.{IsPhaseOf, HasRefused, phase_status}
 use Rattle.krb_frame.specs.declared.decoder.Phase.{Phase}
 use Rattle.krb_frame.specs.declared.decoder.Phase.TheVariants as phase
-use Rattle.krb_frame.proofs.Founds.{comes, four_octets}
+use Rattle.krb_frame.proofs.DecoderFrames.{comes, four_octets}
 use Rattle.krb_frame.specs.GoingOn.{rest_of, rest_at, rest_to_come, GivesUp, Entry, Contents, Fault, last_entry, after_contents, next_entries, entries_after, entries_of, entries_within, entries}
-use Rattle.krb_frame.specs.Stands.{frames_size}
+use Rattle.krb_frame.specs.Decoded.{frames_size}
 use Rattle.krb_frame.specs.Laws.{GoingOnBegins}
 use Rattle.krb_frame.proofs.Ends.{no_within, no_first, refused_more}
 
@@ -89,7 +89,7 @@ module _ (messages : List Term) (limit : ℕ) where
             ∙ ap (λ l. map Contents found.contents ++ l) (append-nil (last_entry found.end (after_contents found stream)));
       }
 
-  -- ---- a frame at the front
+  -- ---- octets that begin with a frame
   pub entries-frame : (octets contents more : List ℕ) → length octets ≡ 4 + length contents → frames messages limit (octets ++ more) ≡ with_first contents (frames messages limit more) → entries messages limit (octets ++ more) ≡ Contents contents ∷ entries messages limit more
   entries-frame octets contents more l e =
       entries-step (octets ++ more)
@@ -141,8 +141,8 @@ module _ (messages : List Term) (limit : ℕ) where
 
   -- ---- the octets of a refused frame, and others
   module _ (octets : List ℕ) (place : ℕ) (reason : Why) (four : 4 ≤ length octets) (last : length octets ≡ place + 1) (e : frames messages limit octets ≡ ends (Refused place reason)) where
-    front : (more : List ℕ) → number (take 4 (octets ++ more)) ≡ number (take 4 octets)
-    front more = ap number (take-append-le 4 octets more four)
+    prefix : (more : List ℕ) → number (take 4 (octets ++ more)) ≡ number (take 4 octets)
+    prefix more = ap number (take-append-le 4 octets more four)
 
     first : (more : List ℕ) → entries messages limit (octets ++ more) ≡ Fault place reason octets ∷ next_entries (entries messages limit) (octets ++ more)
     first more =
@@ -151,7 +151,7 @@ module _ (messages : List Term) (limit : ℕ) where
 
     -- its length is not known
     pub entries-unknown : 2 ^ 31 ≤ number (take 4 octets) → (more : List ℕ) → entries messages limit (octets ++ more) ≡ Fault place reason octets ∷ []
-    entries-unknown h more = first more ∙ rw (front more, le-leb (2 ^ 31) (number (take 4 octets)) h) refl
+    entries-unknown h more = first more ∙ rw (prefix more, le-leb (2 ^ 31) (number (take 4 octets)) h) refl
 
     -- it is known
     pub used-few : number (take 4 octets) < 2 ^ 31 → length octets ≤ 4 + number (take 4 octets)
@@ -160,7 +160,7 @@ module _ (messages : List Term) (limit : ℕ) where
     pub entries-skipped : number (take 4 octets) < 2 ^ 31 → (more : List ℕ) → entries messages limit (octets ++ more) ≡ Fault place reason octets ∷ entries messages limit (drop (4 + number (take 4 octets) - length octets) more)
     entries-skipped h more =
         first more
-        ∙ rw (front more, lt-leb (2 ^ 31) (number (take 4 octets)) h) refl
+        ∙ rw (prefix more, lt-leb (2 ^ 31) (number (take 4 octets)) h) refl
         ∙ ap (λ l. Fault place reason octets ∷ entries messages limit l) after
       where
         rest : ℕ
@@ -173,7 +173,7 @@ module _ (messages : List Term) (limit : ℕ) where
         after = ap (λ n. drop n (octets ++ more)) all ∙ drop-append-add octets more rest
 
 -- ---- a decoder that is refused
--- what a phase holds that is no refusal has no rest
+-- a phase that is no refusal has no rest
 none_to_come : (p : Phase) (octets : List ℕ) → ((refusal : Refusal) → p ≡ phase.Refused refusal → ⊥) → rest_at (phase_status p) octets ≡ None
 none_to_come (phase.Length count) octets n = refl
 none_to_come (phase.Contents size) octets n = refl
@@ -183,18 +183,18 @@ none_to_come (phase.Refused refusal) octets n = absurd (n refusal refl)
 pub keeps : (messages : List Term) (d : Decoding) → rest_to_come messages d ≡ None → GivesUp messages d d None
 keeps messages d e = record { rest = sym e; left = refl; ample = λ a. a }
 
-pub gives-up : (messages : List Term) (old new : Decoding) (rest : ℕ) → rest_to_come messages old ≡ Some rest → new ≡ record { profile = old.profile; limit = old.limit; octets = []; looks = old.looks; room = new.room } → (IsAmple old → IsAmple new) → GivesUp messages old new (Some rest)
+pub gives-up : (messages : List Term) (old new : Decoding) (rest : ℕ) → rest_to_come messages old ≡ Some rest → new ≡ record { profile = old.profile; limit = old.limit; octets = []; looks = old.looks; capacity = new.capacity } → (IsAmple old → IsAmple new) → GivesUp messages old new (Some rest)
 gives-up messages old new rest e l a = record { rest = sym e; left = l; ample = a }
 
-module _ (messages : List Term) (profile : Profile) (limit looks : ℕ) (space : Room) (announced contents : List ℕ) (p : Phase) (h : IsAt messages limit announced contents p) where
+module _ (messages : List Term) (profile : Profile) (limit looks : ℕ) (space : Capacity) (announced contents : List ℕ) (p : Phase) (h : IsPhaseOf messages limit announced contents p) where
   abbrev d : Decoding
   d = decoding_of profile limit looks space announced contents p
 
   pub rest-none : ((refusal : Refusal) → p ≡ phase.Refused refusal → ⊥) → rest_to_come messages d ≡ None
   rest-none n = ap (λ s. rest_at s d.octets) (comes messages profile limit looks space announced contents p h).is ∙ none_to_come p d.octets n
 
--- what a refused phase holds
-module _ (messages : List Term) (profile : Profile) (limit looks : ℕ) (space : Room) (announced contents : List ℕ) (refusal : Refusal) (h : HasRefused messages limit announced contents refusal) where
+-- the octets of a refused phase
+module _ (messages : List Term) (profile : Profile) (limit looks : ℕ) (space : Capacity) (announced contents : List ℕ) (refusal : Refusal) (h : HasRefused messages limit announced contents refusal) where
   abbrev held : List ℕ
   held = octets_of (phase.Refused refusal) announced contents
 

@@ -1,10 +1,10 @@
-pub mod Takes
-pub mod Founds
-pub mod Standing
+pub mod FrameContents
+pub mod DecoderFrames
+pub mod Feeding
 pub mod Ends
 pub mod Refusals
 pub mod GoingOn
 pub mod Skips
 pub mod Passing
-pub mod Mixed
+pub mod Calls
 pub mod Partials

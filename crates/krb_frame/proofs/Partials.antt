@@ -1,5 +1,5 @@
 -- The message of a frame as far as it came.
-use Rattle.std.proofs.Common.{◌≡◌, ℕ, ◌+◌, ◌^◌, ◌<◌, ◌≤◌, ◌⊎◌, inl, inr, List, [], ◌++◌, length, take, refl, sym, ◌∙◌, ap, arith, length-append}
+use Rattle.std.proofs.Common.{◌≡◌, ℕ, ◌+◌, ◌^◌, ◌<◌, ◌≤◌, inl, inr, List, ◌++◌, length, take, sym, ◌∙◌, ap, arith, length-append}
 use Rattle.std.proofs.lemmas.Bool.{cases_lt}
 use Rattle.std.proofs.lemmas.List.{take_at}
 use Rattle.krb_der.specs.Octets.{number}
@@ -8,22 +8,22 @@ use Rattle.krb_der.specs.declared.why.Why.{Why}
 use Rattle.krb_der.specs.declared.why.Why.TheVariants as why
 use Rattle.krb_msg.specs.Term.{Term}
 use Rattle.krb_msg.specs.Stream.{Refused, ends, frames}
-use Rattle.krb_msg.proofs.Fronts.{frames-high}
-use Rattle.krb_frame.specs.Decoding.{Room, IsPartial, decoding_of, octets_of}
-use Rattle.krb_frame.specs.inner.Phases.{IsAt, HasRefused}
+use Rattle.krb_msg.proofs.FramePrefixes.{frames-high}
+use Rattle.krb_frame.specs.Decoding.{Capacity, IsPartial, decoding_of, octets_of}
+use Rattle.krb_frame.specs.inner.Phases.{IsPhaseOf}
 use Rattle.krb_frame.specs.declared.decoder.Phase.{Phase}
 use Rattle.krb_frame.specs.declared.decoder.Phase.TheVariants as phase
-use Rattle.krb_frame.proofs.Founds.{contents-at, four_octets}
+use Rattle.krb_frame.proofs.DecoderFrames.{contents-at, four_octets}
 use Rattle.krb_frame.proofs.GoingOn.{contents-few}
 
--- what is known of a length if contents came after it
+-- facts of a length that contents came after
 record Announces (announced contents : List ℕ) (p : Phase) : Type 0 where
   pub four : length announced ≡ 4
   pub all : octets_of p announced contents ≡ announced ++ contents
   pub short : number announced < 2 ^ 31
   pub present : length contents ≤ number announced
 
-module _ (messages : List Term) (profile : Profile) (limit looks : ℕ) (space : Room) (announced contents : List ℕ) (some : 0 < length contents) where
+module _ (messages : List Term) (profile : Profile) (limit looks : ℕ) (space : Capacity) (announced contents : List ℕ) (some : 0 < length contents) where
   same_place : (p q : ℕ) (r s : Why) → ends (Refused p r) ≡ ends (Refused q s) → p ≡ q
   same_place p q r s e = let f : Refused p r ≡ Refused q s = ap (λ x. x.end) e in cc
 
@@ -37,7 +37,7 @@ module _ (messages : List Term) (profile : Profile) (limit looks : ℕ) (space :
         absurd (omega (arith, at, last, some))
   ]
 
-  announces : (p : Phase) → IsAt messages limit announced contents p → Announces announced contents p
+  announces : (p : Phase) → IsPhaseOf messages limit announced contents p → Announces announced contents p
   announces (phase.Length count) h = absurd (omega (arith, some, ap length h.none))
   announces (phase.Contents size) h = record {
     four = h.accepted.four;
@@ -55,7 +55,7 @@ module _ (messages : List Term) (profile : Profile) (limit looks : ℕ) (space :
       let short : number announced < 2 ^ 31 = refused-short refusal.place refusal.why h.four h.last h.found in
       record { four = h.four; all = four_octets announced contents h.four; short = short; present = contents-few messages profile limit looks space announced contents refusal h short }
 
-  pub is-partial : (p : Phase) → IsAt messages limit announced contents p → (size : ℕ) → (length announced ≡ 4 → size ≡ number announced) → IsPartial (decoding_of profile limit looks space announced contents p) size contents
+  pub is-partial : (p : Phase) → IsPhaseOf messages limit announced contents p → (size : ℕ) → (length announced ≡ 4 → size ≡ number announced) → IsPartial (decoding_of profile limit looks space announced contents p) size contents
   is-partial p h size is =
       let a = announces p h in
       record {

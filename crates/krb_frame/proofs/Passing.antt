@@ -1,6 +1,5 @@
--- Frames that lie whole at the front of octets.
-use Rattle.std.proofs.Common.{◌≡◌, ℕ, ◌+◌, ◌/◌, ◌%◌, ◌<◌, ◌≤◌, List, [], ◌∷◌, ◌++◌, length, take, drop, Option, Some, None, Result, Ok, Err, refl, sym, ◌∙◌, ap, ap₂, subst, arith, append_assoc, append-nil, length-append, length-take, take-append-drop, drop_at}
-use Rattle.std.proofs.lemmas.List.{take_all}
+-- Whole frames with which octets begin.
+use Rattle.std.proofs.Common.{◌≡◌, ℕ, ◌+◌, ◌/◌, ◌%◌, ◌<◌, List, [], ◌∷◌, ◌++◌, length, take, drop, Option, Some, None, Result, Ok, Err, refl, sym, ◌∙◌, ap, ap₂, subst, arith, append_assoc, append-nil, length-append, length-take, take-append-drop, drop_at}
 use Rattle.std.specs.Prelude.{MatchResult, IfSome}
 use Rattle.std.specs.Result.{result_ok}
 use Rattle.std.specs.List.{IsSplitAt}
@@ -12,19 +11,19 @@ use Rattle.krb_der.specs.declared.why.Why.{Why}
 use Rattle.krb_msg.specs.Term.{Term}
 use Rattle.krb_msg.specs.Judgement.{Outcome, Open, Bad, Done, message_outcome, verdict_of, judgement_by}
 use Rattle.krb_msg.specs.Stream.{frames}
-use Rattle.krb_msg.proofs.Fronts.{MayFollow, frames-open, frames-bad, frames-short, frames-nil}
+use Rattle.krb_msg.proofs.FramePrefixes.{MayFollow, frames-open, frames-bad, frames-short, frames-nil}
 use Rattle.krb_msg.proofs.Grammars.{whole_is_one_of}
 use Rattle.krb_frame.specs.Decoding.{Decoding, first_of}
 use Rattle.krb_frame.specs.Frame.{framed, frame_length}
 use Rattle.krb_frame.specs.Passes.{contents_of, first_frame, Passes}
-use Rattle.krb_msg.specs.Seen.{IsMessageView}
-use Rattle.krb_frame.specs.Stands.{Stands, after_frames}
+use Rattle.krb_msg.specs.ViewValues.{IsMessageView}
+use Rattle.krb_frame.specs.Decoded.{HasDecoded, after_frames}
 use Rattle.krb_frame.specs.declared.pass.Passed.{Passed}
 use Rattle.krb_frame.specs.inner.Phases.{IsAccepted, HasFrame, IsRefusedLength}
 use Rattle.krb_frame.specs.inner.Passing.{BeginWithFrame, IsPassedOf}
-use Rattle.krb_frame.proofs.Founds.{Announces, announces, number_of, room, found-frame}
+use Rattle.krb_frame.proofs.DecoderFrames.{Announces, announces, number_of, length_is_there, found-frame}
 use Rattle.krb_frame.proofs.Ends.{refused_more}
-use Rattle.krb_frame.proofs.Standing.{counted-more}
+use Rattle.krb_frame.proofs.Feeding.{counted-more}
 
 -- the four octets of a number spell it
 frame_length-number : (announced : List ℕ) → AreOctets announced → length announced ≡ 4 → frame_length (number announced) ≡ announced
@@ -42,13 +41,13 @@ frame_length-number (w ∷ x ∷ y ∷ z ∷ []) (wo, (xo, (yo, (zo, none)))) e 
 frame_length-number (v ∷ w ∷ x ∷ y ∷ z ∷ rest) a e = absurd (omega arith)
 
 -- ---- octets that are cut if their length says
-pub split : (n : ℕ) (octets front back : List ℕ) → front ≡ take n octets → back ≡ drop n octets → octets ≡ front ++ back
-split n octets front back f b = sym (take-append-drop n octets) ∙ (λ i. sym f i ++ sym b i)
+pub split : (n : ℕ) (octets prefix suffix : List ℕ) → prefix ≡ take n octets → suffix ≡ drop n octets → octets ≡ prefix ++ suffix
+split n octets prefix suffix f b = sym (take-append-drop n octets) ∙ (λ i. sym f i ++ sym b i)
 
 -- octets begin with a length that is accepted
 pub record HasLength (limit : ℕ) (octets announced after : List ℕ) (size : ℕ) : Type 0 where
-  pub front : announced ≡ take 4 octets
-  pub back : after ≡ drop 4 octets
+  pub prefix : announced ≡ take 4 octets
+  pub suffix : after ≡ drop 4 octets
   pub are : AreOctets octets
   pub accepted : IsAccepted limit announced size
 
@@ -57,11 +56,11 @@ accepted_of limit announced size (Ok other) e m = let same : other ≡ size = cc
 accepted_of limit announced size (Err reason) e m = absurd cc
 
 pub has_length : (limit : ℕ) (octets announced after : List ℕ) (size : ℕ) (r : Result ℕ Why) → AreOctets octets → announced ≡ take 4 octets → after ≡ drop 4 octets → result_ok r ≡ Some size → MatchResult r (IsAccepted limit announced) (IsRefusedLength limit announced) → HasLength limit octets announced after size
-has_length limit octets announced after size r are f b e m = record { front = f; back = b; are = are; accepted = accepted_of limit announced size r e m }
+has_length limit octets announced after size r are f b e m = record { prefix = f; suffix = b; are = are; accepted = accepted_of limit announced size r e m }
 
 -- ---- by any messages
 module _ (messages : List Term) (limit : ℕ) where
-  -- a length is not all there
+  -- a length is not complete
   pub first-short : (octets : List ℕ) → length octets < 4 → first_frame messages limit octets ≡ None
   first-short [] h = ap (λ f. first_of f.contents) (frames-nil messages limit)
   first-short (octet ∷ octets) h = ap (λ f. first_of f.contents) (frames-short messages limit octet octets h)
@@ -78,15 +77,15 @@ module _ (messages : List Term) (limit : ℕ) where
 
   module _ (octets announced after : List ℕ) (size : ℕ) (h : HasLength limit octets announced after size) where
     announced_are : AreOctets announced
-    announced_are = subst AreOctets (sym h.front) (AreOctets-take 4 octets h.are)
+    announced_are = subst AreOctets (sym h.prefix) (AreOctets-take 4 octets h.are)
 
     after_are : AreOctets after
-    after_are = subst AreOctets (sym h.back) (AreOctets-drop 4 octets h.are)
+    after_are = subst AreOctets (sym h.suffix) (AreOctets-drop 4 octets h.are)
 
     parts : octets ≡ announced ++ after
-    parts = split 4 octets announced after h.front h.back
+    parts = split 4 octets announced after h.prefix h.suffix
 
-    -- the contents are not all there, or no message
+    -- the contents are not complete, or no message
     first-none : (judgement_by messages size (take size after) ≡ verdict.Whole → length after < size) → first_frame messages limit octets ≡ None
     first-none none = ap (first_frame messages limit) parts ∙ by (message_outcome messages size (take size after)) refl
       where
@@ -100,8 +99,8 @@ module _ (messages : List Term) (limit : ℕ) where
         there = ap (λ l. message_outcome messages size (take size l)) (drop_at announced after 4 h.accepted.four)
 
         by : (outcome : Outcome) → message_outcome messages size (take size after) ≡ outcome → first_frame messages limit (announced ++ after) ≡ None
-        by Open o = ap (λ f. first_of f.contents) (frames-open messages limit (announced ++ after) size (room announced after size a) (number_of announced after size a) follows (there ∙ o))
-        by (Bad offset reason) o = ap (λ f. first_of f.contents) (frames-bad messages limit (announced ++ after) size offset reason (room announced after size a) (number_of announced after size a) follows (there ∙ o))
+        by Open o = ap (λ f. first_of f.contents) (frames-open messages limit (announced ++ after) size (length_is_there announced after size a) (number_of announced after size a) follows (there ∙ o))
+        by (Bad offset reason) o = ap (λ f. first_of f.contents) (frames-bad messages limit (announced ++ after) size offset reason (length_is_there announced after size a) (number_of announced after size a) follows (there ∙ o))
         by (Done count) o =
             let whole : judgement_by messages size (take size after) ≡ verdict.Whole = ap verdict_of o in
             let one = whole_is_one_of messages size (take size after) (AreOctets-take size after after_are) (omega (arith, length-take size after)) whole in
@@ -122,7 +121,7 @@ module _ (messages : List Term) (limit : ℕ) where
             frame = record { accepted = subst (λ l. IsAccepted limit l (length contents)) same (subst (IsAccepted limit announced) (sym cut.3) h.accepted); whole = whole };
           }
 
-  -- a frame is there
+  -- a frame is complete
   pub first-some : (octets contents rest : List ℕ) → BeginWithFrame messages limit octets contents rest → first_frame messages limit octets ≡ Some contents
   first-some octets contents rest b =
       ap (λ l. first_of (frames messages limit l).contents) b.parts
@@ -135,13 +134,13 @@ module _ (messages : List Term) (limit : ℕ) where
     view = subst (λ l. IsMessageView l passed.message) (sym view.form) view;
   }
 
-  -- ---- what a decoder between two frames stands for, after a frame
-  -- nothing of a frame is there
-  alone : {d : Decoding} {stream : List ℕ} {cleared : List (List ℕ)} (s : Stands messages d stream cleared) → d.octets ≡ [] → length stream ≡ length s.last.before
+  -- ---- the stream that a decoder between two frames has decoded, after a frame
+  -- no octet of a frame is present
+  alone : {d : Decoding} {stream : List ℕ} {cleared : List (List ℕ)} (s : HasDecoded messages d stream cleared) → d.octets ≡ [] → length stream ≡ length s.last.before
   alone s e = ap length (s.last.parts ∙ ap (λ l. s.last.before ++ l) e ∙ append-nil s.last.before)
 
-  Stands-frame : (d : Decoding) (octets contents rest : List ℕ) → d.limit ≡ limit → d.octets ≡ [] → BeginWithFrame messages limit octets contents rest → (stream : List ℕ) (cleared : List (List ℕ)) → Stands messages d stream cleared → Stands messages d (stream ++ framed contents) (cleared ++ contents ∷ [])
-  Stands-frame d octets contents rest n e b stream cleared s = record {
+  HasDecoded-frame : (d : Decoding) (octets contents rest : List ℕ) → d.limit ≡ limit → d.octets ≡ [] → BeginWithFrame messages limit octets contents rest → (stream : List ℕ) (cleared : List (List ℕ)) → HasDecoded messages d stream cleared → HasDecoded messages d (stream ++ framed contents) (cleared ++ contents ∷ [])
+  HasDecoded-frame d octets contents rest n e b stream cleared s = record {
     goes_on = λ more.
         ap (frames messages d.limit) (append_assoc stream (framed contents) more)
         ∙ s.goes_on (framed contents ++ more)
@@ -161,5 +160,5 @@ module _ (messages : List Term) (limit : ℕ) where
   passes_some d piece (Some passed) n e p = record {
     parts = p.begin.parts;
     view = p.view;
-    stands = Stands-frame d piece (contents_of passed) passed.rest.now n e p.begin;
+    decoded = HasDecoded-frame d piece (contents_of passed) passed.rest.now n e p.begin;
   }

@@ -1,4 +1,4 @@
--- Where the frames of a stream are refused, and what for.
+-- The places and the reasons for which the frames of a stream are refused.
 use Rattle.std.proofs.Common.{◌≡◌, ℕ, zero, suc, ◌+◌, ◌^◌, ◌<◌, ◌≤◌, ◌⊎◌, inl, inr, List, [], ◌∷◌, ◌++◌, length, take, drop, refl, sym, ◌∙◌, ap, subst, arith, le_refl, append_assoc, length-append, length-take, length-drop, take-append-drop, Result, Err}
 use Rattle.std.proofs.lemmas.Bool.{cases_lt}
 use Rattle.krb_der.specs.Octets.{AreOctets, number}
@@ -12,12 +12,12 @@ use Rattle.krb_msg.specs.Term.{Term}
 use Rattle.krb_msg.specs.Judgement.{Outcome, Open, Bad, Done, message_outcome, verdict_of, judgement_by}
 use Rattle.krb_msg.specs.Laws.{IsRefusedFor}
 use Rattle.krb_msg.specs.Stream.{End, Boundary, Within, Refused, ends, frames}
-use Rattle.krb_msg.proofs.Fronts.{MayFollow, frames-high, frames-long, frames-empty, frames-open, frames-bad, frames-done, frames-short, frames-nil}
+use Rattle.krb_msg.proofs.FramePrefixes.{MayFollow, frames-high, frames-long, frames-empty, frames-open, frames-bad, frames-done, frames-short, frames-nil}
 use Rattle.krb_msg.proofs.Grammars.{refusal_is_final}
 use Rattle.krb_msg.proofs.Reasons.{refusal_is_not_truncated, lenient_has_no_charset as no_charset}
 use Rattle.krb_frame.specs.Decoding.{Decoding, found, finish_at}
 use Rattle.krb_frame.specs.Feeds.{IsAnswer, Feeds}
-use Rattle.krb_frame.specs.Stands.{EndsWith}
+use Rattle.krb_frame.specs.Decoded.{EndsWith}
 use Rattle.krb_frame.specs.Laws.{RefusesFor, RefusalsAreInside, LenientHasNoCharset}
 use Rattle.krb_frame.specs.declared.decoder.Fed.{Fed}
 use Rattle.krb_frame.specs.declared.decoder.Status.{Status}
@@ -25,12 +25,12 @@ use Rattle.krb_frame.specs.declared.decoder.Status.TheVariants as status
 use Rattle.krb_frame.proofs.Ends.{refused_end}
 
 -- ---- octets at the end of others
-AreOctets-back : (front back : List ℕ) → AreOctets (front ++ back) → AreOctets back
-AreOctets-back [] back a = a
-AreOctets-back (octet ∷ front) back a = AreOctets-back front back a.1
+AreOctets-suffix : (prefix suffix : List ℕ) → AreOctets (prefix ++ suffix) → AreOctets suffix
+AreOctets-suffix [] suffix a = a
+AreOctets-suffix (octet ∷ prefix) suffix a = AreOctets-suffix prefix suffix a.1
 
 AreOctets-last : (frame stream : List ℕ) → EndsWith frame stream → AreOctets stream → AreOctets frame
-AreOctets-last frame stream l a = AreOctets-back l.before frame (subst AreOctets l.parts a)
+AreOctets-last frame stream l a = AreOctets-suffix l.before frame (subst AreOctets l.parts a)
 
 length-last : (frame stream : List ℕ) → EndsWith frame stream → length frame ≤ length stream
 length-last frame stream l = omega (arith, ap length l.parts, length-append l.before frame)
@@ -115,7 +115,7 @@ module _ (messages : List Term) (limit : ℕ) where
   last_of : (stream : List ℕ) (place : ℕ) (reason : Why) → (frames messages limit stream).end ≡ Refused place reason → Last messages limit stream place reason
   last_of stream = refused-last (length stream) stream (le_refl (length stream))
 
--- ---- what a decoder answers
+-- ---- the results of a decoder
 refused_by : (messages : List Term) (d : Decoding) (answer : Status) (refusal : Refusal) → IsAnswer messages d answer → answer ≡ status.Refused refusal → (frames messages d.limit d.octets).end ≡ Refused refusal.place refusal.why
 unfolding found
 refused_by messages d answer refusal (inl a) e = (refused_end (found messages d).contents (found messages d).end refusal (sym a ∙ e)).1

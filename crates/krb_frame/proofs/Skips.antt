@@ -1,4 +1,4 @@
--- What a decoder that skips stands for when it is fed, and when a frame is cleared or skipped.
+-- The stream that a decoder that skips has decoded when it is fed, and when a frame is cleared or skipped.
 use Rattle.std.proofs.Common.{◌≡◌, ℕ, zero, suc, ◌+◌, ◌-◌, ◌^◌, ◌<◌, ◌≤◌, ◌⊎◌, inl, inr, min, List, [], ◌∷◌, ◌++◌, length, map, take, drop, true, Bool, Some, None, refl, sym, ◌∙◌, ap, ap₂, subst, arith, append_assoc, append-nil, length-take, length-drop, drop_at}
 use Rattle.std.specs.Prelude.{Option, IfSome, is_some, if◌then◌else◌}
 use Rattle.std.specs.Option.{option_map}
@@ -12,8 +12,8 @@ use Rattle.krb_der.specs.declared.why.Why.TheVariants as why
 use Rattle.krb_der.specs.declared.verdict.Refusal.{Refusal}
 use Rattle.krb_msg.specs.Term.{Term}
 use Rattle.krb_msg.specs.Stream.{Frames, End, Boundary, Within, Refused, ends, with_first, frames}
-use Rattle.krb_frame.specs.Decoding.{Decoding, Room, found, status_at, status_of, borrowed, first_of, AreOfOne, IsOfOneFrame}
-use Rattle.krb_frame.specs.Stands.{Stands, frames_size}
+use Rattle.krb_frame.specs.Decoding.{Decoding, Capacity, found, status_at, status_of, borrowed, first_of, AreOfOne, IsOfOneFrame}
+use Rattle.krb_frame.specs.Decoded.{HasDecoded, frames_size}
 use Rattle.krb_frame.specs.Feeds.{Feeds, Clears}
 use Rattle.krb_frame.specs.GoingOn.{Entry, Contents, Fault, last_entry, entries, rest_of, rest_at, rest_to_come, GivesUp, Skipping, GoesOn, without, FeedsAfter, PassesEntry, ClearsEntry, Skips}
 use Rattle.krb_frame.specs.Frame.{framed}
@@ -22,8 +22,8 @@ use Rattle.krb_frame.specs.inner.Phases.{end_after}
 use Rattle.krb_frame.specs.declared.decoder.Fed.{Fed}
 use Rattle.krb_frame.specs.declared.pass.Passed.{Passed}
 use Rattle.krb_frame.specs.declared.decoder.Status.TheVariants as status
-use Rattle.krb_frame.proofs.Founds.{one-nothing, found-short}
-use Rattle.krb_msg.proofs.Fronts.{frames-high}
+use Rattle.krb_frame.proofs.DecoderFrames.{one-nothing, found-short}
+use Rattle.krb_msg.proofs.FramePrefixes.{frames-high}
 use Rattle.krb_frame.proofs.Ends.{none_found, refused_end}
 use Rattle.krb_frame.proofs.GoingOn.{begins, entries-frame, entries-unknown, entries-skipped}
 
@@ -43,9 +43,9 @@ take-none : (n : ℕ) (octets : List ℕ) → octets ≡ [] → take n octets �
 take-none zero octets e = refl
 take-none (suc n) octets e = ap (take (suc n)) e
 
--- what is left of more octets after a piece of which so many were skipped or used
-pub skipped-front : (skipped used : ℕ) (piece more : List ℕ) → used ≤ length (drop skipped piece) → drop skipped (take (min skipped (length piece) + used) piece ++ more) ≡ take used (drop skipped piece) ++ drop (skipped - length piece) more
-skipped-front skipped used piece more u = elim (cases_lt (length piece) skipped) [
+-- the octets that are left after a piece of which some were skipped or used
+pub skipped-prefix : (skipped used : ℕ) (piece more : List ℕ) → used ≤ length (drop skipped piece) → drop skipped (take (min skipped (length piece) + used) piece ++ more) ≡ take used (drop skipped piece) ++ drop (skipped - length piece) more
+skipped-prefix skipped used piece more u = elim (cases_lt (length piece) skipped) [
   | inl h ↦ of_all h
   | inr h ↦ of_some h
 ]
@@ -64,18 +64,18 @@ skipped-front skipped used piece more u = elim (cases_lt (length piece) skipped)
     of_some h =
         let k : min skipped (length piece) ≡ skipped = omega (arith, h) in
         let z : skipped - length piece ≡ 0 = omega (arith, h) in
-        let front : length (take skipped piece) ≡ skipped = omega (arith, h, length-take skipped piece) in
+        let prefix : length (take skipped piece) ≡ skipped = omega (arith, h, length-take skipped piece) in
         ap (λ n. drop skipped (take (n + used) piece ++ more)) k
         ∙ ap (λ l. drop skipped (l ++ more)) (take-add skipped used piece)
         ∙ ap (drop skipped) (append_assoc (take skipped piece) (take used (drop skipped piece)) more)
-        ∙ drop_at (take skipped piece) (take used (drop skipped piece) ++ more) skipped front
+        ∙ drop_at (take skipped piece) (take used (drop skipped piece) ++ more) skipped prefix
         ∙ ap (λ n. take used (drop skipped piece) ++ drop n more) (sym z)
 
 -- ---- by any messages
 module _ (messages : List Term) where
-  -- a decoder of which nothing was used stands for nothing
+  -- a decoder that used no octet has decoded none
   one-empty : (d : Decoding) → d.octets ≡ [] → IsOfOneFrame messages d
-  one-empty d e = subst (λ o. IsOfOneFrame messages (record d { octets = o })) (sym e) (one-nothing messages d.profile d.limit d.looks d.room)
+  one-empty d e = subst (λ o. IsOfOneFrame messages (record d { octets = o })) (sym e) (one-nothing messages d.profile d.limit d.looks d.capacity)
 
   pub goes_on-new : (d : Decoding) (new : Skipping) → new ≡ record { current = d; skipped = 0 } → d.octets ≡ [] → GoesOn messages new [] []
   goes_on-new d new e o =
@@ -86,25 +86,25 @@ module _ (messages : List Term) where
         alone = inl refl;
       })
 
-  -- a decoder stands for the octets that it holds
-  stands-self : (d : Decoding) → IsOfOneFrame messages d → Stands messages d d.octets []
-  stands-self d one = record { goes_on = λ more. refl; last = record { before = []; parts = refl }; counted = refl; one = one }
+  -- a decoder has decoded its own octets
+  decoded-self : (d : Decoding) → IsOfOneFrame messages d → HasDecoded messages d d.octets []
+  decoded-self d one = record { goes_on = λ more. refl; last = record { before = []; parts = refl }; counted = refl; one = one }
 
   -- ---- feeds
   feeds-after : (old new : Skipping) (piece : List ℕ) (fed : Fed) → new.skipped ≡ old.skipped - min (length piece) old.skipped → Feeds messages old.current (drop (min (length piece) old.skipped) piece) new.current fed → FeedsAfter messages old piece new (record { used = min (length piece) old.skipped + fed.used; status = fed.status })
   feeds-after old new piece fed s f = record {
     skipped = omega (arith, s);
     first = omega arith;
-    others = subst (Feeds messages old.current (drop old.skipped piece) new.current) (sym same) given;
+    others = subst (Feeds messages old.current (drop old.skipped piece) new.current) (sym same) fed_rest;
     goes_on = λ stream before g. record {
       goes_on = λ more. goes stream before g more;
-      one = (given.stands old.current.octets [] (stands-self old.current g.one)).one;
+      one = (fed_rest.decoded old.current.octets [] (decoded-self old.current g.one)).one;
       alone = by (cases_lt (length piece) old.skipped) g.alone;
     };
   }
     where
-      given : Feeds messages old.current (drop old.skipped piece) new.current fed
-      given = subst (λ l. Feeds messages old.current l new.current fed) (drop-min old.skipped piece) f
+      fed_rest : Feeds messages old.current (drop old.skipped piece) new.current fed
+      fed_rest = subst (λ l. Feeds messages old.current l new.current fed) (drop-min old.skipped piece) f
 
       same : without (min old.skipped (length piece)) (record { used = min (length piece) old.skipped + fed.used; status = fed.status }) ≡ fed
       same =
@@ -116,24 +116,24 @@ module _ (messages : List Term) where
           let used : List ℕ = take (min (length piece) old.skipped + fed.used) piece in
           let swap : min (length piece) old.skipped + fed.used ≡ min old.skipped (length piece) + fed.used = omega arith in
           let left : new.skipped ≡ old.skipped - length piece = omega (arith, s) in
-          let front : drop old.skipped (used ++ more) ≡ take fed.used (drop old.skipped piece) ++ drop new.skipped more =
+          let prefix : drop old.skipped (used ++ more) ≡ take fed.used (drop old.skipped piece) ++ drop new.skipped more =
           ap (λ n. drop old.skipped (take n piece ++ more)) swap
-          ∙ skipped-front old.skipped fed.used piece more given.within
+          ∙ skipped-prefix old.skipped fed.used piece more fed_rest.within
           ∙ ap (λ n. take fed.used (drop old.skipped piece) ++ drop n more) (sym left) in
           let all : old.current.octets ++ drop old.skipped (used ++ more) ≡ new.current.octets ++ drop new.skipped more =
-          ap (λ l. old.current.octets ++ l) front
+          ap (λ l. old.current.octets ++ l) prefix
           ∙ sym (append_assoc old.current.octets (take fed.used (drop old.skipped piece)) (drop new.skipped more))
-          ∙ ap (λ l. l ++ drop new.skipped more) (sym given.octets) in
-          ap (λ n. entries messages n ((stream ++ used) ++ more)) given.same_limit
+          ∙ ap (λ l. l ++ drop new.skipped more) (sym fed_rest.octets) in
+          ap (λ n. entries messages n ((stream ++ used) ++ more)) fed_rest.same_limit
           ∙ ap (entries messages old.current.limit) (append_assoc stream used more)
           ∙ g.goes_on (used ++ more)
           ∙ ap (λ l. before ++ entries messages old.current.limit l) all
-          ∙ ap (λ n. before ++ entries messages n (new.current.octets ++ drop new.skipped more)) (sym given.same_limit)
+          ∙ ap (λ n. before ++ entries messages n (new.current.octets ++ drop new.skipped more)) (sym fed_rest.same_limit)
 
       by : (length piece < old.skipped) ⊎ (old.skipped ≤ length piece) → (old.skipped ≡ 0) ⊎ (old.current.octets ≡ []) → (new.skipped ≡ 0) ⊎ (new.current.octets ≡ [])
       by (inr h) a = inl (omega (arith, s, h))
       by (inl h) (inl z) = absurd (omega (arith, h, z))
-      by (inl h) (inr e) = inr (given.octets ∙ ap₂ (λ a b. a ++ b) e (take-none fed.used (drop old.skipped piece) (drop_all old.skipped piece (omega (arith, h)))))
+      by (inl h) (inr e) = inr (fed_rest.octets ∙ ap₂ (λ a b. a ++ b) e (take-none fed.used (drop old.skipped piece) (drop_all old.skipped piece (omega (arith, h)))))
 
   pub feeds-after_count : (old new : Skipping) (piece : List ℕ) (fed : Fed) (count : ℕ) → count ≡ min (length piece) old.skipped → new.skipped ≡ old.skipped - count → Feeds messages old.current (drop count piece) new.current fed → FeedsAfter messages old piece new (record { used = count + fed.used; status = fed.status })
   feeds-after_count old new piece fed count e s f =
@@ -157,8 +157,8 @@ module _ (messages : List Term) where
       by (first ∷ []) (Refused place reason) h m one = absurd one
       by (first ∷ second ∷ others) end h m one = absurd one
 
-  cleared-octets : (old : Decoding) (room : Room) (o : Option (List ℕ)) (contents : List ℕ) → o ≡ Some contents → (if is_some o then record old { octets = []; room = room } else old) ≡ record old { octets = []; room = room }
-  cleared-octets old room o contents e = rw e refl
+  cleared-octets : (old : Decoding) (capacity : Capacity) (o : Option (List ℕ)) (contents : List ℕ) → o ≡ Some contents → (if is_some o then record old { octets = []; capacity = capacity } else old) ≡ record old { octets = []; capacity = capacity }
+  cleared-octets old capacity o contents e = rw e refl
 
   pub clears-entry : (old new : Skipping) (answer : Bool) → new.skipped ≡ old.skipped → Clears messages old.current new.current answer → ClearsEntry messages old new answer
   unfolding found
@@ -167,10 +167,10 @@ module _ (messages : List Term) where
     clears = c;
     goes_on = λ stream contents before g m.
         let d : Decoding = old.current in
-        let left : new.current ≡ record d { octets = []; room = new.current.room } = c.left ∙ cleared-octets d new.current.room (borrowed messages d) contents m in
+        let left : new.current ≡ record d { octets = []; capacity = new.current.capacity } = c.left ∙ cleared-octets d new.current.capacity (borrowed messages d) contents m in
         let limit : new.current.limit ≡ d.limit = ap (λ n. n.limit) left in
         let none : new.current.octets ≡ [] = ap (λ n. n.octets) left in
-        let after : Stands messages new.current d.octets (contents ∷ []) = c.stands d.octets contents [] (stands-self d g.one) m in
+        let after : HasDecoded messages new.current d.octets (contents ∷ []) = c.decoded d.octets contents [] (decoded-self d g.one) m in
         let first : (more : List ℕ) → frames messages d.limit (d.octets ++ more) ≡ with_first contents (frames messages d.limit more) =
         λ more. subst (λ n. frames messages n (d.octets ++ more) ≡ with_first contents (frames messages n more)) limit (after.goes_on more ∙ ap (λ l. with_first contents (frames messages new.current.limit (l ++ more))) none) in
         let long : length d.octets ≡ 4 + length contents = ready-length d.limit d.octets contents (frames messages d.limit d.octets) refl m g.one in
@@ -188,7 +188,7 @@ module _ (messages : List Term) where
   }
 
   -- ---- a frame that is passed
-  -- a decoder that passes one holds nothing
+  -- a decoder that passes a frame has no octets
   holds_none : (octets : List ℕ) (first : Option (List ℕ)) (contents : List ℕ) → Some contents ≡ passed_after octets first → octets ≡ []
   holds_none [] first contents e = refl
   holds_none (octet ∷ octets) first contents e = absurd cc
@@ -199,7 +199,7 @@ module _ (messages : List Term) where
     goes_on = λ stream before g.
         let d : Decoding = s.current in
         let contents : List ℕ = contents_of one in
-        let after : Stands messages d (d.octets ++ framed contents) (contents ∷ []) = p.stands d.octets [] (stands-self d g.one) in
+        let after : HasDecoded messages d (d.octets ++ framed contents) (contents ∷ []) = p.decoded d.octets [] (decoded-self d g.one) in
         let first : (more : List ℕ) → frames messages d.limit (framed contents ++ more) ≡ with_first contents (frames messages d.limit more) =
         λ more. subst (λ l. frames messages d.limit ((l ++ framed contents) ++ more) ≡ with_first contents (frames messages d.limit (l ++ more))) none (after.goes_on more) in
         let long : length (framed contents) ≡ 4 + length contents = omega arith in
@@ -237,7 +237,7 @@ module _ (messages : List Term) where
   same_rest : (rest other : ℕ) → Some rest ≡ Some other → rest ≡ other
   same_rest rest other e = cc
 
-  -- what a refused decoder holds, if the length of the frame is known
+  -- the octets of a refused decoder, if the length of the frame is known
   record HoldsRefused (d : Decoding) (rest place : ℕ) (reason : Why) : Type 0 where
     pub found : frames messages d.limit d.octets ≡ ends (Refused place reason)
     pub last : length d.octets ≡ place + 1

@@ -7,44 +7,44 @@ use Rattle.krb_frame.specs.Decoding.{Decoding, found, borrowed}
 use Rattle.krb_frame.specs.Feeds.{Feeds, Clears}
 use Rattle.krb_frame.specs.Frame.{framed}
 use Rattle.krb_frame.specs.Passes.{Passes, contents_of}
-use Rattle.krb_frame.specs.Stands.{Stands, after_frames}
+use Rattle.krb_frame.specs.Decoded.{HasDecoded, after_frames}
 use Rattle.krb_frame.specs.declared.decoder.Fed.{Fed}
 use Rattle.krb_frame.specs.declared.pass.Passed.{Passed}
 
--- a feed of a piece, a clearing of the frame with these contents, or a pass of the frame at the front of a piece
+-- a feed of a piece, a clearing of the frame with these contents, or a pass of the frame with which a piece begins
 pub data Call : Type 0 where
   Feed : (piece : List ℕ) → (fed : Fed) → Call
   Next : (contents : List ℕ) → Call
   Pass : (piece : List ℕ) → (passed : Passed) → Call
 
--- the octets of the stream that it used
+-- the octets of the stream that a call used
 abbrev pub used : Call → List ℕ
 used (Feed piece fed) = take fed.used piece
 used (Next contents) = []
 used (Pass piece passed) = framed (contents_of passed)
 
--- the contents of the frame that it gave
-abbrev pub given : Call → List (List ℕ)
-given (Feed piece fed) = []
-given (Next contents) = contents ∷ []
-given (Pass piece passed) = contents_of passed ∷ []
+-- the contents of the frames that a call delivered
+abbrev pub delivered : Call → List (List ℕ)
+delivered (Feed piece fed) = []
+delivered (Next contents) = contents ∷ []
+delivered (Pass piece passed) = contents_of passed ∷ []
 
--- what it made of a decoder by any messages
+-- a call led from one decoder by any messages to another
 abbrev pub IsCall : List Term → Decoding → Call → Decoding → Type 0
 IsCall messages old (Feed piece fed) new = Feeds messages old piece new fed
 IsCall messages old (Next contents) new = (borrowed messages old ≡ Some contents) × Clears messages old new true
 IsCall messages old (Pass piece passed) new = Passes messages old piece passed × (new ≡ old)
 
--- what several did, one after another
+-- several calls did, one after another
 abbrev pub AreCalls : List Term → Decoding → List Call → Decoding → Type 0
 AreCalls messages old [] new = new ≡ old
 AreCalls messages old (call ∷ calls) new = (between : Decoding) × IsCall messages old call between × AreCalls messages between calls new
 
--- The decoder stands for the octets that calls used, and the frames of these are those that the calls gave, in order, and then those of what the decoder stands for.
-pub record GiveFrames (messages : List Term) (new : Decoding) (stream : List ℕ) (cleared : List (List ℕ)) (calls : List Call) : Type 0 where
-  pub stands : Stands messages new (stream ++ flat_map used calls) (cleared ++ flat_map given calls)
-  pub frames_are : frames messages new.limit (stream ++ flat_map used calls) ≡ after_frames (cleared ++ flat_map given calls) (found messages new)
+-- The decoder has decoded the octets that the calls used, and the frames of these are those that the calls delivered, in order, and then those of the octets that it has.
+pub record DeliverFrames (messages : List Term) (new : Decoding) (stream : List ℕ) (cleared : List (List ℕ)) (calls : List Call) : Type 0 where
+  pub decoded : HasDecoded messages new (stream ++ flat_map used calls) (cleared ++ flat_map delivered calls)
+  pub frames_are : frames messages new.limit (stream ++ flat_map used calls) ≡ after_frames (cleared ++ flat_map delivered calls) (found messages new)
 
--- So it is whichever frames are passed, and whichever are fed and cleared.
-abbrev pub CallsGiveFrames : Type 0
-CallsGiveFrames = (messages : List Term) (old new : Decoding) (calls : List Call) (stream : List ℕ) (cleared : List (List ℕ)) → AreCalls messages old calls new → Stands messages old stream cleared → GiveFrames messages new stream cleared calls
+-- Calls deliver the frames of a stream, whichever frames are passed, and whichever are fed and cleared.
+abbrev pub CallsDeliverFrames : Type 0
+CallsDeliverFrames = (messages : List Term) (old new : Decoding) (calls : List Call) (stream : List ℕ) (cleared : List (List ℕ)) → AreCalls messages old calls new → HasDecoded messages old stream cleared → DeliverFrames messages new stream cleared calls

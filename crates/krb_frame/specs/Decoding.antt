@@ -1,4 +1,4 @@
--- What a decoder by any messages stands for, and what it answers.
+-- A decoder as contracts see it, and the results of its calls, by any messages.
 use Rattle.std.specs.Prelude.{ℕ, ◌+◌, ◌++◌, ◌/◌, ◌≡◌, ◌<◌, ◌≤◌, ◌^◌, if◌then◌else◌, List, [], ◌∷◌, length, take, drop, Option, Some, None, is_some, Result, Ok, Err}
 use Rattle.krb_der.specs.Octets.{number}
 use Rattle.krb_der.specs.declared.profile.Profile.{Profile}
@@ -6,24 +6,24 @@ use Rattle.krb_der.specs.declared.verdict.Refusal.{Refusal}
 use Rattle.krb_der.specs.declared.why.Why.TheVariants as why
 use Rattle.krb_msg.specs.Term.{Term}
 use Rattle.krb_msg.specs.Stream.{Frames, End, Boundary, Within, Refused, frames}
-use Rattle.krb_scan.specs.At.{open_count}
+use Rattle.krb_scan.specs.Scanned.{open_count}
 use Rattle.krb_frame.specs.declared.decoder.Phase.{Phase}
 use Rattle.krb_frame.specs.declared.decoder.Phase.TheVariants as phase
 use Rattle.krb_frame.specs.declared.decoder.Status.{Status}
 use Rattle.krb_frame.specs.declared.decoder.Status.TheVariants as status
 
--- for how many octets of contents there is room, and for how many marks
-pub record Room : Type 0 where
+-- for how many octets of contents and for how many marks memory is allocated
+pub record Capacity : Type 0 where
   pub octets : ℕ
   pub marks : ℕ
 
--- the profile of the messages; the greatest length of a frame; the octets of the current frame that were used, its length first; how many octets of contents were looked at in all, which only contracts see; and the room for contents
+-- A decoder: the profile of the messages; the greatest length of a frame; the octets of the current frame that were used, its length first; how many octets of contents were looked at in all, which only contracts see; and the capacity for contents.
 pub record Decoding : Type 0 where
   pub profile : Profile
   pub limit : ℕ
   pub octets : List ℕ
   pub looks : ℕ
-  pub room : Room
+  pub capacity : Capacity
 
 -- ---- the fields of a decoder, as a Decoding
 -- the number of octets of a length that are present
@@ -37,24 +37,24 @@ length_present (phase.Refused refusal) = 4
 abbrev pub octets_of : Phase → List ℕ → List ℕ → List ℕ
 octets_of phase announced contents = take (length_present phase) announced ++ contents
 
--- what a decoder stands for
-abbrev pub decoding_of : Profile → ℕ → ℕ → Room → List ℕ → List ℕ → Phase → Decoding
-decoding_of profile limit looks room announced contents phase = record { profile = profile; limit = limit; octets = octets_of phase announced contents; looks = looks; room = room }
+-- the fields of a decoder as a Decoding
+abbrev pub decoding_of : Profile → ℕ → ℕ → Capacity → List ℕ → List ℕ → Phase → Decoding
+decoding_of profile limit looks capacity announced contents phase = record { profile = profile; limit = limit; octets = octets_of phase announced contents; looks = looks; capacity = capacity }
 
--- room for numbers of octets and marks
-abbrev pub room_for : ℕ → ℕ → Room
-room_for octets marks = record { octets = octets; marks = marks }
+-- the capacity for numbers of octets and marks
+abbrev pub capacity_for : ℕ → ℕ → Capacity
+capacity_for octets marks = record { octets = octets; marks = marks }
 
--- there is room for any frame that the limit allows
+-- there is capacity for any frame that the limit allows
 pub record IsAmple (d : Decoding) : Type 0 where
-  pub octets : d.limit ≤ d.room.octets
-  pub marks : d.limit / 2 ≤ d.room.marks
+  pub octets : d.limit ≤ d.capacity.octets
+  pub marks : d.limit / 2 ≤ d.capacity.marks
 
 -- the frames of these octets: the current one, if it is whole, and the end
 unfoldable pub found : List Term → Decoding → Frames
 found messages d = frames messages d.limit d.octets
 
--- ready if there is a frame, refused if the end is so, and else more octets are needed
+-- ready if there is a frame, refused if the end is refused, and else more octets are needed
 abbrev pub status_at : List (List ℕ) → End → Status
 status_at (contents ∷ others) end = status.Ready
 status_at [] Boundary = status.More
@@ -72,11 +72,11 @@ first_of (contents ∷ others) = Some contents
 abbrev pub borrowed : List Term → Decoding → Option (List ℕ)
 borrowed messages d = first_of (found messages d).contents
 
--- what is left if the frame that is ready is cleared, if one is, and this room is left
-abbrev pub after_next : List Term → Decoding → Room → Decoding
-after_next messages d room = if is_some (borrowed messages d) then record d { octets = []; room = room } else d
+-- the decoder after the frame that is ready is cleared, if one is, with this capacity
+abbrev pub after_next : List Term → Decoding → Capacity → Decoding
+after_next messages d capacity = if is_some (borrowed messages d) then record d { octets = []; capacity = capacity } else d
 
--- what a stream that ends so is refused for
+-- why a stream with this end is refused, if it is
 abbrev pub finish_at : End → Result (Unit {0}) Refusal
 finish_at Boundary = Ok tt
 finish_at (Within present) = Err (record { place = present; why = why.Truncated })
@@ -89,7 +89,7 @@ finish_of messages d = finish_at (found messages d).end
 abbrev pub kept_contents : Decoding → List ℕ
 kept_contents d = drop 4 d.octets
 
--- The message of the current frame, as far as it came: the length that is announced, and the contents that are kept, which may be that many.
+-- The message of the current frame, as far as it came: its length, and the contents that are kept, which are no more than that.
 pub record IsPartial (d : Decoding) (size : ℕ) (octets : List ℕ) : Type 0 where
   pub announced : size ≡ number (take 4 d.octets)
   pub kept : octets ≡ kept_contents d

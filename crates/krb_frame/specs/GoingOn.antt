@@ -1,4 +1,4 @@
--- The frames of a stream in which one goes on after a refusal, and the decoder that does. The length of a frame says where the next one begins (RFC 4120, 7.2.2), also of a frame whose contents are refused.
+-- The frames of a stream that is decoded further after a refusal, and the decoder that does this. The length of a frame says where the next one begins (RFC 4120, 7.2.2), even if its contents are refused.
 use Rattle.std.specs.Prelude.{ℕ, zero, suc, ◌+◌, ◌-◌, ◌^◌, ◌≡◌, ◌≤◌, ◌⊎◌, nat_le, min, if◌then◌else◌, Bool, true, List, [], ◌∷◌, ◌++◌, length, map, take, drop, Option, Some, None, is_some}
 use Rattle.krb_der.specs.Octets.{number}
 use Rattle.krb_der.specs.declared.why.Why.{Why}
@@ -9,17 +9,17 @@ use Rattle.krb_frame.specs.Decoding.{Decoding, IsAmple, status_of, borrowed, IsO
 use Rattle.krb_frame.specs.Feeds.{Feeds, Clears}
 use Rattle.krb_frame.specs.Frame.{framed}
 use Rattle.krb_frame.specs.Passes.{Passes, contents_of, passed}
-use Rattle.krb_frame.specs.Stands.{frames_size}
+use Rattle.krb_frame.specs.Decoded.{frames_size}
 use Rattle.krb_frame.specs.declared.decoder.Fed.{Fed}
 use Rattle.krb_frame.specs.declared.decoder.Status.{Status}
 use Rattle.krb_frame.specs.declared.decoder.Status.TheVariants as status
 use Rattle.krb_frame.specs.declared.pass.Passed.{Passed}
 
 -- ---- the frames
--- what a frame comes to: the contents, which are a message, or what it is refused for, at a place in it, with its octets up to that place, or those that are there of one that is cut
+-- A frame of a stream: its contents, which are a message; or the reason why it is refused, at a place in it, with its octets up to that place, or all that are present of one that is cut.
 pub data Entry : Type 0 where
   Contents : (contents : List ℕ) → Entry
-  Fault : (place : ℕ) → (reason : Why) → (front : List ℕ) → Entry
+  Fault : (place : ℕ) → (reason : Why) → (prefix : List ℕ) → Entry
 
 -- the frame at the end, if it is refused or cut, with which these octets begin
 abbrev pub last_entry : End → List ℕ → List Entry
@@ -27,15 +27,15 @@ last_entry Boundary octets = []
 last_entry (Within present) octets = Fault present why.Truncated octets ∷ []
 last_entry (Refused place reason) octets = Fault place reason (take (place + 1) octets) ∷ []
 
--- what follows the whole frames of a stream
+-- the octets after the whole frames of a stream
 abbrev pub after_contents : Frames → List ℕ → List ℕ
 after_contents found stream = drop (frames_size found.contents) stream
 
--- what follows the frame that these octets begin with: none if the high bit of its length is set, since its length is not known
+-- the frames after the one that these octets begin with: none if the high bit of its length is set, since its length is not known
 abbrev pub next_entries : (List ℕ → List Entry) → List ℕ → List Entry
 next_entries entries octets = if nat_le (2 ^ 31) (number (take 4 octets)) then [] else entries (drop (4 + number (take 4 octets)) octets)
 
--- what follows the end: the next frames, if a frame is refused
+-- the frames after the end: the next ones, if a frame is refused
 abbrev pub entries_after : End → (List ℕ → List Entry) → List ℕ → List Entry
 entries_after Boundary entries octets = []
 entries_after (Within present) entries octets = []
@@ -69,11 +69,11 @@ rest_at status.Memory octets = None
 abbrev pub rest_to_come : List Term → Decoding → Option ℕ
 rest_to_come messages d = rest_at (status_of messages d) d.octets
 
--- A decoder was asked to give up the frame that is refused.
+-- A decoder gave up the frame that is refused, if one is and its length is known.
 pub record GivesUp (messages : List Term) (old new : Decoding) (answer : Option ℕ) : Type 0 where
   pub rest : answer ≡ rest_to_come messages old
-  pub left : new ≡ (if is_some answer then record old { octets = []; room = new.room } else old)
-  -- room for any frame stays
+  pub left : new ≡ (if is_some answer then record old { octets = []; capacity = new.capacity } else old)
+  -- capacity for any frame stays
   pub ample : IsAmple old → IsAmple new
 
 -- ---- a decoder that skips
@@ -82,18 +82,18 @@ pub record Skipping : Type 0 where
   pub current : Decoding
   pub skipped : ℕ
 
--- The octets of a stream were used, and these frames were cleared or skipped. Whatever comes next, the frames of the stream are these and then those of what the decoder stands for, without the octets that are to be skipped.
+-- A decoder that skips has decoded the octets of a stream, and these frames were cleared or skipped. Whatever octets come next, the frames of the stream are these and then those of the octets that the decoder has, without the octets that are to be skipped.
 pub record GoesOn (messages : List Term) (s : Skipping) (stream : List ℕ) (before : List Entry) : Type 0 where
   pub goes_on : (more : List ℕ) → entries messages s.current.limit (stream ++ more) ≡ before ++ entries messages s.current.limit (s.current.octets ++ drop s.skipped more)
   pub one : IsOfOneFrame messages s.current
   -- if octets are to be skipped, none of the frame after them were used
   pub alone : (s.skipped ≡ 0) ⊎ (s.current.octets ≡ [])
 
--- what was answered without the octets that were skipped
+-- a result without the octets that were skipped
 abbrev pub without : ℕ → Fed → Fed
 without skipped fed = record { used = fed.used - skipped; status = fed.status }
 
--- Octets from the front of a piece were used: first those that are to be skipped, which the decoder does not get, and then those that it uses of the others.
+-- The first octets of a piece were used: first those that are to be skipped, which the decoder is not fed, and then those that it uses of the others.
 pub record FeedsAfter (messages : List Term) (old : Skipping) (piece : List ℕ) (new : Skipping) (fed : Fed) : Type 0 where
   pub skipped : new.skipped ≡ old.skipped - length piece
   pub first : min old.skipped (length piece) ≤ fed.used
@@ -109,18 +109,18 @@ unless_skipping (suc skipped) frame = None
 abbrev pub passed_by : Skipping → List ℕ → Option (List ℕ)
 passed_by s piece = unless_skipping s.skipped (passed s.current piece)
 
--- The frame at the front of a piece was passed.
+-- The frame with which a piece begins was passed.
 pub record PassesEntry (messages : List Term) (s : Skipping) (piece : List ℕ) (passed : Passed) : Type 0 where
   pub passes : Passes messages s.current piece passed
   pub goes_on : (stream : List ℕ) (before : List Entry) → GoesOn messages s stream before → GoesOn messages s (stream ++ framed (contents_of passed)) (before ++ Contents (contents_of passed) ∷ [])
 
--- The frame that is ready was to be cleared.
+-- The frame that is ready was cleared, if one is.
 pub record ClearsEntry (messages : List Term) (old new : Skipping) (answer : Bool) : Type 0 where
   pub skipped : new.skipped ≡ old.skipped
   pub clears : Clears messages old.current new.current answer
   pub goes_on : (stream contents : List ℕ) (before : List Entry) → GoesOn messages old stream before → borrowed messages old.current ≡ Some contents → GoesOn messages new stream (before ++ Contents contents ∷ [])
 
--- A refused frame was to be skipped.
+-- A refused frame was skipped, if there is one and its length is known.
 pub record Skips (messages : List Term) (old new : Skipping) (answer : Bool) : Type 0 where
   pub is_known : answer ≡ is_some (rest_to_come messages old.current)
   pub gives_up : GivesUp messages old.current new.current (rest_to_come messages old.current)

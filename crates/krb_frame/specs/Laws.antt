@@ -1,4 +1,4 @@
--- What holds of all decoders by any messages, and of all streams. Each is the contract of a function of the module `law`.
+-- The laws of all decoders by any messages, and of all streams. Each is the contract of a function of the module `law`.
 use Rattle.std.specs.Prelude.{ℕ, ◌+◌, ◌≡◌, ◌<◌, ◌↔◌, if◌then◌else◌, List, [], ◌++◌, length, map, Some, None, is_some, Err}
 use Rattle.krb_der.specs.Octets.{AreOctets}
 use Rattle.krb_der.specs.declared.profile.Profile.TheVariants.{Lenient}
@@ -10,31 +10,31 @@ use Rattle.krb_msg.specs.Stream.{Boundary, Within, Refused, ends, with_first, fr
 use Rattle.krb_frame.specs.Decoding.{Decoding, found, status_of, borrowed, kept_contents, finish_of}
 use Rattle.krb_frame.specs.Feeds.{Feeds}
 use Rattle.krb_frame.specs.GoingOn.{Entry, Contents, last_entry, after_contents, entries}
-use Rattle.krb_frame.specs.Stands.{EndsWith, after_frames, Stands}
+use Rattle.krb_frame.specs.Decoded.{EndsWith, after_frames, HasDecoded}
 use Rattle.krb_frame.specs.declared.decoder.Fed.{Fed}
 use Rattle.krb_frame.specs.declared.decoder.Status.TheVariants as status
 
--- What a decoder has of a stream that it stands for.
-pub record HasOfStream (messages : List Term) (d : Decoding) (stream : List ℕ) (cleared : List (List ℕ)) : Type 0 where
+-- A decoder and its results match a stream.
+pub record MatchesStream (messages : List Term) (d : Decoding) (stream : List ℕ) (cleared : List (List ℕ)) : Type 0 where
   -- the frames of the stream are those that were cleared, and one more exactly if one is ready
   pub found_all : frames messages d.limit stream ≡ after_frames cleared (found messages d)
   pub counted : length (frames messages d.limit stream).contents ≡ length cleared + (if is_some (borrowed messages d) then 1 else 0)
-  -- what is ready fills the end of the stream
+  -- the frame that is ready is the end of the stream
   pub ready : (contents : List ℕ) → borrowed messages d ≡ Some contents → (found messages d ≡ with_first contents (ends Boundary)) × (kept_contents d ≡ contents) × EndsWith contents stream
   -- the decoder is refused exactly if the stream is
   pub refused : (place : ℕ) (reason : Why) → ((frames messages d.limit stream).end ≡ Refused place reason) ↔ (status_of messages d ≡ status.Refused (record { place = place; why = reason }))
-  -- between two frames it holds nothing of a next one, and within one the octets of that one, with which the stream ends
+  -- between two frames it has no octet of a next one, and within one the octets of that one, with which the stream ends
   pub boundary : (frames messages d.limit stream).end ≡ Boundary → borrowed messages d ≡ None → d.octets ≡ []
   pub within : (present : ℕ) → (frames messages d.limit stream).end ≡ Within present → (length d.octets ≡ present) × EndsWith d.octets stream
 
-abbrev pub StandingTells : Type 0
-StandingTells = (messages : List Term) (d : Decoding) (stream : List ℕ) (cleared : List (List ℕ)) → Stands messages d stream cleared → HasOfStream messages d stream cleared
+abbrev pub DecoderMatchesStream : Type 0
+DecoderMatchesStream = (messages : List Term) (d : Decoding) (stream : List ℕ) (cleared : List (List ℕ)) → HasDecoded messages d stream cleared → MatchesStream messages d stream cleared
 
--- Nothing after a refusal is looked at: a stream that is refused is refused so, whatever comes.
+-- Nothing after a refusal is looked at: a stream that is refused has the same frames and the same refusal, whatever follows.
 abbrev pub RefusalEnds : Type 0
-RefusalEnds = (messages : List Term) (d : Decoding) (stream more : List ℕ) (cleared : List (List ℕ)) (place : ℕ) (reason : Why) → Stands messages d stream cleared → (frames messages d.limit stream).end ≡ Refused place reason → frames messages d.limit (stream ++ more) ≡ frames messages d.limit stream
+RefusalEnds = (messages : List Term) (d : Decoding) (stream more : List ℕ) (cleared : List (List ℕ)) (place : ℕ) (reason : Why) → HasDecoded messages d stream cleared → (frames messages d.limit stream).end ≡ Refused place reason → frames messages d.limit (stream ++ more) ≡ frames messages d.limit stream
 
--- a feed answers that an octet is refused, at a place and for a reason
+-- a feed returns that an octet is refused, at a place and for a reason
 abbrev pub RefusesFor : Why → ℕ → Fed → Type 0
 RefusesFor reason place fed = fed.status ≡ status.Refused (record { place = place; why = reason })
 
@@ -50,7 +50,7 @@ pub record RefusalsAreInside : Type 0 where
   pub of_feed : (messages : List Term) (old new : Decoding) (piece : List ℕ) (fed : Fed) (place : ℕ) (reason : Why) → Feeds messages old piece new fed → RefusesFor reason place fed → place < length new.octets
   pub of_stream : (messages : List Term) (limit : ℕ) (stream : List ℕ) (place : ℕ) (reason : Why) → (frames messages limit stream).end ≡ Refused place reason → IsRefusedInside messages limit stream place reason
 
--- No feed answers Truncated: what a stream is refused for that ends inside a frame.
+-- No feed returns Truncated, for which a stream is refused that ends inside a frame.
 abbrev pub FeedIsNotTruncated : Type 0
 FeedIsNotTruncated = (messages : List Term) (old new : Decoding) (piece : List ℕ) (fed : Fed) (place : ℕ) → Feeds messages old piece new fed → RefusesFor Truncated place fed → ⊥
 

@@ -1,5 +1,5 @@
 pub mod Decoding
-pub mod Stands
+pub mod Decoded
 pub mod Feeds
 pub mod Frame
 pub mod GoingOn

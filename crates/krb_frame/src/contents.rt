@@ -4,9 +4,9 @@ ghost use Rattle.std.specs.Prelude.{◌≡◌, ◌≢◌, ◌+◌, ◌/◌, ◌<
 ghost use Rattle.krb_der.specs.declared.verdict.Verdict.TheVariants.{Open};
 ghost use Rattle.krb_msg.specs.Grammar.{messages};
 ghost use Rattle.krb_msg.specs.Judgement.{judgement};
-ghost use Rattle.krb_scan.specs.Scanner.{At, ledger_of, profile_of, room_of};
-ghost use Rattle.krb_frame.specs.inner.Phases.{IsTaken, IsEarly, KeepsRoom, status_by};
-ghost use Rattle.krb_frame.specs.Decoding.{room_for};
+ghost use Rattle.krb_scan.specs.Scanner.{HasScanned, ledger_of, profile_of, capacity_of};
+ghost use Rattle.krb_frame.specs.inner.Phases.{IsFedContents, IsEarly, KeepsCapacity, status_by};
+ghost use Rattle.krb_frame.specs.Decoding.{capacity_for};
 ghost use Rattle.krb_frame.specs.declared.decoder.Status.TheVariants as status;
 
 use crate::decoder::{Fed, LENGTH_OCTETS, Status};
@@ -14,16 +14,16 @@ use krb_der::{Memory, Refusal, Verdict};
 use krb_scan::Scanner;
 use std::alloc::Global;
 
-/// How many octets contents may be whose room is kept for those of the next frame: 4 MiB.
+/// The greatest number of contents octets whose memory is kept for the next frame: 4 MiB.
 const CONTENTS_KEPT: usize = 1 << 22;
 
-/// How many marks a scanner may have made whose room is kept for the next frame: 3 MiB, at 24 octets
+/// The greatest number of marks whose memory is kept for the next frame: 3 MiB, at 24 octets
 /// each.
 const MARKS_KEPT: usize = 1 << 17;
 
-/// Takes octets of the contents of a frame of `size` octets, as many as are missing and come, up to
+/// Uses octets of the contents of a frame of `size` octets, as many as are missing and come, up to
 /// one that is refused. The scanner looks at each of them once. If memory is refused none is
-/// taken after those that it has looked at; none is if there is room for the whole frame.
+/// taken after those that it has looked at; none is if there is capacity for the whole frame.
 pub(crate) fn take_contents(
     contents: &mut Vec<u8>,
     scanner: &mut Scanner,
@@ -34,13 +34,13 @@ pub(crate) fn take_contents(
     requires short { size < 2 ^ 31 }
     requires present { length contents.old.items ≤ size }
     requires undecided { judgement (profile_of scanner.old) size contents.old.items ≡ Open }
-    requires scanned { At (profile_of scanner.old) scanner.old size contents.old.items }
-    ensures taken { IsTaken (messages (profile_of scanner.old)) size contents.old.items piece.now contents.new.items result }
-    ensures scanned { At (profile_of scanner.old) scanner.new size contents.new.items }
+    requires scanned { HasScanned (profile_of scanner.old) scanner.old size contents.old.items }
+    ensures taken { IsFedContents (messages (profile_of scanner.old)) size contents.old.items piece.now contents.new.items result }
+    ensures scanned { HasScanned (profile_of scanner.old) scanner.new size contents.new.items }
     ensures profile { profile_of scanner.new ≡ profile_of scanner.old }
     ensures looks { ledger_of scanner.new ≡ ledger_of scanner.old + result.used }
-    ensures room { KeepsRoom (room_for (vec_capacity contents.old) (room_of scanner.old)) (room_for (vec_capacity contents.new) (room_of scanner.new)) }
-    ensures enough { size ≤ vec_capacity contents.old → size / 2 ≤ room_of scanner.old → result.status ≢ status.Memory }
+    ensures capacity { KeepsCapacity (capacity_for (vec_capacity contents.old) (capacity_of scanner.old)) (capacity_for (vec_capacity contents.new) (capacity_of scanner.new)) }
+    ensures enough { size ≤ vec_capacity contents.old → size / 2 ≤ capacity_of scanner.old → result.status ≢ status.Memory }
 {
     let before = contents.len();
     let count = piece.len().min(size as usize - before);
@@ -75,10 +75,10 @@ fn status_after(verdict: Result<Verdict, Memory>) -> Status
     }
 }
 
-/// Forgets contents. The room of many is given back, if it is not to stay.
+/// Forgets contents. The memory of many is freed, if it is not to stay.
 pub(crate) fn clear_contents(contents: &mut Vec<u8>, alloc: Global, stays: bool)
     ensures none { contents.new.items ≡ [] }
-    ensures room { stays ≡ true → vec_capacity contents.old ≤ vec_capacity contents.new }
+    ensures capacity { stays ≡ true → vec_capacity contents.old ≤ vec_capacity contents.new }
 {
     if !stays && contents.len() > CONTENTS_KEPT {
         *contents = Vec::new(alloc);
@@ -87,11 +87,11 @@ pub(crate) fn clear_contents(contents: &mut Vec<u8>, alloc: Global, stays: bool)
     }
 }
 
-/// Gives back the room of many marks, if it is not to stay.
+/// Frees the memory of many marks, if it is not to stay.
 pub(crate) fn clear_marks(scanner: &mut Scanner, alloc: Global, stays: bool)
     ensures looks { ledger_of scanner.new ≡ ledger_of scanner.old }
     ensures profile { profile_of scanner.new ≡ profile_of scanner.old }
-    ensures room { stays ≡ true → room_of scanner.old ≤ room_of scanner.new }
+    ensures capacity { stays ≡ true → capacity_of scanner.old ≤ capacity_of scanner.new }
 {
     if !stays && scanner.marks().len() > MARKS_KEPT {
         scanner.restart(alloc, 1);

@@ -26,7 +26,7 @@ enum Phase {
     Refused(Refusal),
 }
 
-/// What a decoder answers for a piece.
+/// What a decoder returns for a piece.
 #[derive(Clone, Copy, PartialEq, Eq, Debug)]
 pub struct Fed {
     /// How many octets of the piece were used.
@@ -77,21 +77,21 @@ impl Model for Decoder {
 
     ghost use Rattle.std.specs.Prelude.{vec_capacity};
     ghost use Rattle.krb_msg.specs.Grammar.{messages};
-    ghost use Rattle.krb_scan.specs.Scanner.{ledger_of, profile_of, room_of};
-    ghost use Rattle.krb_frame.specs.inner.Phases.{IsAt, IsScanned};
-    ghost use Rattle.krb_frame.specs.Decoding.{decoding_of, room_for};
+    ghost use Rattle.krb_scan.specs.Scanner.{ledger_of, profile_of, capacity_of};
+    ghost use Rattle.krb_frame.specs.inner.Phases.{IsPhaseOf, IsScanned};
+    ghost use Rattle.krb_frame.specs.Decoding.{decoding_of, capacity_for};
 
-    ghost view = { λ d. decoding_of (profile_of d.scanner) d.limit (ledger_of d.scanner) (room_for (vec_capacity d.contents) (room_of d.scanner)) d.length d.contents.items d.phase };
+    ghost view = { λ d. decoding_of (profile_of d.scanner) d.limit (ledger_of d.scanner) (capacity_for (vec_capacity d.contents) (capacity_of d.scanner)) d.length d.contents.items d.phase };
 
-    ghost invariant = { λ d. IsAt (messages (profile_of d.scanner)) d.limit d.length d.contents.items d.phase × IsScanned (profile_of d.scanner) d.scanner d.length d.contents.items d.phase };
+    ghost invariant = { λ d. IsPhaseOf (messages (profile_of d.scanner)) d.limit d.length d.contents.items d.phase × IsScanned (profile_of d.scanner) d.scanner d.length d.contents.items d.phase };
 }
 
 ghost use Rattle.std.specs.Prelude.{◌≡◌, ◌≤◌, ◌<◌, ◌⊎◌, ◌^◌, ◌↔◌, true, [], length, vec_capacity, IfOk, IfSome, MatchOption};
 ghost use Rattle.std.specs.Option.{option_map};
 ghost use Rattle.krb_msg.specs.Grammar.{messages};
-ghost use Rattle.krb_scan.specs.Scanner.{ledger_of, profile_of, room_of};
-ghost use Rattle.krb_frame.specs.Decoding.{IsAmple, borrowed, finish_at, finish_of, kept_contents, IsPartial, open_lengths_of, decoding_of, room_for};
-ghost use Rattle.krb_frame.specs.Stands.{Stands};
+ghost use Rattle.krb_scan.specs.Scanner.{ledger_of, profile_of, capacity_of};
+ghost use Rattle.krb_frame.specs.Decoding.{IsAmple, borrowed, finish_at, finish_of, kept_contents, IsPartial, open_lengths_of, decoding_of, capacity_for};
+ghost use Rattle.krb_frame.specs.Decoded.{HasDecoded};
 ghost use Rattle.krb_frame.specs.Feeds.{Feeds, Clears};
 ghost use Rattle.krb_frame.specs.GoingOn.{GivesUp};
 ghost use Rattle.krb_frame.specs.Passes.{Passes, contents_of, passed};
@@ -99,30 +99,30 @@ ghost use Rattle.krb_frame.specs.inner.Phases.{end_after, phase_of, IsLengthJudg
 ghost use Rattle.krb_frame.specs.declared.decoder.Phase.TheVariants as phase;
 
 impl Decoder {
-    /// Creates a decoder of a stream of which nothing came yet, by the lenient profile. It takes no
-    /// memory.
+    /// Creates a decoder of a stream of which nothing came yet, by the lenient profile. It
+    /// allocates nothing.
     pub fn new(alloc: Global, limit: Limit) -> Decoder
-        ensures nothing { result ≡ record { profile = Profile.Lenient; limit = limit; octets = []; looks = result.looks; room = result.room } }
-        ensures stands { Stands (messages Profile.Lenient) result [] [] }
+        ensures nothing { result ≡ record { profile = Profile.Lenient; limit = limit; octets = []; looks = result.looks; capacity = result.capacity } }
+        ensures decoded { HasDecoded (messages Profile.Lenient) result [] [] }
     {
         Decoder::with_profile(alloc, limit, Profile::Lenient)
     }
 
-    /// Creates a decoder of a stream of which nothing came yet, by a profile. It takes no memory.
+    /// Creates a decoder of a stream of which nothing came yet, by a profile. It allocates nothing.
     pub fn with_profile(alloc: Global, limit: Limit, profile: Profile) -> Decoder
-        ensures nothing { result ≡ record { profile = profile; limit = limit; octets = []; looks = result.looks; room = result.room } }
-        ensures stands { Stands (messages profile) result [] [] }
+        ensures nothing { result ≡ record { profile = profile; limit = limit; octets = []; looks = result.looks; capacity = result.capacity } }
+        ensures decoded { HasDecoded (messages profile) result [] [] }
     {
         let scanner = Scanner::with_profile(alloc, profile, 1);
         Decoder::over(alloc, limit, Vec::new(alloc), scanner)
     }
 
-    /// Creates a decoder of a stream of which nothing came yet, by the lenient profile, with room
-    /// for any frame that the limit allows: for as many octets, and for half as many marks, the
-    /// most that they can have. It keeps that room, and `feed` never answers [`Status::Memory`].
+    /// Creates a decoder of a stream of which nothing came yet, by the lenient profile, with memory
+    /// for any frame that the limit allows: for that number of octets, and for half that number of
+    /// marks, the most that they can have. It keeps that, and `feed` never returns [`Status::Memory`].
     pub fn reserved(alloc: Global, limit: Limit) -> Result<Decoder, Memory>
-        ensures nothing { IfOk result (λ d. d ≡ record { profile = Profile.Lenient; limit = limit; octets = []; looks = d.looks; room = d.room }) }
-        ensures stands { IfOk result (λ d. Stands (messages Profile.Lenient) d [] []) }
+        ensures nothing { IfOk result (λ d. d ≡ record { profile = Profile.Lenient; limit = limit; octets = []; looks = d.looks; capacity = d.capacity }) }
+        ensures decoded { IfOk result (λ d. HasDecoded (messages Profile.Lenient) d [] []) }
         ensures ample { IfOk result IsAmple }
     {
         Decoder::reserved_with_profile(alloc, limit, Profile::Lenient)
@@ -134,8 +134,8 @@ impl Decoder {
         limit: Limit,
         profile: Profile,
     ) -> Result<Decoder, Memory>
-        ensures nothing { IfOk result (λ d. d ≡ record { profile = profile; limit = limit; octets = []; looks = d.looks; room = d.room }) }
-        ensures stands { IfOk result (λ d. Stands (messages profile) d [] []) }
+        ensures nothing { IfOk result (λ d. d ≡ record { profile = profile; limit = limit; octets = []; looks = d.looks; capacity = d.capacity }) }
+        ensures decoded { IfOk result (λ d. HasDecoded (messages profile) d [] []) }
         ensures ample { IfOk result IsAmple }
     {
         let octets = limit.get() as usize;
@@ -145,11 +145,11 @@ impl Decoder {
         Ok(Decoder::over(alloc, limit, contents, scanner))
     }
 
-    /// Creates a decoder of a stream of which nothing came yet, with the room of contents and a
+    /// Creates a decoder of a stream of which nothing came yet, with the memory of contents and a
     /// scanner.
     fn over(alloc: Global, limit: Limit, contents: Vec<u8>, scanner: Scanner) -> Decoder
         requires { contents.items ≡ [] }
-        ensures { result ≡ record { profile = profile_of scanner; limit = limit; octets = []; looks = ledger_of scanner; room = room_for (vec_capacity contents) (room_of scanner) } }
+        ensures { result ≡ record { profile = profile_of scanner; limit = limit; octets = []; looks = ledger_of scanner; capacity = capacity_for (vec_capacity contents) (capacity_of scanner) } }
     {
         Decoder {
             alloc,
@@ -161,21 +161,21 @@ impl Decoder {
         }
     }
 
-    /// Returns whether there is room for any frame that the limit allows.
+    /// Returns whether there is capacity for any frame that the limit allows.
     fn is_ample(&self) -> bool
         ensures { (result ≡ true) ↔ IsAmple self.now }
     {
         let octets = self.limit.get() as usize;
-        octets <= self.contents.capacity() && octets / 2 <= self.scanner.room()
+        octets <= self.contents.capacity() && octets / 2 <= self.scanner.capacity()
     }
 
-    /// Uses octets from the front of a piece: all of them, or those up to the end of the frame, or
+    /// Uses the first octets of a piece: all of them, or those up to the end of the frame, or
     /// up to one that is refused. Refused, on the fourth octet of a length and there at place 3,
     /// are one with its high bit set (`HighBit`), one greater than the limit (`TooLong`) and 0
     /// (`Empty`), in this order; then the contents are refused as messages are, at places counted
-    /// from the frame's first octet. A decoder that is ready, or refused, uses nothing and answers
+    /// from the frame's first octet. A decoder that is ready, or refused, uses nothing and returns
     /// so again. Out of memory, the octets after those that were used may be fed again; the octets
-    /// of a length take no memory, and nothing does in a [`reserved`](Decoder::reserved) decoder.
+    /// of a length need no memory, and nothing does in a [`reserved`](Decoder::reserved) decoder.
     pub fn feed(&mut self, piece: &[u8]) -> Fed
         ensures { Feeds (messages self.old.profile) self.old piece.now self.new result }
     {
@@ -188,10 +188,10 @@ impl Decoder {
     }
 
     /// Passes the frame with which a piece begins, if it is all there and its contents are a message,
-    /// and returns that message as it stands in the piece, and what follows the frame. It is as if the
+    /// and returns that message as a view of the piece, and what follows the frame. It is as if the
     /// frame had been fed and cleared, but nothing is kept of it and the scanner looks at none of its
     /// octets. Returns `None` of any other piece, and if a part of a frame was fed before or one is ready
-    /// or refused: then the piece is to be fed. It takes no memory.
+    /// or refused: then the piece is to be fed. It allocates nothing.
     pub fn pass<'p>(&self, piece: &'p [u8]) -> Option<Passed<'p>>
         ensures frame { option_map contents_of result ≡ passed self.now piece.now }
         ensures passes { IfSome result (Passes (messages self.now.profile) self.now piece.now) }
@@ -244,9 +244,9 @@ impl Decoder {
         }
     }
 
-    /// Clears the frame that is ready, so that the next one may be fed, and answers whether there
-    /// was one. If there was none nothing changes. The room of a frame that took much is given
-    /// back, unless there is room for any frame that the limit allows, as in a
+    /// Clears the frame that is ready, so that the next one may be fed, and returns whether there
+    /// was one. If there was none nothing changes. The memory of a large frame is
+    /// freed, unless there is capacity for any frame that the limit allows, as in a
     /// [`reserved`](Decoder::reserved) decoder.
     pub fn next(&mut self) -> bool
         ensures { Clears (messages self.old.profile) self.old self.new result }
@@ -259,9 +259,9 @@ impl Decoder {
     }
 
     /// Gives up the frame that is refused, so that the next one may be fed after the octets of this
-    /// one that are still to come, and answers how many these are. If nothing is refused nothing
-    /// changes; nor does it after `HighBit`, since the length of that frame is not known. The room
-    /// is kept or given back as by [`next`](Decoder::next).
+    /// one that are still to come, and returns how many these are. If nothing is refused nothing
+    /// changes; nor does it after `HighBit`, since the length of that frame is not known. The memory
+    /// is kept or freed as by [`next`](Decoder::next).
     pub fn skip(&mut self) -> Option<u32>
         ensures { GivesUp (messages self.old.profile) self.old self.new result }
     {
@@ -279,7 +279,7 @@ impl Decoder {
 
     /// Forgets the octets of the current frame.
     fn forget(&mut self)
-        ensures left { self.new ≡ record { profile = self.old.profile; limit = self.old.limit; octets = []; looks = self.old.looks; room = self.new.room } }
+        ensures left { self.new ≡ record { profile = self.old.profile; limit = self.old.limit; octets = []; looks = self.old.looks; capacity = self.new.capacity } }
         ensures ample { IsAmple self.old → IsAmple self.new }
     {
         let stays = self.is_ample();
@@ -357,7 +357,7 @@ impl Decoder {
     }
 }
 
-/// Returns the answer of a feed that uses nothing.
+/// Returns the result of a feed that uses nothing.
 fn answer(status: Status) -> Fed
     ensures { result ≡ record { used = 0; status = status } }
 {
@@ -378,7 +378,7 @@ fn ended(seen: usize) -> Result<(), Refusal>
     })
 }
 
-/// Returns the phase after contents of a frame of `size` octets were taken.
+/// Returns the phase after contents of a frame of `size` octets were used.
 fn phase_after(size: u32, status: Status) -> Phase
     ensures { result ≡ phase_of size status }
 {
@@ -390,7 +390,7 @@ fn phase_after(size: u32, status: Status) -> Phase
 }
 
 /// Puts octets of a piece after those of a length that are present, as many as are missing and
-/// come, and answers how many.
+/// come, and returns how many.
 fn put_octets(length: &mut [u8; LENGTH_OCTETS], present: usize, piece: &[u8]) -> usize
     requires { present < 4 }
     ensures { IsPut length.old present piece.now length.new result }
@@ -415,7 +415,7 @@ fn judge_length(scanner: &mut Scanner, limit: Limit, announced: [u8; LENGTH_OCTE
     ensures scanned { IsScanned (profile_of scanner.old) scanner.new announced [] result }
     ensures profile { profile_of scanner.new ≡ profile_of scanner.old }
     ensures looks { ledger_of scanner.new ≡ ledger_of scanner.old }
-    ensures room { room_of scanner.old ≤ room_of scanner.new }
+    ensures capacity { capacity_of scanner.old ≤ capacity_of scanner.new }
 {
     match accepted_size(limit, announced) {
         Ok(size) => {

@@ -27,7 +27,7 @@ impl<'a> Model for Framed<'a> {
 ghost use Rattle.std.specs.Prelude.{◌≡◌, ◌<◌, ◌^◌, IfOk, length};
 ghost use Rattle.std.specs.Option.{option_map};
 ghost use Rattle.krb_msg.specs.Realm.{AreOfRealm};
-ghost use Rattle.krb_msg.specs.Seen.{IsMessageView};
+ghost use Rattle.krb_msg.specs.ViewValues.{IsMessageView};
 ghost use Rattle.krb_msg.specs.Views.{AreOfKind, message_der};
 ghost use Rattle.krb_der.specs.declared.verdict.Verdict.TheVariants.{Whole};
 ghost use Rattle.krb_msg.specs.Judgement.{judgement};
@@ -49,14 +49,14 @@ impl<'a> Framed<'a> {
         self.octets
     }
 
-    /// Returns the kind of the message. It takes no memory.
+    /// Returns the kind of the message. It allocates nothing.
     pub fn kind(&self) -> Kind
         ensures { AreOfKind Profile.Lenient self.now result }
     {
         whole_kind(self.octets)
     }
 
-    /// Returns a view of the message, where it stands. It takes no memory.
+    /// Returns a view of the message. It allocates nothing.
     pub fn view(&self) -> MessageView<'_>
         ensures { IsMessageView self.now result }
     {
@@ -68,7 +68,7 @@ impl<'a> Framed<'a> {
 
     /// Returns the realm of the message, borrowed: of an AS-REQ or a TGS-REQ the realm that its
     /// body names, of an AS-REP or a TGS-REP the client's, of an AP-REQ the ticket's, of a
-    /// KRB-ERROR the server's. The other messages name none. It takes no memory.
+    /// KRB-ERROR the server's. The other messages have none. It allocates nothing.
     pub fn realm(&self) -> Option<&[u8]>
         ensures { AreOfRealm Profile.Lenient self.now (option_map (λ realm. realm.now) result) }
     {

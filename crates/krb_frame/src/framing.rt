@@ -12,7 +12,7 @@ use std::alloc::Global;
 
 /// Returns a message as a frame (RFC 4120, 7.2.2): the number of its DER octets in four octets, the
 /// highest first, and these. `TooLong`, if they are more than the limit, is decided first; then
-/// memory is taken once, for just as many octets as that, and no more.
+/// memory is allocated once, for just as many octets as that, and no more.
 pub fn frame(alloc: Global, message: &Message, limit: Limit) -> Result<Vec<u8>, EncodeFault>
     ensures octets { IfOk result (λ octets. octets.items ≡ framed (message_der message.now)) }
     ensures too_long { IsErrOf result fault.TooLong ↔ (limit < length (message_der message.now)) }

@@ -1,12 +1,12 @@
-//! Laws of decoders and of the streams that they stand for. Each is the contract of a function that
+//! Laws of decoders and of the streams that they have decoded. Each is the contract of a function that
 //! does nothing.
 
-ghost use Rattle.krb_frame.specs.Calls.{CallsGiveFrames};
-ghost use Rattle.krb_frame.specs.Laws.{StandingTells, RefusalEnds, RefusalsAreInside, FeedIsNotTruncated, LenientHasNoCharset, GoingOnChangesNothingBefore};
+ghost use Rattle.krb_frame.specs.Calls.{CallsDeliverFrames};
+ghost use Rattle.krb_frame.specs.Laws.{DecoderMatchesStream, RefusalEnds, RefusalsAreInside, FeedIsNotTruncated, LenientHasNoCharset, GoingOnChangesNothingBefore};
 
-/// What a decoder that stands for a stream has of it.
-pub fn standing_tells()
-    ensures { StandingTells }
+/// A decoder and its results match the stream that it has decoded.
+pub fn decoder_matches_stream()
+    ensures { DecoderMatchesStream }
 {}
 
 /// A stream that is refused is refused so, whatever comes.
@@ -19,12 +19,12 @@ pub fn refusals_are_inside()
     ensures { RefusalsAreInside }
 {}
 
-/// No feed answers `Truncated`: [`finish`](crate::Decoder::finish) alone does.
+/// No feed returns `Truncated`: [`finish`](crate::Decoder::finish) alone does.
 pub fn feed_is_not_truncated()
     ensures { FeedIsNotTruncated }
 {}
 
-/// A decoder by the lenient profile never answers `Charset`.
+/// A decoder by the lenient profile never returns `Charset`.
 pub fn lenient_has_no_charset()
     ensures { LenientHasNoCharset }
 {}
@@ -35,8 +35,8 @@ pub fn going_on_changes_nothing_before()
     ensures { GoingOnChangesNothingBefore }
 {}
 
-/// Whichever frames of a stream are passed, and whichever are fed and cleared, all are given, in
+/// Whichever frames of a stream are passed, and whichever are fed and cleared, all are delivered, in
 /// order.
-pub fn calls_give_frames()
-    ensures { CallsGiveFrames }
+pub fn calls_deliver_frames()
+    ensures { CallsDeliverFrames }
 {}

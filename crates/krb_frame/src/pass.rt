@@ -12,7 +12,7 @@ use crate::limit::Limit;
 use krb_der::Profile;
 use krb_msg::{MessageView, view_message_in};
 
-/// A frame that lies whole at the front of a piece of a stream, and what follows it there.
+/// A whole frame with which a piece of a stream begins, and what follows it there.
 #[derive(Clone, Copy)]
 pub struct Passed<'p> {
     /// The message of the frame.

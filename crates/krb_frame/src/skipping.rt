@@ -42,7 +42,7 @@ impl SkippingDecoder {
         }
     }
 
-    /// Uses octets from the front of a piece: first those of a skipped frame that are still to
+    /// Uses the first octets of a piece: first those of a skipped frame that are still to
     /// come, which are passed over, and then octets of the next one, as [`Decoder::feed`] does.
     pub fn feed(&mut self, piece: &[u8]) -> Fed
         ensures { FeedsAfter (messages self.old.current.profile) self.old piece.now self.new result }
@@ -82,7 +82,7 @@ impl SkippingDecoder {
         self.decoder.next()
     }
 
-    /// Skips the frame that is refused, and answers whether it did: the octets of that frame that
+    /// Skips the frame that is refused, and returns whether it did: the octets of that frame that
     /// are still to come are passed over, and what comes after them is the next frame. If nothing is
     /// refused nothing changes; nor does it after `HighBit`, since the length of that frame is not
     /// known.

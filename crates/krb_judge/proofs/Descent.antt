@@ -1,4 +1,4 @@
--- The field at fault: what the functions that go to it need.
+-- The field at fault: lemmas of the functions that find it.
 use Rattle.std.proofs.Common.{◌≡◌, ℕ, zero, suc, ◌+◌, ◌-◌, ◌<◌, ◌≤◌, Bool, true, false, List, [], ◌∷◌, length, drop, get_or, refl, ap, ◌∙◌, arith}
 use Rattle.krb_der.specs.declared.profile.Profile.TheVariants.{Lenient, Strict}
 use Rattle.krb_msg.specs.Views.{kind_term_in}
@@ -15,9 +15,9 @@ use Rattle.krb_msg.specs.declared.grammar.Slot.TheVariants as slot
 use Rattle.krb_judge.specs.FieldNames.{field_at}
 use Rattle.krb_judge.specs.Laws.{FieldsHaveNames}
 use Rattle.krb_judge.specs.Paths.{begin_with, within, first_item, contents_path, fields_path, field_path, elements_path, element_path}
-use Rattle.krb_judge.specs.inner.Descent.{kind_index, due_path}
-use Rattle.krb_judge.specs.declared.locating.Due.{Due}
-use Rattle.krb_judge.specs.declared.locating.Due.TheVariants as due
+use Rattle.krb_judge.specs.inner.Descent.{kind_index, presence_path}
+use Rattle.krb_judge.specs.declared.locating.Presence.{Presence}
+use Rattle.krb_judge.specs.declared.locating.Presence.TheVariants as presence
 use Rattle.krb_judge.specs.declared.locating.Rest.{Rest}
 use Rattle.krb_judge.specs.declared.locating.names.Names.{Names}
 use Rattle.krb_judge.proofs.Within.{slot_next, slot_shallow}
@@ -50,26 +50,26 @@ strict_node kind.KrbCred = refl
 strict_node kind.KrbError = refl
 
 -- ---- fields
--- what is due for the field at an index
-pub field_due :
-    (slots : List Slot) (index : ℕ) (none : Slot) (rest : Rest) (due : Due) (names : Names) (path : List ℕ)
+-- whether the field at an index is present
+pub field_presence :
+    (slots : List Slot) (index : ℕ) (none : Slot) (rest : Rest) (presence : Presence) (names : Names) (path : List ℕ)
     → index < length slots
-    → ((fields : Fields) (names : Names) (path : List ℕ) (k : ℕ) → fields_path (with_slot nodes (get_or slots index none) fields) names path k rest.room rest.octets.now ≡ due_path due rest fields names path k)
-    → fields_path (fields_from nodes (drop index slots)) names path index rest.room rest.octets.now ≡ due_path due rest (fields_from nodes (drop (index + 1) slots)) names path index
-field_due slots index none rest due names path h d =
+    → ((fields : Fields) (names : Names) (path : List ℕ) (k : ℕ) → fields_path (with_slot nodes (get_or slots index none) fields) names path k rest.room rest.octets.now ≡ presence_path presence rest fields names path k)
+    → fields_path (fields_from nodes (drop index slots)) names path index rest.room rest.octets.now ≡ presence_path presence rest (fields_from nodes (drop (index + 1) slots)) names path index
+field_presence slots index none rest presence names path h d =
     ap (λ fields. fields_path fields names path index rest.room rest.octets.now) (slot_next slots index none h) ∙ d (fields_from nodes (drop (index + 1) slots)) names path index
 
 -- after a field whose item is done
 pub field_done :
     (slots : List Slot) (index : ℕ) (none : Slot) (rest next : Rest) (node : ℕ) (names : Names) (path : List ℕ)
     → index < length slots
-    → ((fields : Fields) (names : Names) (path : List ℕ) (k : ℕ) → fields_path (with_slot nodes (get_or slots index none) fields) names path k rest.room rest.octets.now ≡ due_path (due.Item node) rest fields names path k)
+    → ((fields : Fields) (names : Names) (path : List ℕ) (k : ℕ) → fields_path (with_slot nodes (get_or slots index none) fields) names path k rest.room rest.octets.now ≡ presence_path (presence.Item node) rest fields names path k)
     → ((path : List ℕ) (inside after : ℕ → List ℕ → List ℕ) → first_item (term_at node) path rest.room rest.octets.now inside after ≡ after next.room next.octets.now)
     → fields_path (fields_from nodes (drop index slots)) names path index rest.room rest.octets.now ≡ fields_path (fields_from nodes (drop (index + 1) slots)) names path (index + 1) next.room next.octets.now
 field_done slots index none rest next node names path h d first =
     let fields : Fields = fields_from nodes (drop (index + 1) slots) in
     let here : List ℕ = field_path path (field_at names index).name in
-    field_due slots index none rest (due.Item node) names path h d
+    field_presence slots index none rest (presence.Item node) names path h d
     ∙ first here (contents_path (term_at node) (field_at names index).inside here) (fields_path fields names path (index + 1))
 
 pub rest_shallow : (slots : List Slot) (index : ℕ) → index < length slots → depth_of_fields (fields_from nodes (drop (index + 1) slots)) ≤ depth_of_fields (fields_from nodes (drop index slots))

@@ -1,4 +1,4 @@
--- A refusal of octets stands at one of them.
+-- A refusal of octets is at one of them.
 use Rattle.std.proofs.Common.{◌≡◌, ℕ, ◌<◌, Bool, true, false, if◌then◌else◌, eqb, ltb, List, length, Some, refl, ap, arith}
 use Rattle.krb_der.specs.declared.verdict.Refusal.{Refusal}
 use Rattle.krb_der.specs.declared.verdict.Verdict.{Verdict}

@@ -21,7 +21,7 @@ use Rattle.krb_msg.proofs.Laws.{same_value}
 use Rattle.krb_msg.specs.inner.Values.{der_begins}
 use Rattle.krb_msg.specs.Profiles.{profile_term}
 use Rattle.krb_msg.specs.Der.{IsDer}
-use Rattle.krb_msg.specs.Seen.{IsNoMessage}
+use Rattle.krb_msg.specs.ViewValues.{IsNoMessage}
 use Rattle.krb_msg.specs.Viewed.{IsNotWhole}
 use Rattle.krb_msg.proofs.ProfileValues.{lenient_der}
 use Rattle.krb_judge.specs.Parses.{refused, refusal_by, refusal_of, AreOf, AreOfValue, HasNoMessage}
@@ -70,14 +70,14 @@ none_refused judge octets whole some short = none_chosen (nat_lt 2147483647 (len
 pub too_long : (judge : ℕ → List ℕ → Verdict) (octets : List ℕ) → 2147483647 < length octets → refusal_by judge octets ≢ None
 too_long judge octets long e = let p = chosen_none (nat_lt 2147483647 (length octets)) (length octets == 0) _ _ (judge (length octets) octets) e in absurd (grind (arith, nat_tests, long, p.0))
 
--- ---- what is seen
-pub seen_some : {A Q : Type 0} (P : Type 0) (Seen : A → Type 0) (seen : Option A) → ((a : A) → Seen a → Q) → MatchOption seen P Seen → IsSome seen → Q
-seen_some P Seen None g m some = absurd cc
-seen_some P Seen (Some a) g m some = g a m
+-- ---- views
+pub viewed_some : {A Q : Type 0} (P : Type 0) (Seen : A → Type 0) (seen : Option A) → ((a : A) → Seen a → Q) → MatchOption seen P Seen → IsSome seen → Q
+viewed_some P Seen None g m some = absurd cc
+viewed_some P Seen (Some a) g m some = g a m
 
-pub is_seen : {A P : Type 0} (Seen : A → Type 0) (seen : Option A) → MatchOption seen (P → ⊥) Seen → P → IsSome seen
-is_seen Seen None m p = absurd (m p)
-is_seen Seen (Some a) m p = refl
+pub is_viewed : {A P : Type 0} (Seen : A → Type 0) (seen : Option A) → MatchOption seen (P → ⊥) Seen → P → IsSome seen
+is_viewed Seen None m p = absurd (m p)
+is_viewed Seen (Some a) m p = refl
 
 -- ---- messages
 pub whole_message : (profile : Profile) (octets : List ℕ) → refusal_of profile octets ≡ None → IsWholeSlice (judgement profile) octets

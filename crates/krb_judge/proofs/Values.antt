@@ -15,11 +15,11 @@ use Rattle.krb_msg.proofs.ProfileValues.{der_profile, lenient_value, lenient_bac
 use Rattle.krb_msg.specs.Nodes.{nodes, term_in, term_at}
 use Rattle.krb_judge.specs.declared.parsing.TheConstants.{TICKET, STRICT_TICKET, METHOD_DATA}
 use Rattle.krb_msg.specs.Views.{ticket_value, ticket_of, pa_data_value, pa_data_of}
-use Rattle.krb_msg.specs.inner.Told.{map-back}
+use Rattle.krb_msg.specs.inner.PrefixFree.{map-back}
 use Rattle.krb_msg.proofs.Judged.{ticket_value-of}
 use Rattle.krb_msg.specs.Judgement.{term_judgement}
 use Rattle.krb_msg.specs.Der.{IsDer}
-use Rattle.krb_msg.specs.Seen.{ticket_seen, ticket_view_value}
+use Rattle.krb_msg.specs.ViewValues.{ticket_of_view, ticket_view_value}
 use Rattle.krb_msg.specs.Viewed.{IsViewOf}
 use Rattle.krb_judge.specs.Parses.{refusal_by, ticket_refusal, method_data_refusal, ticket_value_in, AreOfTicket, AreOfMethodData}
 use Rattle.krb_judge.specs.declared.parsing.ParseFault.{ParseFault}
@@ -70,8 +70,8 @@ ticket_not_refused profile t f = value_not_refused (profile_term profile false t
 pub no_ticket : (profile : Profile) (octets : List ℕ) → AreOctets octets → ((t : Ticket) → AreOfTicket profile octets t → ⊥) ↔ (ticket_refusal profile octets ≢ None)
 no_ticket profile = no_value (profile_term profile false ticket) (ticket_unambiguous profile) (ticket_value_in profile) (ticket_of_in profile) (ticket_back profile) (ticket_onto profile)
 
--- what a view of octets that are not refused stands for
-pub ticket_viewed : {t : Ticket} (profile : Profile) (octets : List ℕ) (view : TicketView) → AreOctets octets → ticket_refusal profile octets ≡ None → IsViewOf ticket octets (ticket_view_value view) → t ≡ ticket_seen view → AreOfTicket profile octets t
+-- the value of a view of octets that are not refused
+pub ticket_viewed : {t : Ticket} (profile : Profile) (octets : List ℕ) (view : TicketView) → AreOctets octets → ticket_refusal profile octets ≡ None → IsViewOf ticket octets (ticket_view_value view) → t ≡ ticket_of_view view → AreOfTicket profile octets t
 ticket_viewed {t = t} profile octets view a none v e =
     let w = whole_value (profile_term profile false ticket) octets a none in
     are_of_ticket profile t (w.0, w.1, ap (λ (u : Ticket). der ticket (ticket_value u)) e ∙ ap (der ticket) (ticket_value-of (ticket_view_value view) v.fits) ∙ v.form)

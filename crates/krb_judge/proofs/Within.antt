@@ -1,4 +1,4 @@
--- What the judge's functions need of the judgement: its offsets and counts are within the octets present, and what is left after an item.
+-- Lemmas of the judgement for the judge's functions: its offsets and counts are within the octets present, and what is left after an item.
 use Rattle.std.proofs.Common.{◌≡◌, ℕ, zero, suc, ◌+◌, ◌-◌, ◌<◌, ◌≤◌, Bool, true, false, ◌||◌, nat_lt, ◌⊎◌, inl, inr, List, [], ◌∷◌, length, take, drop, get_or, length-drop, refl, sym, ap, ◌∙◌, arith, add-one, lt-ltb}
 use Rattle.std.proofs.Math.Seq.{drop-cons}
 use Rattle.std.proofs.lemmas.List.{take_all}

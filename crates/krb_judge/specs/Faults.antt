@@ -1,4 +1,4 @@
--- What a fault of a parse prints.
+-- The text of a fault of a parse.
 use Rattle.std.specs.Prelude.{ℕ, List, codes}
 use Rattle.krb_der.specs.Reasons.{refusal_text}
 use Rattle.krb_judge.specs.declared.parsing.ParseFault.{ParseFault}

@@ -1,4 +1,4 @@
--- What holds of the refusals of all slices, and of the names of fields. Each is the contract of a function of the module `law`.
+-- The laws of the refusals of all slices, and of the names of fields. Each is the contract of a function of the module `law`.
 use Rattle.std.specs.Prelude.{ℕ, ◌≡◌, ◌<◌, true, List, length, Option, Some}
 use Rattle.krb_der.specs.declared.profile.Profile.{Profile}
 use Rattle.krb_der.specs.declared.verdict.Refusal.{Refusal}
@@ -7,7 +7,7 @@ use Rattle.krb_msg.specs.declared.message.Kind.{Kind}
 use Rattle.krb_judge.specs.FieldNames.{are_named, names_of_kind}
 use Rattle.krb_judge.specs.Parses.{refusal_of, ticket_refusal, method_data_refusal}
 
--- A refusal of octets, if there are some, stands at one of them.
+-- A refusal of octets, if there are any, is at one of them.
 abbrev pub IsInside : (List ℕ → Option Refusal) → Type 0
 IsInside refusal = (octets : List ℕ) (r : Refusal) → 0 < length octets → refusal octets ≡ Some r → r.place < length octets
 

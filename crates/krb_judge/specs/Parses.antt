@@ -1,4 +1,4 @@
--- What is answered for a whole slice.
+-- The message, the Ticket and the METHOD-DATA whose DER a whole slice is, and why a slice is refused.
 use Rattle.std.specs.Prelude.{ℕ, ◌≡◌, ◌<◌, ◌^◌, nat_lt, ◌==◌, if◌then◌else◌, false, List, length, map, Option, Some, None}
 use Rattle.krb_der.specs.declared.profile.Profile.{Profile}
 use Rattle.krb_der.specs.declared.verdict.Refusal.{Refusal}
@@ -24,14 +24,14 @@ refused verdict.Open = None
 refused verdict.Whole = None
 refused (verdict.Refused refusal) = Some refusal
 
--- why a slice is not all of what it is judged as, if it is not
+-- the refusal of a slice by a judgement of its octets, if it is refused
 abbrev pub refusal_by : (ℕ → List ℕ → Verdict) → List ℕ → Option Refusal
 refusal_by judge octets =
     if nat_lt 2147483647 (length octets) then Some (record { place = 0; why = why.TooLong })
     else if length octets == 0 then Some (record { place = 0; why = why.Empty })
     else refused (judge (length octets) octets)
 
--- why a slice is no message and no Ticket of a profile, and no METHOD-DATA
+-- the refusal of a slice as a message and as a Ticket of a profile, and as METHOD-DATA
 abbrev pub refusal_of : Profile → List ℕ → Option Refusal
 refusal_of profile = refusal_by (judgement profile)
 
@@ -41,7 +41,7 @@ ticket_refusal profile = refusal_by (term_judgement (profile_term profile false 
 abbrev pub method_data_refusal : List ℕ → Option Refusal
 method_data_refusal = refusal_by (term_judgement method_data)
 
--- what a slice is judged as
+-- the judgement of a slice as what is expected
 abbrev pub judged_as : Expected → ℕ → List ℕ → Verdict
 judged_as (expected.Message profile) = judgement profile
 judged_as (expected.Node node) = term_judgement (term_at node)

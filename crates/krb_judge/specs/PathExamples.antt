@@ -8,7 +8,7 @@ use Rattle.krb_judge.specs.Paths.{message_path}
 abbrev path : ℕ → List ℕ → Option (List ℕ)
 path n octets = message_path Lenient n octets
 
--- ---- the kind of the message, which its tag tells
+-- ---- the kind of the message, by its tag
 nothing_there : path 31 [] ≡ None
 nothing_there = refl
 

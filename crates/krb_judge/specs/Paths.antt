@@ -1,6 +1,6 @@
 -- The field at fault of a message that is refused or cut: its path, by the names of RFC 4120.
 -- `TGS-REQ.req-body.additional-tickets[0].sname` is a message, fields of SEQUENCEs, and an item of a SEQUENCE OF.
--- The octets are those of the message up to and with the refused one, or all that are there of a message that is cut.
+-- The octets are those of the message up to and with the refused one, or all that are present of a message that is cut. A room is the number of octets that a container has left.
 use Rattle.std.specs.Prelude.{ℕ, zero, suc, ◌+◌, ◌-◌, Bool, true, false, ◌&&◌, ◌==◌, nat_lt, List, [], ◌∷◌, ◌++◌, length, take, drop, Option, None, codes}
 use Rattle.std.specs.Fmt.{decimal}
 use Rattle.std.specs.Option.{option_map}
@@ -16,7 +16,7 @@ use Rattle.krb_judge.specs.declared.locating.names.Names.{Names}
 abbrev pub field_path : List ℕ → List ℕ → List ℕ
 field_path path name = path ++ codes "." ++ name
 
--- an item, of which so many are before it, after the path of its SEQUENCE OF
+-- an item, by its index, after the path of its SEQUENCE OF
 abbrev pub element_path : List ℕ → ℕ → List ℕ
 element_path path index = path ++ codes "[" ++ decimal index ++ codes "]"
 
@@ -31,7 +31,7 @@ after_done Open after into = into tt
 after_done (Bad offset reason) after into = into tt
 after_done (Done count) after into = after count
 
--- An item that has a path. The last function finds what is at fault in its contents, if its length tells which octets these are.
+-- The path in an item that has a path. The last function finds the path in its contents octets, if its length octets are right.
 abbrev pub within_head : Head → (path : List ℕ) → ℕ → Bool → List ℕ → (ℕ → List ℕ → List ℕ) → List ℕ
 within_head Partial path room sole octets inside = path
 within_head (Refused offset reason) path room sole octets inside = path
@@ -42,12 +42,12 @@ abbrev pub within : Term → (path : List ℕ) → ℕ → Bool → List ℕ →
 within term path room sole octets inside =
     when (begin_with (tag_of term) octets) (λ _. within_head (head room octets) path room sole octets inside) (λ _. path)
 
--- an item that is the first of what is left in a container, and what is left after it
+-- the path in the first item of what is left of a container, or, if that item is done, in what is left after it
 abbrev pub first_item : Term → (path : List ℕ) → ℕ → List ℕ → (inside after : ℕ → List ℕ → List ℕ) → List ℕ
 first_item term path room octets inside after =
     after_done (item_outcome term room false octets) (λ count. after (room - count) (drop count octets)) (λ _. within term path room false octets inside)
 
--- the items of a SEQUENCE OF that are left, of which the first number bounds how many there are
+-- the items of a SEQUENCE OF that are left; the first number is a bound on how many there are
 abbrev pub elements_path : (List ℕ → ℕ → List ℕ → List ℕ) → Term → (path : List ℕ) → (bound index : ℕ) → ℕ → List ℕ → List ℕ
 elements_path inside term path zero index room octets = path
 elements_path inside term path (suc bound) index room octets =
@@ -56,7 +56,7 @@ elements_path inside term path (suc bound) index room octets =
     (λ _. path)
 
 abbrev mutual
-  -- the contents of an item that has a path, in their room
+  -- the contents octets of an item that has a path, in their room
   pub contents_path : Term → Names → (path : List ℕ) → ℕ → List ℕ → List ℕ
   contents_path (Sequence fields) names path room octets = fields_path fields names path 0 room octets
   contents_path (SequenceOf empty term) names path room octets = elements_path (contents_path term names) term path (length octets) 0 room octets
@@ -81,7 +81,7 @@ abbrev mutual
 abbrev pub item_path : Term → Names → (path : List ℕ) → ℕ → Bool → List ℕ → List ℕ
 item_path term names path room sole octets = within term path room sole octets (contents_path term names path)
 
--- The path in a message of n octets, by a profile. There is none before the first octet tells which message it is.
+-- The path in a message of n octets, by a profile. There is none before the first octet, whose tag says which message it is.
 abbrev pub message_path : Profile → ℕ → List ℕ → Option (List ℕ)
 message_path profile n [] = None
 message_path profile n (tag ∷ octets) =

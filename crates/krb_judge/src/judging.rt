@@ -1,7 +1,7 @@
 //! What the octets present of a message decide, by the table of the grammar (`krb_msg::grammar`).
 //!
 //! Each function is the definition of its name in `krb_msg/specs/Judgement`. Octets are read from
-//! the front and no further than the first that decides; those of a string that may have any are
+//! the first on and no further than the one that decides; those of a string that may have any are
 //! counted and not looked at.
 
 pub(crate) mod head;
@@ -14,7 +14,7 @@ ghost use Rattle.krb_msg.specs.Term.{End};
 ghost use Rattle.krb_msg.specs.Judgement.{judgement, term_judgement, verdict_of, only_contents, item_outcome, fields_outcome, items_contents};
 ghost use Rattle.krb_msg.specs.Nodes.{nodes, term_at};
 ghost use Rattle.krb_msg.specs.Table.{IsNode, IsSlot, fields_from};
-ghost use Rattle.krb_judge.specs.inner.Outcomes.{outcome_of, outcome_in, sized_outcome, IsLeft, IsDue, IsStep};
+ghost use Rattle.krb_judge.specs.inner.Outcomes.{outcome_of, outcome_in, sized_outcome, IsLeft, IsPresenceOf, IsStep};
 
 use crate::judging::head::{Head, part, read_head};
 use crate::judging::leaf::{bits, integer, string, text, time};
@@ -28,7 +28,7 @@ use krb_msg::has_bits;
 struct Left<'a> {
     /// How many octets are before it, from the first of the item.
     before: u32,
-    /// The room for it.
+    /// The number of octets that it may have.
     room: u32,
     /// Its octets that are present.
     octets: &'a [u8],
@@ -43,13 +43,13 @@ enum Step<'a> {
     Next(Left<'a>),
 }
 
-/// What is due for a field.
+/// Whether a field is present.
 #[derive(Clone, Copy)]
-enum Due {
+enum Presence {
     /// This is decided.
     Decided(Outcome),
-    /// The field is left out.
-    LeftOut,
+    /// The field is absent.
+    Absent,
     /// The item of a node's term.
     Item { node: u16 },
 }
@@ -106,7 +106,8 @@ fn verdict(outcome: Outcome) -> Verdict
     }
 }
 
-/// Judges an item of a node's term, in a room that it fills if it is the sole item there.
+/// Judges an item of a node's term, in a room, the octets that its container has
+/// left, which it has to fill if it is the sole item there.
 #[cycle(judge)]
 pub(crate) fn item(node: u16, room: u32, sole: bool, octets: &[u8]) -> Outcome
     requires known { IsNode node }
@@ -144,7 +145,7 @@ pub(crate) fn item(node: u16, room: u32, sole: bool, octets: &[u8]) -> Outcome
     }
 }
 
-/// Judges the contents octets of an item, after its tag and length octets.
+/// Judges the contents octets of an item, after its identifier and length octets.
 #[cycle(judge)]
 #[inline(always)]
 fn contents(node: u16, before: u32, size: u32, octets: &[u8]) -> Outcome
@@ -219,12 +220,12 @@ fn fields(slots: &[Slot], before: u32, size: u32, octets: &[u8]) -> Outcome
         octets,
     };
     for slot in slots {
-        let node = match due_for(*slot, left) {
-            Due::Decided(outcome) => return outcome,
-            Due::LeftOut => continue,
-            Due::Item { node } => node,
+        let node = match presence_of(*slot, left) {
+            Presence::Decided(outcome) => return outcome,
+            Presence::Absent => continue,
+            Presence::Item { node } => node,
         };
-        match front_item(node, left) {
+        match leading_item(node, left) {
             Step::Decided(outcome) => return outcome,
             Step::Next(next) => left = next,
         }
@@ -247,7 +248,7 @@ fn items(node: u16, before: u32, size: u32, octets: &[u8]) -> Outcome
         octets,
     };
     while left.room > 0 {
-        match front_item(node, left) {
+        match leading_item(node, left) {
             Step::Decided(outcome) => return outcome,
             Step::Next(next) => left = next,
         }
@@ -255,10 +256,10 @@ fn items(node: u16, before: u32, size: u32, octets: &[u8]) -> Outcome
     Outcome::Done { count: left.before }
 }
 
-/// Judges an item at the front of what is left, and returns what is left after it.
+/// Judges the first item of what is left, and returns what is left after it.
 #[cycle(judge)]
 #[inline(always)]
-fn front_item(node: u16, left: Left<'_>) -> Step<'_>
+fn leading_item(node: u16, left: Left<'_>) -> Step<'_>
     requires known { IsNode node }
     requires some { 0 < left.room }
     requires left { IsLeft left }
@@ -278,30 +279,30 @@ fn front_item(node: u16, left: Left<'_>) -> Step<'_>
     }
 }
 
-/// Returns what is due for a field.
+/// Returns whether a field is present, or what is decided without its item.
 #[inline(always)]
-fn due_for(slot: Slot, left: Left) -> Due
+fn presence_of(slot: Slot, left: Left) -> Presence
     requires known { IsSlot slot }
     requires left { IsLeft left }
-    ensures { IsDue slot left.entry result }
+    ensures { IsPresenceOf slot left.entry result }
 {
     match slot {
         Slot::Required { node } => if left.room == 0 {
-            Due::Decided(Outcome::Bad {
+            Presence::Decided(Outcome::Bad {
                 offset: left.before - 1,
                 why: Why::Missing,
             })
         } else {
-            Due::Item { node }
+            Presence::Item { node }
         },
         Slot::Optional { node } => {
             if left.room == 0 {
-                return Due::LeftOut;
+                return Presence::Absent;
             }
             match left.octets.first() {
-                None => Due::Decided(Outcome::Open),
-                Some(tag) if *tag == tag_of(node) => Due::Item { node },
-                Some(_) => Due::LeftOut,
+                None => Presence::Decided(Outcome::Open),
+                Some(tag) if *tag == tag_of(node) => Presence::Item { node },
+                Some(_) => Presence::Absent,
             }
         }
     }

@@ -14,7 +14,7 @@ ghost use Rattle.krb_msg.specs.Table.{IsNode, IsSlot, fields_from, with_slot};
 ghost use Rattle.krb_msg.specs.Term.{Fields};
 ghost use Rattle.krb_msg.specs.Views.{kind_term_in};
 ghost use Rattle.krb_judge.specs.Paths.{begin_with, contents_path, element_path, elements_path, field_path, fields_path, first_item, message_path, within};
-ghost use Rattle.krb_judge.specs.inner.Descent.{IsItem, IsInside, IsPresent, IsDueFor, IsFaultOf, path_in, path_on, in_contents, in_first, due_path, fault_path, in_element, kind_index};
+ghost use Rattle.krb_judge.specs.inner.Descent.{IsItem, IsInside, IsPresent, IsPresenceFor, IsFaultOf, path_in, path_on, in_contents, in_first, presence_path, fault_path, in_element, kind_index};
 
 use crate::judging::head::{Head, part, read_head};
 use crate::judging::item;
@@ -39,21 +39,21 @@ struct Item<'a> {
 /// What is left of a container.
 #[derive(Clone, Copy)]
 struct Rest<'a> {
-    /// The room for it.
+    /// The number of octets that it may have.
     room: u32,
     /// Its octets that are present.
     octets: &'a [u8],
 }
 
-/// What is due for a field.
+/// Whether a field is present.
 #[derive(Clone, Copy)]
-enum Due {
-    /// Nothing: the field is missing.
+enum Presence {
+    /// The field is missing.
     Missing,
-    /// Nothing: the SEQUENCE itself is at fault.
+    /// The SEQUENCE itself is at fault.
     Sequence,
-    /// Nothing: the field is left out.
-    LeftOut,
+    /// The field is absent.
+    Absent,
     /// The item of a node's term.
     Item { node: u16 },
 }
@@ -188,7 +188,7 @@ fn begins(octets: &[u8], tag: u8) -> bool
     }
 }
 
-/// Returns the contents of an item, if its tag and length octets are right.
+/// Returns the contents of an item, if its identifier and length octets are right.
 fn contents_of(item: Item) -> Option<Rest>
     requires { IsItem item }
     ensures contents { (inside : ℕ → List ℕ → List ℕ) (path : List ℕ) → within (term_at item.entry.node) path item.entry.room item.entry.sole item.entry.octets.now inside ≡ in_contents result path inside }
@@ -277,11 +277,11 @@ fn field_at_fault<'a>(slots: &[Slot], contents: Rest<'a>) -> Fault<'a>
 {
     let mut rest = contents;
     for (index, slot) in slots.iter().enumerate() {
-        let node = match due_at(*slot, rest) {
-            Due::Missing => return Fault::Missing { index },
-            Due::Sequence => return Fault::Sequence,
-            Due::LeftOut => continue,
-            Due::Item { node } => node,
+        let node = match presence_at(*slot, rest) {
+            Presence::Missing => return Fault::Missing { index },
+            Presence::Sequence => return Fault::Sequence,
+            Presence::Absent => continue,
+            Presence::Item { node } => node,
         };
         match after_first(node, rest) {
             Some(after) => rest = after,
@@ -291,25 +291,25 @@ fn field_at_fault<'a>(slots: &[Slot], contents: Rest<'a>) -> Fault<'a>
     Fault::Sequence
 }
 
-/// Returns what is due for a field.
-fn due_at(slot: Slot, rest: Rest) -> Due
+/// Returns whether a field is present, or what is at fault without its item.
+fn presence_at(slot: Slot, rest: Rest) -> Presence
     requires known { IsSlot slot }
     requires present { IsPresent rest }
-    ensures path { (fields : Fields) (names : Names) (path : List ℕ) (index : ℕ) → fields_path (with_slot nodes slot fields) names path index rest.entry.room rest.entry.octets.now ≡ due_path result rest.entry fields names path index }
-    ensures item { IsDueFor slot rest.entry result }
+    ensures path { (fields : Fields) (names : Names) (path : List ℕ) (index : ℕ) → fields_path (with_slot nodes slot fields) names path index rest.entry.room rest.entry.octets.now ≡ presence_path result rest.entry fields names path index }
+    ensures item { IsPresenceFor slot rest.entry result }
 {
     match slot {
         Slot::Required { node } => if rest.room == 0 {
-            Due::Missing
+            Presence::Missing
         } else if begins(rest.octets, tag_of(node)) {
-            Due::Item { node }
+            Presence::Item { node }
         } else {
-            Due::Sequence
+            Presence::Sequence
         },
         Slot::Optional { node } => if begins(rest.octets, tag_of(node)) {
-            Due::Item { node }
+            Presence::Item { node }
         } else {
-            Due::LeftOut
+            Presence::Absent
         },
     }
 }

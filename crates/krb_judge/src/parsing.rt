@@ -5,7 +5,7 @@ ghost use Rattle.krb_msg.specs.Judgement.{term_judgement};
 ghost use Rattle.krb_msg.specs.Grammar.{ticket};
 ghost use Rattle.krb_msg.specs.Nodes.{term_at};
 ghost use Rattle.krb_msg.specs.Profiles.{profile_term};
-ghost use Rattle.krb_msg.specs.Seen.{IsMessageView, TicketLists, ticket_seen};
+ghost use Rattle.krb_msg.specs.ViewValues.{IsMessageView, TicketLists, ticket_of_view};
 ghost use Rattle.krb_msg.specs.Shape.{has_octet_tags, is_unambiguous};
 ghost use Rattle.krb_msg.specs.Table.{IsNode};
 ghost use Rattle.krb_msg.specs.Viewed.{IsViewOf};
@@ -85,7 +85,7 @@ const METHOD_DATA: u16 = Row::MethodData as u16;
 
 /// Returns the message that octets are, or why they are none, by the lenient profile. A slice of
 /// more than 2147483647 octets is `TooLong` at 0, an empty one `Empty` at 0; else
-/// [`judge`](crate::judge) refuses it. A refusal is decided before memory is taken.
+/// [`judge`](crate::judge) refuses it. A refusal is decided before memory is allocated.
 pub fn parse(alloc: Global, octets: &[u8]) -> Result<Message, ParseFault>
     ensures message { IfOk result (AreOf Profile.Lenient octets.now) }
     ensures found { (m : Message) → AreOf Profile.Lenient octets.now m → (result ≡ Ok m) ⊎ (result ≡ Err fault.Memory) }
@@ -144,10 +144,10 @@ fn ticket_node(profile: Profile) -> u16
     }
 }
 
-/// Returns the Ticket that octets are, where it stands, or why they are none, by the lenient
-/// profile. It takes no memory.
+/// Returns a view of the Ticket that octets are, or why they are none, by the lenient
+/// profile. It allocates nothing.
 pub fn read_ticket(octets: &[u8]) -> Result<TicketView<'_>, Refusal>
-    ensures ticket { IfOk result (λ view. AreOfTicket Profile.Lenient octets.now (ticket_seen view)) }
+    ensures ticket { IfOk result (λ view. AreOfTicket Profile.Lenient octets.now (ticket_of_view view)) }
     ensures lists { IfOk result TicketLists }
     ensures refused { (r : Refusal) → IsErrOf result r ↔ (ticket_refusal Profile.Lenient octets.now ≡ Some r) }
 {
@@ -168,8 +168,8 @@ pub fn parse_method_data(alloc: Global, octets: &[u8]) -> Result<Vec<PaData>, Pa
     }
 }
 
-/// Returns the message that octets are, where it stands, or why they are none, by the lenient
-/// profile, as [`parse`] has it. It takes no memory.
+/// Returns a view of the message that octets are, or why they are none, by the lenient profile, as
+/// [`parse`] has it. It allocates nothing.
 pub fn read_message(octets: &[u8]) -> Result<MessageView<'_>, Refusal>
     ensures message { IfOk result (IsMessageView octets.now) }
     ensures whole { IfOk result (λ _. refusal_in Profile.Lenient octets.now ≡ None) }
@@ -178,7 +178,7 @@ pub fn read_message(octets: &[u8]) -> Result<MessageView<'_>, Refusal>
     read_in(Profile::Lenient, octets)
 }
 
-/// Returns the message of a profile that octets are, where it stands, or why they are none.
+/// Returns a view of the message of a profile that octets are, or why they are none.
 fn read_in(profile: Profile, octets: &[u8]) -> Result<MessageView<'_>, Refusal>
     ensures message { IfOk result (IsMessageView octets.now) }
     ensures whole { IfOk result (λ _. refusal_in profile octets.now ≡ None) }
@@ -188,11 +188,11 @@ fn read_in(profile: Profile, octets: &[u8]) -> Result<MessageView<'_>, Refusal>
         profile,
         Expected::Message(profile),
         octets,
-        seen_message(octets),
+        viewed_message(octets),
     )
 }
 
-/// Returns the item of a node's term, which is that of a profile, that octets are, where it stands,
+/// Returns the item of a node's term, which is that of a profile, that octets are, viewed,
 /// or why they are none.
 fn read_item<'a, T: View<'a>>(
     profile: Profile,
@@ -211,12 +211,12 @@ fn read_item<'a, T: View<'a>>(
         profile,
         Expected::Node(node),
         octets,
-        seen_item::<T>(octets),
+        viewed_item::<T>(octets),
     )
 }
 
 /// Returns a view of the message that octets are, if they are one in the lenient profile.
-fn seen_message(octets: &[u8]) -> Option<MessageView<'_>>
+fn viewed_message(octets: &[u8]) -> Option<MessageView<'_>>
     ensures { MatchOption result (refusal_in Profile.Lenient octets.now ≢ None) (λ seen. IsMessageView octets.now seen × (refusal_in Profile.Lenient octets.now ≡ None)) }
 {
     if octets.len() > MOST {
@@ -226,7 +226,7 @@ fn seen_message(octets: &[u8]) -> Option<MessageView<'_>>
 }
 
 /// Returns a view of the item that octets are, if they are one in the lenient profile.
-fn seen_item<'a, T: View<'a>>(octets: &'a [u8]) -> Option<T::Of>
+fn viewed_item<'a, T: View<'a>>(octets: &'a [u8]) -> Option<T::Of>
     requires tags { has_octet_tags T.term ≡ true }
     requires unambiguous { is_unambiguous T.term ≡ true }
     ensures { MatchOption result (refusal_by (term_judgement T.term) octets.now ≢ None) (λ seen. IsViewOf T.term octets.now (T.value seen) × T.Lists seen × (refusal_by (term_judgement T.term) octets.now ≡ None)) }
@@ -237,7 +237,7 @@ fn seen_item<'a, T: View<'a>>(octets: &'a [u8]) -> Option<T::Of>
     view_whole::<T>(octets)
 }
 
-/// Returns what is seen of octets, or why they are not what they are judged as. A view is one of
+/// Returns a view of octets, or why they are not what they are judged as. A view is one of
 /// the lenient profile: if there is one, that profile does not judge again.
 fn accepted<V: Copy>(
     profile: Profile,

@@ -1,4 +1,4 @@
--- What the octets of an entry are made of, in the order of their spelling.
+-- The parts of an entry, in the order of their spelling.
 use Rattle.std.proofs.Common.{◌≡◌, ℕ, List, ◌++◌, length, append_assoc}
 use Rattle.std.specs.List.{flat_map}
 use Rattle.std.specs.Int.{w8, w16, w32, to_be_bytes}

@@ -7,7 +7,7 @@ pub mod Loops
 pub mod Written
 pub mod Sizes
 pub mod Layouts
-pub mod Answered
+pub mod Results
 pub mod HoleRead
 pub mod Streams
 pub mod Bounded

@@ -1,4 +1,4 @@
--- The records of a file read one after the other, as a loop reads them.
+-- The records of a file, read one after another by a loop.
 use Rattle.std.proofs.Common.{◌≡◌, ℕ, ◌<◌, Option, None, Result, Ok, List, [], ◌∷◌, ◌++◌, length, sym, ◌∙◌, ap, subst, append_assoc}
 use Rattle.std.proofs.lemmas.List.{append-nil}
 use Rattle.krb_file.specs.Fields.{Source, Fault, limited, Fails}
@@ -14,31 +14,31 @@ use Rattle.krb_keytab.specs.declared.reading.Next.TheVariants as nexts
 use Rattle.krb_keytab.specs.Reading.{record_at, Items, with_first, items_after, keytab_of_items}
 use Rattle.krb_keytab.proofs.Stepwise.{record-shorter, after-item, after-done, after-fault}
 
--- what was read before, and what stands after it
+-- the records that were read, and then those of what is left
 abbrev pub before : List Record → Items → Items
-before front items = record { records = front ++ items.records; end = items.end }
+before prefix items = record { records = prefix ++ items.records; end = items.end }
 
-regroup : (front : List Record) (r : Record) (items : Items) → before front (with_first r items) ≡ before (front ++ r ∷ []) items
-regroup front r items = ap (λ (rs : List Record). let it : Items = record { records = rs; end = items.end } in it) (sym (append_assoc front (r ∷ []) items.records))
+regroup : (prefix : List Record) (r : Record) (items : Items) → before prefix (with_first r items) ≡ before (prefix ++ r ∷ []) items
+regroup prefix r items = ap (λ (rs : List Record). let it : Items = record { records = rs; end = items.end } in it) (sym (append_assoc prefix (r ∷ []) items.records))
 
-pub goes_on : (front : List Record) (s t : Source) (r : Record) (total : Items) → record_at (limited None) s ≡ Ok (nexts.Item r, t) → before front (items_after None s) ≡ total → before (front ++ r ∷ []) (items_after None t) ≡ total
-goes_on front s t r total e so_far =
-    sym (ap (before front) (after-item None s t r e) ∙ regroup front r (items_after None t)) ∙ so_far
+pub goes_on : (prefix : List Record) (s t : Source) (r : Record) (total : Items) → record_at (limited None) s ≡ Ok (nexts.Item r, t) → before prefix (items_after None s) ≡ total → before (prefix ++ r ∷ []) (items_after None t) ≡ total
+goes_on prefix s t r total e so_far =
+    sym (ap (before prefix) (after-item None s t r e) ∙ regroup prefix r (items_after None t)) ∙ so_far
 
 abbrev ended : List Record → Stop → ℕ → Result (Keytab × ℕ) Fault
 ended records stop k = Ok (record { records = records; stop = stop }, k)
 
-pub is_done : (front : List Record) (s t : Source) (stop : Stop) (total : Items) → record_at (limited None) s ≡ Ok (nexts.Done stop, t) → before front (items_after None s) ≡ total → keytab_of_items total ≡ Ok (record { records = front; stop = stop }, t.place)
-is_done front s t stop total e so_far =
-    ap keytab_of_items (sym so_far ∙ ap (before front) (after-done None s t stop e))
-    ∙ ap (λ (rs : List Record). ended rs stop t.place) (append-nil front)
+pub is_done : (prefix : List Record) (s t : Source) (stop : Stop) (total : Items) → record_at (limited None) s ≡ Ok (nexts.Done stop, t) → before prefix (items_after None s) ≡ total → keytab_of_items total ≡ Ok (record { records = prefix; stop = stop }, t.place)
+is_done prefix s t stop total e so_far =
+    ap keytab_of_items (sym so_far ∙ ap (before prefix) (after-done None s t stop e))
+    ∙ ap (λ (rs : List Record). ended rs stop t.place) (append-nil prefix)
 
-pub ends : (e : FileFault) (front : List Record) (s : Source) (total : Items) → Fails e (record_at (limited None) s) → before front (items_after None s) ≡ total → Fails e (keytab_of_items total)
-ends faults.Memory front s total h so_far = tt
-ends faults.Read front s total h so_far = absurd h
-ends (faults.Refused place why field) front s total h so_far =
+pub ends : (e : FileFault) (prefix : List Record) (s : Source) (total : Items) → Fails e (record_at (limited None) s) → before prefix (items_after None s) ≡ total → Fails e (keytab_of_items total)
+ends faults.Memory prefix s total h so_far = tt
+ends faults.Read prefix s total h so_far = absurd h
+ends (faults.Refused place why field) prefix s total h so_far =
     let fault : Fault = record { place = place; why = why; field = field } in
-    ap keytab_of_items (sym so_far ∙ ap (before front) (after-fault None s fault h))
+    ap keytab_of_items (sym so_far ∙ ap (before prefix) (after-fault None s fault h))
 
 pub shorter : (s t : Source) (r : Record) → record_at (limited None) s ≡ Ok (nexts.Item r, t) → length t.octets < length s.octets
 shorter s t r e = record-shorter None s.place s.octets r t e

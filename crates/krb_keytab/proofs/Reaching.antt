@@ -1,13 +1,13 @@
--- A record reaches its end: nothing that was taken for it stays ahead.
-use Rattle.std.proofs.Common.{◌≡◌, ℕ, suc, ◌+◌, ◌≤◌, Bool, ℤ, pos, negsuc, Result, Ok, Err, [], ◌∷◌, ◌∙◌, ap, subst, arith}
+-- A record is read to its end: no octet that was fetched for it stays ahead.
+use Rattle.std.proofs.Common.{◌≡◌, ℕ, ◌+◌, ◌≤◌, Bool, ℤ, pos, negsuc, Result, Ok, Err, [], ◌∷◌, ◌∙◌, ap, subst, arith}
 use Rattle.std.proofs.lemmas.Int.{to_z-of_z}
 use Rattle.std.specs.Int.RustNames.{FitsSigned}
 use lib.IntN.{nat_abs}
 use mir.Val.{to_z, of_z}
 use Rattle.std.specs.Prelude.{OnErr}
 use Rattle.std.specs.Int.{w8, w16, w32}
-use Rattle.krb_file.specs.Fields.{Source, Fault, Bounds, gives, called, is_empty, number_at, signed_at, counted_at, names_at, rest_at, within, version_at}
-use Rattle.krb_file.specs.FieldReaders.{Held, source_at, reach, TakesTo, KeepsTo, Stays, LooksTo, HasRead, ended_at}
+use Rattle.krb_file.specs.Fields.{Source, Fault, Bounds, succeed, called, is_empty, number_at, signed_at, counted_at, names_at, rest_at, within, version_at}
+use Rattle.krb_file.specs.FieldReaders.{Cursor, source_at, fetched, FetchesTo, FetchesToAnnounced, Stays, LooksAheadTo, HasRead, ended_at}
 use Rattle.krb_file.proofs.FieldReaders.{some_rest, Stays-then}
 use Rattle.krb_file.specs.declared.field_name.FieldName.TheVariants as fields
 use Rattle.krb_file.proofs.Fields.{ok_is}
@@ -27,13 +27,13 @@ ToEnd-entry =
     ToEnd-then (called fields.Key (counted_at w16)) _ (λ key.
     ToEnd-made (called fields.Rest rest_at) (λ rest. record { realm = names.realm; components = names.components; name_type = name_type; time = time; vno8 = vno8; enctype = enctype; key = key; rest = rest }) (ToEnd-called fields.Rest rest_at ToEnd-rest)))))))
 
-pub entry_stays : (size told : ℕ) (entry : Entry) (old mid new : Held) → told ≡ size → LooksTo told old mid → HasRead (within size entry_at) entry mid new → Stays mid new → Stays old new
+pub entry_stays : (size told : ℕ) (entry : Entry) (old mid new : Cursor) → told ≡ size → LooksAheadTo told old mid → HasRead (within size entry_at) entry mid new → Stays mid new → Stays old new
 entry_stays size told entry old mid new same looks read stays =
     let far : mid.place + size ≤ new.place = goes_on size (within size entry_at) entry mid new (AtLeast-within size entry_at ToEnd-entry) read in
     looked told old mid new looks stays (omega (arith, same, far))
 
 -- a record after its length
-pub record_stays : (length : ℤ) (old mid some after new : Held) → LooksTo 4 old mid → LooksTo 1 mid some → HasRead (signed_at w32) length some after → Stays some after → Stays after new → Stays old new
+pub record_stays : (length : ℤ) (old mid some after new : Cursor) → LooksAheadTo 4 old mid → LooksAheadTo 1 mid some → HasRead (signed_at w32) length some after → Stays some after → Stays after new → Stays old new
 record_stays length old mid some after new looks more read first second =
     let far : some.place + 4 ≤ after.place = goes_on 4 (signed_at w32) length some after (AtLeast-signed w32) read in
     item_stays 4 old mid some new (omega arith) looks more (Stays-then first second) (omega (arith, far, second.on))
@@ -54,26 +54,26 @@ pub on_err : {T E P : Type 0} (r : Result T E) → P → OnErr r P
 on_err (Ok x) p = tt
 on_err (Err e) p = p
 
-pub look_keeps : (old new : Held) → LooksTo 4 old new → KeepsTo announced old new
+pub look_keeps : (old new : Cursor) → LooksAheadTo 4 old new → FetchesToAnnounced announced old new
 look_keeps old new looks = keeps_least announced 4 old new length_announced (λ far. looks.within (omega (arith, looks.same, far)))
 
-pub asked_keeps : (old mid new : Held) → LooksTo 4 old mid → LooksTo 1 mid new → KeepsTo announced old new
+pub asked_keeps : (old mid new : Cursor) → LooksAheadTo 4 old mid → LooksAheadTo 1 mid new → FetchesToAnnounced announced old new
 asked_keeps old mid new looks more = keeps_least announced 4 old new length_announced (λ far.
-    let first : reach new ≤ reach mid = more.within (omega (arith, looks.same, more.same, far)) in
-    let second : reach mid ≤ reach old = looks.within (omega (arith, looks.same, far, first)) in
+    let first : fetched new ≤ fetched mid = more.within (omega (arith, looks.same, more.same, far)) in
+    let second : fetched mid ≤ fetched old = looks.within (omega (arith, looks.same, far, first)) in
     omega (arith, first, second))
 
--- an octet was looked for, and no length was read
-pub length_keeps : (old mid some new : Held) → LooksTo 4 old mid → LooksTo 1 mid some → TakesTo (some.place + 4) some new → KeepsTo announced old new
+-- an octet was fetched, and no length was read
+pub length_keeps : (old mid some new : Cursor) → LooksAheadTo 4 old mid → LooksAheadTo 1 mid some → FetchesTo (some.place + 4) some new → FetchesToAnnounced announced old new
 length_keeps old mid some new looks more within = keeps_least announced 4 old new length_announced (λ far.
-    let first : reach new ≤ reach some = within (omega (arith, looks.same, more.same, far)) in
-    let second : reach some ≤ reach mid = more.within (omega (arith, looks.same, more.same, far, first)) in
-    let third : reach mid ≤ reach old = looks.within (omega (arith, looks.same, far, first, second)) in
+    let first : fetched new ≤ fetched some = within (omega (arith, looks.same, more.same, far)) in
+    let second : fetched some ≤ fetched mid = more.within (omega (arith, looks.same, more.same, far, first)) in
+    let third : fetched mid ≤ fetched old = looks.within (omega (arith, looks.same, far, first, second)) in
     omega (arith, first, second, third))
 
--- a length was read, and then its record was not
-pub content_keeps : (length : ℤ) (nothing : Bool) (old mid some after new : Held) → LooksTo 4 old mid → HasRead (gives (tt {0})) (tt {0}) old mid → LooksTo 1 mid some → HasRead ended_at nothing mid some → HasRead (signed_at w32) length some after → Stays some after
-    → TakesTo (after.place + content_size length) after new → KeepsTo announced old new
+-- a length was read, and its record was not
+pub content_keeps : (length : ℤ) (nothing : Bool) (old mid some after new : Cursor) → LooksAheadTo 4 old mid → HasRead (succeed (tt {0})) (tt {0}) old mid → LooksAheadTo 1 mid some → HasRead ended_at nothing mid some → HasRead (signed_at w32) length some after → Stays some after
+    → FetchesTo (after.place + content_size length) after new → FetchesToAnnounced announced old new
 content_keeps length nothing old mid some after new looks looked more asked read stays within =
     let rest = some_rest after in
     let a = read.from rest.rest rest.there in
@@ -91,10 +91,10 @@ content_keeps length nothing old mid some after new looks looked more asked read
       octets = c.0;
       there = c.1;
       within = λ far.
-          let first : reach new ≤ reach after = within (omega (arith, looks.same, more.same, place, size, far)) in
-          let second : reach after ≤ reach some = stays.within (omega (arith, looks.same, more.same, place, size, far, first)) in
-          let third : reach some ≤ reach mid = more.within (omega (arith, looks.same, more.same, size, far, first, second)) in
-          let fourth : reach mid ≤ reach old = looks.within (omega (arith, looks.same, size, far, first, second, third)) in
+          let first : fetched new ≤ fetched after = within (omega (arith, looks.same, more.same, place, size, far)) in
+          let second : fetched after ≤ fetched some = stays.within (omega (arith, looks.same, more.same, place, size, far, first)) in
+          let third : fetched some ≤ fetched mid = more.within (omega (arith, looks.same, more.same, size, far, first, second)) in
+          let fourth : fetched mid ≤ fetched old = looks.within (omega (arith, looks.same, size, far, first, second, third)) in
           omega (arith, first, second, third, fourth);
     }
 
@@ -103,15 +103,15 @@ version_least : (read : Result (ℕ × Source) Fault) (bounds : Bounds) → 2 �
 version_least (Err fault) bounds = omega arith
 version_least (Ok read) bounds = omega arith
 
-pub version_keeps : (old new : Held) → TakesTo (old.place + 2) old new → KeepsTo (announced_in states.Start) old new
+pub version_keeps : (old new : Cursor) → FetchesTo (old.place + 2) old new → FetchesToAnnounced (announced_in states.Start) old new
 version_keeps old new within = keeps_least (announced_in states.Start) 2 old new (λ bounds s. version_least (version_at (2 ∷ []) bounds s) bounds) within
 
-pub opened_keeps : (version : ℕ) (old mid new : Held) → HasRead (version_at (2 ∷ [])) version old mid → Stays old mid → KeepsTo announced mid new → KeepsTo (announced_in states.Start) old new
+pub opened_keeps : (version : ℕ) (old mid new : Cursor) → HasRead (version_at (2 ∷ [])) version old mid → Stays old mid → FetchesToAnnounced announced mid new → FetchesToAnnounced (announced_in states.Start) old new
 opened_keeps version old mid new read stays keeps =
     keeps_then (announced_in states.Start) announced 2 (version_at (2 ∷ [])) version old mid new read stays
     (goes_to 2 (version_at (2 ∷ [])) version old mid (Exactly-version (2 ∷ [])) read)
     (λ bounds s t e. ap (λ (r : Result (ℕ × Source) Fault). announced_after r bounds) e) keeps
 
--- a reader that is left as it is
-pub same_keeps : (announced : Bounds → Source → ℕ) (held : Held) → KeepsTo announced held held
-same_keeps announced held = keeps_least announced 0 held held (λ bounds s. omega arith) (λ far. omega arith)
+-- a reader that does not change
+pub same_keeps : (announced : Bounds → Source → ℕ) (cursor : Cursor) → FetchesToAnnounced announced cursor cursor
+same_keeps announced cursor = keeps_least announced 0 cursor cursor (λ bounds s. omega arith) (λ far. omega arith)

@@ -1,12 +1,12 @@
--- Records: what is read is spelled so, and what is spelled is read again.
+-- Records: what is read is spelled by its octets, and what is spelled is read.
 use Rattle.std.proofs.Common.{◌≡◌, ℕ, zero, suc, ◌+◌, ◌^◌, ◌<◌, ◌≤◌, Bool, ℤ, pos, negsuc, Option, None, Result, Ok, Err, List, [], ◌∷◌, ◌++◌, length, refl, sym, ◌∙◌, ap, subst, arith, append_assoc, length-append}
 use Rattle.std.proofs.lemmas.List.{nil_from_length}
 use Rattle.std.specs.Int.{w32}
 use Rattle.std.specs.Int.RustNames.{FitsSigned}
 use Rattle.krb_der.specs.Octets.{AreOctets}
-use Rattle.krb_file.specs.Fields.{signed, Source, Fault, limited, onward, named, refused_at, called, next_octets_at, signed_at, within, are_zero}
+use Rattle.krb_file.specs.Fields.{signed, Source, Fault, limited, and_then, with_name, refused_at, called, next_octets_at, signed_at, within, are_zero}
 use Rattle.krb_file.specs.declared.field_name.FieldName.TheVariants as fields
-use Rattle.krb_file.proofs.Fields.{refused_at-ok, at, done, ok_is, onward-ok, Inside, Took, Took-then, Took-none, piece-ok, piece-took, piece-again, Reads-signed}
+use Rattle.krb_file.proofs.Fields.{refused_at-ok, at, done, ok_is, and_then-ok, Inside, Took, Took-then, Took-none, piece-ok, piece-took, piece-again, Reads-signed}
 use Rattle.krb_keytab.specs.declared.value.Record.{Record}
 use Rattle.krb_keytab.specs.declared.value.Record.TheVariants as records
 use Rattle.krb_keytab.specs.declared.reading.Next.{Next}
@@ -19,7 +19,7 @@ use Rattle.krb_keytab.specs.Spelling.{entry, negated, IsHole, RecordSpells, Reco
 use Rattle.krb_keytab.specs.Reading.{entry_at, record_of, record_at, Items, items_from, items_within}
 use Rattle.krb_keytab.proofs.Entries.{entry-sound, entry-again}
 
--- nothing ends before the file
+-- without an end, fields may reach the end of the file
 pub inside_file : (limit : Option ℕ) (place : ℕ) → Inside (limited limit) place
 inside_file limit place = record { inside = refl }
 
@@ -30,23 +30,23 @@ RecordRead limit s t (nexts.Item r) = (b : List ℕ) × RecordSpells r b × Took
 RecordRead limit s t (nexts.Done stop) = Took (limited limit) (stop_octets stop) s t × (stop ≡ stops.File → t.octets ≡ [])
 
 record_of-sound : (z : ℤ) (limit : Option ℕ) (s u t : Source) (x : Next) → Took (limited limit) (signed w32 z) s u → FitsSigned w32 z → record_of z (limited limit) u ≡ Ok (x, t) → RecordRead limit s t x
-record_of-sound (pos zero) limit s u t x front z e =
-    subst (λ (p : Next × Source). RecordRead limit s p.1 p.0) (ok_is (nexts.Done stops.Zero, u) (x, t) e) (front, λ h. absurd cc)
-record_of-sound (pos (suc n)) limit s u t x front z e =
-    let a = onward-ok (within (suc n) entry_at (limited limit) u) (λ p. done (nexts.Item (records.Entry p.0), p.1)) (x, t) e in
-    let r = entry-sound (suc n) limit u a.0.1 a.0.0 front.fits a.1 in
+record_of-sound (pos zero) limit s u t x prefix z e =
+    subst (λ (p : Next × Source). RecordRead limit s p.1 p.0) (ok_is (nexts.Done stops.Zero, u) (x, t) e) (prefix, λ h. absurd cc)
+record_of-sound (pos (suc n)) limit s u t x prefix z e =
+    let a = and_then-ok (within (suc n) entry_at (limited limit) u) (λ p. done (nexts.Item (records.Entry p.0), p.1)) (x, t) e in
+    let r = entry-sound (suc n) limit u a.0.1 a.0.0 prefix.fits a.1 in
     let short : suc n < 2 ^ 31 = z.sfits in
     let content : Took (limited limit) (entry a.0.0) u a.0.1 = record { parts = r.parts; place = omega (arith, r.place, r.length); inside = inside_file limit a.0.1.place; fits = r.are_octets } in
-    let both = Took-then (limited limit) (signed w32 (pos (suc n))) (entry a.0.0) s u a.0.1 front content in
+    let both = Took-then (limited limit) (signed w32 (pos (suc n))) (entry a.0.0) s u a.0.1 prefix content in
     let spelled : signed w32 (pos (suc n)) ++ entry a.0.0 ≡ signed w32 (pos (length (entry a.0.0))) ++ entry a.0.0 = ap (λ (k : ℕ). signed w32 (pos k) ++ entry a.0.0) (sym r.length) in
     subst (λ (p : Next × Source). RecordRead limit s p.1 p.0) (ok_is (nexts.Item (records.Entry a.0.0), a.0.1) (x, t) a.2) (signed w32 (pos (suc n)) ++ entry a.0.0, (r.fits short, spelled), both, omega arith)
-record_of-sound (negsuc n) limit s u t x front z e =
+record_of-sound (negsuc n) limit s u t x prefix z e =
     let hole = λ (octets : List ℕ). let it : HoleModel = record { size = suc n; clean = are_zero octets } in it in
-    let a = onward-ok (called fields.Hole (next_octets_at None (suc n)) (limited limit) u) (λ p. done (nexts.Item (records.Hole (hole p.0)), p.1)) (x, t) e in
-    let p = piece-took None (suc n) (limited limit) u a.0.1 a.0.0 front.fits (piece-ok None (suc n) (limited limit) u a.0.1 a.0.0 (refused_at-ok (named fields.Hole) (next_octets_at None (suc n) (limited limit) u) a.0 a.1)) in
+    let a = and_then-ok (called fields.Hole (next_octets_at None (suc n)) (limited limit) u) (λ p. done (nexts.Item (records.Hole (hole p.0)), p.1)) (x, t) e in
+    let p = piece-took None (suc n) (limited limit) u a.0.1 a.0.0 prefix.fits (piece-ok None (suc n) (limited limit) u a.0.1 a.0.0 (refused_at-ok (with_name fields.Hole) (next_octets_at None (suc n) (limited limit) u) a.0 a.1)) in
     let small : n < 2 ^ 31 = z.sfits in
-    let both = Took-then (limited limit) (signed w32 (negsuc n)) a.0.0 s u a.0.1 front p.0 in
-    let is : IsHole (hole a.0.0) a.0.0 = record { room = (omega arith, omega (arith, small)); are_octets = p.2; size = p.1; clean = refl } in
+    let both = Took-then (limited limit) (signed w32 (negsuc n)) a.0.0 s u a.0.1 prefix p.0 in
+    let is : IsHole (hole a.0.0) a.0.0 = record { range = (omega arith, omega (arith, small)); are_octets = p.2; size = p.1; clean = refl } in
     subst (λ (q : Next × Source). RecordRead limit s q.1 q.0) (ok_is (nexts.Item (records.Hole (hole a.0.0)), a.0.1) (x, t) a.2) (signed w32 (negsuc n) ++ a.0.0, (a.0.0, is, refl), both, omega arith)
 
 pub record-sound : (limit : Option ℕ) (place : ℕ) (octets : List ℕ) (t : Source) (x : Next) → AreOctets octets → record_at (limited limit) (at place octets) ≡ Ok (x, t) → RecordRead limit (at place octets) t x
@@ -54,14 +54,14 @@ record-sound limit place [] t x fits e =
     subst (λ (p : Next × Source). RecordRead limit (at place []) p.1 p.0) (ok_is (nexts.Done stops.File, at place []) (x, t) e) (Took-none (limited limit) (at place []) fits (inside_file limit place), λ h. refl)
 record-sound limit place (octet ∷ octets) t x fits e =
     let s = at place (octet ∷ octets) in
-    let a = onward-ok (called fields.Length (signed_at w32) (limited limit) s) (λ p. record_of p.0 (limited limit) p.1) (x, t) e in
-    let z = Reads-signed.sound (limited limit) s a.0.1 a.0.0 fits (inside_file limit place) (refused_at-ok (named fields.Length) (signed_at w32 (limited limit) s) a.0 a.1) in
+    let a = and_then-ok (called fields.Length (signed_at w32) (limited limit) s) (λ p. record_of p.0 (limited limit) p.1) (x, t) e in
+    let z = Reads-signed.sound (limited limit) s a.0.1 a.0.0 fits (inside_file limit place) (refused_at-ok (with_name fields.Length) (signed_at w32 (limited limit) s) a.0 a.1) in
     record_of-sound a.0.0 limit s a.0.1 t x z.0 z.1 a.2
 
--- a record's length, and then what it leads to
+-- a record's length, and then the rest of the record
 length-again : (z : ℤ) (place : ℕ) (octets : List ℕ) → FitsSigned w32 z → record_at (limited None) (at place (signed w32 z ++ octets)) ≡ record_of z (limited None) (at (place + 4) octets)
 length-again z place octets fits =
-    ap (λ (r : Result (ℤ × Source) Fault). onward (refused_at (named fields.Length) r) (λ p. record_of p.0 (limited None) p.1)) (Reads-signed.again (limited None) place octets z fits refl (inside_file None (place + 4)))
+    ap (λ (r : Result (ℤ × Source) Fault). and_then (refused_at (with_name fields.Length) r) (λ p. record_of p.0 (limited None) p.1)) (Reads-signed.again (limited None) place octets z fits refl (inside_file None (place + 4)))
 
 pub record-again : (r : Record) (b : List ℕ) (place : ℕ) (rest : List ℕ) → RecordSpells r b → record_at (limited None) (at place (b ++ rest)) ≡ Ok (nexts.Item r, at (place + length b) rest)
 record-again (records.Entry e) b place rest spelled =
@@ -70,15 +70,15 @@ record-again (records.Entry e) b place rest spelled =
     ap (λ (x : List ℕ). record_at (limited None) (at place (x ++ rest))) spelled.1
     ∙ ap (λ (x : List ℕ). record_at (limited None) (at place x)) (append_assoc (signed w32 z) (entry e) rest)
     ∙ length-again z place (entry e ++ rest) fits
-    ∙ ap (λ (r : Result (Entry × Source) Fault). onward r (λ p. done (nexts.Item (records.Entry p.0), p.1))) (entry-again e (place + 4) rest spelled.0)
+    ∙ ap (λ (r : Result (Entry × Source) Fault). and_then r (λ p. done (nexts.Item (records.Entry p.0), p.1))) (entry-again e (place + 4) rest spelled.0)
     ∙ ap (λ (k : ℕ). done (nexts.Item (records.Entry e), at k rest)) (omega (arith, ap length spelled.1, length-append (signed w32 z) (entry e)))
 record-again (records.Hole h) b place rest spelled = go h.size spelled.0 spelled.1 refl spelled.2
   where
     go : (size : ℕ) (octets : List ℕ) → IsHole h octets → size ≡ h.size → b ≡ signed w32 (negated size) ++ octets → record_at (limited None) (at place (b ++ rest)) ≡ Ok (nexts.Item (records.Hole h), at (place + length b) rest)
-    go zero octets is e spelled = absurd (omega (arith, is.room.0))
+    go zero octets is e spelled = absurd (omega (arith, is.range.0))
     go (suc n) octets is e spelled =
         let z : ℤ = negsuc n in
-        let fits : FitsSigned w32 z = record { sfits = omega (arith, is.room.1) } in
+        let fits : FitsSigned w32 z = record { sfits = omega (arith, is.range.1) } in
         let len : length octets ≡ suc n = omega (arith, is.size) in
         let piece : next_octets_at None (suc n) (limited None) (at (place + 4) (octets ++ rest)) ≡ Ok (octets, at ((place + 4) + length octets) rest) =
         subst (λ (k : ℕ). next_octets_at None k (limited None) (at (place + 4) (octets ++ rest)) ≡ Ok (octets, at ((place + 4) + length octets) rest)) len (piece-again None (limited None) (place + 4) octets rest refl (inside_file None _)) in
@@ -87,11 +87,11 @@ record-again (records.Hole h) b place rest spelled = go h.size spelled.0 spelled
         ap (λ (x : List ℕ). record_at (limited None) (at place (x ++ rest))) spelled
         ∙ ap (λ (x : List ℕ). record_at (limited None) (at place x)) (append_assoc (signed w32 z) octets rest)
         ∙ length-again z place (octets ++ rest) fits
-        ∙ ap (λ (r : Result (List ℕ × Source) Fault). onward (refused_at (named fields.Hole) r) (λ p. done (nexts.Item (records.Hole (made (suc n) (are_zero p.0))), p.1))) piece
+        ∙ ap (λ (r : Result (List ℕ × Source) Fault). and_then (refused_at (with_name fields.Hole) r) (λ p. done (nexts.Item (records.Hole (made (suc n) (are_zero p.0))), p.1))) piece
         ∙ ap (λ (h : HoleModel). done (nexts.Item (records.Hole h), at ((place + 4) + length octets) rest)) same
         ∙ ap (λ (k : ℕ). done (nexts.Item (records.Hole h), at k rest)) (omega (arith, ap length spelled, length-append (signed w32 z) octets))
 
--- ---- records up to the stop
+-- ---- records up to their end
 
 pub record Found (s : Source) (found : List Record) (stop : Stop) (k : ℕ) : Type 0 where
   pub body : List ℕ
@@ -154,14 +154,14 @@ items-again [] bound place body stop rest spelled len whole =
 items-again (r ∷ found) zero place body stop rest spelled len whole =
     absurd (omega (arith, spelled-some r spelled.0 spelled.3, ap length spelled.2, length-append spelled.0 spelled.1, length-append (body ++ stop_octets stop) rest, length-append body (stop_octets stop)))
 items-again (r ∷ found) (suc bound) place body stop rest spelled len whole =
-    let front = spelled.0 in
-    let back = spelled.1 in
-    let some : 0 < length front = spelled-some r front spelled.3 in
-    let regrouped : (body ++ stop_octets stop) ++ rest ≡ front ++ ((back ++ stop_octets stop) ++ rest) = rw spelled.2 (simp append_assoc) in
-    let counted : length (body ++ stop_octets stop) ≡ length front + length (back ++ stop_octets stop) = rw spelled.2 (omega (arith, length-append (front ++ back) (stop_octets stop), length-append front back, length-append back (stop_octets stop))) in
-    let shorter : length ((back ++ stop_octets stop) ++ rest) ≤ bound = omega (arith, ap length regrouped, length-append front ((back ++ stop_octets stop) ++ rest)) in
-    let others = items-again found bound (place + length front) back stop rest spelled.4 shorter whole in
+    let prefix = spelled.0 in
+    let suffix = spelled.1 in
+    let some : 0 < length prefix = spelled-some r prefix spelled.3 in
+    let regrouped : (body ++ stop_octets stop) ++ rest ≡ prefix ++ ((suffix ++ stop_octets stop) ++ rest) = rw spelled.2 (simp append_assoc) in
+    let counted : length (body ++ stop_octets stop) ≡ length prefix + length (suffix ++ stop_octets stop) = rw spelled.2 (omega (arith, length-append (prefix ++ suffix) (stop_octets stop), length-append prefix suffix, length-append suffix (stop_octets stop))) in
+    let shorter : length ((suffix ++ stop_octets stop) ++ rest) ≤ bound = omega (arith, ap length regrouped, length-append prefix ((suffix ++ stop_octets stop) ++ rest)) in
+    let others = items-again found bound (place + length prefix) suffix stop rest spelled.4 shorter whole in
     ap (λ (x : List ℕ). items_within (suc bound) None (at place x)) regrouped
-    ∙ ap (λ (q : Result (Next × Source) Fault). items_from q (items_within bound None)) (record-again r front place ((back ++ stop_octets stop) ++ rest) spelled.3)
+    ∙ ap (λ (q : Result (Next × Source) Fault). items_from q (items_within bound None)) (record-again r prefix place ((suffix ++ stop_octets stop) ++ rest) spelled.3)
     ∙ ap (λ (i : Items). let it : Items = record { records = r ∷ i.records; end = i.end } in it) others
     ∙ ap (λ (k : ℕ). ended (r ∷ found) stop k) (omega (arith, counted))

@@ -1,8 +1,8 @@
--- A keytab that is read one record at a time: what each call makes of what is still to be given.
+-- A keytab that is read one record at a time: how each call changes the records that are left.
 use Rattle.std.proofs.Common.{◌≡◌, ℕ, suc, Option, Some, Result, Ok, Err, List, [], ◌∷◌, ◌++◌, length, refl, sym, ◌∙◌, ap, subst, arith, append_assoc, append-nil, length-append}
 use Rattle.std.specs.Prelude.{IfErr}
-use Rattle.krb_file.specs.Fields.{Source, Fault, Bounds, limited, version_at, StandsIn}
-use Rattle.krb_file.specs.FieldReaders.{Held, source_at, HasRead, FailsBy}
+use Rattle.krb_file.specs.Fields.{Source, Fault, Bounds, limited, version_at, IsStreamFaultIn}
+use Rattle.krb_file.specs.FieldReaders.{Cursor, source_at, HasRead, FailsBy}
 use Rattle.krb_file.specs.declared.fault.FileFault.{FileFault}
 use Rattle.krb_file.specs.declared.fault.FileFault.TheVariants as faults
 use Rattle.krb_file.proofs.FieldReaders.{some_rest}
@@ -12,8 +12,8 @@ use Rattle.krb_keytab.specs.declared.reading.Next.{Next}
 use Rattle.krb_keytab.specs.declared.reading.Next.TheVariants as nexts
 use Rattle.krb_keytab.specs.declared.records.State.{State}
 use Rattle.krb_keytab.specs.declared.records.State.TheVariants as states
-use Rattle.krb_keytab.specs.Reading.{record_at, Items, with_first, no_items, opened, items_after, items}
-use Rattle.krb_keytab.specs.Streaming.{before, Reads, IsItem, EndsBy, GivesNext}
+use Rattle.krb_keytab.specs.Reading.{record_at, Items, with_first, no_items, after_version, items_after, items}
+use Rattle.krb_keytab.specs.Streaming.{before, Reads, IsItem, EndsBy, ReturnsNext}
 use Rattle.krb_keytab.proofs.Faults.{items-fault}
 use Rattle.krb_keytab.proofs.Stepwise.{after-item, after-done, after-fault}
 
@@ -30,7 +30,7 @@ starts limit file known is = rw is (record {
 })
 
 -- the version was read
-pub opens : (limit : Option ℕ) (file : List ℕ) (count version : ℕ) (old new : Held) → Reads limit old states.Start file count → HasRead (version_at (2 ∷ [])) version old new → Reads limit new states.Open file count
+pub opens : (limit : Option ℕ) (file : List ℕ) (count version : ℕ) (old new : Cursor) → Reads limit old states.Start file count → HasRead (version_at (2 ∷ [])) version old new → Reads limit new states.Open file count
 opens limit file count version old new reads read = record {
   bounds = read.same_bounds ∙ reads.bounds;
   given = reads.given;
@@ -39,11 +39,11 @@ opens limit file count version old new reads read = record {
       let a = read.from octets there in
       let b = reads.rest a.0 a.1 in
       let e : version_at (2 ∷ []) (limited limit) (source_at old.place a.0) ≡ Ok (version, source_at new.place octets) = subst (λ (k : Bounds). version_at (2 ∷ []) k (source_at old.place a.0) ≡ Ok (version, source_at new.place octets)) reads.bounds a.2 in
-      (items_after limit (source_at new.place octets), refl, ap (before reads.given) (sym (b.1 ∙ ap (λ (r : Result (ℕ × Source) Fault). opened r (items_after limit)) e)) ∙ b.2);
+      (items_after limit (source_at new.place octets), refl, ap (before reads.given) (sym (b.1 ∙ ap (λ (r : Result (ℕ × Source) Fault). after_version r (items_after limit)) e)) ∙ b.2);
 }
 
 -- a record was read
-pub item_read : (limit : Option ℕ) (file : List ℕ) (count : ℕ) (r : Record) (old new : Held) → Reads limit old states.Open file count → HasRead record_at (nexts.Item r) old new → Reads limit new states.Open file (suc count)
+pub item_read : (limit : Option ℕ) (file : List ℕ) (count : ℕ) (r : Record) (old new : Cursor) → Reads limit old states.Open file count → HasRead record_at (nexts.Item r) old new → Reads limit new states.Open file (suc count)
 item_read limit file count r old new reads read = record {
   bounds = read.same_bounds ∙ reads.bounds;
   given = reads.given ++ r ∷ [];
@@ -56,22 +56,22 @@ item_read limit file count r old new reads read = record {
       (items_after limit (source_at new.place octets), refl, sym (regroup reads.given r (items_after limit (source_at new.place octets))) ∙ ap (before reads.given) (sym (b.1 ∙ here)) ∙ b.2);
 }
 
-pub item_given : (limit : Option ℕ) (file : List ℕ) (count : ℕ) (r : Record) (old new : Held) → Reads limit old states.Open file count → HasRead record_at (nexts.Item r) old new → IsItem (items limit file) count r × Reads limit new states.Open file (suc count)
+pub item_given : (limit : Option ℕ) (file : List ℕ) (count : ℕ) (r : Record) (old new : Cursor) → Reads limit old states.Open file count → HasRead record_at (nexts.Item r) old new → IsItem (items limit file) count r × Reads limit new states.Open file (suc count)
 unfolding item_read
 item_given limit file count r old new reads read =
     let after = item_read limit file count r old new reads read in
     let now = some_rest new in
     let b = after.rest now.rest now.there in (
       record {
-        front = reads.given;
-        back = (b.0).records;
+        prefix = reads.given;
+        suffix = (b.0).records;
         counted = reads.counted;
         parts = sym (ap (λ (i : Items). i.records) b.2) ∙ append_assoc reads.given (r ∷ []) (b.0).records;
       },
       after,
     )
 
-pub stop_given : (limit : Option ℕ) (file : List ℕ) (count : ℕ) (stop : Stop) (old new : Held) → Reads limit old states.Open file count → HasRead record_at (nexts.Done stop) old new → EndsBy (items limit file) count (Ok (stop, new.place))
+pub stop_given : (limit : Option ℕ) (file : List ℕ) (count : ℕ) (stop : Stop) (old new : Cursor) → Reads limit old states.Open file count → HasRead record_at (nexts.Done stop) old new → EndsBy (items limit file) count (Ok (stop, new.place))
 stop_given limit file count stop old new reads read =
     let now = some_rest new in
     let a = read.from now.rest now.there in
@@ -92,7 +92,7 @@ ends_so limit file count fault given left counted is whole =
       is = ap (λ (i : Items). i.end) all;
     }
 
-pub fault_given : (limit : Option ℕ) (file : List ℕ) (count : ℕ) (e : FileFault) (MayFail : Type 0) (state : State) (old new : Held) → Reads limit old states.Open file count → FailsBy e record_at MayFail old → GivesNext limit file count (Err e) new state
+pub fault_given : (limit : Option ℕ) (file : List ℕ) (count : ℕ) (e : FileFault) (MayFail : Type 0) (state : State) (old new : Cursor) → Reads limit old states.Open file count → FailsBy e record_at MayFail old → ReturnsNext limit file count (Err e) new state
 fault_given limit file count faults.Read MayFail state old new reads fails = tt
 fault_given limit file count faults.Memory MayFail state old new reads fails = tt
 fault_given limit file count (faults.Refused place why field) MayFail state old new reads fails =
@@ -101,24 +101,24 @@ fault_given limit file count (faults.Refused place why field) MayFail state old 
     let e : record_at (limited limit) (source_at old.place fails.octets) ≡ Err fault = subst (λ (k : Bounds). record_at k (source_at old.place fails.octets) ≡ Err fault) reads.bounds fails.refused in
     ends_so limit file count fault reads.given b.0 reads.counted (b.1 ∙ after-fault limit (source_at old.place fails.octets) fault e) b.2
 
-pub version_refused : (limit : Option ℕ) (file : List ℕ) (count : ℕ) (e : FileFault) (MayFail : Type 0) (state : State) (old new : Held) → Reads limit old states.Start file count → FailsBy e (version_at (2 ∷ [])) MayFail old → GivesNext limit file count (Err e) new state
+pub version_refused : (limit : Option ℕ) (file : List ℕ) (count : ℕ) (e : FileFault) (MayFail : Type 0) (state : State) (old new : Cursor) → Reads limit old states.Start file count → FailsBy e (version_at (2 ∷ [])) MayFail old → ReturnsNext limit file count (Err e) new state
 version_refused limit file count faults.Read MayFail state old new reads fails = tt
 version_refused limit file count faults.Memory MayFail state old new reads fails = tt
 version_refused limit file count (faults.Refused place why field) MayFail state old new reads fails =
     let fault : Fault = record { place = place; why = why; field = field } in
     let b = reads.rest fails.octets fails.there in
     let e : version_at (2 ∷ []) (limited limit) (source_at old.place fails.octets) ≡ Err fault = subst (λ (k : Bounds). version_at (2 ∷ []) k (source_at old.place fails.octets) ≡ Err fault) reads.bounds fails.refused in
-    ends_so limit file count fault reads.given b.0 reads.counted (b.1 ∙ ap (λ (r : Result (ℕ × Source) Fault). opened r (items_after limit)) e) b.2
+    ends_so limit file count fault reads.given b.0 reads.counted (b.1 ∙ ap (λ (r : Result (ℕ × Source) Fault). after_version r (items_after limit)) e) b.2
 
-pub not_done : (limit : Option ℕ) (file : List ℕ) (count : ℕ) (stop : Stop) (held : Held) → Reads limit held (states.Done stop) file count → ⊥
-not_done limit file count stop held reads = let now = some_rest held in (reads.rest now.rest now.there).1
+pub not_done : (limit : Option ℕ) (file : List ℕ) (count : ℕ) (stop : Stop) (cursor : Cursor) → Reads limit cursor (states.Done stop) file count → ⊥
+not_done limit file count stop cursor reads = let now = some_rest cursor in (reads.rest now.rest now.there).1
 
-pub not_failed : (limit : Option ℕ) (file : List ℕ) (count : ℕ) (fault : FileFault) (held : Held) → Reads limit held (states.Failed fault) file count → ⊥
-not_failed limit file count fault held reads = let now = some_rest held in (reads.rest now.rest now.there).1
+pub not_failed : (limit : Option ℕ) (file : List ℕ) (count : ℕ) (fault : FileFault) (cursor : Cursor) → Reads limit cursor (states.Failed fault) file count → ⊥
+not_failed limit file count fault cursor reads = let now = some_rest cursor in (reads.rest now.rest now.there).1
 
--- a refusal stands in the file or at its end
-pub stands_in : (limit : Option ℕ) (file : List ℕ) (count : ℕ) (given : Result Next FileFault) (held : Held) (state : State) → GivesNext limit file count given held state → IfErr given (StandsIn file)
-stands_in limit file count (Ok answered) held state answer = tt
-stands_in limit file count (Err faults.Read) held state answer = tt
-stands_in limit file count (Err faults.Memory) held state answer = tt
-stands_in limit file count (Err (faults.Refused place why field)) held state answer = let p = items-fault limit file (record { place = place; why = why; field = field }) answer.is in omega (arith, p.upto)
+-- a refusal is at a place of the file or at its end
+pub refusal_in_file : (limit : Option ℕ) (file : List ℕ) (count : ℕ) (given : Result Next FileFault) (cursor : Cursor) (state : State) → ReturnsNext limit file count given cursor state → IfErr given (IsStreamFaultIn file)
+refusal_in_file limit file count (Ok answered) cursor state answer = tt
+refusal_in_file limit file count (Err faults.Read) cursor state answer = tt
+refusal_in_file limit file count (Err faults.Memory) cursor state answer = tt
+refusal_in_file limit file count (Err (faults.Refused place why field)) cursor state answer = let p = items-fault limit file (record { place = place; why = why; field = field }) answer.is in omega (arith, p.upto)

@@ -24,7 +24,7 @@ are_zero-zeros (suc n) = are_zero-zeros n
 
 pub record-written : (r : Record) → CanWrite r → RecordSpells r (written_record r)
 record-written (records.Entry e) can = (can, refl)
-record-written (records.Hole h) can = (zeros h.size, record { room = can.0; are_octets = AreOctets-zeros h.size; size = length-zeros h.size; clean = are_zero-zeros h.size ∙ sym can.1 }, refl)
+record-written (records.Hole h) can = (zeros h.size, record { range = can.0; are_octets = AreOctets-zeros h.size; size = length-zeros h.size; clean = are_zero-zeros h.size ∙ sym can.1 }, refl)
 
 records-written : (rs : List Record) → AllByRecursion CanWrite rs → RecordsSpell rs (flat_map written_record rs)
 records-written [] can = refl
@@ -37,6 +37,6 @@ spells-written v can = (flat_map written_record v.records, records-written v.rec
 pub read-written : (v : Keytab) → AllByRecursion CanWrite v.records → read (written v) ≡ Ok (v, length (written v))
 read-written v can = ap read (sym (append-nil (written v))) ∙ read-again v (written v) [] (spells-written v can) (λ _. refl)
 
--- what three parts make, put one after another
-pub octets_written : (v : Keytab) (none front after whole : List ℕ) → none ≡ [] → front ≡ none ++ 5 ∷ 2 ∷ [] → after ≡ front ++ flat_map written_record v.records → whole ≡ after ++ stop_octets v.stop → whole ≡ written v
-octets_written v none front after whole a b c d = rw (d, c, b, a) refl
+-- the octets of three parts, one after another
+pub octets_written : (v : Keytab) (none prefix after whole : List ℕ) → none ≡ [] → prefix ≡ none ++ 5 ∷ 2 ∷ [] → after ≡ prefix ++ flat_map written_record v.records → whole ≡ after ++ stop_octets v.stop → whole ≡ written v
+octets_written v none prefix after whole a b c d = rw (d, c, b, a) refl

@@ -48,12 +48,12 @@ short_rest = refl
 key_masked : masked keytab ≡ record keytab { records = records.Entry (record entry { key = 0 ∷ 0 ∷ [] }) ∷ records.Hole (record { size = 8; clean = true }) ∷ [] }
 key_masked = refl
 
--- ---- the front of a file
+-- ---- the first octets of a file
 abbrev is_read : {A : Type 0} → Result A Fault → Bool
 is_read (Ok value) = true
 is_read (Err fault) = false
 
--- the numbers of octets, from 0 to k, whose front of a file is read
+-- the numbers n, from 0 to k, for which the first n octets of a file are read
 abbrev lengths_read : List ℕ → ℕ → List ℕ
 lengths_read file zero = when (is_read (read [])) (λ _. 0 ∷ []) (λ _. [])
 lengths_read file (suc k) = lengths_read file k ++ when (is_read (read (take (suc k) file))) (λ _. suc k ∷ []) (λ _. [])
@@ -71,7 +71,7 @@ hole_clean = refl
 no_record : read (hex (codes "0502")) ≡ Ok (record { records = []; stop = stops.File }, 2)
 no_record = refl
 
--- a hole that is not clean keeps a keytab from being written
+-- a keytab with a hole that is not clean cannot be written
 hole_dirty : write_fault (record { records = records.Entry entry ∷ records.Hole (record { size = 2; clean = false }) ∷ []; stop = stops.File }) ≡ Some faults.Dirty
 hole_dirty = refl
 

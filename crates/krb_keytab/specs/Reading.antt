@@ -2,7 +2,7 @@
 use Rattle.std.specs.Prelude.{ℕ, zero, suc, ◌+◌, ℤ, pos, negsuc, List, [], ◌∷◌, length, Option, None, Result, Ok, Err}
 use Rattle.std.specs.Int.{w8, w16, w32}
 use Rattle.krb_der.specs.Octets.{when}
-use Rattle.krb_file.specs.Fields.{Source, source_of, Fault, Bounds, limited, Reader, ◌>>=◌, gives, called, next_octets_at, rest_at, is_empty, number_at, signed_at, counted_at, names_at, within, version_at, are_zero}
+use Rattle.krb_file.specs.Fields.{Source, source_of, Fault, Bounds, limited, Reader, ◌>>=◌, succeed, called, next_octets_at, rest_at, is_empty, number_at, signed_at, counted_at, names_at, within, version_at, are_zero}
 use Rattle.krb_file.specs.declared.field_name.FieldName.TheVariants as fields
 use Rattle.krb_keytab.specs.declared.value.Keytab.{Keytab}
 use Rattle.krb_keytab.specs.declared.value.Record.{Record}
@@ -24,26 +24,26 @@ entry_at = do
   enctype ← called fields.Enctype (number_at w16)
   key ← called fields.Key (counted_at w16)
   rest ← called fields.Rest rest_at
-  gives (record { realm = names.realm; components = names.components; name_type = name_type; time = time; vno8 = vno8; enctype = enctype; key = key; rest = rest })
+  succeed (record { realm = names.realm; components = names.components; name_type = name_type; time = time; vno8 = vno8; enctype = enctype; key = key; rest = rest })
 
--- after a record's length: zero is the stop, an entry has n octets, a hole the negated number
+-- what follows the length of a record: nothing after 0, which ends the records; an entry of n octets after n; a hole of n octets after -n
 abbrev pub record_of : ℤ → Reader Next
-record_of (pos zero) = gives (nexts.Done stops.Zero)
+record_of (pos zero) = succeed (nexts.Done stops.Zero)
 record_of (pos (suc n)) = do
   entry ← within (suc n) entry_at
-  gives (nexts.Item (records.Entry entry))
+  succeed (nexts.Item (records.Entry entry))
 record_of (negsuc n) = do
   octets ← called fields.Hole (next_octets_at None (suc n))
-  gives (nexts.Item (records.Hole (record { size = suc n; clean = are_zero octets })))
+  succeed (nexts.Item (records.Hole (record { size = suc n; clean = are_zero octets })))
 
--- the next record, or the stop
+-- the next record, or the end of the records
 abbrev pub record_at : Reader Next
 record_at bounds source =
     when (is_empty source.octets) (λ _. Ok (nexts.Done stops.File, source)) (λ _. (called fields.Length (signed_at w32) >>= record_of) bounds source)
 
--- ---- how many octets a record announces
+-- ---- the number of octets that a record announces
 
--- those after its length: n of an entry, the negated number of a hole
+-- those after its length
 abbrev pub content_size : ℤ → ℕ
 content_size (pos n) = n
 content_size (negsuc n) = suc n
@@ -52,13 +52,13 @@ abbrev pub announced_by : Result (ℤ × Source) Fault → ℕ
 announced_by (Err fault) = 4
 announced_by (Ok read) = 4 + content_size read.0
 
--- the four of its length, and as many as this says where it is there whole
+-- the four of its length, and, if all of these are there, the number of octets after it
 abbrev pub announced : Bounds → Source → ℕ
 announced bounds source = announced_by (signed_at w32 bounds source)
 
--- ---- records up to the stop
+-- ---- records up to their end
 
--- The records before the first fault or the stop; and the fault, or the stop and the number of octets read.
+-- The records before the first fault or the end of the records; and the fault, or how the records end and the number of octets read.
 pub record Items : Type 0 where
   pub records : List Record
   pub end : Result (Stop × ℕ) Fault
@@ -77,24 +77,24 @@ abbrev pub items_from : Result (Next × Source) Fault → (Source → Items) →
 items_from (Err fault) others = no_items (Err fault)
 items_from (Ok read) others = after read.0 read.1 others
 
--- the first number bounds how many records there are
+-- at most as many records as the first number
 abbrev pub items_within : ℕ → Option ℕ → Source → Items
 items_within zero limit source = no_items (Ok (stops.File, source.place))
 items_within (suc bound) limit source = items_from (record_at (limited limit) source) (items_within bound limit)
 
--- what stands after a place where a record or the stop begins
+-- the records of what is left of a file, of which any number of records was read
 abbrev pub items_after : Option ℕ → Source → Items
 items_after limit source = items_within (length source.octets) limit source
 
 -- ---- a file: the version, and the records
 
-abbrev pub opened : Result (ℕ × Source) Fault → (Source → Items) → Items
-opened (Err fault) others = no_items (Err fault)
-opened (Ok read) others = others read.1
+abbrev pub after_version : Result (ℕ × Source) Fault → (Source → Items) → Items
+after_version (Err fault) others = no_items (Err fault)
+after_version (Ok read) others = others read.1
 
--- under a field limit
+-- the records of a file, under a field limit
 abbrev pub items : Option ℕ → List ℕ → Items
-items limit file = opened (version_at (2 ∷ []) (limited limit) (source_of file)) (items_after limit)
+items limit file = after_version (version_at (2 ∷ []) (limited limit) (source_of file)) (items_after limit)
 
 -- a keytab, and the number of its octets
 abbrev pub keytab_of : List Record → Result (Stop × ℕ) Fault → Result (Keytab × ℕ) Fault
@@ -104,6 +104,6 @@ keytab_of records (Ok end) = Ok (record { records = records; stop = end.0 }, end
 abbrev pub keytab_of_items : Items → Result (Keytab × ℕ) Fault
 keytab_of_items items = keytab_of items.records items.end
 
--- the keytab that a file holds, or the first fault
+-- the keytab in a file, or the first fault
 abbrev pub read : List ℕ → Result (Keytab × ℕ) Fault
 read file = keytab_of_items (items None file)

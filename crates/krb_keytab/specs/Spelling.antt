@@ -17,7 +17,7 @@ use Rattle.krb_keytab.specs.declared.value.Entry.{Entry}
 abbrev pub names_of : Entry → Names
 names_of e = record { realm = e.realm; components = e.components }
 
--- the content: its fields in order
+-- the octets of an entry: its fields in order
 abbrev pub entry : Entry → List ℕ
 entry e =
     names w16 (names_of e)
@@ -28,7 +28,7 @@ entry e =
     ++ counted w16 e.key
     ++ e.rest
 
--- each field can be spelled, and the content is short enough for its length
+-- Each field has a spelling, and the entry is short enough for a length of 32 bits.
 pub record EntryFits (e : Entry) : Type 0 where
   pub names : AreNames w16 (names_of e)
   pub name_type : FitsSigned w32 e.name_type
@@ -39,7 +39,7 @@ pub record EntryFits (e : Entry) : Type 0 where
   pub rest : AreOctets e.rest
   pub short : length (entry e) < 2 ^ 31
 
--- The key version: the first four octets of `rest` if they are there and not 0, else the one of 8 bits.
+-- the version of the key: the first four octets of `rest` if they are there and not 0, else the one of 8 bits
 abbrev pub kvno : Entry → ℕ
 kvno e =
     let wide = from_be_bytes w32 (take 4 e.rest) in
@@ -51,46 +51,46 @@ abbrev pub negated : ℕ → ℤ
 negated zero = pos 0
 negated (suc n) = negsuc n
 
--- the octets of a hole
+-- The octets of a hole.
 pub record IsHole (hole : HoleModel) (octets : List ℕ) : Type 0 where
-  pub room : IsHoleSize hole.size
+  pub range : IsHoleSize hole.size
   pub are_octets : AreOctets octets
   pub size : length octets ≡ hole.size
   pub clean : are_zero octets ≡ hole.clean
 
--- An entry's content after its length, or a hole's octets after its negated size.
+-- an entry after its length, or the octets of a hole after its negated size
 abbrev pub RecordSpells : Record → List ℕ → Type 0
 RecordSpells (records.Entry e) b = EntryFits e × (b ≡ signed w32 (pos (length (entry e))) ++ entry e)
 RecordSpells (records.Hole hole) b = (octets : List ℕ) × IsHole hole octets × (b ≡ signed w32 (negated hole.size) ++ octets)
 
--- records one after another
+-- records, one after another
 abbrev pub RecordsSpell : List Record → List ℕ → Type 0
 RecordsSpell [] b = b ≡ []
-RecordsSpell (first ∷ others) b = (front back : List ℕ) × (b ≡ front ++ back) × RecordSpells first front × RecordsSpell others back
+RecordsSpell (first ∷ others) b = (prefix suffix : List ℕ) × (b ≡ prefix ++ suffix) × RecordSpells first prefix × RecordsSpell others suffix
 
 -- ---- a keytab
 
--- a record of length zero, or nothing
+-- the octets that end the records: a record of length 0, or none
 abbrev pub stop_octets : Stop → List ℕ
 stop_octets stops.File = []
 stop_octets stops.Zero = 0 ∷ 0 ∷ 0 ∷ 0 ∷ []
 
--- the version, the records and the stop
+-- the version, the records, and their end
 abbrev pub KeytabSpells : Keytab → List ℕ → Type 0
 KeytabSpells v b = (body : List ℕ) × RecordsSpell v.records body × (b ≡ 5 ∷ 2 ∷ body ++ stop_octets v.stop)
 
--- the first k octets of a file, which are all of it unless the stop is Zero
+-- The first k octets of a file spell a keytab; they are all octets of the file unless a record of length 0 ends it.
 pub record ReadAs (file : List ℕ) (v : Keytab) (k : ℕ) : Type 0 where
   pub spelled : KeytabSpells v (take k file)
   pub there : k ≤ length file
   pub stop : (v.stop ≡ stops.Zero) ⊎ (k ≡ length file)
 
--- ---- without what the keys are
+-- ---- keys masked
 
 abbrev pub masked_record : Record → Record
 masked_record (records.Entry e) = records.Entry (record e { key = zeros (length e.key) })
 masked_record (records.Hole hole) = records.Hole hole
 
--- every octet of each key 00
+-- the keytab with each octet of each key 00
 abbrev pub masked : Keytab → Keytab
 masked v = record v { records = map masked_record v.records }

@@ -1,4 +1,4 @@
--- What is written of a keytab, and what keeps one from being written.
+-- The octets that are written for a keytab, and why one cannot be written.
 use Rattle.std.specs.Prelude.{ℕ, pos, ◌≡◌, Bool, true, ◌||◌, nat_lt, Option, Some, None, List, [], ◌∷◌, ◌++◌, length}
 use Rattle.std.specs.List.{flat_map, list_any}
 use Rattle.std.specs.Int.{w32}
@@ -14,7 +14,7 @@ use Rattle.krb_keytab.specs.declared.writing.KeytabFault.{KeytabFault}
 use Rattle.krb_keytab.specs.declared.writing.KeytabFault.TheVariants as faults
 use Rattle.krb_keytab.specs.Spelling.{entry, EntryFits, negated, stop_octets}
 
--- ---- the octets: each hole has as many 00 as its size says
+-- ---- the octets; those of a hole are all 00
 
 abbrev pub written_record : Record → List ℕ
 written_record (records.Entry e) = signed w32 (pos (length (entry e))) ++ entry e
@@ -23,18 +23,18 @@ written_record (records.Hole hole) = signed w32 (negated hole.size) ++ zeros hol
 abbrev pub written : Keytab → List ℕ
 written v = 5 ∷ 2 ∷ flat_map written_record v.records ++ stop_octets v.stop
 
--- what can be written
+-- the records that can be written
 abbrev pub CanWrite : Record → Type 0
 CanWrite (records.Entry e) = EntryFits e
 CanWrite (records.Hole hole) = IsHoleSize hole.size × (hole.clean ≡ true)
 
 -- ---- the faults
 
--- too many components, or a field of octets that is too long
+-- whether an entry has too many components, or a field of octets that is too long
 abbrev pub has_long_part : Entry → Bool
 has_long_part e = is_long16 e.components || is_long16 e.realm || list_any is_long16 e.components || is_long16 e.key
 
--- a part that is too long, or a content that is
+-- whether a part of an entry is too long, or the entry is
 abbrev pub is_long_entry : Entry → Bool
 is_long_entry e = has_long_part e || nat_lt 2147483647 (length (entry e))
 
@@ -51,6 +51,6 @@ abbrev pub records_fault : List Record → Option KeytabFault
 records_fault [] = None
 records_fault (first ∷ others) = or_else (record_fault first) (λ _. records_fault others)
 
--- What keeps a keytab from being written: a fault of a record, and then more octets than a file may have.
+-- why a keytab cannot be written: a fault of a record, and then more octets than a file may have
 abbrev pub write_fault : Keytab → Option KeytabFault
 write_fault v = or_else (records_fault v.records) (λ _. when (nat_lt greatest (length (written v))) (λ _. Some faults.TooLong) (λ _. None))

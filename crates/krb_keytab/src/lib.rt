@@ -14,7 +14,7 @@
 //!
 //! `specs/` reads from the bottom: `Holes` (holes), `Spelling` (which octets spell a keytab),
 //! `Reading` (a file from left to right, up to the first fault), `Writing` (what is written, and
-//! what keeps a keytab from being written), `Streaming` (the same as `Reading`, one record after
+//! why a keytab cannot be written), `Streaming` (the same as `Reading`, one record after
 //! another), and `Laws`, which the functions of [`law`] prove.
 #![tactic(auto)]
 

@@ -9,7 +9,7 @@ use std::fmt;
 /// The path of a field of a keytab.
 #[derive(Clone, Copy, PartialEq, Eq, Debug)]
 pub struct KeytabPath {
-    /// The number of records before the one that the field stands in.
+    /// The number of records before the one that the field is in.
     pub records: u64,
     /// The field.
     pub field: FileField,

@@ -2,8 +2,8 @@
 
 ghost use Rattle.std.specs.Prelude.{◌≡◌, ℕ, ◌+◌, None, Some, Ok, IfOk, IfErr, OnOk, OnErr};
 ghost use Rattle.std.specs.Int.{w16, w32};
-ghost use Rattle.krb_file.specs.Fields.{Gives, IsFaultIn, ended, limited, within};
-ghost use Rattle.krb_file.specs.FieldReaders.{Follows, TakesTo, Stays, Keeps, KeepsTo, source_at};
+ghost use Rattle.krb_file.specs.Fields.{Agrees, IsFaultIn, ended, limited, within};
+ghost use Rattle.krb_file.specs.FieldReaders.{Follows, FetchesTo, Stays, Keeps, FetchesToAnnounced, source_at};
 ghost use Rattle.krb_keytab.specs.Spelling.{ReadAs};
 ghost use Rattle.krb_keytab.specs.declared.value.Keytab.{Keytab as KeytabValue};
 ghost use Rattle.krb_keytab.specs.Reading.{entry_at, content_size, announced, record_of, record_at, items_after, keytab_of_items, read};
@@ -22,22 +22,22 @@ pub enum Next {
     Done(Stop),
 }
 
-/// Reads the entry whose content is what is left up to the end that the reader was given.
+/// Reads the entry whose content ends at the end that was set.
 #[inline(never)]
 fn entry<F: FieldReader>(alloc: Global, reader: &mut F) -> Result<Entry, FileFault>
-    ensures read { Follows (λ entry. entry) result entry_at F.MayFail (F.held reader.old) (F.held reader.new) }
-    ensures keeps { Keeps (F.held reader.old) (F.held reader.new) }
+    ensures read { Follows (λ entry. entry) result entry_at F.MayFail (F.cursor reader.old) (F.cursor reader.new) }
+    ensures keeps { Keeps (F.cursor reader.old) (F.cursor reader.new) }
 {
-    let mut realm = reader.room(alloc);
-    let mut components = reader.list(alloc);
+    let mut realm = reader.spare_octets(alloc);
+    let mut components = reader.spare_list(alloc);
     reader.names16(alloc, &mut realm, &mut components)?;
     let name_type = reader.signed_field32(FieldName::NameType)?;
     let time = reader.field32(FieldName::Timestamp)?;
     let vno8 = reader.field8(FieldName::KeyVersion)?;
     let enctype = reader.field16(FieldName::Enctype)?;
-    let mut key = reader.room(alloc);
+    let mut key = reader.spare_octets(alloc);
     reader.counted_field16(alloc, FieldName::Key, &mut key)?;
-    let mut rest = reader.room(alloc);
+    let mut rest = reader.spare_octets(alloc);
     reader.rest_field(alloc, FieldName::Rest, &mut rest)?;
     Ok(Entry {
         realm: KString::new(realm),
@@ -57,9 +57,9 @@ fn entry_within<F: FieldReader>(
     size: u32,
     reader: &mut F,
 ) -> Result<Entry, FileFault>
-    ensures read { Follows (λ entry. entry) result (within size entry_at) F.MayFail (F.held reader.old) (F.held reader.new) }
-    ensures stays { OnOk result (Stays (F.held reader.old) (F.held reader.new)) }
-    ensures within { TakesTo ((F.held reader.old).place + size) (F.held reader.old) (F.held reader.new) }
+    ensures read { Follows (λ entry. entry) result (within size entry_at) F.MayFail (F.cursor reader.old) (F.cursor reader.new) }
+    ensures stays { OnOk result (Stays (F.cursor reader.old) (F.cursor reader.new)) }
+    ensures within { FetchesTo ((F.cursor reader.old).place + size) (F.cursor reader.old) (F.cursor reader.new) }
 {
     let outer = reader.end();
     let place = reader.place();
@@ -75,9 +75,9 @@ fn record_after<F: FieldReader>(
     length: i32,
     reader: &mut F,
 ) -> Result<Next, FileFault>
-    ensures read { Follows (λ next. next) result (record_of length) F.MayFail (F.held reader.old) (F.held reader.new) }
-    ensures stays { OnOk result (Stays (F.held reader.old) (F.held reader.new)) }
-    ensures within { TakesTo ((F.held reader.old).place + content_size length) (F.held reader.old) (F.held reader.new) }
+    ensures read { Follows (λ next. next) result (record_of length) F.MayFail (F.cursor reader.old) (F.cursor reader.new) }
+    ensures stays { OnOk result (Stays (F.cursor reader.old) (F.cursor reader.new)) }
+    ensures within { FetchesTo ((F.cursor reader.old).place + content_size length) (F.cursor reader.old) (F.cursor reader.new) }
 {
     let size = length.unsigned_abs();
     if length == 0 {
@@ -97,9 +97,9 @@ const LENGTH_OCTETS: u64 = 4;
 
 /// Reads the next record, or how the records end.
 pub(crate) fn record<F: FieldReader>(alloc: Global, reader: &mut F) -> Result<Next, FileFault>
-    ensures read { Follows (λ next. next) result record_at F.MayFail (F.held reader.old) (F.held reader.new) }
-    ensures stays { OnOk result (Stays (F.held reader.old) (F.held reader.new)) }
-    ensures keeps { OnErr result (KeepsTo announced (F.held reader.old) (F.held reader.new)) }
+    ensures read { Follows (λ next. next) result record_at F.MayFail (F.cursor reader.old) (F.cursor reader.new) }
+    ensures stays { OnOk result (Stays (F.cursor reader.old) (F.cursor reader.new)) }
+    ensures keeps { OnErr result (FetchesToAnnounced announced (F.cursor reader.old) (F.cursor reader.new)) }
 {
     reader.look_ahead(LENGTH_OCTETS)?;
     if reader.is_empty()? {
@@ -112,7 +112,7 @@ pub(crate) fn record<F: FieldReader>(alloc: Global, reader: &mut F) -> Result<Ne
 /// Reads the records, and returns the keytab and the place after it.
 fn keytab(alloc: Global, reader: &mut SliceReader<'_>) -> Result<(Keytab, usize), FileFault>
     requires { reader.old.end ≡ None }
-    ensures { Gives (λ taken. taken) result (keytab_of_items (items_after None (source_at reader.old.place reader.old.octets))) }
+    ensures { Agrees (λ taken. taken) result (keytab_of_items (items_after None (source_at reader.old.place reader.old.octets))) }
 {
     let mut records = Vec::new(alloc);
     loop {
@@ -128,7 +128,7 @@ fn keytab(alloc: Global, reader: &mut SliceReader<'_>) -> Result<(Keytab, usize)
 
 /// Reads a keytab, and returns it and how many octets it has.
 fn whole(alloc: Global, octets: &[u8]) -> Result<(Keytab, usize), FileFault>
-    ensures { Gives (λ taken. taken) result (read octets.now) }
+    ensures { Agrees (λ taken. taken) result (read octets.now) }
 {
     let mut reader = SliceReader::new(octets);
     reader.version(&[2])?;
@@ -143,9 +143,9 @@ pub fn read(alloc: Global, octets: &[u8]) -> Result<(Keytab, usize), FileFault>
     // What is read is spelled by those octets.
     ensures found { IfOk result (λ taken. ReadAs octets.now taken.0 taken.1) }
     // What octets spell is read, unless memory ran out.
-    ensures only { (keytab : KeytabValue) (size : ℕ) → ReadAs octets.now keytab size → Gives (λ taken. taken) result (Ok (keytab, size)) }
+    ensures only { (keytab : KeytabValue) (size : ℕ) → ReadAs octets.now keytab size → Agrees (λ taken. taken) result (Ok (keytab, size)) }
     // Which fault it is.
-    ensures exact { Gives (λ taken. taken) result (read octets.now) }
+    ensures exact { Agrees (λ taken. taken) result (read octets.now) }
     ensures refused { IfErr result (IsFaultIn octets.now) }
 {
     whole(alloc, octets)

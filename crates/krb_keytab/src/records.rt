@@ -1,14 +1,14 @@
 //! Reading keytabs record by record.
 
 ghost use Rattle.std.specs.Prelude.{◌≡◌, ℕ, List, [], Some, Ok, Err, IfErr, OnOk, OnErr};
-ghost use Rattle.krb_file.specs.Fields.{StandsIn};
-ghost use Rattle.krb_file.specs.FieldReaders.{Stays, KeepsTo};
+ghost use Rattle.krb_file.specs.Fields.{IsStreamFaultIn};
+ghost use Rattle.krb_file.specs.FieldReaders.{Stays, FetchesToAnnounced};
 ghost use Rattle.krb_keytab.specs.Reading.{announced};
 ghost use Rattle.krb_keytab.specs.declared.value.Stop.{Stop as StopValue};
 ghost use Rattle.krb_keytab.specs.declared.reading.Next.TheVariants as nexts;
 ghost use Rattle.krb_keytab.specs.declared.records.State.TheVariants as states;
 ghost use Rattle.krb_file.specs.declared.fault.FileFault.{FileFault as FaultValue};
-ghost use Rattle.krb_keytab.specs.Streaming.{Reads, GivesNext, announced_in};
+ghost use Rattle.krb_keytab.specs.Streaming.{Reads, ReturnsNext, announced_in};
 
 use crate::reading::{Next, record};
 use crate::value::{Entry, Record, Stop};
@@ -44,7 +44,7 @@ impl<R: Read> Records<R> {
     pub fn new(reader: R, limit: FieldLimit) -> Records<R>
         ensures begins { (file : List ℕ) → R.remaining reader ≡ Some file → Reads (Some limit) result.reader result.state file 0 }
         // No octet was read.
-        ensures reach { result.reader.ahead ≡ [] }
+        ensures fetched { result.reader.ahead ≡ [] }
     {
         let reader = StreamReader::new(reader, limit);
         Records {
@@ -60,13 +60,13 @@ impl<R: Read> Records<R> {
     /// reads any more.
     pub fn next_record(&mut self, alloc: Global) -> Result<Next, FileFault>
         // The records of the file that is read, one after another, and then the end or the fault.
-        ensures next { (file : List ℕ) (limit : ℕ) (given : ℕ) → Reads (Some limit) self.old.reader self.old.state file given → GivesNext (Some limit) file given result self.new.reader self.new.state }
+        ensures next { (file : List ℕ) (limit : ℕ) (given : ℕ) → Reads (Some limit) self.old.reader self.old.state file given → ReturnsNext (Some limit) file given result self.new.reader self.new.state }
         // A refusal is at a place of the file or at its end.
-        ensures refused { (file : List ℕ) (limit : ℕ) (given : ℕ) → Reads (Some limit) self.old.reader self.old.state file given → IfErr result (StandsIn file) }
+        ensures refused { (file : List ℕ) (limit : ℕ) (given : ℕ) → Reads (Some limit) self.old.reader self.old.state file given → IfErr result (IsStreamFaultIn file) }
         // No octet after what is returned was read, if none was read ahead before.
-        ensures reach { OnOk result (self.old.reader.ahead ≡ [] → self.new.reader.ahead ≡ []) }
+        ensures fetched { OnOk result (self.old.reader.ahead ≡ [] → self.new.reader.ahead ≡ []) }
         // At a fault no octet was read after the end of the record, by its length.
-        ensures announced { OnErr result (KeepsTo (announced_in self.old.state) self.old.reader self.new.reader) }
+        ensures announced { OnErr result (FetchesToAnnounced (announced_in self.old.state) self.old.reader self.new.reader) }
         ensures ends { (stop : StopValue) → result ≡ Ok (nexts.Done stop) → self.new.state ≡ states.Done stop }
         // After the end or a fault nothing more is read.
         ensures ended { (stop : StopValue) → self.old.state ≡ states.Done stop → (result ≡ Ok (nexts.Done stop)) × (self.new.state ≡ states.Done stop) × (self.new.reader ≡ self.old.reader) }
@@ -75,13 +75,13 @@ impl<R: Read> Records<R> {
     {
         match self.state {
             State::Start => match self.reader.version(&[2]) {
-                Ok(_) => self.next_open(alloc),
+                Ok(_) => self.read_next(alloc),
                 Err(fault) => {
                     self.state = State::Failed(fault);
                     Err(fault)
                 }
             },
-            State::Open => self.next_open(alloc),
+            State::Open => self.read_next(alloc),
             State::Done(stop) => Ok(Next::Done(stop)),
             State::Failed(fault) => Err(fault),
         }
@@ -108,11 +108,11 @@ impl<R: Read> Records<R> {
     }
 
     /// Returns the next record after the version.
-    fn next_open(&mut self, alloc: Global) -> Result<Next, FileFault>
-        ensures next { (file : List ℕ) (limit : ℕ) (given : ℕ) → Reads (Some limit) self.old.reader states.Open file given → GivesNext (Some limit) file given result self.new.reader self.new.state }
-        ensures refused { (file : List ℕ) (limit : ℕ) (given : ℕ) → Reads (Some limit) self.old.reader states.Open file given → IfErr result (StandsIn file) }
+    fn read_next(&mut self, alloc: Global) -> Result<Next, FileFault>
+        ensures next { (file : List ℕ) (limit : ℕ) (given : ℕ) → Reads (Some limit) self.old.reader states.Open file given → ReturnsNext (Some limit) file given result self.new.reader self.new.state }
+        ensures refused { (file : List ℕ) (limit : ℕ) (given : ℕ) → Reads (Some limit) self.old.reader states.Open file given → IfErr result (IsStreamFaultIn file) }
         ensures stays { OnOk result (Stays self.old.reader self.new.reader) }
-        ensures announced { OnErr result (KeepsTo announced self.old.reader self.new.reader) }
+        ensures announced { OnErr result (FetchesToAnnounced announced self.old.reader self.new.reader) }
         ensures ends { (stop : StopValue) → result ≡ Ok (nexts.Done stop) → self.new.state ≡ states.Done stop }
         ensures fails { IfErr result (λ fault. self.new.state ≡ states.Failed fault) }
     {

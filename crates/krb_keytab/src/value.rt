@@ -41,7 +41,7 @@ pub struct Entry {
     pub name_type: i32,
     /// When the key was written, in seconds since 1970-01-01T00:00:00Z.
     pub time: u32,
-    /// The version of the key, modulo 256. [`Entry::kvno`] gives the whole version.
+    /// The version of the key, modulo 256. [`Entry::kvno`] returns the whole version.
     pub vno8: u8,
     /// The encryption type of the key (RFC 3961). No number is refused.
     pub enctype: u16,
@@ -68,7 +68,7 @@ impl Model for Hole {
 
     ghost invariant = { λ hole. IsHoleSize hole.size };
 
-    ghost inverse = { λ room. record { size = room.size; clean = room.clean } };
+    ghost inverse = { λ hole. record { size = hole.size; clean = hole.clean } };
 }
 
 ghost use Rattle.std.specs.Prelude.{◌≡◌, ◌↔◌, IsSome, IfSome};

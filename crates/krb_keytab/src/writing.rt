@@ -148,7 +148,7 @@ fn put_zeros(out: &mut Vec<u8>, count: u32)
 /// Appends a record that can be written, within the capacity of `out`.
 fn put_record(out: &mut Vec<u8>, record: &Record)
     requires fault { record_fault «record».now ≡ None }
-    requires room { vec_len out.old + length (written_record «record».now) ≤ vec_capacity out.old }
+    requires spare_capacity { vec_len out.old + length (written_record «record».now) ≤ vec_capacity out.old }
     ensures { Puts (written_record «record».now) out.old out.new }
 {
     match record {
@@ -160,7 +160,7 @@ fn put_record(out: &mut Vec<u8>, record: &Record)
 /// Appends an entry: its content, after the number of the content's octets.
 fn put_entry(out: &mut Vec<u8>, entry: &Entry)
     requires short { is_long_entry entry.now ≡ false }
-    requires room { vec_len out.old + (4 + length (content_of entry.now)) ≤ vec_capacity out.old }
+    requires spare_capacity { vec_len out.old + (4 + length (content_of entry.now)) ≤ vec_capacity out.old }
     ensures { Puts (signed w32 (pos (length (content_of entry.now))) ++ content_of entry.now) out.old out.new }
 {
     // An entry whose parts are short enough has a size.
@@ -184,7 +184,7 @@ fn put_hole(out: &mut Vec<u8>, hole: Hole)
 /// Appends records that can be written, within the capacity of `out`.
 fn put_records(out: &mut Vec<u8>, records: &[Record])
     requires fault { records_fault records.now ≡ None }
-    requires room { vec_len out.old + length (flat_map written_record records.now) ≤ vec_capacity out.old }
+    requires spare_capacity { vec_len out.old + length (flat_map written_record records.now) ≤ vec_capacity out.old }
     ensures { Puts (flat_map written_record records.now) out.old out.new }
 {
     for record in records {

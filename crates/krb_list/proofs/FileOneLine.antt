@@ -6,7 +6,7 @@ use Rattle.krb_der.specs.inner.Numbers.{AreOctets-take, AreOctets-drop}
 use Rattle.krb_der.specs.declared.verdict.Refusal.{Refusal}
 use Rattle.krb_msg.specs.Grammar.{kerberos_string}
 use Rattle.krb_msg.specs.Judgement.{Head, Partial, Refused, Got, head}
-use Rattle.krb_msg.specs.Reading.{opened_at, opened, all_opened, value_of}
+use Rattle.krb_msg.specs.ValueOfDer.{split_at_head, split_item, split_items, value_of}
 use Rattle.krb_judge.specs.Parses.{ticket_refusal}
 use Rattle.krb_keytab.specs.declared.value.Record.{Record}
 use Rattle.krb_keytab.specs.declared.value.Record.TheVariants as records
@@ -52,29 +52,29 @@ keytab_end_shown form count stops.File = one_line form (keytab_end count stops.F
 keytab_end_shown form count stops.Zero = one_line form (keytab_end count stops.Zero) refl refl (tt, (tt, tt))
 
 -- ---- what is read of octets is octets
-contents_at : (h : Head) (octets : List ℕ) → AreOctets octets → AreOctets (opened_at h octets).contents
+contents_at : (h : Head) (octets : List ℕ) → AreOctets octets → AreOctets (split_at_head h octets).contents
 contents_at (Got header contents) octets a = AreOctets-take contents _ (AreOctets-drop header octets a)
 contents_at Partial octets a = tt
 contents_at (Refused place reason) octets a = tt
 
-after_at : (h : Head) (octets : List ℕ) → AreOctets octets → AreOctets (opened_at h octets).rest
+after_at : (h : Head) (octets : List ℕ) → AreOctets octets → AreOctets (split_at_head h octets).rest
 after_at (Got header contents) octets a = AreOctets-drop contents _ (AreOctets-drop header octets a)
 after_at Partial octets a = tt
 after_at (Refused place reason) octets a = tt
 
-contents : (octets : List ℕ) → AreOctets octets → AreOctets (opened octets).contents
+contents : (octets : List ℕ) → AreOctets octets → AreOctets (split_item octets).contents
 contents octets a = contents_at (head (length octets) octets) octets a
 
-after : (octets : List ℕ) → AreOctets octets → AreOctets (opened octets).rest
+after : (octets : List ℕ) → AreOctets octets → AreOctets (split_item octets).rest
 after octets a = after_at (head (length octets) octets) octets a
 
-strings : (bound : ℕ) (octets : List ℕ) → AreOctets octets → AllAreOctets (map (value_of kerberos_string) (all_opened bound octets))
+strings : (bound : ℕ) (octets : List ℕ) → AreOctets octets → AllAreOctets (map (value_of kerberos_string) (split_items bound octets))
 strings bound [] a = tt
 strings zero (o ∷ octets) a = tt
 strings (suc bound) (o ∷ octets) a = (contents (o ∷ octets) a, strings bound _ (after (o ∷ octets) a))
 
 -- the fields of a Ticket, from its realm on
-ticket_fields : (octets : List ℕ) → AreOctets octets → AreOctets (opened (opened (opened octets).contents).contents).rest
+ticket_fields : (octets : List ℕ) → AreOctets octets → AreOctets (split_item (split_item (split_item octets).contents).contents).rest
 ticket_fields octets a = after _ (contents _ (contents octets a))
 
 realm : (octets : List ℕ) → AreOctets octets → AreOctets (ticket_read octets).realm

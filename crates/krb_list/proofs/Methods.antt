@@ -4,7 +4,7 @@ use Rattle.std.proofs.lemmas.Bool.Decides.{nat_tests}
 use Rattle.std.specs.Option.{MatchOption}
 use Rattle.krb_msg.specs.Grammar.{method_data}
 use Rattle.krb_msg.specs.Judgement.{term_judgement}
-use Rattle.krb_msg.specs.Reading.{value_read}
+use Rattle.krb_msg.specs.ValueOfDer.{value_of_der}
 use Rattle.krb_msg.specs.Term.{Value}
 use Rattle.krb_msg.specs.Viewed.{IsViewOf, IsNotWhole}
 use Rattle.krb_msg.proofs.Judged.{value_is_decided}
@@ -21,7 +21,7 @@ none_unless false false x y verdict.Open octets not_whole decided = absurd (deci
 none_unless false false x y verdict.Whole octets not_whole decided = absurd (not_whole refl)
 none_unless false false x y (verdict.Refused refusal) octets not_whole decided = refl
 
-some_unless : (long empty : Bool) (x y : Refusal) (v : Verdict) (octets : List ℕ) → long ≡ false → empty ≡ false → v ≡ verdict.Whole → items_unless (if long then Some x else if empty then Some y else refused v) octets ≡ Some (value_read method_data octets)
+some_unless : (long empty : Bool) (x y : Refusal) (v : Verdict) (octets : List ℕ) → long ≡ false → empty ≡ false → v ≡ verdict.Whole → items_unless (if long then Some x else if empty then Some y else refused v) octets ≡ Some (value_of_der method_data octets)
 some_unless long empty x y v octets l e w = rw (l, e, w) refl
 
 some_octets : (octets : List ℕ) → term_judgement method_data (length octets) octets ≡ verdict.Whole → 0 < length octets

@@ -8,7 +8,7 @@ use Rattle.krb_der.specs.Hex.{hex as of_hex}
 use Rattle.krb_der.specs.declared.why.Why.TheVariants.{Truncated}
 use Rattle.krb_file.specs.declared.fault.FileWhy.TheVariants as why
 use Rattle.krb_msg.specs.declared.message.Message.{Message}
-use Rattle.krb_msg.specs.Reading.{message_read}
+use Rattle.krb_msg.specs.ValueOfDer.{message_of_der}
 use Rattle.krb_registry.specs.Rows.{rows, name_in, name_of}
 use Rattle.krb_list.specs.Captures.{captured_message_line, captured_opening, captured_refused_line, captured_text, capture_end_line, capture_refused_line, endpoint_text, flow_field, joined_line, lost_line, password_line}
 use Rattle.krb_list.specs.Forms.{closing, json_value, labelled, members, names_member, opening, record_text, value_text}
@@ -28,7 +28,7 @@ answer = record { packet = 10; time = Some (record { seconds = 1795604170; nanos
 
 -- with other octets in place of those of the cipher
 abbrev ap_rep : Message
-ap_rep = message_read (of_hex (codes "6F8189 308186 A003020105 A10302010F A27A3078 A003020112 A271046F") ++ replicate 111 0)
+ap_rep = message_of_der (of_hex (codes "6F8189 308186 A003020105 A10302010F A27A3078 A003020112 A271046F") ++ replicate 111 0)
 
 password : password_line Lines answer 1 140 90 ≡ codes "packet=10 t=2026-11-25T10:56:10.071545000Z flow=tcp/127.0.0.1:464>127.0.0.1:60806 KPASSWD version=1 ap=140 rest=90\n"
 unfolding digits civil_date date_from date_in_year two_digits date_text clock_text instant_text captured_text captured_opening flow_field opening closing labelled value_text

@@ -2,7 +2,7 @@
 use Rattle.std.specs.Prelude.{ℕ, ◌≡◌, List, ◌++◌, refl, codes}
 use Rattle.std.specs.Fmt.{digits}
 use Rattle.krb_der.specs.Hex.{hex}
-use Rattle.krb_msg.specs.Reading.{message_read}
+use Rattle.krb_msg.specs.ValueOfDer.{message_of_der}
 use Rattle.krb_registry.specs.Rows.{rows, name_in, name_of}
 use Rattle.krb_list.specs.declared.form.Form.{Form}
 use Rattle.krb_list.specs.declared.form.Form.TheVariants.{Lines, NamedLines, Json}
@@ -13,7 +13,7 @@ use Rattle.krb_list.specs.Text.{principal_text}
 
 -- what is printed of the message that octets are
 abbrev text_of : Form → List ℕ → List ℕ
-text_of form octets = message_text form (message_read octets)
+text_of form octets = message_text form (message_of_der octets)
 
 abbrev line_of : List ℕ → List ℕ
 line_of octets = text_of Lines octets

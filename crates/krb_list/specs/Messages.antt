@@ -3,7 +3,7 @@ use Rattle.std.specs.Prelude.{ℕ, ℤ, pos, negsuc, ◌==◌, Bool, false, List
 use Rattle.std.specs.List.{filter}
 use Rattle.krb_msg.specs.Grammar.{method_data}
 use Rattle.krb_msg.specs.Term.{Value}
-use Rattle.krb_msg.specs.Reading.{value_read}
+use Rattle.krb_msg.specs.ValueOfDer.{value_of_der}
 use Rattle.krb_msg.specs.Notes.{notes_of, notes_have}
 use Rattle.krb_msg.specs.declared.notes.Notes.{Notes}
 use Rattle.krb_msg.specs.declared.pa_data.PaData.{PaData}
@@ -36,7 +36,7 @@ notes n = Numbers registries.Notes (map pos (filter (notes_have n) (1 ∷ 2 ∷ 
 
 -- the items of METHOD-DATA, unless the octets are refused as that
 abbrev pub items_unless : Option Refusal → List ℕ → Option (Value method_data)
-items_unless None octets = Some (value_read method_data octets)
+items_unless None octets = Some (value_of_der method_data octets)
 items_unless (Some refusal) octets = None
 
 -- whether a code asks for pre-authentication

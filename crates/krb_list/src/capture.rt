@@ -2,7 +2,7 @@
 
 ghost use Rattle.std.specs.Prelude.{◌≡◌, ◌++◌, OnOk, string_bytes};
 ghost use Rattle.std.specs.Option.{option_copied};
-ghost use Rattle.krb_msg.specs.Seen.{MessageLists, message_seen};
+ghost use Rattle.krb_msg.specs.ViewValues.{MessageLists, message_of_view};
 ghost use Rattle.krb_list.specs.Captures.{capture_end_line, capture_refused_line, captured_message_line, captured_refused_line, count_fields, joined_line, lost_line, password_line};
 ghost use Rattle.krb_list.specs.Forms.{fields_text};
 
@@ -26,7 +26,7 @@ pub fn put_captured_message(
     view: &MessageView<'_>,
 ) -> Result<(), Memory>
     requires { MessageLists view.now }
-    ensures { OnOk result (string_bytes text.new ≡ string_bytes text.old ++ captured_message_line form origin.now (message_seen view.now)) }
+    ensures { OnOk result (string_bytes text.new ≡ string_bytes text.old ++ captured_message_line form origin.now (message_of_view view.now)) }
 {
     put_captured_opening(text, form, origin, view.kind().name())?;
     put_rest(text, form, view)?;

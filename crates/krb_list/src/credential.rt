@@ -2,7 +2,7 @@
 
 ghost use Rattle.std.specs.Prelude.{◌≡◌, ◌++◌, [], ◌∷◌, false, IfOk, OnOk, codes, decimal, length, pos, string_bytes};
 ghost use Rattle.krb_der.specs.Reasons.{reason_name, reason_number};
-ghost use Rattle.krb_msg.specs.Seen.{TicketLists, ticket_seen};
+ghost use Rattle.krb_msg.specs.ViewValues.{TicketLists, ticket_of_view};
 ghost use Rattle.krb_ccache.specs.Tickets.{StateLists, state_viewed};
 ghost use Rattle.krb_registry.specs.declared.registry.Registry.TheVariants.{EncryptionTypes};
 ghost use Rattle.krb_list.specs.Ccaches.{config_record, counts_fields, credential_record, flags_fields, key_fields, state, state_record, ticket_server, ticketed_record, tickets_fields, times_fields, who_fields};
@@ -318,7 +318,7 @@ impl Shown for Refusal {
 /// Returns the server of a ticket.
 fn server_of<'a>(view: &TicketView<'a>) -> Principal<'a, ViewedStrings<'a>>
     requires { TicketLists view.now }
-    ensures { IsPrincipal result.name_type result.components result.realm.now ≡ ticket_server (ticket_seen view.now) }
+    ensures { IsPrincipal result.name_type result.components result.realm.now ≡ ticket_server (ticket_of_view view.now) }
 {
     Principal {
         name_type: view.sname.name_type,

@@ -2,7 +2,7 @@
 
 ghost use Rattle.std.specs.Prelude.{◌≡◌, ◌++◌, ◌^◌, ◌<◌, Some, None, codes, length, pos, MatchOption, OnOk, string_bytes};
 ghost use Rattle.krb_msg.specs.Grammar.{pa_data};
-ghost use Rattle.krb_msg.specs.Seen.{KrbErrorLists, krb_error_seen};
+ghost use Rattle.krb_msg.specs.ViewValues.{KrbErrorLists, krb_error_of_view};
 ghost use Rattle.krb_msg.specs.Viewed.{AreViewed, items_of};
 ghost use Rattle.krb_judge.specs.Parses.{method_data_refusal};
 ghost use Rattle.krb_list.specs.Errors.{code_suffix, code_text};
@@ -94,7 +94,7 @@ fn method_data(octets: &[u8]) -> Option<ItemsView<'_>>
 /// that.
 fn methods_of<'a>(error: &KrbErrorView<'a>) -> Option<ItemsView<'a>>
     requires { KrbErrorLists error.now }
-    ensures { let seen = krb_error_seen error.now in MatchOption result (methods_in seen.error_code seen.e_data ≡ None) (λ items. AreViewed pa_data items.octets.now × (methods_in seen.error_code seen.e_data ≡ Some (items_of pa_data items.octets.now))) }
+    ensures { let seen = krb_error_of_view error.now in MatchOption result (methods_in seen.error_code seen.e_data ≡ None) (λ items. AreViewed pa_data items.octets.now × (methods_in seen.error_code seen.e_data ≡ Some (items_of pa_data items.octets.now))) }
 {
     match error.e_data {
         Some(octets) if error.error_code == PREAUTH_REQUIRED => method_data(octets),
@@ -111,7 +111,7 @@ fn put_methods_field(
     error: &KrbErrorView<'_>,
 ) -> Result<(), AllocError>
     requires { KrbErrorLists error.now }
-    ensures { let seen = krb_error_seen error.now in OnOk result (string_bytes text.new ≡ string_bytes text.old ++ labelled form label.now begin.now (methods seen.error_code seen.e_data)) }
+    ensures { let seen = krb_error_of_view error.now in OnOk result (string_bytes text.new ≡ string_bytes text.old ++ labelled form label.now begin.now (methods seen.error_code seen.e_data)) }
 {
     match methods_of(error) {
         None => put_absent_field(text, form, label, begin),
@@ -122,7 +122,7 @@ fn put_methods_field(
 /// Appends the fields of a KRB-ERROR up to the time of the client.
 fn put_front(text: &mut String, form: Form, error: &KrbErrorView<'_>) -> Result<(), AllocError>
     requires { KrbErrorLists error.now }
-    ensures { let seen = krb_error_seen error.now in OnOk result (string_bytes text.new ≡ string_bytes text.old
+    ensures { let seen = krb_error_of_view error.now in OnOk result (string_bytes text.new ≡ string_bytes text.old
         ++ field form (codes "code") (ErrorCode seen.error_code)
         ++ field form (codes "client") (client seen.cname seen.crealm)
         ++ field form (codes "server") (principal seen.realm seen.sname)
@@ -153,7 +153,7 @@ fn put_front(text: &mut String, form: Form, error: &KrbErrorView<'_>) -> Result<
 /// Appends the fields of a KRB-ERROR from the time of the server on.
 fn put_rest(text: &mut String, form: Form, error: &KrbErrorView<'_>) -> Result<(), AllocError>
     requires { KrbErrorLists error.now }
-    ensures { let seen = krb_error_seen error.now in OnOk result (string_bytes text.new ≡ string_bytes text.old
+    ensures { let seen = krb_error_of_view error.now in OnOk result (string_bytes text.new ≡ string_bytes text.old
         ++ field form (codes "stime") (Word seen.stime)
         ++ field form (codes "susec") (Number (pos seen.susec))
         ++ field form (codes "text") (if_there Quoted seen.e_text)
@@ -174,7 +174,7 @@ pub(crate) fn put_krb_error(
     error: &KrbErrorView<'_>,
 ) -> Result<(), AllocError>
     requires { KrbErrorLists error.now }
-    ensures { OnOk result (string_bytes text.new ≡ string_bytes text.old ++ fields_text form (krb_error_fields (krb_error_seen error.now))) }
+    ensures { OnOk result (string_bytes text.new ≡ string_bytes text.old ++ fields_text form (krb_error_fields (krb_error_of_view error.now))) }
 {
     put_front(text, form, error)?;
     put_rest(text, form, error)

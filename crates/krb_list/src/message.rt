@@ -1,7 +1,7 @@
 //! What is printed of messages, written from views of their octets.
 
 ghost use Rattle.std.specs.Prelude.{◌≡◌, ◌++◌, IfOk, OnOk, codes, string_bytes};
-ghost use Rattle.krb_msg.specs.Seen.{KdcReqBodyLists, KdcReqLists, KdcRepLists, ApReqLists, KrbSafeLists, KrbCredLists, MessageLists, kdc_req_body_seen, kdc_req_seen, kdc_rep_seen, ap_req_seen, ap_rep_seen, krb_safe_seen, krb_priv_seen, krb_cred_seen, message_seen};
+ghost use Rattle.krb_msg.specs.ViewValues.{KdcReqBodyLists, KdcReqLists, KdcRepLists, ApReqLists, KrbSafeLists, KrbCredLists, MessageLists, kdc_req_body_of_view, kdc_req_of_view, kdc_rep_of_view, ap_req_of_view, ap_rep_of_view, krb_safe_of_view, krb_priv_of_view, krb_cred_of_view, message_of_view};
 ghost use Rattle.krb_registry.specs.declared.registry.Registry.TheVariants as registries;
 ghost use Rattle.krb_list.specs.Forms.{closing, field, fields_text};
 ghost use Rattle.krb_list.specs.Messages.{padata, kdc_req_fields, kdc_rep_fields, ap_req_fields, ap_rep_fields, krb_safe_fields, krb_priv_fields, krb_cred_fields, fields_of, message_record, message_text, message_line};
@@ -32,7 +32,7 @@ fn put_kdc_req_front(
     body: &KdcReqBodyView<'_>,
 ) -> Result<(), AllocError>
     requires { KdcReqBodyLists body.now }
-    ensures { let seen = kdc_req_body_seen body.now in OnOk result (string_bytes text.new ≡ string_bytes text.old
+    ensures { let seen = kdc_req_body_of_view body.now in OnOk result (string_bytes text.new ≡ string_bytes text.old
         ++ field form (codes "realm") (Escaped seen.realm)
         ++ field form (codes "client") (if_there (principal seen.realm) seen.cname)
         ++ field form (codes "server") (if_there (principal seen.realm) seen.sname)
@@ -61,7 +61,7 @@ fn put_kdc_req_front(
 /// Appends the fields of a KDC-REQ from the nonce on.
 fn put_kdc_req_rest(text: &mut String, form: Form, req: &KdcReqView<'_>) -> Result<(), AllocError>
     requires { KdcReqLists req.now }
-    ensures { let seen = kdc_req_seen req.now in OnOk result (string_bytes text.new ≡ string_bytes text.old
+    ensures { let seen = kdc_req_of_view req.now in OnOk result (string_bytes text.new ≡ string_bytes text.old
         ++ field form (codes "nonce") (Number seen.body.nonce)
         ++ field form (codes "etypes") (Numbers registries.EncryptionTypes seen.body.etype)
         ++ field form (codes "padata") (if_there padata seen.padata)
@@ -87,7 +87,7 @@ fn put_kdc_req_rest(text: &mut String, form: Form, req: &KdcReqView<'_>) -> Resu
 
 fn put_kdc_req(text: &mut String, form: Form, req: &KdcReqView<'_>) -> Result<(), AllocError>
     requires { KdcReqLists req.now }
-    ensures { OnOk result (string_bytes text.new ≡ string_bytes text.old ++ fields_text form (kdc_req_fields (kdc_req_seen req.now))) }
+    ensures { OnOk result (string_bytes text.new ≡ string_bytes text.old ++ fields_text form (kdc_req_fields (kdc_req_of_view req.now))) }
 {
     put_kdc_req_front(text, form, &req.body)?;
     put_kdc_req_rest(text, form, req)
@@ -95,7 +95,7 @@ fn put_kdc_req(text: &mut String, form: Form, req: &KdcReqView<'_>) -> Result<()
 
 fn put_kdc_rep(text: &mut String, form: Form, rep: &KdcRepView<'_>) -> Result<(), AllocError>
     requires { KdcRepLists rep.now }
-    ensures { OnOk result (string_bytes text.new ≡ string_bytes text.old ++ fields_text form (kdc_rep_fields (kdc_rep_seen rep.now))) }
+    ensures { OnOk result (string_bytes text.new ≡ string_bytes text.old ++ fields_text form (kdc_rep_fields (kdc_rep_of_view rep.now))) }
 {
     let ticket = &rep.ticket;
     put_principal_field(text, form, " client=", ",\"client", &rep.cname, rep.crealm)?;
@@ -114,7 +114,7 @@ fn put_kdc_rep(text: &mut String, form: Form, rep: &KdcRepView<'_>) -> Result<()
 
 fn put_ap_req(text: &mut String, form: Form, req: &ApReqView<'_>) -> Result<(), AllocError>
     requires { ApReqLists req.now }
-    ensures { OnOk result (string_bytes text.new ≡ string_bytes text.old ++ fields_text form (ap_req_fields (ap_req_seen req.now))) }
+    ensures { OnOk result (string_bytes text.new ≡ string_bytes text.old ++ fields_text form (ap_req_fields (ap_req_of_view req.now))) }
 {
     let ticket = &req.ticket;
     let options = Registry::ApOptions;
@@ -139,14 +139,14 @@ fn put_ap_req(text: &mut String, form: Form, req: &ApReqView<'_>) -> Result<(), 
 }
 
 fn put_ap_rep(text: &mut String, form: Form, rep: &ApRepView<'_>) -> Result<(), AllocError>
-    ensures { OnOk result (string_bytes text.new ≡ string_bytes text.old ++ fields_text form (ap_rep_fields (ap_rep_seen rep.now))) }
+    ensures { OnOk result (string_bytes text.new ≡ string_bytes text.old ++ fields_text form (ap_rep_fields (ap_rep_of_view rep.now))) }
 {
     put_sealed_field(text, form, " enc=", ",\"enc", &rep.enc_part)
 }
 
 fn put_krb_safe(text: &mut String, form: Form, safe: &KrbSafeView<'_>) -> Result<(), AllocError>
     requires { KrbSafeLists safe.now }
-    ensures { OnOk result (string_bytes text.new ≡ string_bytes text.old ++ fields_text form (krb_safe_fields (krb_safe_seen safe.now))) }
+    ensures { OnOk result (string_bytes text.new ≡ string_bytes text.old ++ fields_text form (krb_safe_fields (krb_safe_of_view safe.now))) }
 {
     let body = &safe.body;
     put_size_field(text, form, " size=", ",\"size", body.user_data)?;
@@ -159,14 +159,14 @@ fn put_krb_safe(text: &mut String, form: Form, safe: &KrbSafeView<'_>) -> Result
 }
 
 fn put_krb_priv(text: &mut String, form: Form, private: &KrbPrivView<'_>) -> Result<(), AllocError>
-    ensures { OnOk result (string_bytes text.new ≡ string_bytes text.old ++ fields_text form (krb_priv_fields (krb_priv_seen private.now))) }
+    ensures { OnOk result (string_bytes text.new ≡ string_bytes text.old ++ fields_text form (krb_priv_fields (krb_priv_of_view private.now))) }
 {
     put_sealed_field(text, form, " enc=", ",\"enc", &private.enc_part)
 }
 
 fn put_krb_cred(text: &mut String, form: Form, cred: &KrbCredView<'_>) -> Result<(), AllocError>
     requires { KrbCredLists cred.now }
-    ensures { OnOk result (string_bytes text.new ≡ string_bytes text.old ++ fields_text form (krb_cred_fields (krb_cred_seen cred.now))) }
+    ensures { OnOk result (string_bytes text.new ≡ string_bytes text.old ++ fields_text form (krb_cred_fields (krb_cred_of_view cred.now))) }
 {
     put_tickets_field(text, form, " tickets=", ",\"tickets", cred.tickets)?;
     put_sealed_field(text, form, " enc=", ",\"enc", &cred.enc_part)
@@ -175,7 +175,7 @@ fn put_krb_cred(text: &mut String, form: Form, cred: &KrbCredView<'_>) -> Result
 /// Appends the fields of a message but the notes.
 fn put_fields(text: &mut String, form: Form, view: &MessageView<'_>) -> Result<(), AllocError>
     requires { MessageLists view.now }
-    ensures { OnOk result (string_bytes text.new ≡ string_bytes text.old ++ fields_text form (fields_of (message_seen view.now))) }
+    ensures { OnOk result (string_bytes text.new ≡ string_bytes text.old ++ fields_text form (fields_of (message_of_view view.now))) }
 {
     match view {
         MessageView::AsReq(req) => put_kdc_req(text, form, req),
@@ -198,7 +198,7 @@ pub(crate) fn put_rest(
     view: &MessageView<'_>,
 ) -> Result<(), AllocError>
     requires { MessageLists view.now }
-    ensures { OnOk result (string_bytes text.new ≡ string_bytes text.old ++ fields_text form (message_record (message_seen view.now)).fields ++ closing form) }
+    ensures { OnOk result (string_bytes text.new ≡ string_bytes text.old ++ fields_text form (message_record (message_of_view view.now)).fields ++ closing form) }
 {
     put_fields(text, form, view)?;
     put_field(text, form, " notes=", ",\"notes", &notes_of_view(view))?;
@@ -209,7 +209,7 @@ pub(crate) fn put_rest(
 #[tactic(auto, unfolding(crate::specs::Forms::record_text, crate::specs::Messages::message_record))]
 fn put_text(text: &mut String, form: Form, view: &MessageView<'_>) -> Result<(), AllocError>
     requires { MessageLists view.now }
-    ensures { OnOk result (string_bytes text.new ≡ string_bytes text.old ++ message_text form (message_seen view.now)) }
+    ensures { OnOk result (string_bytes text.new ≡ string_bytes text.old ++ message_text form (message_of_view view.now)) }
 {
     put_opening(text, form, view.kind().name())?;
     put_rest(text, form, view)
@@ -220,7 +220,7 @@ fn put_text(text: &mut String, form: Form, view: &MessageView<'_>) -> Result<(),
 #[tactic(auto, unfolding(crate::specs::Messages::message_line))]
 pub fn put_message_view(text: &mut String, form: Form, view: &MessageView<'_>) -> Result<(), Memory>
     requires { MessageLists view.now }
-    ensures { OnOk result (string_bytes text.new ≡ string_bytes text.old ++ message_line form (message_seen view.now)) }
+    ensures { OnOk result (string_bytes text.new ≡ string_bytes text.old ++ message_line form (message_of_view view.now)) }
 {
     put_text(text, form, view)?;
     text.push('\n')?;

@@ -2,7 +2,7 @@
 
 ghost use Rattle.std.specs.Prelude.{◌≡◌, ◌++◌, OnOk, codes, decimal, string_bytes};
 ghost use Rattle.std.specs.Fmt.{signed_decimal};
-ghost use Rattle.krb_msg.specs.Seen.{checksum_seen, encrypted_data_seen, host_address_seen};
+ghost use Rattle.krb_msg.specs.ViewValues.{checksum_of_view, encrypted_data_of_view, host_address_of_view};
 ghost use Rattle.krb_registry.specs.declared.registry.Registry.TheVariants.{EncryptionTypes};
 ghost use Rattle.krb_list.specs.Forms.{digest_object, address_object, name_string, or_null, sealed_object};
 ghost use Rattle.krb_list.specs.Text.{or_dash};
@@ -66,7 +66,7 @@ impl Sealed {
     /// Returns what is shown of encrypted data.
     #[inline(always)]
     pub(crate) fn of(viewed: &EncryptedDataView<'_>) -> Sealed
-        ensures { IsSealed result.etype result.kvno result.size ≡ sealed (encrypted_data_seen viewed.now) }
+        ensures { IsSealed result.etype result.kvno result.size ≡ sealed (encrypted_data_of_view viewed.now) }
     {
         Sealed {
             etype: viewed.etype,
@@ -160,7 +160,7 @@ impl<'a> Address<'a> {
     /// Returns what is shown of an address.
     #[inline(always)]
     pub(crate) fn of(viewed: &HostAddressView<'a>) -> Address<'a>
-        ensures { Addressed result.addr_type result.octets.now ≡ address (host_address_seen viewed.now) }
+        ensures { Addressed result.addr_type result.octets.now ≡ address (host_address_of_view viewed.now) }
     {
         Address {
             addr_type: viewed.addr_type,
@@ -215,7 +215,7 @@ impl Digest {
     /// Returns what is shown of a checksum.
     #[inline(always)]
     pub(crate) fn of(viewed: &ChecksumView<'_>) -> Digest
-        ensures { Digested result.cksumtype result.size ≡ checksum (checksum_seen viewed.now) }
+        ensures { Digested result.cksumtype result.size ≡ checksum (checksum_of_view viewed.now) }
     {
         Digest {
             cksumtype: viewed.cksumtype,

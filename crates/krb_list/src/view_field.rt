@@ -6,7 +6,7 @@ ghost use Rattle.krb_der.specs.Scalars.{IsTimeFrom};
 ghost use Rattle.krb_msg.specs.Grammar.{host_address, int32, pa_data, ticket};
 ghost use Rattle.krb_msg.specs.Views.{encrypted_data_of, host_address_of, micros_of, pa_data_of, principal_name_of, ticket_of};
 ghost use Rattle.krb_msg.specs.Viewed.{AreViewed, OfSome, items_of};
-ghost use Rattle.krb_msg.specs.Seen.{PrincipalNameLists, checksum_seen, encrypted_data_seen, encrypted_data_view_value, flags_seen, host_address_seen, host_address_view_value, principal_name_seen, principal_name_view_value};
+ghost use Rattle.krb_msg.specs.ViewValues.{PrincipalNameLists, checksum_of_view, encrypted_data_of_view, encrypted_data_view_value, flags_of_view, host_address_of_view, host_address_view_value, principal_name_of_view, principal_name_view_value};
 ghost use Rattle.krb_registry.specs.declared.registry.Registry.TheVariants.{EncryptionTypes as EncryptionTypeNumbers};
 ghost use Rattle.krb_list.specs.Forms.{labelled};
 ghost use Rattle.krb_list.specs.Messages.{padata};
@@ -64,7 +64,7 @@ pub(crate) fn put_principal_field(
     realm: &[u8],
 ) -> Result<(), AllocError>
     requires { PrincipalNameLists name.now }
-    ensures { OnOk result (string_bytes text.new ≡ string_bytes text.old ++ labelled form label.now begin.now (principal realm.now (principal_name_seen name.now))) }
+    ensures { OnOk result (string_bytes text.new ≡ string_bytes text.old ++ labelled form label.now begin.now (principal realm.now (principal_name_of_view name.now))) }
 {
     let shown = Principal {
         name_type: name.name_type,
@@ -122,7 +122,7 @@ pub(crate) fn put_flags_field(
     registry: Registry,
     flags: &FlagsView<'_>,
 ) -> Result<(), AllocError>
-    ensures { OnOk result (string_bytes text.new ≡ string_bytes text.old ++ labelled form label.now begin.now (Flags registry (flags_seen flags.now))) }
+    ensures { OnOk result (string_bytes text.new ≡ string_bytes text.old ++ labelled form label.now begin.now (Flags registry (flags_of_view flags.now))) }
 {
     let shown = FlagBits {
         registry,
@@ -207,7 +207,7 @@ pub(crate) fn put_sealed_field(
     begin: &str,
     data: &EncryptedDataView<'_>,
 ) -> Result<(), AllocError>
-    ensures { OnOk result (string_bytes text.new ≡ string_bytes text.old ++ labelled form label.now begin.now (sealed (encrypted_data_seen data.now))) }
+    ensures { OnOk result (string_bytes text.new ≡ string_bytes text.old ++ labelled form label.now begin.now (sealed (encrypted_data_of_view data.now))) }
 {
     put_field(text, form, label, begin, &Sealed::of(data))
 }
@@ -238,7 +238,7 @@ pub(crate) fn put_address_field(
     begin: &str,
     host: &HostAddressView<'_>,
 ) -> Result<(), AllocError>
-    ensures { OnOk result (string_bytes text.new ≡ string_bytes text.old ++ labelled form label.now begin.now (address (host_address_seen host.now))) }
+    ensures { OnOk result (string_bytes text.new ≡ string_bytes text.old ++ labelled form label.now begin.now (address (host_address_of_view host.now))) }
 {
     put_field(text, form, label, begin, &Address::of(host))
 }
@@ -269,7 +269,7 @@ pub(crate) fn put_checksum_field(
     begin: &str,
     digest: &ChecksumView<'_>,
 ) -> Result<(), AllocError>
-    ensures { OnOk result (string_bytes text.new ≡ string_bytes text.old ++ labelled form label.now begin.now (checksum (checksum_seen digest.now))) }
+    ensures { OnOk result (string_bytes text.new ≡ string_bytes text.old ++ labelled form label.now begin.now (checksum (checksum_of_view digest.now))) }
 {
     put_field(text, form, label, begin, &Digest::of(digest))
 }

@@ -1,4 +1,4 @@
--- Why the laws ask for a grammar: two terms whose optional fields are not told apart by their tags, and two messages with one tag.
+-- Why the laws ask for a grammar: two terms whose optional fields are not distinguished by their tags, and two messages with one tag.
 use Rattle.std.proofs.Common.{◌≡◌, List, [], ◌∷◌, Some, None, true, false, refl}
 use Rattle.krb_der.specs.declared.why.Why.TheVariants as why
 use Rattle.krb_msg.specs.Term.{Term, Text, Octets, Application, Sequence, End, Required, Optional, der}

@@ -2,7 +2,7 @@
 use Rattle.std.proofs.Common.{◌≡◌, List, [], ◌∷◌, ◌++◌, map, Option, Some, None, refl, sym, ap, ◌∙◌, append_assoc}
 use Rattle.std.specs.Option.{option_map}
 
--- the copies so far, and what the values that are left stand for, are what all values stand for
+-- the copies so far and those of the values that are left are the copies of all values
 abbrev pub AreCopiesSoFar : {Seen Of Copy : Type 0} → (value : Seen → Of) → (copied : Seen → Copy) → (values left : List Of) → List Copy → Type 0
 AreCopiesSoFar {Seen = Seen} {Of = Of} {Copy = Copy} value copied values left copies = (of : Of → Copy) → ((seen : Seen) → copied seen ≡ of (value seen)) → copies ++ map of left ≡ map of values
 

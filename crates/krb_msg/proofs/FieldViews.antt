@@ -1,4 +1,4 @@
--- What is viewed of fields, of items and of scalars.
+-- Views of fields, of items and of scalars.
 use Rattle.std.proofs.Common.{◌≡◌, ℕ, ◌+◌, ◌<◌, ◌≤◌, inl, inr, ℤ, pos, negsuc, true, false, not, List, [], ◌∷◌, ◌++◌, length, Option, Some, None, MatchOption, refl, sym, ap, ◌∙◌, subst, arith, eq-eqb, eqb-true}
 use Rattle.std.specs.Prelude.{◌≤ℤ◌}
 use Rattle.std.specs.List.{AllByRecursion}
@@ -9,13 +9,13 @@ use Rattle.krb_der.specs.inner.Items.{same_from_item}
 use Rattle.krb_der.specs.inner.Numbers.{IsShortestInteger, IsShortestInteger-integer_octets, integer_octets-integer_value, integer_value-integer_octets, length-integer_octets-le}
 use Rattle.krb_msg.specs.Term.{Term, Fields, Integer, Text, Octets, Sequence, Tagged, Application, End, Required, Optional, tag_of, Value, Values, der, der_of_fields}
 use Rattle.krb_msg.specs.Judgement.{is_padded}
-use Rattle.krb_msg.specs.Reading.{begins_with}
+use Rattle.krb_msg.specs.ValueOfDer.{begins_with}
 use Rattle.krb_msg.specs.Shape.{may_begin}
 use Rattle.krb_msg.specs.inner.Values.{contents, der_is, may_begin_from_der}
 use Rattle.krb_msg.proofs.Integers.{is_padded-shortest, IsShortestInteger-from_unpadded}
-use Rattle.krb_msg.specs.Viewed.{HasNoItem, IsNoItem, AreContents, AreNoContents, AreFields, AreNoFields, StandsFirst, NoneStandsFirst, MayStandFirst, IsSpoiled, IsNumberIn, IsNoNumberIn}
+use Rattle.krb_msg.specs.Viewed.{HasNoItem, IsNoItem, AreContents, AreNoContents, AreFields, AreNoFields, BeginsWithValue, BeginsWithNoValue, MayBeginWithValue, IsMalformedField, IsNumberIn, IsNoNumberIn}
 
--- what holds of an answer, from what is known of it
+-- a fact of a result, from what is known of it
 pub match_map : {A : Type 0} (o : Option A) (P P' : Type 0) (Q Q' : A → Type 0) → (P → P') → ((a : A) → Q a → Q' a) → MatchOption o P Q → MatchOption o P' Q'
 match_map None P P' Q Q' f g m = f m
 match_map (Some a) P P' Q Q' f g m = g a m
@@ -31,36 +31,36 @@ match_none o P Q e p = subst (λ r. MatchOption r P Q) (sym e) p
 pub same_contents : (tag : ℕ) (a b : List ℕ) → item tag a ≡ item tag b → a ≡ b
 same_contents tag a b e = (same_from_item tag tag a b [] [] (ap (λ l. l ++ []) e)).1
 
--- ---- the field that stands first
-pub field_none : (index : ℕ) (term : Term) (octets : List ℕ) → HasNoItem (0xA0 + index) octets → NoneStandsFirst (Tagged index term) octets
+-- ---- the first field
+pub field_none : (index : ℕ) (term : Term) (octets : List ℕ) → HasNoItem (0xA0 + index) octets → BeginsWithNoValue (Tagged index term) octets
 field_none index term octets none value rest s = none (der term value) rest s.form
 
-pub inner_none : (index tag : ℕ) (term : Term) (octets inner rest : List ℕ) → tag ≡ tag_of term → octets ≡ item (0xA0 + index) inner ++ rest → IsNoItem tag inner → NoneStandsFirst (Tagged index term) octets
+pub inner_none : (index tag : ℕ) (term : Term) (octets inner rest : List ℕ) → tag ≡ tag_of term → octets ≡ item (0xA0 + index) inner ++ rest → IsNoItem tag inner → BeginsWithNoValue (Tagged index term) octets
 inner_none index tag term octets inner rest t e none value more s =
     let p = same_from_item (0xA0 + index) (0xA0 + index) inner (der term value) rest more (sym e ∙ s.form) in
     none (contents term value) (p.1 ∙ der_is term value ∙ ap (λ n. item n (contents term value)) (sym t))
 
-pub contents_none : (index tag : ℕ) (term : Term) (octets inner own rest : List ℕ) → tag ≡ tag_of term → octets ≡ item (0xA0 + index) inner ++ rest → inner ≡ item tag own → AreNoContents term own → NoneStandsFirst (Tagged index term) octets
+pub contents_none : (index tag : ℕ) (term : Term) (octets inner own rest : List ℕ) → tag ≡ tag_of term → octets ≡ item (0xA0 + index) inner ++ rest → inner ≡ item tag own → AreNoContents term own → BeginsWithNoValue (Tagged index term) octets
 contents_none index tag term octets inner own rest t e i none value more s =
     let p = same_from_item (0xA0 + index) (0xA0 + index) inner (der term value) rest more (sym e ∙ s.form) in
     none value (record { fits = s.fits; form = ap (λ n. item n own) (sym t) ∙ sym i ∙ p.1 })
 
-pub field_some : (index tag : ℕ) (term : Term) (octets inner own rest : List ℕ) (value : Value term) → tag ≡ tag_of term → octets ≡ item (0xA0 + index) inner ++ rest → inner ≡ item tag own → AreContents term own value → StandsFirst (Tagged index term) octets value rest
+pub field_some : (index tag : ℕ) (term : Term) (octets inner own rest : List ℕ) (value : Value term) → tag ≡ tag_of term → octets ≡ item (0xA0 + index) inner ++ rest → inner ≡ item tag own → AreContents term own value → BeginsWithValue (Tagged index term) octets value rest
 field_some index tag term octets inner own rest value t e i a = record {
   fits = a.fits;
   form = e ∙ ap (λ l. item (0xA0 + index) l ++ rest) (i ∙ ap (λ n. item n own) t ∙ a.form);
 }
 
--- ---- a field that must be there
-pub required_none : (index : ℕ) (term : Term) (fields : Fields) (octets : List ℕ) → NoneStandsFirst (Tagged index term) octets → AreNoFields (Required (Tagged index term) fields) octets
+-- ---- a required field
+pub required_none : (index : ℕ) (term : Term) (fields : Fields) (octets : List ℕ) → BeginsWithNoValue (Tagged index term) octets → AreNoFields (Required (Tagged index term) fields) octets
 required_none index term fields octets none values f = none values.0 (der_of_fields fields values.1) (record { fits = f.fit.0; form = f.form })
 
-pub required_rest_none : (index : ℕ) (term : Term) (fields : Fields) (octets rest : List ℕ) (value : Value term) → StandsFirst (Tagged index term) octets value rest → AreNoFields fields rest → AreNoFields (Required (Tagged index term) fields) octets
+pub required_rest_none : (index : ℕ) (term : Term) (fields : Fields) (octets rest : List ℕ) (value : Value term) → BeginsWithValue (Tagged index term) octets value rest → AreNoFields fields rest → AreNoFields (Required (Tagged index term) fields) octets
 required_rest_none index term fields octets rest value s none values f =
     let p = same_from_item (0xA0 + index) (0xA0 + index) (der term value) (der term values.0) rest (der_of_fields fields values.1) (sym s.form ∙ f.form) in
     none values.1 (record { fit = f.fit.1; form = p.2 })
 
-pub required_some : (term : Term) (fields : Fields) (octets rest : List ℕ) (value : Value term) (values : Values fields) → StandsFirst term octets value rest → AreFields fields rest values → AreFields (Required term fields) octets (value, values)
+pub required_some : (term : Term) (fields : Fields) (octets rest : List ℕ) (value : Value term) (values : Values fields) → BeginsWithValue term octets value rest → AreFields fields rest values → AreFields (Required term fields) octets (value, values)
 required_some term fields octets rest value values s a = record { fit = (s.fits, a.fit); form = s.form ∙ ap (λ l. der term value ++ l) a.form }
 
 -- ---- a field that may be left out
@@ -73,14 +73,14 @@ apart tag fields (octet ∷ rest) a b values e =
     let o : octet ≡ tag = eqb-true octet tag b in
     true≢false (sym (may_begin_from_der fields values tag rest (sym e ∙ ap (λ o. o ∷ rest) o)) ∙ not-true (may_begin tag fields) a)
 
-spoiled_at : (index : ℕ) (term : Term) (fields : Fields) (octets : List ℕ) → not (may_begin (0xA0 + index) fields) ≡ true → IsSpoiled (Tagged index term) octets → (value : Option (Value term)) (values : Values fields) → AreFields (Optional (Tagged index term) fields) octets (value, values) → ⊥
+spoiled_at : (index : ℕ) (term : Term) (fields : Fields) (octets : List ℕ) → not (may_begin (0xA0 + index) fields) ≡ true → IsMalformedField (Tagged index term) octets → (value : Option (Value term)) (values : Values fields) → AreFields (Optional (Tagged index term) fields) octets (value, values) → ⊥
 spoiled_at index term fields octets a s None values f = apart (0xA0 + index) fields octets a s.tag values f.form
 spoiled_at index term fields octets a s (Some value) values f = s.none value (der_of_fields fields values) (record { fits = f.fit.0; form = f.form })
 
-pub optional_spoiled : (index : ℕ) (term : Term) (fields : Fields) (octets : List ℕ) → not (may_begin (0xA0 + index) fields) ≡ true → IsSpoiled (Tagged index term) octets → AreNoFields (Optional (Tagged index term) fields) octets
+pub optional_spoiled : (index : ℕ) (term : Term) (fields : Fields) (octets : List ℕ) → not (may_begin (0xA0 + index) fields) ≡ true → IsMalformedField (Tagged index term) octets → AreNoFields (Optional (Tagged index term) fields) octets
 optional_spoiled index term fields octets a s values f = spoiled_at index term fields octets a s values.0 values.1 f
 
-rest_none_at : (index : ℕ) (term : Term) (fields : Fields) (octets rest : List ℕ) → not (may_begin (0xA0 + index) fields) ≡ true → (value : Option (Value term)) → MayStandFirst (Tagged index term) octets value rest → AreNoFields fields rest → (other : Option (Value term)) (values : Values fields) → AreFields (Optional (Tagged index term) fields) octets (other, values) → ⊥
+rest_none_at : (index : ℕ) (term : Term) (fields : Fields) (octets rest : List ℕ) → not (may_begin (0xA0 + index) fields) ≡ true → (value : Option (Value term)) → MayBeginWithValue (Tagged index term) octets value rest → AreNoFields fields rest → (other : Option (Value term)) (values : Values fields) → AreFields (Optional (Tagged index term) fields) octets (other, values) → ⊥
 rest_none_at index term fields octets rest a None m none None values f = none values (record { fit = f.fit.1; form = m.0 ∙ f.form })
 rest_none_at index term fields octets rest a None m none (Some other) values f =
     true≢false (sym (begins index term octets (der_of_fields fields values) other f.form) ∙ m.1)
@@ -88,10 +88,10 @@ rest_none_at index term fields octets rest a (Some value) m none None values f =
 rest_none_at index term fields octets rest a (Some value) m none (Some other) values f =
     required_rest_none index term fields octets rest value m none (other, values) (record { fit = f.fit; form = f.form })
 
-pub optional_rest_none : (index : ℕ) (term : Term) (fields : Fields) (octets rest : List ℕ) → not (may_begin (0xA0 + index) fields) ≡ true → (value : Option (Value term)) → MayStandFirst (Tagged index term) octets value rest → AreNoFields fields rest → AreNoFields (Optional (Tagged index term) fields) octets
+pub optional_rest_none : (index : ℕ) (term : Term) (fields : Fields) (octets rest : List ℕ) → not (may_begin (0xA0 + index) fields) ≡ true → (value : Option (Value term)) → MayBeginWithValue (Tagged index term) octets value rest → AreNoFields fields rest → AreNoFields (Optional (Tagged index term) fields) octets
 optional_rest_none index term fields octets rest a value m none values f = rest_none_at index term fields octets rest a value m none values.0 values.1 f
 
-pub optional_some : (term : Term) (fields : Fields) (octets rest : List ℕ) (value : Option (Value term)) (values : Values fields) → MayStandFirst term octets value rest → AreFields fields rest values → AreFields (Optional term fields) octets (value, values)
+pub optional_some : (term : Term) (fields : Fields) (octets rest : List ℕ) (value : Option (Value term)) (values : Values fields) → MayBeginWithValue term octets value rest → AreFields fields rest values → AreFields (Optional term fields) octets (value, values)
 optional_some term fields octets rest None values m a = record { fit = (tt, a.fit); form = sym m.0 ∙ a.form }
 optional_some term fields octets rest (Some value) values m a = record { fit = (m.fits, a.fit); form = m.form ∙ ap (λ l. der term value ++ l) a.form }
 

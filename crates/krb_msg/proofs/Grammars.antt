@@ -104,5 +104,5 @@ module _ (messages : List Term) (grammar : IsGrammar messages) where
       let refused : judgement_by messages n (der term value) ≡ verdict.Refused (record { place = place; why = reason }) = (refusal_is_final messages n octets place reason l e).same (der term value) (omega arith) begins in
       cc
 
-  pub one_of_tells : (term other : Term) → IsOneOf term messages → IsOneOf other messages → (v : Value term) (w : Value other) (x y : List ℕ) → der term v ++ x ≡ der other w ++ y → AreSame (term, v) (other, w) × (x ≡ y)
-  one_of_tells term other o p v w x y e = same_message messages term other (chosen term o) (chosen other p) (unambiguous_message term o) v w x y e
+  pub one_of_is_prefix_free : (term other : Term) → IsOneOf term messages → IsOneOf other messages → (v : Value term) (w : Value other) (x y : List ℕ) → der term v ++ x ≡ der other w ++ y → AreSame (term, v) (other, w) × (x ≡ y)
+  one_of_is_prefix_free term other o p v w x y e = same_message messages term other (chosen term o) (chosen other p) (unambiguous_message term o) v w x y e

@@ -1,4 +1,4 @@
--- An item's tag and length octets: what `head` accepts, and what shows it.
+-- The identifier and length octets of an item: what `head` accepts, and which octets decide it.
 use Rattle.std.proofs.Common.{◌≡◌, ℕ, zero, suc, ◌+◌, ◌-◌, ◌*◌, ◌^◌, ◌<◌, ◌≤◌, ◌⊎◌, inl, inr, Bool, true, false, ◌&&◌, ◌||◌, ltb, eqb, List, [], ◌∷◌, ◌++◌, length, take, drop, refl, sym, ◌∙◌, ap, arith, length-append, ◌≢◌, length-take, take-append-drop, lt-ltb, le-ltb}
 use Rattle.std.proofs.lemmas.Bool.{cases_lt, cases_order, cases_Bool, cond_both}
 use Rattle.std.proofs.lemmas.Bool.Decides.{nat_tests}
@@ -108,7 +108,7 @@ head-length_octets room tag n rest small fits = go (cases_lt n 128)
             positive [] s = absurd s
             positive (digit ∷ digits) s = omega arith
 
--- ---- what an accepted head is
+-- ---- an accepted head
 pub record IsHead (room header contents : ℕ) (octets : List ℕ) : Type 0 where
   pub tag : ℕ
   pub rest : List ℕ
@@ -154,36 +154,36 @@ IsHead-head room header contents (tag ∷ octet ∷ rest) a e = go octet (first_
     go octet (Wrong reason f) e = let g : Refused 1 reason ≡ Got header contents = sym (f rest) ∙ e in absurd cc
     go octet (Long k o p q h f) e = rw o (IsHead-long room tag k rest header contents p a.1.1 (sym (f rest) ∙ e))
 
--- ---- what shows a head
+-- ---- the octets that decide a head
 pub record HeadShown (room : ℕ) (octets : List ℕ) (found : Head) : Type 0 where
-  pub front : List ℕ
-  pub back : List ℕ
-  pub parts : octets ≡ front ++ back
-  pub reached : need_of_head found ≡ length front
-  pub same : (rest : List ℕ) → head room (front ++ rest) ≡ found
-  pub sooner : (k : ℕ) → k < length front → head room (take k front) ≡ Partial
+  pub prefix : List ℕ
+  pub suffix : List ℕ
+  pub parts : octets ≡ prefix ++ suffix
+  pub reached : need_of_head found ≡ length prefix
+  pub same : (rest : List ℕ) → head room (prefix ++ rest) ≡ found
+  pub sooner : (k : ℕ) → k < length prefix → head room (take k prefix) ≡ Partial
 
 head-short : (room : ℕ) (octets : List ℕ) → length octets < 2 → head room octets ≡ Partial
 head-short room [] h = refl
 head-short room (tag ∷ []) h = refl
 head-short room (tag ∷ octet ∷ rest) h = absurd (omega arith)
 
--- two octets show it
+-- two octets decide it
 HeadShown-two : (room tag octet : ℕ) (rest : List ℕ) (found : Head) → need_of_head found ≡ 2 → ((rest : List ℕ) → head room (tag ∷ octet ∷ rest) ≡ found) → HeadShown room (tag ∷ octet ∷ rest) found
 HeadShown-two room tag octet rest found n f = record {
-  front = tag ∷ octet ∷ [];
-  back = rest;
+  prefix = tag ∷ octet ∷ [];
+  suffix = rest;
   parts = refl;
   reached = n;
   same = f;
   sooner = λ k h. head-short room (take k (tag ∷ octet ∷ [])) (rw length-take (omega arith));
 }
 
--- two octets and the first n of a long length show it
+-- two octets and the first n of a long length decide it
 HeadShown-long : (room tag octet k : ℕ) (digits rest : List ℕ) (found : Head) → need_of_head found ≡ 2 + length digits → ((rest : List ℕ) → head room (tag ∷ octet ∷ rest) ≡ long_head room k rest) → ((rest : List ℕ) → long_head room k (digits ++ rest) ≡ found) → ((n : ℕ) → n < length digits → long_head room k (take n digits) ≡ Partial) → HeadShown room (tag ∷ octet ∷ (digits ++ rest)) found
 HeadShown-long room tag octet k digits rest found n f same sooner = record {
-  front = tag ∷ octet ∷ digits;
-  back = rest;
+  prefix = tag ∷ octet ∷ digits;
+  suffix = rest;
   parts = refl;
   reached = omega (arith, n);
   same = λ rest. f (digits ++ rest) ∙ same rest;
@@ -235,7 +235,7 @@ HeadShown-head room (tag ∷ octet ∷ rest) found e d = go (first_two room tag 
     go (Wrong reason f) = HeadShown-two room tag octet rest found (ap need_of_head (sym (sym (f rest) ∙ e))) (λ more. f more ∙ (sym (f rest) ∙ e))
     go (Long k o p q h f) = HeadShown-long_head room tag octet k rest found p f (sym (f rest) ∙ e) d
 
--- ---- a room's octets decide it
+-- ---- all octets of the room decide it
 pub head-decided : (room : ℕ) (octets : List ℕ) → 2 ≤ room → length octets ≡ room → head room octets ≡ Partial → ⊥
 head-decided room [] p l e = omega arith
 head-decided room (tag ∷ []) p l e = omega arith
@@ -269,8 +269,8 @@ head-within room (tag ∷ octet ∷ rest) header contents e = go (first_two room
 pub head-positive : (room : ℕ) (octets : List ℕ) (header contents : ℕ) → head room octets ≡ Got header contents → 0 < header
 head-positive room octets header contents e =
     let s : HeadShown room octets (Got header contents) = HeadShown-head room octets (Got header contents) e (λ f. cc) in
-    go s.front s.reached (s.same [])
+    go s.prefix s.reached (s.same [])
   where
-    go : (front : List ℕ) → header ≡ length front → head room (front ++ []) ≡ Got header contents → 0 < header
+    go : (prefix : List ℕ) → header ≡ length prefix → head room (prefix ++ []) ≡ Got header contents → 0 < header
     go [] n f = absurd cc
-    go (octet ∷ front) n f = omega arith
+    go (octet ∷ prefix) n f = omega arith

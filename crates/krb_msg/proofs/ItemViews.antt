@@ -6,7 +6,7 @@ use Rattle.krb_der.specs.inner.Items.{same_from_item, length-item}
 use Rattle.krb_msg.specs.Term.{Term, SequenceOf, tag_of, Value, der, Fits}
 use Rattle.krb_msg.specs.Shape.{is_unambiguous}
 use Rattle.krb_msg.specs.inner.Values.{contents, der_is}
-use Rattle.krb_msg.proofs.Read.{contents-read}
+use Rattle.krb_msg.proofs.ValueOfDer.{contents-read}
 use Rattle.krb_msg.specs.Viewed.{HasNoItem, AreContents, AreNoContents, AreItems, AreViewed, IsFirstItem, items_of}
 use Rattle.krb_msg.proofs.FieldViews.{same_contents}
 

@@ -14,24 +14,24 @@ use Rattle.krb_msg.proofs.Heads.{HeadShown, HeadShown-head, head-length_octets, 
 -- ---- a judgement that goes by the first octet
 module _ (room before : ℕ) (judge : List ℕ → Outcome) (empty : judge [] ≡ Open) where
   Shown-first : (other : List ℕ → Outcome) (octet : ℕ) (octets : List ℕ) (outcome : Outcome) → other [] ≡ Open → ((rest : List ℕ) → judge (octet ∷ rest) ≡ other (octet ∷ rest)) → IsDecided outcome → Shown room before other (octet ∷ octets) outcome → Shown room before judge (octet ∷ octets) outcome
-  Shown-first other octet octets outcome n f d s = go s.front s.parts s.reached s.same s.sooner
+  Shown-first other octet octets outcome n f d s = go s.prefix s.parts s.reached s.same s.sooner
     where
-      go : (front : List ℕ) → octet ∷ octets ≡ front ++ s.back → need outcome ≡ before + length front → ((rest : List ℕ) → length (front ++ rest) ≤ room → other (front ++ rest) ≡ outcome) → ((k : ℕ) → k < length front → other (take k front) ≡ Open) → Shown room before judge (octet ∷ octets) outcome
+      go : (prefix : List ℕ) → octet ∷ octets ≡ prefix ++ s.suffix → need outcome ≡ before + length prefix → ((rest : List ℕ) → length (prefix ++ rest) ≤ room → other (prefix ++ rest) ≡ outcome) → ((k : ℕ) → k < length prefix → other (take k prefix) ≡ Open) → Shown room before judge (octet ∷ octets) outcome
       go [] parts reached same sooner = absurd (not_open outcome (sym n ∙ same [] (omega arith)) d)
-      go (first ∷ front) parts reached same sooner =
-          let e : octet ≡ first = (same_from_cons octet first octets (front ++ s.back) parts).0 in
+      go (first ∷ prefix) parts reached same sooner =
+          let e : octet ≡ first = (same_from_cons octet first octets (prefix ++ s.suffix) parts).0 in
           record {
-            front = first ∷ front;
-            back = s.back;
+            prefix = first ∷ prefix;
+            suffix = s.suffix;
             parts = parts;
             reached = reached;
-            same = λ rest h. rw (← e) (f (front ++ rest) ∙ rw e (same rest h));
+            same = λ rest h. rw (← e) (f (prefix ++ rest) ∙ rw e (same rest h));
             sooner = λ k h. earlier k e (sooner k h);
           }
         where
-          earlier : (k : ℕ) → octet ≡ first → other (take k (first ∷ front)) ≡ Open → judge (take k (first ∷ front)) ≡ Open
+          earlier : (k : ℕ) → octet ≡ first → other (take k (first ∷ prefix)) ≡ Open → judge (take k (first ∷ prefix)) ≡ Open
           earlier zero e h = empty
-          earlier (suc k) e h = rw (← e) (f (take k front) ∙ rw e h)
+          earlier (suc k) e h = rw (← e) (f (take k prefix) ∙ rw e h)
 
   pub IsStable-first : ((octet : ℕ) → (other : List ℕ → Outcome) × (IsStable room before other) × (other [] ≡ Open) × ((rest : List ℕ) → judge (octet ∷ rest) ≡ other (octet ∷ rest))) → IsStable room before judge
   IsStable-first others [] outcome fits e d = absurd (not_open outcome (sym empty ∙ e) d)
@@ -43,55 +43,55 @@ module _ (room before : ℕ) (judge : List ℕ → Outcome) (empty : judge [] �
 module _ (contents_of : ℕ → ℕ → List ℕ → Outcome) (term : Term) (room : ℕ) (sole : Bool) where
   -- after an accepted head
   abbrev accepted : ℕ → ℕ → List ℕ → Outcome
-  accepted header contents back =
+  accepted header contents suffix =
       cond (sole && ltb (header + contents) room) (Bad (header - 1) why.Loose)
-      (cond (has_size term contents) (contents_of header contents (take contents back)) (Bad (header - 1) why.Size))
+      (cond (has_size term contents) (contents_of header contents (take contents suffix)) (Bad (header - 1) why.Size))
 
   abbrev headed : List ℕ → Outcome
   headed octets = of_head term (head room octets) room sole octets contents_of
 
-  headed-got : (octets : List ℕ) (header contents : ℕ) (s : HeadShown room octets (Got header contents)) (rest : List ℕ) → headed (s.front ++ rest) ≡ accepted header contents rest
-  headed-got octets header contents s rest = rw (s.same rest, drop_at s.front rest header (sym s.reached))
+  headed-got : (octets : List ℕ) (header contents : ℕ) (s : HeadShown room octets (Got header contents)) (rest : List ℕ) → headed (s.prefix ++ rest) ≡ accepted header contents rest
+  headed-got octets header contents s rest = rw (s.same rest, drop_at s.prefix rest header (sym s.reached))
 
-  -- the head alone shows what is refused after it
-  Shown-head : (octets : List ℕ) (found : Head) (outcome : Outcome) (s : HeadShown room octets found) → need outcome ≡ length s.front → ((rest : List ℕ) → headed (s.front ++ rest) ≡ outcome) → Shown room 0 headed octets outcome
+  -- the head alone decides what is refused after it
+  Shown-head : (octets : List ℕ) (found : Head) (outcome : Outcome) (s : HeadShown room octets found) → need outcome ≡ length s.prefix → ((rest : List ℕ) → headed (s.prefix ++ rest) ≡ outcome) → Shown room 0 headed octets outcome
   Shown-head octets found outcome s n same = record {
-    front = s.front;
-    back = s.back;
+    prefix = s.prefix;
+    suffix = s.suffix;
     parts = s.parts;
     reached = omega (arith, n);
     same = λ rest h. same rest;
     sooner = λ k h. rw (s.sooner k h);
   }
 
-  -- the head and a front of the contents show the rest
-  Shown-contents : (octets : List ℕ) (header contents : ℕ) (outcome : Outcome) (s : HeadShown room octets (Got header contents)) → ((rest : List ℕ) → accepted header contents rest ≡ contents_of header contents (take contents rest)) → Shown contents header (contents_of header contents) (take contents s.back) outcome → Shown room 0 headed octets outcome
+  -- the head and a prefix of the contents decide the rest
+  Shown-contents : (octets : List ℕ) (header contents : ℕ) (outcome : Outcome) (s : HeadShown room octets (Got header contents)) → ((rest : List ℕ) → accepted header contents rest ≡ contents_of header contents (take contents rest)) → Shown contents header (contents_of header contents) (take contents s.suffix) outcome → Shown room 0 headed octets outcome
   Shown-contents octets header contents outcome s a r = record {
-    front = s.front ++ r.front;
-    back = r.back ++ drop contents s.back;
-    parts = s.parts ∙ ap (λ l. s.front ++ l) (sym (take-append-drop contents s.back) ∙ ap (λ l. l ++ drop contents s.back) r.parts) ∙ simp append_assoc;
+    prefix = s.prefix ++ r.prefix;
+    suffix = r.suffix ++ drop contents s.suffix;
+    parts = s.parts ∙ ap (λ l. s.prefix ++ l) (sym (take-append-drop contents s.suffix) ∙ ap (λ l. l ++ drop contents s.suffix) r.parts) ∙ simp append_assoc;
     reached = rw length-append (omega (arith, s.reached, r.reached));
     same = same;
     sooner = sooner;
   }
     where
-      within : length r.front ≤ contents
-      within = omega (arith, length_parts (take contents s.back) contents header r, length-take contents s.back)
+      within : length r.prefix ≤ contents
+      within = omega (arith, length_parts (take contents s.suffix) contents header r, length-take contents s.suffix)
 
-      same : (rest : List ℕ) → length ((s.front ++ r.front) ++ rest) ≤ room → headed ((s.front ++ r.front) ++ rest) ≡ outcome
+      same : (rest : List ℕ) → length ((s.prefix ++ r.prefix) ++ rest) ≤ room → headed ((s.prefix ++ r.prefix) ++ rest) ≡ outcome
       same rest h =
-          rw (append_assoc s.front r.front rest)
-          (headed-got octets header contents s (r.front ++ rest) ∙ a (r.front ++ rest)
-          ∙ rw (take-append_right r.front rest contents within) (r.same (take (contents - length r.front) rest) (rw (length-append, length-take) (omega (arith, within)))))
+          rw (append_assoc s.prefix r.prefix rest)
+          (headed-got octets header contents s (r.prefix ++ rest) ∙ a (r.prefix ++ rest)
+          ∙ rw (take-append_right r.prefix rest contents within) (r.same (take (contents - length r.prefix) rest) (rw (length-append, length-take) (omega (arith, within)))))
 
-      sooner : (k : ℕ) → k < length (s.front ++ r.front) → headed (take k (s.front ++ r.front)) ≡ Open
+      sooner : (k : ℕ) → k < length (s.prefix ++ r.prefix) → headed (take k (s.prefix ++ r.prefix)) ≡ Open
       sooner k h =
-          elim (cases_lt k (length s.front)) [
-            | inl l ↦ rw (take-append-le k s.front r.front (omega arith), s.sooner k l)
+          elim (cases_lt k (length s.prefix)) [
+            | inl l ↦ rw (take-append-le k s.prefix r.prefix (omega arith), s.sooner k l)
             | inr l ↦
-                rw (take-append_right s.front r.front k l)
-                (headed-got octets header contents s (take (k - length s.front) r.front) ∙ a (take (k - length s.front) r.front)
-                ∙ rw (take_all contents (take (k - length s.front) r.front) (rw length-take (omega (arith, within)))) (r.sooner (k - length s.front) (omega (arith, length-append s.front r.front))))
+                rw (take-append_right s.prefix r.prefix k l)
+                (headed-got octets header contents s (take (k - length s.prefix) r.prefix) ∙ a (take (k - length s.prefix) r.prefix)
+                ∙ rw (take_all contents (take (k - length s.prefix) r.prefix) (rw length-take (omega (arith, within)))) (r.sooner (k - length s.prefix) (omega (arith, length-append s.prefix r.prefix))))
           ]
 
   abbrev StableContents : Type 0
@@ -100,19 +100,19 @@ module _ (contents_of : ℕ → ℕ → List ℕ → Outcome) (term : Term) (roo
   IsStable-headed : StableContents → IsStable room 0 headed
   IsStable-headed stable octets outcome fits e d = go (head room octets) refl
     where
-      got : (header contents : ℕ) → 0 < header → (s : HeadShown room octets (Got header contents)) → headed (s.front ++ s.back) ≡ outcome → (sole && ltb (header + contents) room ≡ true) ⊎ (sole && ltb (header + contents) room ≡ false) → (has_size term contents ≡ true) ⊎ (has_size term contents ≡ false) → Shown room 0 headed octets outcome
+      got : (header contents : ℕ) → 0 < header → (s : HeadShown room octets (Got header contents)) → headed (s.prefix ++ s.suffix) ≡ outcome → (sole && ltb (header + contents) room ≡ true) ⊎ (sole && ltb (header + contents) room ≡ false) → (has_size term contents ≡ true) ⊎ (has_size term contents ≡ false) → Shown room 0 headed octets outcome
       got header contents p s f (inl t) c =
           let g : (rest : List ℕ) → accepted header contents rest ≡ Bad (header - 1) why.Loose = λ rest. rw t in
-          let h : Bad (header - 1) why.Loose ≡ outcome = sym (headed-got octets header contents s s.back ∙ g s.back) ∙ f in
+          let h : Bad (header - 1) why.Loose ≡ outcome = sym (headed-got octets header contents s s.suffix ∙ g s.suffix) ∙ f in
           Shown-head octets (Got header contents) outcome s (ap need (sym h) ∙ omega (arith, s.reached)) (λ rest. headed-got octets header contents s rest ∙ g rest ∙ h)
       got header contents p s f (inr t) (inr u) =
           let g : (rest : List ℕ) → accepted header contents rest ≡ Bad (header - 1) why.Size = λ rest. rw (t, u) in
-          let h : Bad (header - 1) why.Size ≡ outcome = sym (headed-got octets header contents s s.back ∙ g s.back) ∙ f in
+          let h : Bad (header - 1) why.Size ≡ outcome = sym (headed-got octets header contents s s.suffix ∙ g s.suffix) ∙ f in
           Shown-head octets (Got header contents) outcome s (ap need (sym h) ∙ omega (arith, s.reached)) (λ rest. headed-got octets header contents s rest ∙ g rest ∙ h)
       got header contents p s f (inr t) (inl u) =
           let g : (rest : List ℕ) → accepted header contents rest ≡ contents_of header contents (take contents rest) = λ rest. rw (t, u) in
           Shown-contents octets header contents outcome s g
-          (stable header contents p u (take contents s.back) outcome (rw length-take (omega arith)) (sym (headed-got octets header contents s s.back ∙ g s.back) ∙ f) d)
+          (stable header contents p u (take contents s.suffix) outcome (rw length-take (omega arith)) (sym (headed-got octets header contents s s.suffix ∙ g s.suffix) ∙ f) d)
 
       go : (found : Head) → head room octets ≡ found → Shown room 0 headed octets outcome
       go Partial f = absurd (not_open outcome (rw f at e) d)
@@ -148,7 +148,7 @@ module _ (contents_of : ℕ → ℕ → List ℕ → Outcome) (term : Term) (roo
       others : (octet : ℕ) → (other : List ℕ → Outcome) × (IsStable room 0 other) × (other [] ≡ Open) × ((rest : List ℕ) → item_of (octet ∷ rest) ≡ other (octet ∷ rest))
       others octet = by octet (cases_Bool (eqb octet (tag_of term))) (cases_Bool (eqb room 1))
 
-  -- ---- what an outcome tells of the item
+  -- ---- what follows from an outcome of an item
   -- an item that is done
   pub record ItemDone (octets : List ℕ) (count : ℕ) : Type 0 where
     pub rest : List ℕ

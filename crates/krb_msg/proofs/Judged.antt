@@ -19,13 +19,13 @@ use Rattle.krb_msg.specs.Profiles.{narrowed, narrowed_value, profile_term, profi
 use Rattle.krb_msg.specs.Shape.{IsOneOf, IsGrammar, greatest_depth}
 use Rattle.krb_msg.specs.Judgement.{judgement}
 use Rattle.krb_msg.specs.Views.{kind_of, kind_term, kind_term_in, message_value_in, kind_of_tag, message_value, message_der, pa_data_value, pa_data_of, principal_name_value, principal_name_of, host_address_value, host_address_of, encrypted_data_value, encrypted_data_of, ticket_value, ticket_of, kdc_req_body_value, kdc_req_body_of, KdcReqValue, kdc_req_value, kdc_req_of, KdcRepValue, kdc_rep_value, kdc_rep_of, micros_of, krb_error_value, krb_error_of, ap_req_value, ap_req_of, ap_rep_value, ap_rep_of, krb_safe_body_value, krb_safe_body_of, krb_safe_value, krb_safe_of, krb_priv_value, krb_priv_of, krb_cred_value, krb_cred_of, IsInProfile}
-use Rattle.krb_msg.specs.inner.Told.{option-back, list-back}
+use Rattle.krb_msg.specs.inner.PrefixFree.{option-back, list-back}
 use Rattle.krb_msg.specs.Laws.{AreOneOf, AreMessage}
 use Rattle.krb_der.specs.inner.PrefixFree.{same_pair}
 use Rattle.krb_msg.specs.inner.Values.{der_is}
 use Rattle.krb_msg.proofs.Profiles.{der_narrowed, fits_narrowed, widened_value, narrowed_widened}
 use Rattle.krb_msg.proofs.Grammars.{whole_is_one_of, one_of_is_whole, refusal_is_none_of}
-pub use Rattle.krb_msg.specs.inner.MessageTold.{kind_of_tag-tag, message_round_trips, der_is_prefix_free}
+pub use Rattle.krb_msg.specs.inner.MessagePrefixFree.{kind_of_tag-tag, message_round_trips, der_is_prefix_free}
 pub use Rattle.krb_msg.proofs.Grammars.{whole_outcome, refused_outcome, open_outcome, whole_is_value, value_is_whole, value_is_decided}
 
 -- ---- the grammar
@@ -66,15 +66,15 @@ kind_of_one_of profile term (inr (inr (inr (inr (inr (inr (inr (inr (inr (inr no
 exactly_one : (k : ℕ) (z : ℤ) → pos k ≤ℤ z → z ≤ℤ pos k → pos k ≡ z
 exactly_one k z low high = omega (arith, ints)
 
--- the message that a value stands for, which is in each profile that the value is in
-pub record StandsFor (term : Term) (value : Value term) : Type 0 where
+-- the message with this value, which is in each profile that the value is in
+pub record IsValueOfMessage (term : Term) (value : Value term) : Type 0 where
   pub message : Message
   pub fits_in : (profile : Profile) → Fits (profile_term profile false term) (profile_value profile false term value) → Fits (kind_term_in profile (kind_of message)) (message_value_in profile message)
   pub form : message_der message ≡ der term value
 
 -- a message whose value is this
-StandsFor-same : (m : Message) (value : Value (kind_term (kind_of m))) → message_value m ≡ value → StandsFor (kind_term (kind_of m)) value
-StandsFor-same m value e = record {
+IsValueOfMessage-same : (m : Message) (value : Value (kind_term (kind_of m))) → message_value m ≡ value → IsValueOfMessage (kind_term (kind_of m)) value
+IsValueOfMessage-same m value e = record {
   message = m;
   fits_in = λ profile f. subst (λ v. Fits (kind_term_in profile (kind_of m)) (profile_value profile false (kind_term (kind_of m)) v)) (sym e) f;
   form = ap (der (kind_term (kind_of m))) e;
@@ -151,57 +151,57 @@ krb_priv_value-of v p q = same_pair _ _ p (same_pair _ _ q refl)
 krb_cred_value-of : (v : Value krb_cred) → Fits (sequence_of ticket) v.1.1.0 → pos 5 ≡ v.0 → pos 22 ≡ v.1.0 → krb_cred_value (krb_cred_of v) ≡ v
 krb_cred_value-of v f p q = same_pair _ _ p (same_pair _ _ q (same_pair _ _ (tickets_value-of v.1.1.0 f.1) refl))
 
-kind_stands : (k : Kind) (value : Value (kind_term k)) → Fits (kind_term k) value → StandsFor (kind_term k) value
-kind_stands kind.AsReq value f =
+kind_has_message : (k : Kind) (value : Value (kind_term k)) → Fits (kind_term k) value → IsValueOfMessage (kind_term k) value
+kind_has_message kind.AsReq value f =
     let p : pos 5 ≡ value.0 = exactly_one 5 value.0 f.0.0 f.0.1 in
     let q : pos 10 ≡ value.1.0 = exactly_one 10 value.1.0 f.1.0.0 f.1.0.1 in
-    StandsFor-same (message.AsReq (kdc_req_of value)) value (kdc_req_value-of 10 value p q f.1.1.1.0)
-kind_stands kind.AsRep value f =
+    IsValueOfMessage-same (message.AsReq (kdc_req_of value)) value (kdc_req_value-of 10 value p q f.1.1.1.0)
+kind_has_message kind.AsRep value f =
     let p : pos 5 ≡ value.0 = exactly_one 5 value.0 f.0.0 f.0.1 in
     let q : pos 11 ≡ value.1.0 = exactly_one 11 value.1.0 f.1.0.0 f.1.0.1 in
-    StandsFor-same (message.AsRep (kdc_rep_of value)) value (kdc_rep_value-of 11 value p q f.1.1.1.1.1.0)
-kind_stands kind.TgsReq value f =
+    IsValueOfMessage-same (message.AsRep (kdc_rep_of value)) value (kdc_rep_value-of 11 value p q f.1.1.1.1.1.0)
+kind_has_message kind.TgsReq value f =
     let p : pos 5 ≡ value.0 = exactly_one 5 value.0 f.0.0 f.0.1 in
     let q : pos 12 ≡ value.1.0 = exactly_one 12 value.1.0 f.1.0.0 f.1.0.1 in
-    StandsFor-same (message.TgsReq (kdc_req_of value)) value (kdc_req_value-of 12 value p q f.1.1.1.0)
-kind_stands kind.TgsRep value f =
+    IsValueOfMessage-same (message.TgsReq (kdc_req_of value)) value (kdc_req_value-of 12 value p q f.1.1.1.0)
+kind_has_message kind.TgsRep value f =
     let p : pos 5 ≡ value.0 = exactly_one 5 value.0 f.0.0 f.0.1 in
     let q : pos 13 ≡ value.1.0 = exactly_one 13 value.1.0 f.1.0.0 f.1.0.1 in
-    StandsFor-same (message.TgsRep (kdc_rep_of value)) value (kdc_rep_value-of 13 value p q f.1.1.1.1.1.0)
-kind_stands kind.KrbSafe value f =
+    IsValueOfMessage-same (message.TgsRep (kdc_rep_of value)) value (kdc_rep_value-of 13 value p q f.1.1.1.1.1.0)
+kind_has_message kind.KrbSafe value f =
     let p : pos 5 ≡ value.0 = exactly_one 5 value.0 f.0.0 f.0.1 in
     let q : pos 20 ≡ value.1.0 = exactly_one 20 value.1.0 f.1.0.0 f.1.0.1 in
-    StandsFor-same (message.KrbSafe (krb_safe_of value)) value (krb_safe_value-of value f.1.1.0 p q)
-kind_stands kind.KrbPriv value f =
+    IsValueOfMessage-same (message.KrbSafe (krb_safe_of value)) value (krb_safe_value-of value f.1.1.0 p q)
+kind_has_message kind.KrbPriv value f =
     let p : pos 5 ≡ value.0 = exactly_one 5 value.0 f.0.0 f.0.1 in
     let q : pos 21 ≡ value.1.0 = exactly_one 21 value.1.0 f.1.0.0 f.1.0.1 in
-    StandsFor-same (message.KrbPriv (krb_priv_of value)) value (krb_priv_value-of value p q)
-kind_stands kind.KrbCred value f =
+    IsValueOfMessage-same (message.KrbPriv (krb_priv_of value)) value (krb_priv_value-of value p q)
+kind_has_message kind.KrbCred value f =
     let p : pos 5 ≡ value.0 = exactly_one 5 value.0 f.0.0 f.0.1 in
     let q : pos 22 ≡ value.1.0 = exactly_one 22 value.1.0 f.1.0.0 f.1.0.1 in
-    StandsFor-same (message.KrbCred (krb_cred_of value)) value (krb_cred_value-of value f.1.1.0 p q)
-kind_stands kind.KrbError value f =
+    IsValueOfMessage-same (message.KrbCred (krb_cred_of value)) value (krb_cred_value-of value f.1.1.0 p q)
+kind_has_message kind.KrbError value f =
     let p : pos 5 ≡ value.0 = exactly_one 5 value.0 f.0.0 f.0.1 in
     let q : pos 30 ≡ value.1.0 = exactly_one 30 value.1.0 f.1.0.0 f.1.0.1 in
-    StandsFor-same (message.KrbError (krb_error_of value)) value (krb_error_value-of value f p q)
-kind_stands kind.ApReq value f =
+    IsValueOfMessage-same (message.KrbError (krb_error_of value)) value (krb_error_value-of value f p q)
+kind_has_message kind.ApReq value f =
     let p : pos 5 ≡ value.0 = exactly_one 5 value.0 f.0.0 f.0.1 in
     let q : pos 14 ≡ value.1.0 = exactly_one 14 value.1.0 f.1.0.0 f.1.0.1 in
-    StandsFor-same (message.ApReq (ap_req_of value)) value (ap_req_value-of value f p q)
-kind_stands kind.ApRep value f =
+    IsValueOfMessage-same (message.ApReq (ap_req_of value)) value (ap_req_value-of value f p q)
+kind_has_message kind.ApRep value f =
     let p : pos 5 ≡ value.0 = exactly_one 5 value.0 f.0.0 f.0.1 in
     let q : pos 15 ≡ value.1.0 = exactly_one 15 value.1.0 f.1.0.0 f.1.0.1 in
-    StandsFor-same (message.ApRep (ap_rep_of value)) value (ap_rep_value-of value p q)
+    IsValueOfMessage-same (message.ApRep (ap_rep_of value)) value (ap_rep_value-of value p q)
 
 -- a message of a profile whose value is one of the profile's term
-record StandsIn (profile : Profile) (term : Term) (value : Value term) : Type 0 where
+record IsValueOfMessageIn (profile : Profile) (term : Term) (value : Value term) : Type 0 where
   pub message : Message
   pub fits : Fits (kind_term_in profile (kind_of message)) (message_value_in profile message)
   pub form : message_der message ≡ der term value
 
-kind_stands_in : (profile : Profile) (k : Kind) (value : Value (kind_term_in profile k)) → Fits (kind_term_in profile k) value → StandsIn profile (kind_term_in profile k) value
-kind_stands_in profiles.Lenient k value f = let s : StandsFor (kind_term k) value = kind_stands k value f in record { message = s.message; fits = s.fits_in profiles.Lenient f; form = s.form }
-kind_stands_in profiles.Strict k value f = by (kind_stands k wide (fits_narrowed false (kind_term k) wide fits).0)
+kind_has_message_in : (profile : Profile) (k : Kind) (value : Value (kind_term_in profile k)) → Fits (kind_term_in profile k) value → IsValueOfMessageIn profile (kind_term_in profile k) value
+kind_has_message_in profiles.Lenient k value f = let s : IsValueOfMessage (kind_term k) value = kind_has_message k value f in record { message = s.message; fits = s.fits_in profiles.Lenient f; form = s.form }
+kind_has_message_in profiles.Strict k value f = by (kind_has_message k wide (fits_narrowed false (kind_term k) wide fits).0)
   where
     wide : Value (kind_term k)
     wide = widened_value false (kind_term k) value
@@ -212,15 +212,15 @@ kind_stands_in profiles.Strict k value f = by (kind_stands k wide (fits_narrowed
     fits : Fits (narrowed false (kind_term k)) (narrowed_value false (kind_term k) wide)
     fits = subst (Fits (narrowed false (kind_term k))) (sym same) f
 
-    by : StandsFor (kind_term k) wide → StandsIn profiles.Strict (kind_term_in profiles.Strict k) value
+    by : IsValueOfMessage (kind_term k) wide → IsValueOfMessageIn profiles.Strict (kind_term_in profiles.Strict k) value
     by s = record {
       message = s.message;
       fits = s.fits_in profiles.Strict fits;
       form = s.form ∙ sym (der_narrowed false (kind_term k) wide) ∙ ap (der (narrowed false (kind_term k))) same;
     }
 
-stands_in : (profile : Profile) (term : Term) → IsOneOf term (messages profile) → (value : Value term) → Fits term value → StandsIn profile term value
-stands_in profile term c = let k : (k : Kind) × (term ≡ kind_term_in profile k) = kind_of_one_of profile term c in subst (λ t. (value : Value t) → Fits t value → StandsIn profile t value) (sym k.1) (kind_stands_in profile k.0)
+value_has_message_in : (profile : Profile) (term : Term) → IsOneOf term (messages profile) → (value : Value term) → Fits term value → IsValueOfMessageIn profile term value
+value_has_message_in profile term c = let k : (k : Kind) × (term ≡ kind_term_in profile k) = kind_of_one_of profile term c in subst (λ t. (value : Value t) → Fits t value → IsValueOfMessageIn profile t value) (sym k.1) (kind_has_message_in profile k.0)
 
 -- the DER of a message as that of its value in a profile
 pub message_der_in : (profile : Profile) (m : Message) → der (kind_term_in profile (kind_of m)) (message_value_in profile m) ≡ message_der m
@@ -233,7 +233,7 @@ whole_is_message profile n octets small a l e = by (whole_is_one_of (messages pr
   where
     by : AreOneOf (messages profile) n octets → AreMessage profile n octets
     by w =
-        let s : StandsIn profile w.term w.is_der.value = stands_in profile w.term w.one_of w.is_der.value w.is_der.fits in
+        let s : IsValueOfMessageIn profile w.term w.is_der.value = value_has_message_in profile w.term w.one_of w.is_der.value w.is_der.fits in
         let form : message_der s.message ≡ octets = s.form ∙ sym w.is_der.form in
         record { message = s.message; in_profile = record { fits = s.fits; short = omega (arith, ap length form) }; form = form; all = w.all }
 

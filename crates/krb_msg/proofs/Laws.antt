@@ -18,7 +18,7 @@ pub item_outcome-der : (term : Term) → is_unambiguous term ≡ true → (value
 item_outcome-der term u value f small room sole rest within fills = item-accepted term u value f small room sole rest within fills
 
 -- ---- stable
--- An outcome shown by just the octets that it takes: it is the same with any others after them, and none is shown by fewer.
+-- An outcome that is decided by just the octets that it needs: it is the same with any others after them, and fewer decide nothing.
 pub record Settles (room : ℕ) (judge : List ℕ → Outcome) (octets : List ℕ) (outcome : Outcome) : Type 0 where
   pub within : need outcome ≤ length octets
   pub same : (other : List ℕ) → length other ≤ room → take (need outcome) other ≡ take (need outcome) octets → judge other ≡ outcome
@@ -27,24 +27,24 @@ pub record Settles (room : ℕ) (judge : List ℕ → Outcome) (octets : List �
 Settles-shown : (room : ℕ) (judge : List ℕ → Outcome) (octets : List ℕ) (outcome : Outcome) → Shown room 0 judge octets outcome → Settles room judge octets outcome
 Settles-shown room judge octets outcome s = record {
   within = omega (arith, n, length_parts octets room 0 s);
-  same = λ other h e. ap judge (front_of other e) ∙ s.same (drop (need outcome) other) (fits other h e);
+  same = λ other h e. ap judge (prefix_of other e) ∙ s.same (drop (need outcome) other) (fits other h e);
   sooner = λ k h. ap judge (short k h) ∙ s.sooner k (omega (arith, n));
 }
   where
-    n : need outcome ≡ length s.front
+    n : need outcome ≡ length s.prefix
     n = omega (arith, s.reached)
 
-    taken : take (need outcome) octets ≡ s.front
-    taken = ap (take (need outcome)) s.parts ∙ take_at s.front s.back (need outcome) (sym n)
+    taken : take (need outcome) octets ≡ s.prefix
+    taken = ap (take (need outcome)) s.parts ∙ take_at s.prefix s.suffix (need outcome) (sym n)
 
-    front_of : (other : List ℕ) → take (need outcome) other ≡ take (need outcome) octets → other ≡ s.front ++ drop (need outcome) other
-    front_of other e = sym (take-append-drop (need outcome) other) ∙ ap (λ l. l ++ drop (need outcome) other) (e ∙ taken)
+    prefix_of : (other : List ℕ) → take (need outcome) other ≡ take (need outcome) octets → other ≡ s.prefix ++ drop (need outcome) other
+    prefix_of other e = sym (take-append-drop (need outcome) other) ∙ ap (λ l. l ++ drop (need outcome) other) (e ∙ taken)
 
-    fits : (other : List ℕ) → length other ≤ room → take (need outcome) other ≡ take (need outcome) octets → length (s.front ++ drop (need outcome) other) ≤ room
-    fits other h e = rw (← front_of other e) h
+    fits : (other : List ℕ) → length other ≤ room → take (need outcome) other ≡ take (need outcome) octets → length (s.prefix ++ drop (need outcome) other) ≤ room
+    fits other h e = rw (← prefix_of other e) h
 
-    short : (k : ℕ) → k < need outcome → take k octets ≡ take k s.front
-    short k h = ap (take k) s.parts ∙ take-append-le k s.front s.back (omega (arith, n))
+    short : (k : ℕ) → k < need outcome → take k octets ≡ take k s.prefix
+    short k h = ap (take k) s.parts ∙ take-append-le k s.prefix s.suffix (omega (arith, n))
 
 pub Settles-stable : (room : ℕ) (judge : List ℕ → Outcome) → IsStable room 0 judge → (octets : List ℕ) (outcome : Outcome) → length octets ≤ room → judge octets ≡ outcome → IsDecided outcome → Settles room judge octets outcome
 Settles-stable room judge stable octets outcome fits e d = Settles-shown room judge octets outcome (stable octets outcome fits e d)
@@ -52,7 +52,7 @@ Settles-stable room judge stable octets outcome fits e d = Settles-shown room ju
 pub Settles-item_outcome : (term : Term) (room : ℕ) (sole : Bool) (octets : List ℕ) (outcome : Outcome) → length octets ≤ room → item_outcome term room sole octets ≡ outcome → IsDecided outcome → Settles room (item_outcome term room sole) octets outcome
 Settles-item_outcome term room sole = Settles-stable room (item_outcome term room sole) (IsStable-item_outcome term room sole)
 
--- a refusal is at an octet that is there
+-- a refusal is at an octet that is present
 pub bad_within : (term : Term) (room : ℕ) (sole : Bool) (octets : List ℕ) (place : ℕ) (reason : Why) → length octets ≤ room → item_outcome term room sole octets ≡ Bad place reason → place < length octets
 bad_within term room sole octets place reason h e = (Settles-item_outcome term room sole octets (Bad place reason) h e tt).within
 
@@ -99,7 +99,7 @@ IsWhole-done term room sole octets count a e =
 pub decided : (term : Term) (room : ℕ) (sole : Bool) (octets : List ℕ) → 0 < room → length octets ≡ room → item_outcome term room sole octets ≡ Open → ⊥
 decided = item_outcome-decided
 
--- with no room there is no octet, and the outcome is open
+-- in a room of no octets there is no octet, and the outcome is open
 pub open_without_room : (term : Term) (sole : Bool) → item_outcome term 0 sole [] ≡ Open
 open_without_room term sole = refl
 

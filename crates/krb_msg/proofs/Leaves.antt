@@ -8,7 +8,7 @@ use Rattle.krb_der.specs.declared.why.Why.TheVariants as why
 use Rattle.krb_msg.specs.Judgement.{Outcome, Open, Bad, Done, is_padded, int_le, integer_contents, each_contents, bits_contents, any_contents}
 use Rattle.krb_msg.proofs.Stable.{need, IsDecided, Shown, IsStable, IsStable-same, not_open}
 
--- ---- what is refused early, or else judged when all of it is there
+-- ---- contents that are refused early, or else judged when all of them are present
 module _ (room place : ℕ) (reason : Why) (test : List ℕ → Bool) (full : List ℕ → Outcome) (later : (octets : List ℕ) → length octets ≤ place → test octets ≡ false) (kept : (octets rest : List ℕ) → place < length octets → test (octets ++ rest) ≡ test octets) (whole : (octets : List ℕ) → length octets ≡ room → need (full octets) ≡ room) where
   abbrev early_or_full : List ℕ → Outcome
   early_or_full octets = cond (test octets) (Bad place reason) (cond (ltb (length octets) room) Open (full octets))
@@ -27,33 +27,33 @@ module _ (room place : ℕ) (reason : Why) (test : List ℕ → Bool) (full : Li
     where
       early : test octets ≡ true → place < length octets → Shown room 0 early_or_full octets outcome
       early t l = record {
-        front = take (suc place) octets;
-        back = drop (suc place) octets;
+        prefix = take (suc place) octets;
+        suffix = drop (suc place) octets;
         parts = sym (take-append-drop (suc place) octets);
         reached = ap need (sym (sym (at_early octets t) ∙ e)) ∙ sym (length-take-le (suc place) octets l) ∙ omega arith;
-        same = λ rest h. at_early (take (suc place) octets ++ rest) (front_test rest) ∙ (sym (at_early octets t) ∙ e);
+        same = λ rest h. at_early (take (suc place) octets ++ rest) (prefix_test rest) ∙ (sym (at_early octets t) ∙ e);
         sooner = λ k h. at_open (take k (take (suc place) octets)) (later _ (short k h)) (shorter k h);
       }
         where
-          front_length : length (take (suc place) octets) ≡ suc place
-          front_length = length-take-le (suc place) octets l
+          prefix_length : length (take (suc place) octets) ≡ suc place
+          prefix_length = length-take-le (suc place) octets l
 
-          front_test : (rest : List ℕ) → test (take (suc place) octets ++ rest) ≡ true
-          front_test rest =
-              kept (take (suc place) octets) rest (omega (arith, front_length))
-              ∙ sym (kept (take (suc place) octets) (drop (suc place) octets) (omega (arith, front_length)))
+          prefix_test : (rest : List ℕ) → test (take (suc place) octets ++ rest) ≡ true
+          prefix_test rest =
+              kept (take (suc place) octets) rest (omega (arith, prefix_length))
+              ∙ sym (kept (take (suc place) octets) (drop (suc place) octets) (omega (arith, prefix_length)))
               ∙ ap test (take-append-drop (suc place) octets) ∙ t
 
           short : (k : ℕ) → k < length (take (suc place) octets) → length (take k (take (suc place) octets)) ≤ place
-          short k h = rw length-take (omega (arith, front_length))
+          short k h = rw length-take (omega (arith, prefix_length))
 
           shorter : (k : ℕ) → k < length (take (suc place) octets) → length (take k (take (suc place) octets)) < room
-          shorter k h = rw length-take (omega (arith, front_length))
+          shorter k h = rw length-take (omega (arith, prefix_length))
 
       full_length : test octets ≡ false → room ≤ length octets → Shown room 0 early_or_full octets outcome
       full_length t l = record {
-        front = octets;
-        back = [];
+        prefix = octets;
+        suffix = [];
         parts = sym (append-nil octets);
         reached = ap need (sym e ∙ at_full octets t l) ∙ whole octets (omega arith) ∙ omega arith;
         same = λ rest h. ap early_or_full (ap (λ r. octets ++ r) (nil_from_length rest (omega (arith, length-append octets rest))) ∙ append-nil octets) ∙ e;
@@ -152,25 +152,25 @@ module _ (passes : ℕ → ℕ → Bool) (reason : Why) (size : ℕ) where
 
   Shown-each-cons : (place octet : ℕ) (octets : List ℕ) (outcome : Outcome) → place < size → passes place octet ≡ true → Shown (size - (place + 1)) (place + 1) (each (place + 1)) octets outcome → Shown (size - place) place (each place) (octet ∷ octets) outcome
   Shown-each-cons place octet octets outcome p t s = record {
-    front = octet ∷ s.front;
-    back = s.back;
+    prefix = octet ∷ s.prefix;
+    suffix = s.suffix;
     parts = ap (λ l. octet ∷ l) s.parts;
     reached = omega (arith, s.reached);
-    same = λ rest h. each-next place octet (s.front ++ rest) t ∙ s.same rest (omega arith);
+    same = λ rest h. each-next place octet (s.prefix ++ rest) t ∙ s.same rest (omega arith);
     sooner = sooner;
   }
     where
-      sooner : (k : ℕ) → k < suc (length s.front) → each place (take k (octet ∷ s.front)) ≡ Open
+      sooner : (k : ℕ) → k < suc (length s.prefix) → each place (take k (octet ∷ s.prefix)) ≡ Open
       sooner zero h = each-open place p
-      sooner (suc k) h = each-next place octet (take k s.front) t ∙ s.sooner k (omega arith)
+      sooner (suc k) h = each-next place octet (take k s.prefix) t ∙ s.sooner k (omega arith)
 
   Shown-each : (place : ℕ) (octets : List ℕ) (outcome : Outcome) → place ≤ size → length octets ≤ size - place → each place octets ≡ outcome → IsDecided outcome → Shown (size - place) place (each place) octets outcome
   Shown-each place [] outcome w fits e d =
       elim (cases_lt place size) [
         | inl l ↦ absurd (not_open outcome (sym (each-open place l) ∙ e) d)
         | inr l ↦ record {
-          front = [];
-          back = [];
+          prefix = [];
+          suffix = [];
           parts = refl;
           reached = ap need (sym e ∙ each-done place l) ∙ omega arith;
           same = λ rest h. ap (each place) (nil_from_length rest (omega arith)) ∙ e;
@@ -182,8 +182,8 @@ module _ (passes : ℕ → ℕ → Bool) (reason : Why) (size : ℕ) where
         | inl t ↦ Shown-each-cons place octet octets outcome (omega arith) t
             (Shown-each (place + 1) octets outcome (omega arith) (omega arith) (sym (each-next place octet octets t) ∙ e) d)
         | inr t ↦ record {
-          front = octet ∷ [];
-          back = octets;
+          prefix = octet ∷ [];
+          suffix = octets;
           parts = refl;
           reached = ap need (sym e ∙ each-bad place octet octets t) ∙ omega arith;
           same = λ rest h. each-bad place octet rest t ∙ (sym (each-bad place octet octets t) ∙ e);

@@ -1,4 +1,4 @@
--- What it tells of the contents of numbers, octets, bit strings, strings and times that they are done or open.
+-- What follows for the contents of numbers, octets, bit strings, strings and times from their being done or open.
 use Rattle.std.proofs.Common.{◌≡◌, ℕ, zero, suc, ◌+◌, ◌-◌, ◌*◌, ◌%◌, ◌^◌, ◌<◌, ◌≤◌, ◌⊎◌, inl, inr, Bool, true, false, ◌&&◌, ◌||◌, ltb, leb, ℤ, List, [], ◌∷◌, length, refl, sym, ◌∙◌, ap, arith, lt-ltb, le-ltb, eqb-true, leb-true, eq-eqb, le-leb}
 use Rattle.std.proofs.lemmas.Bool.{cases_lt, cases_Bool, and_parts}
 use Rattle.std.proofs.lemmas.Bool.Decides.{nat_tests}

@@ -1,4 +1,4 @@
--- Lengths of several octets, and the items that stand first.
+-- Lengths of several octets, and the first of several items.
 use Rattle.std.proofs.Common.{◌≡◌, ℕ, suc, ◌+◌, ◌-◌, ◌^◌, ◌<◌, ◌≤◌, ◌⊎◌, inl, inr, List, [], ◌∷◌, ◌++◌, length, take, drop, get_or, refl, sym, ◌∙◌, ap, arith, append-nil, length-append, ◌≢◌}
 use Rattle.std.proofs.lemmas.Bool.{cases_lt}
 use Rattle.std.proofs.lemmas.List.{take_at}
@@ -8,7 +8,7 @@ use Rattle.std.proofs.lemmas.List.{take_all}
 use Rattle.krb_der.specs.inner.Items.{same_from_length_octets, length_octets-short, length_octets-long, length-item, item-append, same_from_cons, same_from_item}
 use Rattle.krb_msg.specs.Viewed.{HasNoItem, IsNoItem}
 
--- ---- a long length that is there
+-- ---- a long length that is present
 shortest : (digits : List ℕ) → AreOctets digits → 0 < length digits → get_or digits 0 0 ≢ 0 → IsShortest 256 digits
 shortest [] a p h = absurd (omega (arith, p))
 shortest (first ∷ []) a p h = a.0
@@ -19,7 +19,7 @@ is_length first size digits rest octets a f p h n large e =
     rw (f, e, n, length_octets-long (number digits) (omega (arith, n, large)), spelled-number 256 digits (omega arith) a (shortest digits a p h)) refl
 
 -- ---- and one that is not
--- what a long length is made of
+-- the parts of a long length
 pub record LongLength (first : ℕ) (octets : List ℕ) (size : ℕ) (rest : List ℕ) : Type 0 where
   pub digits : List ℕ
   pub first_is : first ≡ 128 + length digits
@@ -63,10 +63,10 @@ long_length first octets size rest h small e = go (cases_lt size 128)
         }
 
 -- the octets that its first octet counts are its digits
-pub long_digits : (first : ℕ) (octets front : List ℕ) (size : ℕ) (rest back : List ℕ) → (l : LongLength first octets size rest) → 128 + length front ≡ first → octets ≡ front ++ back → front ≡ l.digits
-long_digits first octets front size rest back l n e =
-    let m : length front ≡ length l.digits = omega (arith, n, l.first_is) in
-    sym (take_at front back (length front) refl) ∙ ap (take (length front)) (sym e ∙ l.parts) ∙ take_at l.digits rest (length front) (sym m)
+pub long_digits : (first : ℕ) (octets prefix : List ℕ) (size : ℕ) (rest suffix : List ℕ) → (l : LongLength first octets size rest) → 128 + length prefix ≡ first → octets ≡ prefix ++ suffix → prefix ≡ l.digits
+long_digits first octets prefix size rest suffix l n e =
+    let m : length prefix ≡ length l.digits = omega (arith, n, l.first_is) in
+    sym (take_at prefix suffix (length prefix) refl) ∙ ap (take (length prefix)) (sym e ∙ l.parts) ∙ take_at l.digits rest (length prefix) (sym m)
 
 -- ---- items
 -- an item whose length is one octet
@@ -92,14 +92,14 @@ tag_of_item tag first octets contents rest e = (same_from_cons _ _ _ _ e).0
 pub item_small : (tag : ℕ) (octets contents rest : List ℕ) → length octets < 2 ^ 31 → octets ≡ item tag contents ++ rest → length contents < 2 ^ 31
 item_small tag octets contents rest h e = omega (arith, h, ap length e, length-append (item tag contents) rest, length-item tag contents)
 
--- what follows the length is the contents and the rest
-pub is_item : (tag octet size : ℕ) (octets front back after : List ℕ) → octet ∷ octets ≡ length_octets size ++ after → after ≡ front ++ back → length front ≡ size → tag ∷ octet ∷ octets ≡ item tag front ++ back
-is_item tag octet size octets front back after e f n =
-    ap (λ l. tag ∷ l) (e ∙ ap (λ l. length_octets size ++ l) f ∙ ap (λ m. length_octets m ++ (front ++ back)) (sym n)) ∙ sym (item-append tag front back)
+-- after the length come the contents and the rest
+pub is_item : (tag octet size : ℕ) (octets prefix suffix after : List ℕ) → octet ∷ octets ≡ length_octets size ++ after → after ≡ prefix ++ suffix → length prefix ≡ size → tag ∷ octet ∷ octets ≡ item tag prefix ++ suffix
+is_item tag octet size octets prefix suffix after e f n =
+    ap (λ l. tag ∷ l) (e ∙ ap (λ l. length_octets size ++ l) f ∙ ap (λ m. length_octets m ++ (prefix ++ suffix)) (sym n)) ∙ sym (item-append tag prefix suffix)
 
-pub is_short_item : (tag octet : ℕ) (octets front back : List ℕ) → octet < 128 → octets ≡ front ++ back → length front ≡ octet → tag ∷ octet ∷ octets ≡ item tag front ++ back
-is_short_item tag octet octets front back h e n =
-    is_item tag octet octet octets front back octets (rw (length_octets-short octet h) refl) e n
+pub is_short_item : (tag octet : ℕ) (octets prefix suffix : List ℕ) → octet < 128 → octets ≡ prefix ++ suffix → length prefix ≡ octet → tag ∷ octet ∷ octets ≡ item tag prefix ++ suffix
+is_short_item tag octet octets prefix suffix h e n =
+    is_item tag octet octet octets prefix suffix octets (rw (length_octets-short octet h) refl) e n
 
 -- ---- only one item
 pub not_only : (tag : ℕ) (octets inner rest : List ℕ) → octets ≡ item tag inner ++ rest → 0 < length rest → IsNoItem tag octets
@@ -126,6 +126,6 @@ long_not tag first octet octets others contents size e f short inner rest i =
     let p : (size ≡ length inner) × (contents ≡ inner ++ rest) = same_from_length_octets size (length inner) contents (inner ++ rest) (sym f ∙ lengths_of_item tag first octet others inner rest (sym e ∙ i)) in
     omega (arith, short, p.0, ap length p.1, length-append inner rest)
 
-pub long_is : (tag first octet : ℕ) (octets others contents : List ℕ) (size : ℕ) → octets ≡ first ∷ octet ∷ others → first ≡ tag → octet ∷ others ≡ length_octets size ++ contents → (front back : List ℕ) → length front ≡ size → contents ≡ front ++ back → octets ≡ item tag front ++ back
-long_is tag first octet octets others contents size e t f front back n c =
-    e ∙ ap (λ o. o ∷ octet ∷ others) t ∙ is_item tag octet size others front back contents f c n
+pub long_is : (tag first octet : ℕ) (octets others contents : List ℕ) (size : ℕ) → octets ≡ first ∷ octet ∷ others → first ≡ tag → octet ∷ others ≡ length_octets size ++ contents → (prefix suffix : List ℕ) → length prefix ≡ size → contents ≡ prefix ++ suffix → octets ≡ item tag prefix ++ suffix
+long_is tag first octet octets others contents size e t f prefix suffix n c =
+    e ∙ ap (λ o. o ∷ octet ∷ others) t ∙ is_item tag octet size others prefix suffix contents f c n

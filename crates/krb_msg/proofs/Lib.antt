@@ -17,13 +17,13 @@ pub mod Grammars
 pub mod Profiles
 pub mod ProfileValues
 pub mod Judged
-pub mod Fronts
+pub mod FramePrefixes
 pub mod Table
 pub mod Noted
 pub mod Strictness
 pub mod StrictViews
-pub mod Read
-pub mod MessageRead
+pub mod ValueOfDer
+pub mod MessageOfDer
 pub mod Puts
 pub mod EachOctet
 pub mod Reasons
@@ -35,4 +35,4 @@ pub mod ShapeViews
 pub mod NotedViews
 pub mod MessageViews
 pub mod Copies
-pub mod SeenFits
+pub mod ViewValuesFit

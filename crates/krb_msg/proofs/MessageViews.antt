@@ -10,14 +10,14 @@ use Rattle.krb_msg.specs.declared.message.Kind.TheVariants as kind
 use Rattle.krb_msg.specs.declared.message.Message.{Message}
 use Rattle.krb_msg.specs.Judgement.{judgement, term_judgement}
 use Rattle.krb_msg.specs.Laws.{AreMessage}
-use Rattle.krb_msg.specs.Reading.{message_read, message_of_kind}
+use Rattle.krb_msg.specs.ValueOfDer.{message_of_der, message_of_kind}
 use Rattle.krb_msg.specs.Term.{Value, tag_of}
 use Rattle.krb_msg.specs.Views.{kind_of, kind_of_tag, kind_tag, kind_term, kind_with_tag, message_der, message_of, message_value, IsInProfile}
 use Rattle.krb_msg.specs.inner.Values.{der_is}
 use Rattle.krb_msg.proofs.Judged.{whole_is_message}
-use Rattle.krb_msg.proofs.MessageRead.{message_is_read}
+use Rattle.krb_msg.proofs.MessageOfDer.{message_of_der_is_message}
 use Rattle.krb_msg.specs.Viewed.{IsViewOf, IsNotWhole}
-use Rattle.krb_msg.specs.Seen.{BeginAs, IsMessageView, IsNoMessage, MessageLists, message_seen}
+use Rattle.krb_msg.specs.ViewValues.{BeginAs, IsMessageView, IsNoMessage, MessageLists, message_of_view}
 use Rattle.krb_msg.specs.declared.message_view.MessageView.{MessageView}
 
 -- ---- what the first octet chooses
@@ -34,18 +34,18 @@ chosen kind.KrbPriv n rest = refl
 chosen kind.KrbCred n rest = refl
 chosen kind.KrbError n rest = refl
 
--- the kind that a tag tells
-told_kind : (k : Kind) → (kind_with_tag (kind_tag k) ≡ Some k) × (kind_of_tag (kind_tag k) ≡ k) × (tag_of (kind_term k) ≡ kind_tag k)
-told_kind kind.AsReq = (refl, refl, refl)
-told_kind kind.AsRep = (refl, refl, refl)
-told_kind kind.TgsReq = (refl, refl, refl)
-told_kind kind.TgsRep = (refl, refl, refl)
-told_kind kind.ApReq = (refl, refl, refl)
-told_kind kind.ApRep = (refl, refl, refl)
-told_kind kind.KrbSafe = (refl, refl, refl)
-told_kind kind.KrbPriv = (refl, refl, refl)
-told_kind kind.KrbCred = (refl, refl, refl)
-told_kind kind.KrbError = (refl, refl, refl)
+-- the kind with a tag
+kind_tags : (k : Kind) → (kind_with_tag (kind_tag k) ≡ Some k) × (kind_of_tag (kind_tag k) ≡ k) × (tag_of (kind_term k) ≡ kind_tag k)
+kind_tags kind.AsReq = (refl, refl, refl)
+kind_tags kind.AsRep = (refl, refl, refl)
+kind_tags kind.TgsReq = (refl, refl, refl)
+kind_tags kind.TgsRep = (refl, refl, refl)
+kind_tags kind.ApReq = (refl, refl, refl)
+kind_tags kind.ApRep = (refl, refl, refl)
+kind_tags kind.KrbSafe = (refl, refl, refl)
+kind_tags kind.KrbPriv = (refl, refl, refl)
+kind_tags kind.KrbCred = (refl, refl, refl)
+kind_tags kind.KrbError = (refl, refl, refl)
 
 -- ---- octets of no message
 no_octets_whole : judgement profile.Lenient 0 [] ≡ verdict.Whole → ⊥
@@ -57,7 +57,7 @@ empty_not_whole (octet ∷ octets) none e = omega (arith, none)
 
 first_of_message : (m : Message) (octets : List ℕ) → message_der m ≡ octets → kind_tag (kind_of m) ≡ get_or octets 0 0
 first_of_message m octets e =
-    sym (told_kind (kind_of m)).2 ∙ ap (λ (l : List ℕ). get_or l 0 0) (sym (der_is (kind_term (kind_of m)) (message_value m)) ∙ e)
+    sym (kind_tags (kind_of m)).2 ∙ ap (λ (l : List ℕ). get_or l 0 0) (sym (der_is (kind_term (kind_of m)) (message_value m)) ∙ e)
 
 some_is_none : (k : Kind) → Some k ≡ None → ⊥
 some_is_none k e = cc
@@ -66,13 +66,13 @@ pub no_kind_not_whole : (octets : List ℕ) → AreOctets octets → length octe
 no_kind_not_whole octets a small none e = by (whole_is_message profile.Lenient (length octets) octets small a (omega arith) e)
   where
     by : AreMessage profile.Lenient (length octets) octets → ⊥
-    by w = some_is_none (kind_of w.message) (sym (told_kind (kind_of w.message)).0 ∙ ap kind_with_tag (first_of_message w.message octets w.form) ∙ none)
+    by w = some_is_none (kind_of w.message) (sym (kind_tags (kind_of w.message)).0 ∙ ap kind_with_tag (first_of_message w.message octets w.form) ∙ none)
 
 -- ---- octets of a kind
 some_kind : (j k : Kind) → Some j ≡ Some k → j ≡ k
 some_kind j k e = ap (λ (o : Option Kind). unwrap_or o j) e
 
--- one of the choices by which a tag tells a kind, and those after it
+-- one of the choices of a kind by its tag, and those after it
 first_choice : (tag : ℕ) (j k : Kind) (others : Option Kind) → (others ≡ Some k → kind_tag k ≡ tag) → (if eqb tag (kind_tag j) then Some j else others) ≡ Some k → kind_tag k ≡ tag
 first_choice tag j k others next e = by (cases_Bool (eqb tag (kind_tag j)))
   where
@@ -103,33 +103,33 @@ judged_as k (octet ∷ rest) some first =
 pub kind_not_whole : (k : Kind) (octets : List ℕ) → 0 < length octets → get_or octets 0 0 ≡ kind_tag k → IsNotWhole (kind_term k) octets → judgement profile.Lenient (length octets) octets ≡ verdict.Whole → ⊥
 kind_not_whole k octets some first none e = none (sym (judged_as k octets some first) ∙ e)
 
--- what is read of the octets of a kind
-read_as : (k : Kind) (octets : List ℕ) → 0 < length octets → get_or octets 0 0 ≡ kind_tag k → message_read octets ≡ message_of_kind k octets
+-- the message of the octets of a kind
+read_as : (k : Kind) (octets : List ℕ) → 0 < length octets → get_or octets 0 0 ≡ kind_tag k → message_of_der octets ≡ message_of_kind k octets
 read_as k [] some first = absurd (omega (arith, some))
-read_as k (octet ∷ rest) some first = ap (λ other. message_of_kind other (octet ∷ rest)) (ap kind_of_tag first ∙ (told_kind k).1)
+read_as k (octet ∷ rest) some first = ap (λ other. message_of_kind other (octet ∷ rest)) (ap kind_of_tag first ∙ (kind_tags k).1)
 
--- what a view of a message is of
+-- the octets of a view of a message
 pub record IsMessageOf (octets : List ℕ) (m : Message) : Type 0 where
   pub whole : judgement profile.Lenient (length octets) octets ≡ verdict.Whole
   pub in_profile : IsInProfile profile.Lenient m
   pub form : message_der m ≡ octets
-  pub read : m ≡ message_read octets
+  pub read : m ≡ message_of_der octets
 
-read_message : (octets : List ℕ) → AreOctets octets → length octets < 2 ^ 31 → judgement profile.Lenient (length octets) octets ≡ verdict.Whole → IsMessageOf octets (message_read octets)
+read_message : (octets : List ℕ) → AreOctets octets → length octets < 2 ^ 31 → judgement profile.Lenient (length octets) octets ≡ verdict.Whole → IsMessageOf octets (message_of_der octets)
 read_message octets a small e = by (whole_is_message profile.Lenient (length octets) octets small a (omega arith) e)
   where
-    by : AreMessage profile.Lenient (length octets) octets → IsMessageOf octets (message_read octets)
+    by : AreMessage profile.Lenient (length octets) octets → IsMessageOf octets (message_of_der octets)
     by w =
-        let same : w.message ≡ message_read octets = sym (message_is_read profile.Lenient w.message w.in_profile) ∙ ap message_read w.form in
+        let same : w.message ≡ message_of_der octets = sym (message_of_der_is_message profile.Lenient w.message w.in_profile) ∙ ap message_of_der w.form in
         subst (IsMessageOf octets) same (record { whole = e; in_profile = w.in_profile; form = w.form; read = same })
 
 pub message_viewed : (k : Kind) (octets : List ℕ) (value : Value (kind_term k)) → AreOctets octets → length octets < 2 ^ 31 → 0 < length octets → get_or octets 0 0 ≡ kind_tag k → IsViewOf (kind_term k) octets value → IsMessageOf octets (message_of k value)
 message_viewed k octets value a small some first v =
     subst (IsMessageOf octets) (read_as k octets some first ∙ ap (message_of k) (sym v.read)) (read_message octets a small (judged_as k octets some first ∙ v.whole))
 
-pub seen_message : (k : Kind) (octets : List ℕ) (m : MessageView) (value : Value (kind_term k)) → message_of k value ≡ message_seen m → AreOctets octets → BeginAs k octets → IsViewOf (kind_term k) octets value → MessageLists m → IsMessageView octets m
-seen_message k octets m value same a b v lists =
-    let o : IsMessageOf octets (message_seen m) = subst (IsMessageOf octets) same (message_viewed k octets value a b.short b.some b.first v) in
+pub viewed_message : (k : Kind) (octets : List ℕ) (m : MessageView) (value : Value (kind_term k)) → message_of k value ≡ message_of_view m → AreOctets octets → BeginAs k octets → IsViewOf (kind_term k) octets value → MessageLists m → IsMessageView octets m
+viewed_message k octets m value same a b v lists =
+    let o : IsMessageOf octets (message_of_view m) = subst (IsMessageOf octets) same (message_viewed k octets value a b.short b.some b.first v) in
     record { whole = o.whole; in_profile = o.in_profile; form = o.form; read = o.read; lists = lists }
 
 pub none_of_kind : (k : Kind) (octets : List ℕ) → BeginAs k octets → IsNotWhole (kind_term k) octets → IsNoMessage octets

@@ -28,7 +28,7 @@ one_of_chosen [] term c = absurd c
 one_of_chosen (first ∷ terms) term (inl e) = inl e
 one_of_chosen (first ∷ terms) term (inr c) = inr (one_of_chosen terms term c.1)
 
--- what passes for all passes for one
+-- a test that all messages pass is passed by one of them
 pub one_of_passes : (test : Term → Bool) (terms : List Term) (term : Term) → list_all test terms ≡ true → IsOneOf term terms → test term ≡ true
 one_of_passes test [] term a o = absurd o
 one_of_passes test (first ∷ terms) term a (inl e) = ap test e ∙ (and_parts _ _ a).0
@@ -55,7 +55,7 @@ message_outcome-chosen term (first ∷ terms) room rest (inl e) =
 message_outcome-chosen term (first ∷ terms) room rest (inr c) =
     message-later first terms room (tag_of term) rest c.0 ∙ message_outcome-chosen term terms room rest c.1
 
--- what the first octet decides
+-- the outcome of the first octet
 abbrev pub Choice : List Term → ℕ → Type 0
 Choice terms octet =
     ((room : ℕ) (rest : List ℕ) → message_outcome terms room (octet ∷ rest) ≡ Bad 0 why.Tag)
@@ -118,7 +118,7 @@ same_chosen s t (first ∷ terms) (inl c) (inr d) e = absurd (true≢false (sym 
 same_chosen s t (first ∷ terms) (inr c) (inl d) e = absurd (true≢false (sym (eq-eqb (tag_of s) (tag_of first) (e ∙ ap tag_of d)) ∙ c.0))
 same_chosen s t (first ∷ terms) (inr c) (inr d) e = same_chosen s t terms c.1 d.1 e
 
--- no message's octets begin another's, and they tell the term and the value
+-- no message's DER begins another's, and different values of different terms have different DER
 pub same_message : (terms : List Term) (s t : Term) → IsChosen s terms → IsChosen t terms → is_unambiguous s ≡ true → (v : Value s) (w : Value t) (x y : List ℕ) → der s v ++ x ≡ der t w ++ y → (◌≡◌ {A = SomeValue} (s, v) (t, w)) × (x ≡ y)
 same_message terms s t c d u v w x y e =
     let tags : tag_of s ≡ tag_of t = (same_from_cons _ _ _ _ (sym (der-append s v x) ∙ e ∙ der-append t w y)).0 in

@@ -1,4 +1,4 @@
--- What notes hold of the parts of messages.
+-- The notes on the parts of messages.
 use Rattle.std.proofs.Common.{◌≡◌, pos, Bool, true, false, ◌||◌, List, [], ◌∷◌, Option, Some, None, map, refl, ap}
 use Rattle.std.specs.List.{list_any}
 use Rattle.std.specs.Option.{option_map}
@@ -47,7 +47,7 @@ pub option_any-map : {A B : Type 0} (test : B → Bool) (f : A → B) (v : Optio
 option_any-map test f None = refl
 option_any-map test f (Some x) = refl
 
--- of a list in whose items no note holds
+-- the notes on a list on whose items there are none
 no_item : {A B : Type 0} (test : B → Bool) (f : A → B) (xs : List A) → ((x : A) → test (f x) ≡ false) → list_any test (map f xs) ≡ false
 no_item test f [] quiet = refl
 no_item test f (x ∷ xs) quiet = rw (quiet x, no_item test f xs quiet) refl
@@ -66,12 +66,12 @@ pub tickets-has : (n : Note) (v : Option (List Ticket)) → option_any (λ xs. l
 tickets-has n None = refl
 tickets-has n (Some xs) = rw (list_has-map n ticket_value xs, any-map (has n ticket) ticket_value xs) refl
 
--- a part that may be left out, in which no note holds
+-- an optional part on which there are no notes
 pub option_none : {A : Type 0} (v : Option A) → option_any (λ (x : A). false) v ≡ false
 option_none None = refl
 option_none (Some x) = refl
 
--- what the parts of a request give, one after another, and those in which no note holds left out
+-- the notes on the parts of a request, one after another, without those parts on which there are none
 parts : (options client realm server from until nonce etypes addresses authdata tickets client₂ server₂ addresses₂ authdata₂ none inside : Bool) →
     client ≡ client₂ → server ≡ server₂ → from ≡ false → until ≡ false → etypes ≡ false → addresses ≡ addresses₂ → authdata ≡ authdata₂ → tickets ≡ (none || inside) →
     (options || (client || (realm || (server || (from || (until || (nonce || (etypes || (addresses || (authdata || (tickets || false)))))))))))

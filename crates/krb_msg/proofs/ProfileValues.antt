@@ -8,7 +8,7 @@ use Rattle.krb_msg.specs.Profiles.{narrowed, narrowed_value, narrowed_values, pr
 use Rattle.krb_msg.specs.Der.{IsDer}
 use Rattle.krb_msg.proofs.Profiles.{widened_value, widened_values, narrowed_widened, der_narrowed, fits_narrowed}
 
--- ---- there and back
+-- ---- to the lenient term and back
 maps_back : {A B : Type 0} (f : A → B) (g : B → A) → ((a : A) → g (f a) ≡ a) → (values : List A) → map g (map f values) ≡ values
 maps_back f g back [] = refl
 maps_back f g back (a ∷ values) = ap₂ (λ x xs. x ∷ xs) (back a) (maps_back f g back values)
@@ -58,7 +58,7 @@ lenient_fits profiles.Lenient optional term value f = f
 lenient_fits profiles.Strict optional term value f =
     (fits_narrowed optional term (widened_value optional term value) (subst (Fits (narrowed optional term)) (sym (narrowed_widened optional term value)) f)).0
 
--- what is the DER of a value of the profile's term is that of one of the lenient term
+-- the DER of a value of the profile's term is that of a value of the lenient term
 pub lenient_der : {octets : List ℕ} (profile : Profile) (optional : Bool) (term : Term) → IsDer (profile_term profile optional term) octets → IsDer term octets
 lenient_der profile optional term f = record {
   value = lenient_value profile optional term f.value;

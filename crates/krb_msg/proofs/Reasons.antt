@@ -24,22 +24,22 @@ is_common why.Charset = false
 is_common reason = true
 
 abbrev mutual
-  -- whether each string of a term takes any octets
-  pub takes_any : Term → Bool
-  takes_any (Integer low high) = true
-  takes_any (Text greatest) = leb 255 greatest
-  takes_any Octets = true
-  takes_any Time = true
-  takes_any (Bits least) = true
-  takes_any (Sequence fields) = take_any fields
-  takes_any (SequenceOf empty term) = takes_any term
-  takes_any (Tagged index term) = takes_any term
-  takes_any (Application number term) = takes_any term
+  -- whether each string of a term may have any octets
+  pub allows_any_octet : Term → Bool
+  allows_any_octet (Integer low high) = true
+  allows_any_octet (Text greatest) = leb 255 greatest
+  allows_any_octet Octets = true
+  allows_any_octet Time = true
+  allows_any_octet (Bits least) = true
+  allows_any_octet (Sequence fields) = allow_any_octet fields
+  allows_any_octet (SequenceOf empty term) = allows_any_octet term
+  allows_any_octet (Tagged index term) = allows_any_octet term
+  allows_any_octet (Application number term) = allows_any_octet term
 
-  pub take_any : Fields → Bool
-  take_any End = true
-  take_any (Required term fields) = takes_any term && take_any fields
-  take_any (Optional term fields) = takes_any term && take_any fields
+  pub allow_any_octet : Fields → Bool
+  allow_any_octet End = true
+  allow_any_octet (Required term fields) = allows_any_octet term && allow_any_octet fields
+  allow_any_octet (Optional term fields) = allows_any_octet term && allow_any_octet fields
 
 -- ---- tag and length
 fitting-common : (room header contents offset : ℕ) (reason : Why) → fitting room header contents ≡ Refused offset reason → is_common reason ≡ true
@@ -117,43 +117,43 @@ module _ (Holds : Why → Type 0) (common : (reason : Why) → is_common reason 
   Keeps-each passes reason h room place [] = Keeps-either (ltb place room) Open (Done room) tt tt
   Keeps-each passes reason h room place (octet ∷ octets) = Keeps-either (passes place octet) _ (Bad place reason) (Keeps-each passes reason h room (place + 1) octets) h
 
-  -- a string that takes any octets refuses none
+  -- a string that may have any octets refuses none
   Keeps-text : (greatest room place : ℕ) (octets : List ℕ) → leb 255 greatest ≡ true → AreOctets octets → Keeps (each_contents (text_octet greatest) why.Charset room place octets)
   Keeps-text greatest room place [] t a = Keeps-either (ltb place room) Open (Done room) tt tt
   Keeps-text greatest room place (octet ∷ octets) t a =
       rw (le-leb octet greatest (omega (arith, leb-true 255 greatest t, a.0))) (Keeps-text greatest room (place + 1) octets t a.1)
 
   -- ---- strings
-  -- Charset is one of the reasons, or strings take any octets and these are octets
-  abbrev pub IsTaken : Bool → List ℕ → Type 0
-  IsTaken any octets = Holds why.Charset ⊎ ((any ≡ true) × AreOctets octets)
+  -- Charset is one of the reasons, or strings may have any octets and these are octets
+  abbrev pub IsAllowed : Bool → List ℕ → Type 0
+  IsAllowed any octets = Holds why.Charset ⊎ ((any ≡ true) × AreOctets octets)
 
-  IsTaken-take : (any : Bool) (k : ℕ) (octets : List ℕ) → IsTaken any octets → IsTaken any (take k octets)
-  IsTaken-take any k octets (inl h) = inl h
-  IsTaken-take any k octets (inr h) = inr (h.0, AreOctets-take k octets h.1)
+  IsAllowed-take : (any : Bool) (k : ℕ) (octets : List ℕ) → IsAllowed any octets → IsAllowed any (take k octets)
+  IsAllowed-take any k octets (inl h) = inl h
+  IsAllowed-take any k octets (inr h) = inr (h.0, AreOctets-take k octets h.1)
 
-  IsTaken-drop : (any : Bool) (k : ℕ) (octets : List ℕ) → IsTaken any octets → IsTaken any (drop k octets)
-  IsTaken-drop any k octets (inl h) = inl h
-  IsTaken-drop any k octets (inr h) = inr (h.0, AreOctets-drop k octets h.1)
+  IsAllowed-drop : (any : Bool) (k : ℕ) (octets : List ℕ) → IsAllowed any octets → IsAllowed any (drop k octets)
+  IsAllowed-drop any k octets (inl h) = inl h
+  IsAllowed-drop any k octets (inr h) = inr (h.0, AreOctets-drop k octets h.1)
 
-  IsTaken-first : (any other : Bool) (octets : List ℕ) → IsTaken (any && other) octets → IsTaken any octets
-  IsTaken-first any other octets (inl h) = inl h
-  IsTaken-first any other octets (inr h) = inr ((and_parts any other h.0).0, h.1)
+  IsAllowed-first : (any other : Bool) (octets : List ℕ) → IsAllowed (any && other) octets → IsAllowed any octets
+  IsAllowed-first any other octets (inl h) = inl h
+  IsAllowed-first any other octets (inr h) = inr ((and_parts any other h.0).0, h.1)
 
-  IsTaken-rest : (any other : Bool) (octets : List ℕ) → IsTaken (any && other) octets → IsTaken other octets
-  IsTaken-rest any other octets (inl h) = inl h
-  IsTaken-rest any other octets (inr h) = inr ((and_parts any other h.0).1, h.1)
+  IsAllowed-rest : (any other : Bool) (octets : List ℕ) → IsAllowed (any && other) octets → IsAllowed other octets
+  IsAllowed-rest any other octets (inl h) = inl h
+  IsAllowed-rest any other octets (inr h) = inr ((and_parts any other h.0).1, h.1)
 
-  Keeps-string : (greatest room : ℕ) (octets : List ℕ) → IsTaken (leb 255 greatest) octets → Keeps (each_contents (text_octet greatest) why.Charset room 0 octets)
+  Keeps-string : (greatest room : ℕ) (octets : List ℕ) → IsAllowed (leb 255 greatest) octets → Keeps (each_contents (text_octet greatest) why.Charset room 0 octets)
   Keeps-string greatest room octets (inl h) = Keeps-each (text_octet greatest) why.Charset h room 0 octets
   Keeps-string greatest room octets (inr h) = Keeps-text greatest room 0 octets h.0 h.1
 
   -- ---- items
   abbrev KeepsContents : Term → Type 0
-  KeepsContents term = (before room : ℕ) (octets : List ℕ) → IsTaken (takes_any term) octets → Keeps (contents_outcome term before room octets)
+  KeepsContents term = (before room : ℕ) (octets : List ℕ) → IsAllowed (allows_any_octet term) octets → Keeps (contents_outcome term before room octets)
 
   abbrev KeepsFields : Fields → Type 0
-  KeepsFields fields = (before room : ℕ) (octets : List ℕ) → IsTaken (take_any fields) octets → Keeps (fields_outcome fields before room octets)
+  KeepsFields fields = (before room : ℕ) (octets : List ℕ) → IsAllowed (allow_any_octet fields) octets → Keeps (fields_outcome fields before room octets)
 
   Keeps-of_head : (term : Term) (found : Head) (room : ℕ) (sole : Bool) (octets : List ℕ) (contents_of : ℕ → ℕ → List ℕ → Outcome) → KeepsHead found → ((header contents : ℕ) → Keeps (contents_of header contents (take contents (drop header octets)))) → Keeps (of_head term found room sole octets contents_of)
   Keeps-of_head term Partial room sole octets contents_of h k = tt
@@ -162,30 +162,30 @@ module _ (Holds : Why → Type 0) (common : (reason : Why) → is_common reason 
       Keeps-either (sole && ltb (header + contents) room) (Bad (header - 1) why.Loose) _ (common why.Loose refl)
       (Keeps-either (has_size term contents) (contents_of header contents (take contents (drop header octets))) (Bad (header - 1) why.Size) (k header contents) (common why.Size refl))
 
-  Keeps-item : (term : Term) → KeepsContents term → (room : ℕ) (sole : Bool) (octets : List ℕ) → IsTaken (takes_any term) octets → Keeps (item_with (contents_outcome term) term room sole octets)
+  Keeps-item : (term : Term) → KeepsContents term → (room : ℕ) (sole : Bool) (octets : List ℕ) → IsAllowed (allows_any_octet term) octets → Keeps (item_with (contents_outcome term) term room sole octets)
   Keeps-item term k room sole [] a = tt
   Keeps-item term k room sole (octet ∷ octets) a =
       Keeps-when (eqb octet (tag_of term)) _ (Bad 0 why.Tag)
       (Keeps-either (eqb room 1) (Bad 0 why.Overrun) _ (common why.Overrun refl)
       (Keeps-of_head term (head room (octet ∷ octets)) room sole (octet ∷ octets) (contents_outcome term) (KeepsHead-common (head room (octet ∷ octets)) (λ offset reason. head-common room octet octets offset reason))
-      (λ header contents. k header contents (take contents (drop header (octet ∷ octets))) (IsTaken-take _ contents _ (IsTaken-drop _ header (octet ∷ octets) a)))))
+      (λ header contents. k header contents (take contents (drop header (octet ∷ octets))) (IsAllowed-take _ contents _ (IsAllowed-drop _ header (octet ∷ octets) a)))))
       (common why.Tag refl)
 
-  Keeps-items : (term : Term) → KeepsContents term → (bound before room : ℕ) (octets : List ℕ) → IsTaken (takes_any term) octets → Keeps (items_contents (λ left. item_with (contents_outcome term) term left false) bound before room octets)
+  Keeps-items : (term : Term) → KeepsContents term → (bound before room : ℕ) (octets : List ℕ) → IsAllowed (allows_any_octet term) octets → Keeps (items_contents (λ left. item_with (contents_outcome term) term left false) bound before room octets)
   Keeps-items term k bound before zero octets a = tt
   Keeps-items term k zero before (suc room) octets a = tt
   Keeps-items term k (suc bound) before (suc room) octets a =
       Keeps-then_after before _ _ (Keeps-item term k (suc room) false octets a)
-      (λ count. Keeps-items term k bound (before + count) (suc room - count) (drop count octets) (IsTaken-drop _ count octets a))
+      (λ count. Keeps-items term k bound (before + count) (suc room - count) (drop count octets) (IsAllowed-drop _ count octets a))
 
-  Keeps-only : (term : Term) → KeepsContents term → (before room : ℕ) (octets : List ℕ) → IsTaken (takes_any term) octets → Keeps (only_contents before room (item_with (contents_outcome term) term room true octets))
+  Keeps-only : (term : Term) → KeepsContents term → (before room : ℕ) (octets : List ℕ) → IsAllowed (allows_any_octet term) octets → Keeps (only_contents before room (item_with (contents_outcome term) term room true octets))
   Keeps-only term k before zero octets a = common why.Missing refl
   Keeps-only term k before (suc room) octets a = Keeps-after before _ (Keeps-item term k (suc room) true octets a)
 
-  Keeps-field : (term : Term) (fields : Fields) → KeepsContents term → KeepsFields fields → (before room : ℕ) (octets : List ℕ) → IsTaken (takes_any term && take_any fields) octets → Keeps (then_after before (item_with (contents_outcome term) term (suc room) false octets) (λ count. fields_outcome fields (before + count) (suc room - count) (drop count octets)))
+  Keeps-field : (term : Term) (fields : Fields) → KeepsContents term → KeepsFields fields → (before room : ℕ) (octets : List ℕ) → IsAllowed (allows_any_octet term && allow_any_octet fields) octets → Keeps (then_after before (item_with (contents_outcome term) term (suc room) false octets) (λ count. fields_outcome fields (before + count) (suc room - count) (drop count octets)))
   Keeps-field term fields k n before room octets a =
-      Keeps-then_after before _ _ (Keeps-item term k (suc room) false octets (IsTaken-first _ _ octets a))
-      (λ count. n (before + count) (suc room - count) (drop count octets) (IsTaken-drop _ count octets (IsTaken-rest _ _ octets a)))
+      Keeps-then_after before _ _ (Keeps-item term k (suc room) false octets (IsAllowed-first _ _ octets a))
+      (λ count. n (before + count) (suc room - count) (drop count octets) (IsAllowed-drop _ count octets (IsAllowed-rest _ _ octets a)))
 
   mutual
     pub Keeps-contents : (term : Term) → KeepsContents term
@@ -205,27 +205,27 @@ module _ (Holds : Why → Type 0) (common : (reason : Why) → is_common reason 
     Keeps-fields End before (suc room) (octet ∷ octets) a = common why.Tag refl
     Keeps-fields (Required term fields) before zero octets a = common why.Missing refl
     Keeps-fields (Required term fields) before (suc room) octets a = Keeps-field term fields (Keeps-contents term) (Keeps-fields fields) before room octets a
-    Keeps-fields (Optional term fields) before zero octets a = Keeps-fields fields before zero octets (IsTaken-rest _ _ octets a)
+    Keeps-fields (Optional term fields) before zero octets a = Keeps-fields fields before zero octets (IsAllowed-rest _ _ octets a)
     Keeps-fields (Optional term fields) before (suc room) [] a = tt
     Keeps-fields (Optional term fields) before (suc room) (octet ∷ octets) a =
         Keeps-when (eqb octet (tag_of term)) _ (fields_outcome fields before (suc room) (octet ∷ octets))
         (Keeps-field term fields (Keeps-contents term) (Keeps-fields fields) before room (octet ∷ octets) a)
-        (Keeps-fields fields before (suc room) (octet ∷ octets) (IsTaken-rest _ _ (octet ∷ octets) a))
+        (Keeps-fields fields before (suc room) (octet ∷ octets) (IsAllowed-rest _ _ (octet ∷ octets) a))
 
   -- an item of a term
-  pub Keeps-item_outcome : (term : Term) (room : ℕ) (sole : Bool) (octets : List ℕ) → IsTaken (takes_any term) octets → Keeps (item_outcome term room sole octets)
+  pub Keeps-item_outcome : (term : Term) (room : ℕ) (sole : Bool) (octets : List ℕ) → IsAllowed (allows_any_octet term) octets → Keeps (item_outcome term room sole octets)
   Keeps-item_outcome term room sole octets a = Keeps-item term (Keeps-contents term) room sole octets a
 
   -- a message that is one of some terms
-  pub Keeps-message_outcome : (terms : List Term) (room : ℕ) (octets : List ℕ) → IsTaken (list_all takes_any terms) octets → Keeps (message_outcome terms room octets)
+  pub Keeps-message_outcome : (terms : List Term) (room : ℕ) (octets : List ℕ) → IsAllowed (list_all allows_any_octet terms) octets → Keeps (message_outcome terms room octets)
   Keeps-message_outcome terms room [] a = tt
   Keeps-message_outcome [] room (octet ∷ octets) a = common why.Tag refl
   Keeps-message_outcome (term ∷ terms) room (octet ∷ octets) a =
       Keeps-when (eqb octet (tag_of term)) (item_outcome term room true (octet ∷ octets)) (message_outcome terms room (octet ∷ octets))
-      (Keeps-item_outcome term room true (octet ∷ octets) (IsTaken-first _ _ (octet ∷ octets) a))
-      (Keeps-message_outcome terms room (octet ∷ octets) (IsTaken-rest _ _ (octet ∷ octets) a))
+      (Keeps-item_outcome term room true (octet ∷ octets) (IsAllowed-first _ _ (octet ∷ octets) a))
+      (Keeps-message_outcome terms room (octet ∷ octets) (IsAllowed-rest _ _ (octet ∷ octets) a))
 
--- ---- a reason that is never given
+-- ---- a reason for which nothing is refused
 -- a reason other than this one
 abbrev IsOther : Why → Why → Type 0
 IsOther reason other = other ≡ reason → ⊥
@@ -248,9 +248,9 @@ pub refusal_is_not_truncated : (messages : List Term) (n : ℕ) (octets : List �
 refusal_is_not_truncated messages n octets =
     refused_never why.Truncated not_truncated (message_outcome messages n octets) (Keeps-message_outcome (IsOther why.Truncated) not_truncated messages n octets (inl (λ e. cc)))
 
-lenient_takes_any : list_all takes_any (messages Lenient) ≡ true
-lenient_takes_any = refl
+lenient_allows_any_octet : list_all allows_any_octet (messages Lenient) ≡ true
+lenient_allows_any_octet = refl
 
 pub lenient_has_no_charset : (n : ℕ) (octets : List ℕ) → AreOctets octets → IsRefusedFor why.Charset (judgement Lenient n octets) → ⊥
 lenient_has_no_charset n octets a =
-    refused_never why.Charset not_charset (message_outcome (messages Lenient) n octets) (Keeps-message_outcome (IsOther why.Charset) not_charset (messages Lenient) n octets (inr (lenient_takes_any, a)))
+    refused_never why.Charset not_charset (message_outcome (messages Lenient) n octets) (Keeps-message_outcome (IsOther why.Charset) not_charset (messages Lenient) n octets (inr (lenient_allows_any_octet, a)))

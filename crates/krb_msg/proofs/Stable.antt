@@ -1,4 +1,4 @@
--- What shows an outcome: a front of the octets, all of which it takes. More octets after it change nothing.
+-- The prefix of octets that decides an outcome. It has just the octets that the outcome needs, and more octets after it change nothing.
 use Rattle.std.proofs.Common.{◌≡◌, ℕ, suc, ◌+◌, ◌-◌, ◌<◌, ◌≤◌, inl, inr, List, [], ◌∷◌, ◌++◌, length, take, drop, refl, sym, ◌∙◌, ap, subst, arith, append_assoc, length-append, suc-add, drop_at, length-take}
 use mathlib.Core.Path.{fun_ext}
 use Rattle.std.proofs.lemmas.Bool.{cases_lt}
@@ -6,7 +6,7 @@ use Rattle.std.proofs.lemmas.List.{take-append-le}
 use Rattle.krb_der.specs.declared.why.Why.{Why}
 use Rattle.krb_msg.specs.Judgement.{Outcome, Open, Bad, Done, after, then_after}
 
--- how many octets an outcome takes
+-- how many octets an outcome needs
 abbrev pub need : Outcome → ℕ
 need Open = 0
 need (Bad offset reason) = suc offset
@@ -17,19 +17,19 @@ IsDecided Open = ⊥
 IsDecided (Bad offset reason) = Unit {0}
 IsDecided (Done count) = Unit {0}
 
--- The front that shows an outcome of octets that come after others, in a room.
+-- The prefix that decides an outcome of octets that come after others, in a room.
 pub record Shown (room before : ℕ) (judge : List ℕ → Outcome) (octets : List ℕ) (outcome : Outcome) : Type 0 where
-  pub front : List ℕ
-  pub back : List ℕ
-  pub parts : octets ≡ front ++ back
-  pub reached : need outcome ≡ before + length front
-  pub same : (rest : List ℕ) → length (front ++ rest) ≤ room → judge (front ++ rest) ≡ outcome
-  pub sooner : (k : ℕ) → k < length front → judge (take k front) ≡ Open
+  pub prefix : List ℕ
+  pub suffix : List ℕ
+  pub parts : octets ≡ prefix ++ suffix
+  pub reached : need outcome ≡ before + length prefix
+  pub same : (rest : List ℕ) → length (prefix ++ rest) ≤ room → judge (prefix ++ rest) ≡ outcome
+  pub sooner : (k : ℕ) → k < length prefix → judge (take k prefix) ≡ Open
 
 abbrev pub IsStable : ℕ → ℕ → (List ℕ → Outcome) → Type 0
 IsStable room before judge = (octets : List ℕ) (outcome : Outcome) → length octets ≤ room → judge octets ≡ outcome → IsDecided outcome → Shown room before judge octets outcome
 
--- ---- fronts
+-- ---- prefixes
 take-append-add : {A : Type 0} (xs ys : List A) (n : ℕ) → take (length xs + n) (xs ++ ys) ≡ xs ++ take n ys
 take-append-add [] ys n = ap (λ k. take k ys) (omega arith)
 take-append-add (x ∷ xs) ys n = rw (suc-add (length xs) n) (ap (λ l. x ∷ l) (take-append-add xs ys n))
@@ -51,7 +51,7 @@ IsStable-same room before judge other h p = subst (λ j. IsStable room before j)
 -- ---- judgements that need no octets, or none but the first
 pub IsStable-constant : (room before : ℕ) (outcome : Outcome) → need outcome ≡ before → IsStable room before (λ octets. outcome)
 IsStable-constant room before outcome n octets o fits e d =
-    record { front = []; back = octets; parts = refl; reached = ap need (sym e) ∙ omega arith; same = λ rest h. e; sooner = λ k h. absurd (omega arith) }
+    record { prefix = []; suffix = octets; parts = refl; reached = ap need (sym e) ∙ omega arith; same = λ rest h. e; sooner = λ k h. absurd (omega arith) }
 
 pub IsStable-open : (room before : ℕ) → IsStable room before (λ octets. Open)
 IsStable-open room before octets o fits e d = absurd (not_open o e d)
@@ -64,7 +64,7 @@ refusal before reason (octet ∷ octets) = Bad before reason
 pub IsStable-refusal : (room before : ℕ) (reason : Why) → IsStable room before (refusal before reason)
 IsStable-refusal room before reason [] o fits e d = absurd (not_open o e d)
 IsStable-refusal room before reason (octet ∷ octets) o fits e d =
-    record { front = octet ∷ []; back = octets; parts = refl; reached = ap need (sym e) ∙ omega arith; same = λ rest h. e; sooner = λ k h. rw (zero_from_lt_one k h) }
+    record { prefix = octet ∷ []; suffix = octets; parts = refl; reached = ap need (sym e) ∙ omega arith; same = λ rest h. e; sooner = λ k h. rw (zero_from_lt_one k h) }
   where
     zero_from_lt_one : (k : ℕ) → k < 1 → k ≡ 0
     zero_from_lt_one k h = omega arith
@@ -78,53 +78,53 @@ IsStable-after room before judge p octets outcome fits e d = go (judge octets) r
     go (Bad offset reason) f =
         let s : Shown room 0 judge octets (Bad offset reason) = p octets (Bad offset reason) fits f tt in
         let g : Bad (before + offset) reason ≡ outcome = rw f at e in
-        record { front = s.front; back = s.back; parts = s.parts; reached = ap need (sym g) ∙ omega (arith, s.reached); same = λ rest h. rw (s.same rest h) g; sooner = λ k h. rw (s.sooner k h) }
+        record { prefix = s.prefix; suffix = s.suffix; parts = s.parts; reached = ap need (sym g) ∙ omega (arith, s.reached); same = λ rest h. rw (s.same rest h) g; sooner = λ k h. rw (s.sooner k h) }
     go (Done count) f =
         let s : Shown room 0 judge octets (Done count) = p octets (Done count) fits f tt in
         let g : Done (before + count) ≡ outcome = rw f at e in
-        record { front = s.front; back = s.back; parts = s.parts; reached = ap need (sym g) ∙ omega (arith, s.reached); same = λ rest h. rw (s.same rest h) g; sooner = λ k h. rw (s.sooner k h) }
+        record { prefix = s.prefix; suffix = s.suffix; parts = s.parts; reached = ap need (sym g) ∙ omega (arith, s.reached); same = λ rest h. rw (s.same rest h) g; sooner = λ k h. rw (s.sooner k h) }
 
-pub length_parts : {outcome : Outcome} {judge : List ℕ → Outcome} (octets : List ℕ) (room before : ℕ) (s : Shown room before judge octets outcome) → length octets ≡ length s.front + length s.back
-length_parts octets room before s = ap length s.parts ∙ length-append s.front s.back
+pub length_parts : {outcome : Outcome} {judge : List ℕ → Outcome} (octets : List ℕ) (room before : ℕ) (s : Shown room before judge octets outcome) → length octets ≡ length s.prefix + length s.suffix
+length_parts octets room before s = ap length s.parts ∙ length-append s.prefix s.suffix
 
 -- ---- a judgement, and then another of the octets after it
 module _ (room before : ℕ) (one : List ℕ → Outcome) (next : ℕ → List ℕ → Outcome) where
   abbrev both : List ℕ → Outcome
   both octets = then_after before (one octets) (λ count. next count (drop count octets))
 
-  -- after the front that shows the first
-  both-append : (octets : List ℕ) (count : ℕ) (s : Shown room 0 one octets (Done count)) (rest : List ℕ) → length (s.front ++ rest) ≤ room → both (s.front ++ rest) ≡ next count rest
+  -- after the prefix that decides the first
+  both-append : (octets : List ℕ) (count : ℕ) (s : Shown room 0 one octets (Done count)) (rest : List ℕ) → length (s.prefix ++ rest) ≤ room → both (s.prefix ++ rest) ≡ next count rest
   both-append octets count s rest h =
-      let n : length s.front ≡ count = omega (arith, s.reached) in
-      rw (s.same rest h, drop_at s.front rest count n)
+      let n : length s.prefix ≡ count = omega (arith, s.reached) in
+      rw (s.same rest h, drop_at s.prefix rest count n)
 
-  Shown-both : (octets : List ℕ) (outcome : Outcome) (count : ℕ) (s : Shown room 0 one octets (Done count)) (r : Shown (room - count) (before + count) (next count) s.back outcome) → length octets ≤ room → Shown room before both octets outcome
+  Shown-both : (octets : List ℕ) (outcome : Outcome) (count : ℕ) (s : Shown room 0 one octets (Done count)) (r : Shown (room - count) (before + count) (next count) s.suffix outcome) → length octets ≤ room → Shown room before both octets outcome
   Shown-both octets outcome count s r fits =
-      let l : length octets ≡ length s.front + length s.back = length_parts octets room 0 s in
-      let m : length s.back ≡ length r.front + length r.back = length_parts s.back (room - count) (before + count) r in
+      let l : length octets ≡ length s.prefix + length s.suffix = length_parts octets room 0 s in
+      let m : length s.suffix ≡ length r.prefix + length r.suffix = length_parts s.suffix (room - count) (before + count) r in
       record {
-        front = s.front ++ r.front;
-        back = r.back;
-        parts = s.parts ∙ ap (λ l. s.front ++ l) r.parts ∙ sym (append_assoc s.front r.front r.back);
+        prefix = s.prefix ++ r.prefix;
+        suffix = r.suffix;
+        parts = s.parts ∙ ap (λ l. s.prefix ++ l) r.parts ∙ sym (append_assoc s.prefix r.prefix r.suffix);
         reached = rw length-append (omega (arith, s.reached, r.reached));
         same = same;
         sooner = sooner;
       }
     where
-      same : (rest : List ℕ) → length ((s.front ++ r.front) ++ rest) ≤ room → both ((s.front ++ r.front) ++ rest) ≡ outcome
+      same : (rest : List ℕ) → length ((s.prefix ++ r.prefix) ++ rest) ≤ room → both ((s.prefix ++ r.prefix) ++ rest) ≡ outcome
       same rest h =
-          rw (append_assoc s.front r.front rest)
-          (both-append octets count s (r.front ++ rest) (rw (append_assoc s.front r.front rest) at h)
-          ∙ r.same rest (omega (arith, s.reached, length-append (s.front ++ r.front) rest, length-append s.front r.front, length-append r.front rest)))
+          rw (append_assoc s.prefix r.prefix rest)
+          (both-append octets count s (r.prefix ++ rest) (rw (append_assoc s.prefix r.prefix rest) at h)
+          ∙ r.same rest (omega (arith, s.reached, length-append (s.prefix ++ r.prefix) rest, length-append s.prefix r.prefix, length-append r.prefix rest)))
 
-      sooner : (k : ℕ) → k < length (s.front ++ r.front) → both (take k (s.front ++ r.front)) ≡ Open
+      sooner : (k : ℕ) → k < length (s.prefix ++ r.prefix) → both (take k (s.prefix ++ r.prefix)) ≡ Open
       sooner k h =
-          elim (cases_lt k (length s.front)) [
-            | inl l ↦ rw (take-append-le k s.front r.front (omega arith), s.sooner k l)
+          elim (cases_lt k (length s.prefix)) [
+            | inl l ↦ rw (take-append-le k s.prefix r.prefix (omega arith), s.sooner k l)
             | inr l ↦
-                rw (take-append_right s.front r.front k l)
-                (both-append octets count s (take (k - length s.front) r.front) (rw (length-append, length-take) (omega (arith, length_parts octets room 0 s, length_parts s.back (room - count) (before + count) r)))
-                ∙ r.sooner (k - length s.front) (omega (arith, length-append s.front r.front)))
+                rw (take-append_right s.prefix r.prefix k l)
+                (both-append octets count s (take (k - length s.prefix) r.prefix) (rw (length-append, length-take) (omega (arith, length_parts octets room 0 s, length_parts s.suffix (room - count) (before + count) r)))
+                ∙ r.sooner (k - length s.prefix) (omega (arith, length-append s.prefix r.prefix)))
           ]
 
   pub IsStable-then_after : IsStable room 0 one → ((count : ℕ) → IsStable (room - count) (before + count) (next count)) → IsStable room before both
@@ -135,7 +135,7 @@ module _ (room before : ℕ) (one : List ℕ → Outcome) (next : ℕ → List �
       go (Bad offset reason) f =
           let s : Shown room 0 one octets (Bad offset reason) = p octets (Bad offset reason) fits f tt in
           let g : Bad (before + offset) reason ≡ outcome = rw f at e in
-          record { front = s.front; back = s.back; parts = s.parts; reached = ap need (sym g) ∙ omega (arith, s.reached); same = λ rest h. rw (s.same rest h) g; sooner = λ k h. rw (s.sooner k h) }
+          record { prefix = s.prefix; suffix = s.suffix; parts = s.parts; reached = ap need (sym g) ∙ omega (arith, s.reached); same = λ rest h. rw (s.same rest h) g; sooner = λ k h. rw (s.sooner k h) }
       go (Done count) f =
           let s : Shown room 0 one octets (Done count) = p octets (Done count) fits f tt in
           let g : next count (drop count octets) ≡ outcome = rw f at e in
@@ -143,6 +143,6 @@ module _ (room before : ℕ) (one : List ℕ → Outcome) (next : ℕ → List �
         where
           after_one : (count : ℕ) (s : Shown room 0 one octets (Done count)) → next count (drop count octets) ≡ outcome → Shown room before both octets outcome
           after_one count s g =
-              let n : length s.front ≡ count = omega (arith, s.reached) in
-              let h : next count s.back ≡ outcome = rw (s.parts, drop_at s.front s.back count n) at g in
-              Shown-both octets outcome count s (q count s.back outcome (omega (arith, length_parts octets room 0 s)) h d) fits
+              let n : length s.prefix ≡ count = omega (arith, s.reached) in
+              let h : next count s.suffix ≡ outcome = rw (s.parts, drop_at s.prefix s.suffix count n) at g in
+              Shown-both octets outcome count s (q count s.suffix outcome (omega (arith, length_parts octets room 0 s)) h d) fits

@@ -78,7 +78,7 @@ module _ (messages : List Term) (limit : ℕ) where
       b : ℕ
       b = suc (suc (suc (length (contents ++ rest))))
 
-  -- ---- what the frames are
+  -- ---- the frames
   -- the frames found are messages, one after another, and what is left after them is judged to be the end
   pub record IsParse (octets : List ℕ) (found : Frames) : Type 0 where
     pub tail : List ℕ

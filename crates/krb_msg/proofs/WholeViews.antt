@@ -1,4 +1,4 @@
--- What is viewed is what is judged whole.
+-- Octets have a view exactly if they are judged whole.
 use Rattle.std.proofs.Common.{◌≡◌, ℕ, ◌^◌, ◌<◌, true, List, [], length, refl, sym, ap, ◌∙◌, arith, append-nil}
 use Rattle.std.proofs.lemmas.List.{take_all}
 use Rattle.krb_der.specs.Octets.{item, AreOctets}
@@ -6,10 +6,10 @@ use Rattle.krb_der.specs.declared.verdict.Verdict.TheVariants as verdict
 use Rattle.krb_msg.specs.Term.{Term, tag_of, Value, der, Fits}
 use Rattle.krb_msg.specs.Shape.{is_unambiguous}
 use Rattle.krb_msg.specs.Judgement.{Outcome, Open, Bad, Done, item_outcome, verdict_of, term_judgement}
-use Rattle.krb_msg.specs.Reading.{value_read}
+use Rattle.krb_msg.specs.ValueOfDer.{value_of_der}
 use Rattle.krb_msg.specs.inner.Values.{contents, der_is}
 use Rattle.krb_msg.proofs.Laws.{IsWhole, IsWhole-done, item_outcome-der}
-use Rattle.krb_msg.proofs.Read.{value_is_read}
+use Rattle.krb_msg.proofs.ValueOfDer.{value_of_der_is_value}
 use Rattle.krb_msg.specs.Viewed.{IsNoItem, AreContents, AreNoContents, IsViewOf, IsNotWhole}
 
 -- ---- what is judged whole is the DER of a value
@@ -49,5 +49,5 @@ is_view_of term tag octets own value u small t i a =
           ∙ item_outcome-der term u value a.fits (omega (arith, n, small)) (length octets) true [] (omega (arith, n)) (λ s. sym n));
       fits = a.fits;
       form = sym f;
-      read = sym (ap (value_read term) f ∙ value_is_read term value u (omega (arith, n, small)));
+      read = sym (ap (value_of_der term) f ∙ value_of_der_is_value term value u (omega (arith, n, small)));
     }

@@ -114,7 +114,7 @@ a_wrong_version : frames (messages Lenient) 16777216 (hex (codes "0000001F 6F1D3
 unfolding frames
 a_wrong_version = refl
 
--- ---- the other messages of the grammar, and what they hold
+-- ---- the other messages of the grammar, and their parts
 abbrev ticket_octets : List ℕ
 ticket_octets = hex (codes "612B3029 A003020105 A1031B0141 A20E300CA003020102A10530031B0168 A30D300BA003020112A2040402BEEF")
 

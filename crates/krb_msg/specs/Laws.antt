@@ -1,4 +1,4 @@
--- What holds of all grammars, of all messages and of all octets. Each is the contract of a function of the module `law`.
+-- The laws of all grammars, of all messages and of all octets. Each is the contract of a function of the module `law`.
 use Rattle.std.specs.Prelude.{ℕ, suc, true, ◌≡◌, ◌^◌, ◌<◌, ◌≤◌, ◌↔◌, false, List, ◌++◌, length, take}
 use Rattle.krb_der.specs.Octets.{AreOctets}
 use Rattle.krb_der.specs.declared.profile.Profile.{Profile}
@@ -14,7 +14,7 @@ use Rattle.krb_msg.specs.Shape.{is_unambiguous, greatest_depth, IsOneOf, IsGramm
 use Rattle.krb_msg.specs.Notes.{notes_of, notes_have}
 use Rattle.krb_msg.specs.Grammar.{messages}
 use Rattle.krb_msg.specs.Judgement.{judgement_by, judgement, term_judgement}
-use Rattle.krb_msg.specs.Reading.{value_read, message_read}
+use Rattle.krb_msg.specs.ValueOfDer.{value_of_der, message_of_der}
 use Rattle.krb_msg.specs.Der.{IsDer}
 
 -- refused for a reason, at some place
@@ -26,13 +26,13 @@ IsRefusedFor reason verdict = (place : ℕ) × (verdict ≡ Refused (record { pl
 abbrev pub WholeIsValue : Type 0
 WholeIsValue = (term : Term) (octets : List ℕ) → AreOctets octets → term_judgement term (length octets) octets ≡ Whole → IsDer term octets
 
--- The DER of a value is judged whole as an item of its term, if tags tell the term's fields apart.
+-- The DER of a value is judged whole as an item of its term, if the term's fields are distinguished by their tags.
 abbrev pub ValueIsWhole : Type 0
 ValueIsWhole = (term : Term) (value : Value term) → is_unambiguous term ≡ true → Fits term value → length (der term value) < 2 ^ 31 → term_judgement term (length (der term value)) (der term value) ≡ Whole
 
--- What is read of the DER of a value is the value, if tags tell the term's fields apart.
-abbrev pub ValueIsRead : Type 0
-ValueIsRead = (term : Term) (value : Value term) → is_unambiguous term ≡ true → length (der term value) < 2 ^ 32 → value_read term (der term value) ≡ value
+-- The value of the DER of a value is that value, if the term's fields are distinguished by their tags.
+abbrev pub ValueOfDerIsValue : Type 0
+ValueOfDerIsValue = (term : Term) (value : Value term) → is_unambiguous term ≡ true → length (der term value) < 2 ^ 32 → value_of_der term (der term value) ≡ value
 
 -- No octets of an item are refused as Truncated.
 abbrev pub ItemIsNotTruncated : Type 0
@@ -50,7 +50,7 @@ pub record AreOneOf (messages : List Term) (n : ℕ) (octets : List ℕ) : Type 
 abbrev pub WholeIsOneOf : Type 0
 WholeIsOneOf = (messages : List Term) (n : ℕ) (octets : List ℕ) → AreOctets octets → length octets ≤ n → judgement_by messages n octets ≡ Whole → AreOneOf messages n octets
 
--- A refusal is at an octet that is there. It is the same whatever follows that octet, and without that octet nothing is decided.
+-- A refusal is at an octet that is present. It is the same whatever follows that octet, and without that octet nothing is decided.
 pub record IsFinal (messages : List Term) (n : ℕ) (octets : List ℕ) (place : ℕ) (reason : Why) : Type 0 where
   pub within : place < length octets
   pub same : (other : List ℕ) → length other ≤ n → take (suc place) other ≡ take (suc place) octets → judgement_by messages n other ≡ Refused (record { place = place; why = reason })
@@ -72,7 +72,7 @@ RefusalIsNotTruncated = (messages : List Term) (n : ℕ) (octets : List ℕ) →
 abbrev pub OneOfIsWhole : Type 0
 OneOfIsWhole = (messages : List Term) → IsGrammar messages → (term : Term) → IsOneOf term messages → (value : Value term) → Fits term value → length (der term value) < 2 ^ 31 → judgement_by messages (length (der term value)) (der term value) ≡ Whole
 
--- It is octets.
+-- The DER of such a value is octets.
 abbrev pub OneOfIsOctets : Type 0
 OneOfIsOctets = (messages : List Term) → IsGrammar messages → (term : Term) → IsOneOf term messages → (value : Value term) → Fits term value → length (der term value) < 2 ^ 31 → AreOctets (der term value)
 
@@ -87,12 +87,12 @@ SomeValue = (term : Term) × Value term
 abbrev pub AreSame : SomeValue → SomeValue → Type 0
 AreSame value other = value ≡ other
 
--- No DER of a value of one of the messages begins another's, and it tells the message and the value.
-abbrev pub OneOfTells : Type 0
-OneOfTells = (messages : List Term) → IsGrammar messages → (term other : Term) → IsOneOf term messages → IsOneOf other messages → (v : Value term) (w : Value other) (x y : List ℕ) → der term v ++ x ≡ der other w ++ y → AreSame (term, v) (other, w) × (x ≡ y)
+-- No DER of a value of one of the messages begins another's, and different values have different DER.
+abbrev pub OneOfIsPrefixFree : Type 0
+OneOfIsPrefixFree = (messages : List Term) → IsGrammar messages → (term other : Term) → IsOneOf term messages → IsOneOf other messages → (v : Value term) (w : Value other) (x y : List ℕ) → der term v ++ x ≡ der other w ++ y → AreSame (term, v) (other, w) × (x ≡ y)
 
 -- ---- the messages of a profile
--- They are a grammar.
+-- The messages of a profile are a grammar.
 abbrev pub MessagesAreGrammar : Type 0
 MessagesAreGrammar = (profile : Profile) → IsGrammar (messages profile)
 
@@ -115,9 +115,9 @@ WholeIsMessage = (profile : Profile) (n : ℕ) (octets : List ℕ) → n < 2 ^ 3
 abbrev pub MessageIsWhole : Type 0
 MessageIsWhole = (profile : Profile) (m : Message) → IsInProfile profile m → judgement profile (length (message_der m)) (message_der m) ≡ Whole
 
--- What is read of the DER of a message is the message.
-abbrev pub MessageIsRead : Type 0
-MessageIsRead = (profile : Profile) (m : Message) → IsInProfile profile m → message_read (message_der m) ≡ m
+-- The message of the DER of a message is that message.
+abbrev pub MessageOfDerIsMessage : Type 0
+MessageOfDerIsMessage = (profile : Profile) (m : Message) → IsInProfile profile m → message_of_der (message_der m) ≡ m
 
 -- No message of n octets begins with the octets up to and with one that is refused.
 abbrev pub RefusalIsRight : Type 0
@@ -143,6 +143,6 @@ LenientHasNoCharset = (n : ℕ) (octets : List ℕ) → AreOctets octets → IsR
 abbrev pub StrictIsLenient : Type 0
 StrictIsLenient = (n : ℕ) (octets : List ℕ) → n < 2 ^ 31 → AreOctets octets → length octets ≤ n → judgement Strict n octets ≡ Whole → judgement Lenient n octets ≡ Whole
 
--- The way back from the value of a message gives the message.
+-- A message comes back from its value.
 abbrev pub MessageRoundTrips : Type 0
 MessageRoundTrips = (m : Message) → message_of (kind_of m) (message_value m) ≡ m

@@ -6,7 +6,7 @@ pub mod Judgement
 pub mod Stream
 pub mod Views
 pub mod Realm
-pub mod Reading
+pub mod ValueOfDer
 pub mod Notes
 pub mod Laws
 pub mod Nodes
@@ -14,5 +14,5 @@ pub mod Table
 pub mod Examples
 pub mod Der
 pub mod Viewed
-pub mod Seen
+pub mod ViewValues
 pub mod inner

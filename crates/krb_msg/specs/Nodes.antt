@@ -19,7 +19,7 @@ own (Application number term) = Application number term ∷ own term
 own (Sequence fields) = Sequence fields ∷ fields_of fields
 own term = term ∷ []
 
--- the terms of a profile. The lists of addresses, of Tickets and of PA-DATA stand in fields that are OPTIONAL, but for the Tickets of a KRB-CRED
+-- the terms of a profile. The lists of addresses, of Tickets and of PA-DATA are in fields that are OPTIONAL, but for the Tickets of a KRB-CRED
 abbrev pub profile_nodes : Profile → List Term
 profile_nodes profile =
     map (profile_term profile false)

@@ -1,4 +1,4 @@
--- What of a message deserves a note. A note holds of a value if it holds of any part of it, Tickets inside included; the octets of an OCTET STRING are no part.
+-- The notes on a message. A note holds of a value if it holds of any part of it, Tickets inside included; the octets of an OCTET STRING are no part.
 use Rattle.std.specs.Prelude.{ℕ, ℤ, negsuc, ◌-◌, ◌*◌, Bool, true, false, ◌&&◌, ◌||◌, ◌==◌, nat_lt, List, [], length, Option, Some, None, if◌then◌else◌}
 use Rattle.std.specs.List.{list_any}
 use Rattle.krb_msg.specs.Term.{Term, Fields, Integer, Text, Octets, Time, Bits, Sequence, SequenceOf, Tagged, Application, End, Required, Optional, Value, Values}
@@ -28,7 +28,7 @@ abbrev pub number_has : Note → ℤ → Bool
 number_has Negative (negsuc number) = true
 number_has other number = false
 
--- a list is empty, which notes hold of if it is an OPTIONAL field: padata, addresses, additional-tickets
+-- a list is empty, which deserves a note if it is an OPTIONAL field: padata, addresses, additional-tickets
 abbrev pub list_has : {A : Type 0} → Note → List A → Bool
 list_has EmptyList [] = true
 list_has other values = false

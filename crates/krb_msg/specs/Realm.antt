@@ -5,7 +5,7 @@ use Rattle.krb_msg.specs.declared.message.Message.{Message}
 use Rattle.krb_msg.specs.declared.message.Message.TheVariants as message
 use Rattle.krb_msg.specs.Views.{message_der, IsInProfile}
 
--- of a request the realm that its body names (5.4.1), of its answer the client's (5.4.2), of an AP-REQ the ticket's (5.5.1), of an error that of the server (5.9.1); the other messages name none
+-- the realm in the body of a request (5.4.1), that of the client in a reply (5.4.2), that of the ticket in an AP-REQ (5.5.1), and that of the server in an error (5.9.1); the other messages have none
 abbrev pub realm_of : Message → Option (List ℕ)
 realm_of (message.AsReq m) = Some m.body.realm
 realm_of (message.AsRep m) = Some m.crealm

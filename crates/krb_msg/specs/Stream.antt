@@ -6,7 +6,7 @@ use Rattle.krb_der.specs.declared.why.Why.TheVariants as why
 use Rattle.krb_msg.specs.Term.{Term}
 use Rattle.krb_msg.specs.Judgement.{Outcome, Open, Bad, Done, message_outcome}
 
--- how a stream ends: between frames, within one of which a number of octets are there, or refused
+-- how a stream ends: between frames, within a frame of which a number of octets are present, or refused
 pub data End : Type 0 where
   Boundary : End
   Within : (present : ℕ) → End
@@ -23,13 +23,13 @@ ends end = record { contents = []; end = end }
 abbrev pub with_first : List ℕ → Frames → Frames
 with_first first frames = record { contents = first ∷ frames.contents; end = frames.end }
 
--- a frame's contents: what is present, its outcome, and the frames after it
+-- the frames that begin with a frame's contents, by their outcome, the octets present and the frames after them
 abbrev pub frame_and : Outcome → List ℕ → Frames → Frames
 frame_and Open present rest = ends (Within (4 + length present))
 frame_and (Bad offset reason) present rest = ends (Refused (4 + offset) reason)
 frame_and (Done count) present rest = with_first present rest
 
--- after a length that is accepted
+-- the frames that begin after a length that is accepted
 abbrev pub frame_of : List Term → ℕ → List ℕ → (List ℕ → Frames) → Frames
 frame_of messages n octets frames = frame_and (message_outcome messages n (take n octets)) (take n octets) (frames (drop n octets))
 
@@ -40,7 +40,7 @@ length_and messages limit n octets frames =
     else if n == 0 then ends (Refused 3 why.Empty)
     else frame_of messages n octets frames
 
--- the first number bounds how many frames there are
+-- the first number is a bound on how many frames there are
 abbrev pub frames_within : ℕ → List Term → ℕ → List ℕ → Frames
 frames_within bound messages limit [] = ends Boundary
 frames_within zero messages limit octets = ends (Within (length octets))

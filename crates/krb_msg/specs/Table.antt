@@ -1,4 +1,4 @@
--- What the table of the grammar says of the terms. The terms of a table are a list, in the order of its rows.
+-- The rows of the table of the grammar, each as that of a term. The terms of a table are a list, in the order of its rows.
 use Rattle.std.specs.Prelude.{ℕ, ◌≡◌, ◌<◌, ◌≤◌, true, List, [], ◌∷◌, length, max, Option, Some, None}
 use Rattle.std.specs.List.{AllByRecursion}
 use Rattle.krb_der.specs.Octets.{integer_octets}
@@ -48,13 +48,13 @@ pub record IsRowOf (terms : List Term) (row : Node) (term : Term) : Type 0 where
   pub same_tag : row.tag ≡ tag_of term
   pub same_form : IsFormOf terms row.form term
 
--- the rows of a table are those of terms, the ones from a place on of the list that the rows name theirs in
+-- the rows of a table are those of terms, from an index on of the list in which the rows name terms
 abbrev pub RowsAre : List Term → List Node → List Term → Type 0
 RowsAre terms [] [] = Unit {0}
 RowsAre terms (row ∷ rows) (term ∷ others) = IsRowOf terms row term × RowsAre terms rows others
 RowsAre terms rows others = ⊥
 
--- the node of the message that a tag octet chooses among these, if it chooses one
+-- the node of the message that an identifier octet chooses among these, if it chooses one
 abbrev pub IsMessageOf : List Term → ℕ → Option ℕ → Type 0
 IsMessageOf messages tag None = (room : ℕ) (octets : List ℕ) → message_outcome messages room (tag ∷ octets) ≡ Bad 0 why.Tag
 IsMessageOf messages tag (Some node) = IsNode node × ((room : ℕ) (octets : List ℕ) → message_outcome messages room (tag ∷ octets) ≡ item_outcome (term_at node) room true (tag ∷ octets))

@@ -1,15 +1,15 @@
--- What octets are viewed as.
+-- Octets that a view is of: an item, its contents octets, fields, an INTEGER and lists.
 use Rattle.std.specs.Prelude.{⊤, Bool, ℕ, ℤ, ◌^◌, ◌<◌, ◌≡◌, ◌≤ℤ◌, true, false, List, ◌∷◌, ◌++◌, length, Option, Some, None}
 use Rattle.std.specs.List.{AllByRecursion, flat_map}
 use Rattle.krb_der.specs.Octets.{item, length_octets, integer_octets}
 use Rattle.krb_msg.specs.Term.{Term, Fields, tag_of, Value, Values, der, der_of_fields, Fits, AllFit}
 use Rattle.krb_msg.specs.Grammar.{sequence_of}
-use Rattle.krb_msg.specs.Reading.{begins_with, value_of, value_read}
+use Rattle.krb_msg.specs.ValueOfDer.{begins_with, value_of, value_of_der}
 use Rattle.krb_msg.specs.Judgement.{term_judgement}
 use Rattle.krb_der.specs.declared.verdict.Verdict.TheVariants as verdict
 
--- ---- heads
--- no item of a tag stands first
+-- ---- identifier and length octets
+-- the octets do not begin with an item of a tag
 abbrev pub HasNoItem : ℕ → List ℕ → Type 0
 HasNoItem tag octets = (contents rest : List ℕ) → octets ≡ item tag contents ++ rest → ⊥
 
@@ -17,7 +17,7 @@ HasNoItem tag octets = (contents rest : List ℕ) → octets ≡ item tag conten
 abbrev pub IsNoItem : ℕ → List ℕ → Type 0
 IsNoItem tag octets = (contents : List ℕ) → octets ≡ item tag contents → ⊥
 
--- no length of fewer than 2147483648 octets stands first
+-- the octets do not begin with the length octets of fewer than 2147483648 contents octets
 abbrev pub HasNoLength : List ℕ → Type 0
 HasNoLength octets = (size : ℕ) (rest : List ℕ) → size < 2 ^ 31 → octets ≡ length_octets size ++ rest → ⊥
 
@@ -27,7 +27,7 @@ pub record AreContents (term : Term) (octets : List ℕ) (value : Value term) : 
   pub fits : Fits term value
   pub form : item (tag_of term) octets ≡ der term value
 
--- they are those of no value
+-- they are contents octets of no value
 abbrev pub AreNoContents : Term → List ℕ → Type 0
 AreNoContents term octets = (value : Value term) → AreContents term octets value → ⊥
 
@@ -40,23 +40,23 @@ pub record AreFields (fields : Fields) (octets : List ℕ) (values : Values fiel
 abbrev pub AreNoFields : Fields → List ℕ → Type 0
 AreNoFields fields octets = (values : Values fields) → AreFields fields octets values → ⊥
 
--- the DER of a value that fits stands first
-pub record StandsFirst (term : Term) (octets : List ℕ) (value : Value term) (rest : List ℕ) : Type 0 where
+-- the octets begin with the DER of a value that fits
+pub record BeginsWithValue (term : Term) (octets : List ℕ) (value : Value term) (rest : List ℕ) : Type 0 where
   pub fits : Fits term value
   pub form : octets ≡ der term value ++ rest
 
-abbrev pub NoneStandsFirst : Term → List ℕ → Type 0
-NoneStandsFirst term octets = (value : Value term) (rest : List ℕ) → StandsFirst term octets value rest → ⊥
+abbrev pub BeginsWithNoValue : Term → List ℕ → Type 0
+BeginsWithNoValue term octets = (value : Value term) (rest : List ℕ) → BeginsWithValue term octets value rest → ⊥
 
--- a field that may be left out stands first, or another tag or none does
-abbrev pub MayStandFirst : (term : Term) → List ℕ → Option (Value term) → List ℕ → Type 0
-MayStandFirst term octets None rest = (rest ≡ octets) × (begins_with (tag_of term) octets ≡ false)
-MayStandFirst term octets (Some value) rest = StandsFirst term octets value rest
+-- the octets begin with an OPTIONAL field, or with another tag, or with nothing
+abbrev pub MayBeginWithValue : (term : Term) → List ℕ → Option (Value term) → List ℕ → Type 0
+MayBeginWithValue term octets None rest = (rest ≡ octets) × (begins_with (tag_of term) octets ≡ false)
+MayBeginWithValue term octets (Some value) rest = BeginsWithValue term octets value rest
 
--- its tag stands first, and no value of it
-pub record IsSpoiled (term : Term) (octets : List ℕ) : Type 0 where
+-- the octets begin with the tag of a field, and with no value of it
+pub record IsMalformedField (term : Term) (octets : List ℕ) : Type 0 where
   pub tag : begins_with (tag_of term) octets ≡ true
-  pub none : NoneStandsFirst term octets
+  pub none : BeginsWithNoValue term octets
 
 -- ---- an INTEGER
 -- contents of a number in a range
@@ -75,7 +75,7 @@ pub record AreItems (term : Term) (octets : List ℕ) : Type 0 where
   pub fit : AllByRecursion (Fits term) values
   pub form : octets ≡ flat_map (der term) values
 
--- their values, as they are read
+-- their values
 abbrev pub items_of : (term : Term) → List ℕ → List (Value term)
 items_of term octets = value_of (sequence_of term) octets
 
@@ -90,24 +90,24 @@ pub record IsFirstItem (term : Term) (octets : List ℕ) (value : Value term) (r
   pub viewed : AreViewed term rest
   pub shorter : length rest < length octets
 
--- one fact if a test passes, and another if it does not
+-- one fact if a test passes, and another one if it does not
 abbrev pub IfElse : Bool → Type 0 → Type 0 → Type 0
 IfElse true passed failed = passed
 IfElse false passed failed = failed
 
 -- ---- an item that octets are
--- the octets are judged whole, and are the DER of the value, which is what is read of them
+-- the octets are judged whole, and are the DER of the value, which is their value
 pub record IsViewOf (term : Term) (octets : List ℕ) (value : Value term) : Type 0 where
   pub whole : term_judgement term (length octets) octets ≡ verdict.Whole
   pub fits : Fits term value
   pub form : der term value ≡ octets
-  pub read : value ≡ value_read term octets
+  pub read : value ≡ value_of_der term octets
 
 -- they are not judged whole
 abbrev pub IsNotWhole : Term → List ℕ → Type 0
 IsNotWhole term octets = term_judgement term (length octets) octets ≡ verdict.Whole → ⊥
 
--- what holds of the value of an option, if there is one
+-- a fact of the value of an option, if there is one
 abbrev pub OfSome : {A : Type 0} → (A → Type 0) → Option A → Type 0
 OfSome P None = ⊤
 OfSome P (Some a) = P a

@@ -1,6 +1,6 @@
 pub mod Values
-pub mod Told
-pub mod MessageTold
+pub mod PrefixFree
+pub mod MessagePrefixFree
 pub mod RoundTrips
 pub mod Fitting
 pub mod Copies

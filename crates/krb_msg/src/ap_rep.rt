@@ -4,13 +4,13 @@ ghost use Rattle.std.specs.Prelude.{◌≡◌, refl, ◌^◌, ◌<◌, true, len
 ghost use Rattle.krb_msg.specs.Term.{der, Fits, tag_of};
 ghost use Rattle.krb_msg.specs.Grammar.{ap_rep};
 ghost use Rattle.krb_msg.specs.Views.{ap_rep_value, ap_rep_of};
-ghost use Rattle.krb_msg.specs.inner.Told.{begins, told};
-ghost use Rattle.krb_msg.specs.Seen.{ApRepLists, ap_rep_view_value};
+ghost use Rattle.krb_msg.specs.inner.PrefixFree.{begins, type_is_prefix_free};
+ghost use Rattle.krb_msg.specs.ViewValues.{ApRepLists, ap_rep_view_value};
 ghost use Rattle.krb_msg.specs.Viewed.{AreContents, AreNoContents};
 
 use crate::encrypted_data::{EncryptedData, EncryptedDataView};
 use crate::fields::{
-    Application, Borrowed, Encode, End, Fixed, Held, Owned, Required, Sequence, View,
+    Application, Borrowed, Encode, End, FieldOf, Fixed, Owned, Required, Sequence, View,
 };
 use crate::item::Item;
 use krb_der::Der;
@@ -23,7 +23,7 @@ pub struct ApRep {
     pub enc_part: EncryptedData,
 }
 
-/// A view of an AP-REP, whose strings and lists stay where they stand.
+/// A view of an AP-REP: its strings and lists are borrowed from the octets.
 #[derive(Clone, Copy)]
 pub struct ApRepView<'a> {
     /// The sealed EncAPRepPart.
@@ -33,7 +33,7 @@ pub struct ApRepView<'a> {
 /// Its fields.
 type Layout<H> = Application<
     15,
-    Sequence<Fixed<0, 5, Fixed<1, 15, Required<2, Held<H, EncryptedData>, End>>>>,
+    Sequence<Fixed<0, 5, Fixed<1, 15, Required<2, FieldOf<H, EncryptedData>, End>>>>,
 >;
 
 impl ApRep {
@@ -60,7 +60,7 @@ impl Der for ApRep {
 
     ghost begins = { begins ap_rep ap_rep_value };
 
-    ghost prefix_free = { told ap_rep refl ap_rep_value ap_rep_of (λ it. refl) };
+    ghost prefix_free = { type_is_prefix_free ap_rep refl ap_rep_value ap_rep_of (λ it. refl) };
 }
 
 impl Item for ApRep {
@@ -73,11 +73,11 @@ impl Item for ApRep {
     ghost fits = { λ it fits. fits };
 }
 
-/// What is seen of its fields.
+/// The views of its fields.
 type Seen<'a> = (EncryptedDataView<'a>, ());
 
 impl<'a> ApRepView<'a> {
-    /// Returns the view of the fields that are seen.
+    /// Returns the view by the views of the fields.
     #[inline(always)]
     fn of_fields(seen: &Seen<'a>) -> ApRepView<'a>
         ensures value { ap_rep_view_value result ≡ ⟦<Layout<Owned> as View<'static>>⟧.value seen.now }

@@ -4,13 +4,13 @@ ghost use Rattle.std.specs.Prelude.{◌≡◌, refl, ◌^◌, ◌<◌, true, len
 ghost use Rattle.krb_msg.specs.Term.{der, Fits, tag_of};
 ghost use Rattle.krb_msg.specs.Grammar.{ap_req};
 ghost use Rattle.krb_msg.specs.Views.{ap_req_value, ap_req_of};
-ghost use Rattle.krb_msg.specs.inner.Told.{begins, told};
-ghost use Rattle.krb_msg.specs.Seen.{ap_req_view_value, ApReqLists};
+ghost use Rattle.krb_msg.specs.inner.PrefixFree.{begins, type_is_prefix_free};
+ghost use Rattle.krb_msg.specs.ViewValues.{ap_req_view_value, ApReqLists};
 ghost use Rattle.krb_msg.specs.Viewed.{AreContents, AreNoContents};
 
 use crate::encrypted_data::{EncryptedData, EncryptedDataView};
 use crate::fields::{
-    Application, Borrowed, Encode, End, Fixed, Held, Owned, Required, Sequence, View,
+    Application, Borrowed, Encode, End, FieldOf, Fixed, Owned, Required, Sequence, View,
 };
 use crate::item::Item;
 use crate::ticket::{Ticket, TicketView};
@@ -29,7 +29,7 @@ pub struct ApReq {
     pub authenticator: EncryptedData,
 }
 
-/// A view of an AP-REQ, whose strings and lists stay where they stand.
+/// A view of an AP-REQ: its strings and lists are borrowed from the octets.
 #[derive(Clone, Copy)]
 pub struct ApReqView<'a> {
     /// APOptions.
@@ -52,8 +52,8 @@ type Layout<H> = Application<
                 14,
                 Required<
                     2,
-                    Held<H, Flags>,
-                    Required<3, Held<H, Ticket>, Required<4, Held<H, EncryptedData>, End>>,
+                    FieldOf<H, Flags>,
+                    Required<3, FieldOf<H, Ticket>, Required<4, FieldOf<H, EncryptedData>, End>>,
                 >,
             >,
         >,
@@ -87,7 +87,7 @@ impl Der for ApReq {
 
     ghost begins = { begins ap_req ap_req_value };
 
-    ghost prefix_free = { told ap_req refl ap_req_value ap_req_of (λ it. refl) };
+    ghost prefix_free = { type_is_prefix_free ap_req refl ap_req_value ap_req_of (λ it. refl) };
 }
 
 impl Item for ApReq {
@@ -100,11 +100,11 @@ impl Item for ApReq {
     ghost fits = { λ it fits. fits };
 }
 
-/// What is seen of its fields.
+/// The views of its fields.
 type Seen<'a> = (FlagsView<'a>, (TicketView<'a>, (EncryptedDataView<'a>, ())));
 
 impl<'a> ApReqView<'a> {
-    /// Returns the view of the fields that are seen.
+    /// Returns the view by the views of the fields.
     #[inline(always)]
     fn of_fields(seen: &Seen<'a>) -> ApReqView<'a>
         ensures value { ap_req_view_value result ≡ ⟦<Layout<Owned> as View<'static>>⟧.value seen.now }

@@ -4,11 +4,11 @@ ghost use Rattle.std.specs.Prelude.{◌≡◌, refl, ◌^◌, ◌<◌, true, len
 ghost use Rattle.krb_msg.specs.Term.{der, Fits, tag_of};
 ghost use Rattle.krb_msg.specs.Grammar.{checksum as checksum_term};
 ghost use Rattle.krb_msg.specs.Views.{checksum_value, checksum_of};
-ghost use Rattle.krb_msg.specs.inner.Told.{begins, told};
-ghost use Rattle.krb_msg.specs.Seen.{ChecksumLists, checksum_view_value};
+ghost use Rattle.krb_msg.specs.inner.PrefixFree.{begins, type_is_prefix_free};
+ghost use Rattle.krb_msg.specs.ViewValues.{ChecksumLists, checksum_view_value};
 ghost use Rattle.krb_msg.specs.Viewed.{AreContents, AreNoContents};
 
-use crate::fields::{Borrowed, Encode, End, Held, Owned, Required, Sequence, View};
+use crate::fields::{Borrowed, Encode, End, FieldOf, Owned, Required, Sequence, View};
 use crate::item::Item;
 use krb_der::{Der, Int32, Octets};
 
@@ -21,7 +21,7 @@ pub struct Checksum {
     pub checksum: Octets,
 }
 
-/// A view of a Checksum, whose strings and lists stay where they stand.
+/// A view of a Checksum: its strings and lists are borrowed from the octets.
 #[derive(Clone, Copy)]
 pub struct ChecksumView<'a> {
     /// How it is made.
@@ -31,7 +31,7 @@ pub struct ChecksumView<'a> {
 }
 
 /// Its fields.
-type Layout<H> = Sequence<Required<0, Held<H, Int32>, Required<1, Held<H, Octets>, End>>>;
+type Layout<H> = Sequence<Required<0, FieldOf<H, Int32>, Required<1, FieldOf<H, Octets>, End>>>;
 
 impl Checksum {
     /// Returns the fields, borrowed.
@@ -57,7 +57,7 @@ impl Der for Checksum {
 
     ghost begins = { begins checksum_term checksum_value };
 
-    ghost prefix_free = { told checksum_term refl checksum_value checksum_of (λ it. refl) };
+    ghost prefix_free = { type_is_prefix_free checksum_term refl checksum_value checksum_of (λ it. refl) };
 }
 
 impl Item for Checksum {

@@ -16,7 +16,7 @@ pub fn is_padded(octets: &[u8]) -> bool
     }
 }
 
-/// Returns whether an octet may stand at a place of a KerberosTime, 0 to 14: a digit, and at the
+/// Returns whether an octet may be at an index of a KerberosTime, 0 to 14: a digit, and at the
 /// last a Z (RFC 4120, 5.2.3).
 #[inline(always)]
 pub fn is_time_octet(place: usize, octet: u8) -> bool

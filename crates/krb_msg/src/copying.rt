@@ -18,10 +18,10 @@ use std::alloc::Global;
 
 /// A type whose values are copied out of views of them.
 pub trait FromView<'a>: View<'a> + Drop {
-    /// The value that is seen.
+    /// The value of the view.
     ghost copied: { Self.Of → Self };
 
-    /// Returns the value that is seen. Nothing is judged again, and each string of octets is copied
+    /// Returns the value of the view. Nothing is judged again, and each string of octets is copied
     /// once.
     fn from_view(alloc: Global, seen: &Self::Of) -> Result<Self, Memory>
         requires fits { Fits Self.View.term (Self.View.value seen.now) }

@@ -7,7 +7,7 @@ ghost use Rattle.krb_der.specs.declared.profile.Profile.TheVariants.{Lenient};
 ghost use Rattle.krb_msg.specs.Term.{Fits};
 ghost use Rattle.krb_msg.specs.Views.{kind_of, kind_term, message_value, message_der, IsInProfile};
 ghost use Rattle.krb_msg.specs.inner.Fitting.{IsSized};
-ghost use Rattle.krb_msg.specs.inner.MessageTold.{message_begins, der_is_prefix_free};
+ghost use Rattle.krb_msg.specs.inner.MessagePrefixFree.{message_begins, der_is_prefix_free};
 ghost use Rattle.krb_msg.specs.declared.encoding.EncodeFault.TheVariants.{Memory};
 
 use crate::message::Message;
@@ -49,11 +49,11 @@ pub fn size(message: &Message) -> Option<u32>
 }
 
 /// Returns the DER octets of a message, in a vector of exactly that capacity. `TooLong` is decided
-/// first; then memory is taken once.
+/// first; then memory is allocated once.
 pub fn encode(alloc: Global, message: &Message) -> Result<Vec<u8>, EncodeFault>
     ensures octets { IfOk result (λ octets. octets.items ≡ message_der message.now) }
     ensures in_profile { IfOk result (λ _. IsInProfile Lenient message.now) }
-    ensures room { IfOk result (λ octets. vec_capacity octets ≡ vec_len octets) }
+    ensures capacity { IfOk result (λ octets. vec_capacity octets ≡ vec_len octets) }
     ensures too_long { IsErrOf result EncodeFault.TooLong ↔ (2147483647 < length (message_der message.now)) }
 {
     let Some(size) = size(message) else {
@@ -81,11 +81,11 @@ fn octets_of(message: &Message) -> u64
     }
 }
 
-/// Appends the DER octets of a message, at most 2147483647 of them, into room that is there. It
-/// takes no memory.
+/// Appends the DER octets of a message, at most 2147483647 of them, within the vector's
+/// capacity. It allocates nothing.
 pub fn put(message: &Message, out: &mut Vec<u8>)
     requires short { length (message_der message.now) ≤ 2147483647 }
-    requires room { vec_len out.old + length (message_der message.now) ≤ vec_capacity out.old }
+    requires capacity { vec_len out.old + length (message_der message.now) ≤ vec_capacity out.old }
     ensures { Puts (message_der message.now) out.old out.new }
 {
     match message {

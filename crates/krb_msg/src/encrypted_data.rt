@@ -4,11 +4,11 @@ ghost use Rattle.std.specs.Prelude.{◌≡◌, refl, ◌^◌, ◌<◌, true, len
 ghost use Rattle.krb_msg.specs.Term.{der, Fits, tag_of};
 ghost use Rattle.krb_msg.specs.Grammar.{encrypted_data};
 ghost use Rattle.krb_msg.specs.Views.{encrypted_data_value, encrypted_data_of};
-ghost use Rattle.krb_msg.specs.inner.Told.{begins, told};
-ghost use Rattle.krb_msg.specs.Seen.{EncryptedDataLists, encrypted_data_view_value};
+ghost use Rattle.krb_msg.specs.inner.PrefixFree.{begins, type_is_prefix_free};
+ghost use Rattle.krb_msg.specs.ViewValues.{EncryptedDataLists, encrypted_data_view_value};
 ghost use Rattle.krb_msg.specs.Viewed.{AreContents, AreNoContents};
 
-use crate::fields::{Borrowed, Encode, End, Held, Optional, Owned, Required, Sequence, View};
+use crate::fields::{Borrowed, Encode, End, FieldOf, Optional, Owned, Required, Sequence, View};
 use crate::item::Item;
 use krb_der::{Der, Int32, Octets, Wide32};
 
@@ -23,7 +23,7 @@ pub struct EncryptedData {
     pub cipher: Octets,
 }
 
-/// A view of an EncryptedData, whose strings and lists stay where they stand.
+/// A view of an EncryptedData: its strings and lists are borrowed from the octets.
 #[derive(Clone, Copy)]
 pub struct EncryptedDataView<'a> {
     /// The encryption type (RFC 3961), of which none is refused.
@@ -36,7 +36,11 @@ pub struct EncryptedDataView<'a> {
 
 /// Its fields.
 type Layout<H> = Sequence<
-    Required<0, Held<H, Int32>, Optional<1, Held<H, Wide32>, Required<2, Held<H, Octets>, End>>>,
+    Required<
+        0,
+        FieldOf<H, Int32>,
+        Optional<1, FieldOf<H, Wide32>, Required<2, FieldOf<H, Octets>, End>>,
+    >,
 >;
 
 impl EncryptedData {
@@ -66,7 +70,7 @@ impl Der for EncryptedData {
 
     ghost begins = { begins encrypted_data encrypted_data_value };
 
-    ghost prefix_free = { told encrypted_data refl encrypted_data_value encrypted_data_of (λ it. refl) };
+    ghost prefix_free = { type_is_prefix_free encrypted_data refl encrypted_data_value encrypted_data_of (λ it. refl) };
 }
 
 impl Item for EncryptedData {

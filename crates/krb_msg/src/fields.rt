@@ -39,13 +39,13 @@ pub struct Sequence<F>(pub F);
 pub struct Application<const NUMBER: u8, E>(pub E);
 
 /// How a list of fields holds their values: as [`Owned`] or [`Borrowed`] does.
-pub trait Hold<T> {
+pub trait FieldHolder<T> {
     /// What holds a value.
     type Of;
 }
 
 /// What holds a value of `T` in a list of fields.
-pub type Held<H, T> = <H as Hold<T>>::Of;
+pub type FieldOf<H, T> = <H as FieldHolder<T>>::Of;
 
 /// Each value itself. A list of fields is viewed by the types of its values, and holds none.
 pub struct Owned;
@@ -53,10 +53,10 @@ pub struct Owned;
 /// Each value borrowed, as a list of fields is encoded.
 pub struct Borrowed<'a>(PhantomData<&'a u8>);
 
-impl<T> Hold<T> for Owned {
+impl<T> FieldHolder<T> for Owned {
     type Of = T;
 }
 
-impl<'a, T: 'a> Hold<T> for Borrowed<'a> {
+impl<'a, T: 'a> FieldHolder<T> for Borrowed<'a> {
     type Of = &'a T;
 }

@@ -194,10 +194,10 @@ pub enum Form {
     Fields { fields: &'static [Slot] },
 }
 
-/// A term of the grammar: its tag octet and what its contents are.
+/// A term of the grammar: its identifier octet and what its contents are.
 #[derive(Clone, Copy)]
 pub struct Node {
-    /// The tag octet.
+    /// The identifier octet.
     pub tag: u8,
     /// The contents.
     pub form: Form,
@@ -459,7 +459,7 @@ pub fn tables()
     ensures strict { map term_at STRICT ≡ messages Profile.Strict }
 {}
 
-/// Returns the rows of [`GRAMMAR`]: each is that of the term at its place.
+/// Returns the rows of [`GRAMMAR`]: each is that of the term at its index.
 #[inline(always)]
 pub fn rows() -> &'static [Node]
     ensures { RowsAre nodes result.now nodes }
@@ -486,7 +486,7 @@ pub fn row_at(node: u16) -> Node
     row_in(rows(), node)
 }
 
-/// Returns the tag octet of a node's term.
+/// Returns the identifier octet of a node's term.
 pub fn tag_of(node: u16) -> u8
     requires { IsNode node }
     ensures { result ≡ term_tag (term_at node) }
@@ -502,7 +502,7 @@ pub fn form_of(node: u16) -> Form
     row_at(node).form
 }
 
-/// Returns the node of the message of a profile that begins with a tag octet.
+/// Returns the node of the message of a profile that begins with an identifier octet.
 pub fn message_of(profile: Profile, tag: u8) -> Option<u16>
     ensures { IsMessageOf (messages profile) tag result }
 {
@@ -512,7 +512,7 @@ pub fn message_of(profile: Profile, tag: u8) -> Option<u16>
     }
 }
 
-/// Returns the node of the message that begins with a tag octet, of those of some nodes.
+/// Returns the node of the message that begins with an identifier octet, of those of some nodes.
 fn message_among(chosen: &[u16], tag: u8) -> Option<u16>
     requires { AllByRecursion IsNode chosen.now }
     ensures { IsMessageOf (map term_at chosen.now) tag result }

@@ -4,11 +4,11 @@ ghost use Rattle.std.specs.Prelude.{◌≡◌, refl, ◌^◌, ◌<◌, true, len
 ghost use Rattle.krb_msg.specs.Term.{der, Fits, tag_of};
 ghost use Rattle.krb_msg.specs.Grammar.{host_address};
 ghost use Rattle.krb_msg.specs.Views.{host_address_value, host_address_of};
-ghost use Rattle.krb_msg.specs.inner.Told.{begins, told};
-ghost use Rattle.krb_msg.specs.Seen.{HostAddressLists, host_address_view_value};
+ghost use Rattle.krb_msg.specs.inner.PrefixFree.{begins, type_is_prefix_free};
+ghost use Rattle.krb_msg.specs.ViewValues.{HostAddressLists, host_address_view_value};
 ghost use Rattle.krb_msg.specs.Viewed.{AreContents, AreNoContents};
 
-use crate::fields::{Borrowed, Encode, End, Held, Owned, Required, Sequence, View};
+use crate::fields::{Borrowed, Encode, End, FieldOf, Owned, Required, Sequence, View};
 use crate::item::Item;
 use krb_der::{Der, Int32, Octets};
 
@@ -21,7 +21,7 @@ pub struct HostAddress {
     pub address: Octets,
 }
 
-/// A view of a HostAddress, whose strings and lists stay where they stand.
+/// A view of a HostAddress: its strings and lists are borrowed from the octets.
 #[derive(Clone, Copy)]
 pub struct HostAddressView<'a> {
     /// What kind of address it is (7.5.3).
@@ -31,7 +31,7 @@ pub struct HostAddressView<'a> {
 }
 
 /// Its fields.
-type Layout<H> = Sequence<Required<0, Held<H, Int32>, Required<1, Held<H, Octets>, End>>>;
+type Layout<H> = Sequence<Required<0, FieldOf<H, Int32>, Required<1, FieldOf<H, Octets>, End>>>;
 
 impl HostAddress {
     /// Returns the fields, borrowed.
@@ -57,7 +57,7 @@ impl Der for HostAddress {
 
     ghost begins = { begins host_address host_address_value };
 
-    ghost prefix_free = { told host_address refl host_address_value host_address_of (λ it. refl) };
+    ghost prefix_free = { type_is_prefix_free host_address refl host_address_value host_address_of (λ it. refl) };
 }
 
 impl Item for HostAddress {

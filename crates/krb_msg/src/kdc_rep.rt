@@ -8,12 +8,12 @@ ghost use Rattle.krb_msg.specs.Term.{Application as ApplicationTerm, der};
 ghost use Rattle.krb_msg.specs.Grammar.{kdc_rep};
 ghost use Rattle.krb_msg.specs.inner.Fitting.{IsSized};
 ghost use Rattle.krb_msg.specs.Views.{kdc_rep_value};
-ghost use Rattle.krb_msg.specs.Seen.{kdc_rep_view_value, KdcRepLists};
+ghost use Rattle.krb_msg.specs.ViewValues.{kdc_rep_view_value, KdcRepLists};
 ghost use Rattle.krb_msg.specs.Viewed.{IsNotWhole, IsViewOf};
 
 use crate::encrypted_data::{EncryptedData, EncryptedDataView};
 use crate::fields::{
-    Application, Borrowed, Encode, End, Fixed, Held, Optional, Owned, Required, Sequence, View,
+    Application, Borrowed, Encode, End, FieldOf, Fixed, Optional, Owned, Required, Sequence, View,
 };
 use crate::pa_data::PaData;
 use crate::principal_name::{PrincipalName, PrincipalNameView};
@@ -22,7 +22,7 @@ use crate::view::items::ItemsView;
 use crate::view::view_whole;
 use krb_der::{KString, Many};
 
-/// What a KDC answers (RFC 4120, 5.4.2): the contents of an AS-REP or a TGS-REP. Their version and
+/// The reply of a KDC (RFC 4120, 5.4.2): the contents of an AS-REP or a TGS-REP. Their version and
 /// their message type are fixed, and so not kept; so a KDC-REP has octets only as one or the other.
 #[derive(PartialEq, Eq, Debug, Drop)]
 pub struct KdcRep {
@@ -38,7 +38,7 @@ pub struct KdcRep {
     pub enc_part: EncryptedData,
 }
 
-/// A view of a KDC-REP, whose strings and lists stay where they stand.
+/// A view of a KDC-REP: its strings and lists are borrowed from the octets.
 #[derive(Clone, Copy)]
 pub struct KdcRepView<'a> {
     /// Pre-authentication data, if there is some.
@@ -65,14 +65,18 @@ type Layout<H, const N: u8> = Application<
                 N,
                 Optional<
                     2,
-                    Held<H, Many<PaData>>,
+                    FieldOf<H, Many<PaData>>,
                     Required<
                         3,
-                        Held<H, KString>,
+                        FieldOf<H, KString>,
                         Required<
                             4,
-                            Held<H, PrincipalName>,
-                            Required<5, Held<H, Ticket>, Required<6, Held<H, EncryptedData>, End>>,
+                            FieldOf<H, PrincipalName>,
+                            Required<
+                                5,
+                                FieldOf<H, Ticket>,
+                                Required<6, FieldOf<H, EncryptedData>, End>,
+                            >,
                         >,
                     >,
                 >,
@@ -106,12 +110,12 @@ impl KdcRep {
         self.layout::<N>().size()
     }
 
-    /// Appends the DER octets in a message, at most 2147483647 of them, into room that is there. It
-    /// takes no memory.
+    /// Appends the DER octets in a message, at most 2147483647 of them, within the vector's
+    /// capacity. It allocates nothing.
     pub(crate) fn put<const N: u8>(&self, out: &mut Vec<u8>)
         requires tags { has_octet_tags (ApplicationTerm N (kdc_rep N)) ≡ true }
         requires short { length (der (ApplicationTerm N (kdc_rep N)) (kdc_rep_value N self.now)) ≤ 2147483647 }
-        requires room { vec_len out.old + length (der (ApplicationTerm N (kdc_rep N)) (kdc_rep_value N self.now)) ≤ vec_capacity out.old }
+        requires capacity { vec_len out.old + length (der (ApplicationTerm N (kdc_rep N)) (kdc_rep_value N self.now)) ≤ vec_capacity out.old }
         ensures { Puts (der (ApplicationTerm N (kdc_rep N)) (kdc_rep_value N self.now)) out.old out.new }
     {
         self.layout::<N>().put(out);
@@ -131,7 +135,7 @@ impl KdcRep {
     }
 }
 
-/// What is seen of its fields.
+/// The views of its fields.
 type Seen<'a> = (
     Option<ItemsView<'a>>,
     (
@@ -144,7 +148,7 @@ type Seen<'a> = (
 );
 
 impl<'a> KdcRepView<'a> {
-    /// Returns the view of the fields that are seen.
+    /// Returns the view by the views of the fields.
     #[inline(always)]
     fn of_fields<const N: u8>(seen: &Seen<'a>) -> KdcRepView<'a>
         ensures value { kdc_rep_view_value N result ≡ ⟦<Layout<Owned, N> as View<'static>>⟧.value seen.now }

@@ -8,11 +8,11 @@ ghost use Rattle.krb_msg.specs.Term.{Application as ApplicationTerm, der};
 ghost use Rattle.krb_msg.specs.Grammar.{kdc_req};
 ghost use Rattle.krb_msg.specs.inner.Fitting.{IsSized};
 ghost use Rattle.krb_msg.specs.Views.{kdc_req_value};
-ghost use Rattle.krb_msg.specs.Seen.{kdc_req_view_value, KdcReqLists};
+ghost use Rattle.krb_msg.specs.ViewValues.{kdc_req_view_value, KdcReqLists};
 ghost use Rattle.krb_msg.specs.Viewed.{IsNotWhole, IsViewOf};
 
 use crate::fields::{
-    Application, Borrowed, Encode, End, Fixed, Held, Optional, Owned, Required, Sequence, View,
+    Application, Borrowed, Encode, End, FieldOf, Fixed, Optional, Owned, Required, Sequence, View,
 };
 use crate::kdc_req_body::{KdcReqBody, KdcReqBodyView};
 use crate::pa_data::PaData;
@@ -31,7 +31,7 @@ pub struct KdcReq {
     pub body: KdcReqBody,
 }
 
-/// A view of a KDC-REQ, whose strings and lists stay where they stand.
+/// A view of a KDC-REQ: its strings and lists are borrowed from the octets.
 #[derive(Clone, Copy)]
 pub struct KdcReqView<'a> {
     /// Pre-authentication data, if there is some.
@@ -47,7 +47,11 @@ type Layout<H, const N: u8> = Application<
         Fixed<
             1,
             5,
-            Fixed<2, N, Optional<3, Held<H, Many<PaData>>, Required<4, Held<H, KdcReqBody>, End>>>,
+            Fixed<
+                2,
+                N,
+                Optional<3, FieldOf<H, Many<PaData>>, Required<4, FieldOf<H, KdcReqBody>, End>>,
+            >,
         >,
     >,
 >;
@@ -71,12 +75,12 @@ impl KdcReq {
         self.layout::<N>().size()
     }
 
-    /// Appends the DER octets in a message, at most 2147483647 of them, into room that is there. It
-    /// takes no memory.
+    /// Appends the DER octets in a message, at most 2147483647 of them, within the vector's
+    /// capacity. It allocates nothing.
     pub(crate) fn put<const N: u8>(&self, out: &mut Vec<u8>)
         requires tags { has_octet_tags (ApplicationTerm N (kdc_req N)) ≡ true }
         requires short { length (der (ApplicationTerm N (kdc_req N)) (kdc_req_value N self.now)) ≤ 2147483647 }
-        requires room { vec_len out.old + length (der (ApplicationTerm N (kdc_req N)) (kdc_req_value N self.now)) ≤ vec_capacity out.old }
+        requires capacity { vec_len out.old + length (der (ApplicationTerm N (kdc_req N)) (kdc_req_value N self.now)) ≤ vec_capacity out.old }
         ensures { Puts (der (ApplicationTerm N (kdc_req N)) (kdc_req_value N self.now)) out.old out.new }
     {
         self.layout::<N>().put(out);
@@ -96,11 +100,11 @@ impl KdcReq {
     }
 }
 
-/// What is seen of its fields.
+/// The views of its fields.
 type Seen<'a> = (Option<ItemsView<'a>>, (KdcReqBodyView<'a>, ()));
 
 impl<'a> KdcReqView<'a> {
-    /// Returns the view of the fields that are seen.
+    /// Returns the view by the views of the fields.
     #[inline(always)]
     fn of_fields<const N: u8>(seen: &Seen<'a>) -> KdcReqView<'a>
         ensures value { kdc_req_view_value N result ≡ ⟦<Layout<Owned, N> as View<'static>>⟧.value seen.now }

@@ -5,13 +5,13 @@ ghost use Rattle.krb_msg.specs.Term.{der, Fits, tag_of};
 ghost use Rattle.krb_msg.specs.Grammar.{kdc_req_body};
 ghost use Rattle.krb_msg.specs.Views.{kdc_req_body_value, kdc_req_body_of};
 ghost use Rattle.krb_msg.specs.inner.RoundTrips.{kdc_req_body-back};
-ghost use Rattle.krb_msg.specs.inner.Told.{begins, told};
-ghost use Rattle.krb_msg.specs.Seen.{kdc_req_body_view_value, KdcReqBodyLists};
+ghost use Rattle.krb_msg.specs.inner.PrefixFree.{begins, type_is_prefix_free};
+ghost use Rattle.krb_msg.specs.ViewValues.{kdc_req_body_view_value, KdcReqBodyLists};
 ghost use Rattle.krb_msg.specs.Viewed.{AreContents, AreNoContents};
 
 use crate::encrypted_data::{EncryptedData, EncryptedDataView};
 use crate::fields::{
-    Borrowed, Cut, Encode, EncodeFields, End, Held, Optional, Owned, Required, Sequence, View,
+    Borrowed, Cut, Encode, EncodeFields, End, FieldOf, Optional, Owned, Required, Sequence, View,
     ViewFields,
 };
 use crate::host_address::HostAddress;
@@ -39,9 +39,9 @@ pub struct KdcReqBody {
     pub till: KerberosTime,
     /// Until when it is to be renewable.
     pub rtime: Option<KerberosTime>,
-    /// A number that the answer has to repeat.
+    /// A number that the reply has to repeat.
     pub nonce: Wide32,
-    /// The encryption types (RFC 3961) that the client takes, the best first.
+    /// The encryption types (RFC 3961) that the client accepts, the best first.
     pub etype: Many<Int32>,
     /// The addresses from which the ticket is to serve.
     pub addresses: Option<Many<HostAddress>>,
@@ -51,7 +51,7 @@ pub struct KdcReqBody {
     pub additional_tickets: Option<Many<Ticket>>,
 }
 
-/// A view of a KDC-REQ-BODY, whose strings and lists stay where they stand.
+/// A view of a KDC-REQ-BODY: its strings and lists are borrowed from the octets.
 #[derive(Clone, Copy)]
 pub struct KdcReqBodyView<'a> {
     /// KDCOptions.
@@ -68,9 +68,9 @@ pub struct KdcReqBodyView<'a> {
     pub till: &'a [u8],
     /// Until when it is to be renewable.
     pub rtime: Option<&'a [u8]>,
-    /// A number that the answer has to repeat.
+    /// A number that the reply has to repeat.
     pub nonce: i64,
-    /// The encryption types (RFC 3961) that the client takes, the best first.
+    /// The encryption types (RFC 3961) that the client accepts, the best first.
     pub etype: ItemsView<'a>,
     /// The addresses from which the ticket is to serve.
     pub addresses: Option<ItemsView<'a>>,
@@ -84,20 +84,20 @@ pub struct KdcReqBodyView<'a> {
 type Layout<H> = Sequence<
     Required<
         0,
-        Held<H, Flags>,
+        FieldOf<H, Flags>,
         Optional<
             1,
-            Held<H, PrincipalName>,
+            FieldOf<H, PrincipalName>,
             Required<
                 2,
-                Held<H, KString>,
+                FieldOf<H, KString>,
                 Optional<
                     3,
-                    Held<H, PrincipalName>,
+                    FieldOf<H, PrincipalName>,
                     Optional<
                         4,
-                        Held<H, KerberosTime>,
-                        Required<5, Held<H, KerberosTime>, Cut<Rest<H>>>,
+                        FieldOf<H, KerberosTime>,
+                        Required<5, FieldOf<H, KerberosTime>, Cut<Rest<H>>>,
                     >,
                 >,
             >,
@@ -108,17 +108,21 @@ type Layout<H> = Sequence<
 /// Its fields from the end of the renewable life on.
 type Rest<H> = Optional<
     6,
-    Held<H, KerberosTime>,
+    FieldOf<H, KerberosTime>,
     Required<
         7,
-        Held<H, Wide32>,
+        FieldOf<H, Wide32>,
         Required<
             8,
-            Held<H, Many<Int32>>,
+            FieldOf<H, Many<Int32>>,
             Optional<
                 9,
-                Held<H, Many<HostAddress>>,
-                Optional<10, Held<H, EncryptedData>, Optional<11, Held<H, Many<Ticket>>, End>>,
+                FieldOf<H, Many<HostAddress>>,
+                Optional<
+                    10,
+                    FieldOf<H, EncryptedData>,
+                    Optional<11, FieldOf<H, Many<Ticket>>, End>,
+                >,
             >,
         >,
     >,
@@ -190,7 +194,7 @@ impl Der for KdcReqBody {
 
     ghost begins = { begins kdc_req_body kdc_req_body_value };
 
-    ghost prefix_free = { told kdc_req_body refl kdc_req_body_value kdc_req_body_of kdc_req_body-back };
+    ghost prefix_free = { type_is_prefix_free kdc_req_body refl kdc_req_body_value kdc_req_body_of kdc_req_body-back };
 }
 
 impl Item for KdcReqBody {
@@ -208,9 +212,9 @@ impl Item for KdcReqBody {
 pub struct RestView<'a> {
     /// Until when it is to be renewable.
     rtime: Option<&'a [u8]>,
-    /// A number that the answer has to repeat.
+    /// A number that the reply has to repeat.
     nonce: i64,
-    /// The encryption types that the client takes, the best first.
+    /// The encryption types that the client accepts, the best first.
     etype: ItemsView<'a>,
     /// The addresses from which the ticket is to serve.
     addresses: Option<ItemsView<'a>>,
@@ -220,7 +224,7 @@ pub struct RestView<'a> {
     additional_tickets: Option<ItemsView<'a>>,
 }
 
-/// What is seen of these fields.
+/// The views of these fields.
 type RestSeen<'a> = (
     Option<&'a [u8]>,
     (
@@ -235,7 +239,7 @@ type RestSeen<'a> = (
     ),
 );
 
-/// What is seen of all fields.
+/// The views of all fields.
 type Seen<'a> = (
     FlagsView<'a>,
     (
@@ -251,7 +255,7 @@ type Seen<'a> = (
 );
 
 impl<'a> RestView<'a> {
-    /// Returns the view of the fields that are seen.
+    /// Returns the view by the views of the fields.
     #[inline(always)]
     fn of_fields(seen: &RestSeen<'a>) -> RestView<'a>
         ensures values { ⟦<Cut<Rest<Owned>> as ViewFields<'static>>⟧.values result ≡ ⟦<Rest<Owned> as ViewFields<'static>>⟧.values seen.now }
@@ -287,7 +291,7 @@ impl<'a> ViewFields<'a> for Cut<Rest<Owned>> {
 }
 
 impl<'a> KdcReqBodyView<'a> {
-    /// Returns the view of the fields that are seen.
+    /// Returns the view by the views of the fields.
     #[inline(always)]
     fn of_fields(seen: &Seen<'a>) -> KdcReqBodyView<'a>
         ensures value { kdc_req_body_view_value result ≡ ⟦<Layout<Owned> as View<'static>>⟧.value seen.now }

@@ -8,8 +8,8 @@ ghost use Rattle.krb_msg.specs.Views.{AreOfKind, kind_of_tag};
 
 use crate::message::Kind;
 
-/// Returns the kind of the message whose octets these are, which are judged whole. It takes no
-/// memory.
+/// Returns the kind of the message whose octets these are, which are judged whole. It
+/// allocates nothing.
 pub fn whole_kind(octets: &[u8]) -> Kind
     requires short { length octets.now < 2 ^ 31 }
     requires whole { judgement Lenient (length octets.now) octets.now ≡ Whole }
@@ -18,7 +18,7 @@ pub fn whole_kind(octets: &[u8]) -> Kind
     kind(octets[0])
 }
 
-/// Returns the kind of the messages that begin with a tag octet (RFC 4120, 5.10).
+/// Returns the kind of the messages that begin with an identifier octet (RFC 4120, 5.10).
 fn kind(tag: u8) -> Kind
     ensures { result ≡ kind_of_tag tag }
 {

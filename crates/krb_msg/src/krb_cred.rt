@@ -5,13 +5,13 @@ ghost use Rattle.krb_msg.specs.Term.{der, Fits, tag_of};
 ghost use Rattle.krb_msg.specs.Grammar.{krb_cred};
 ghost use Rattle.krb_msg.specs.Views.{krb_cred_value, krb_cred_of};
 ghost use Rattle.krb_msg.specs.inner.RoundTrips.{krb_cred-back};
-ghost use Rattle.krb_msg.specs.inner.Told.{begins, told};
-ghost use Rattle.krb_msg.specs.Seen.{krb_cred_view_value, KrbCredLists};
+ghost use Rattle.krb_msg.specs.inner.PrefixFree.{begins, type_is_prefix_free};
+ghost use Rattle.krb_msg.specs.ViewValues.{krb_cred_view_value, KrbCredLists};
 ghost use Rattle.krb_msg.specs.Viewed.{AreContents, AreNoContents};
 
 use crate::encrypted_data::{EncryptedData, EncryptedDataView};
 use crate::fields::{
-    Application, Borrowed, Encode, End, Fixed, Held, Owned, Required, Sequence, View,
+    Application, Borrowed, Encode, End, FieldOf, Fixed, Owned, Required, Sequence, View,
 };
 use crate::item::Item;
 use crate::ticket::Ticket;
@@ -28,7 +28,7 @@ pub struct KrbCred {
     pub enc_part: EncryptedData,
 }
 
-/// A view of a KRB-CRED, whose strings and lists stay where they stand.
+/// A view of a KRB-CRED: its strings and lists are borrowed from the octets.
 #[derive(Clone, Copy)]
 pub struct KrbCredView<'a> {
     /// The tickets.
@@ -47,7 +47,7 @@ type Layout<H> = Application<
             Fixed<
                 1,
                 22,
-                Required<2, Held<H, Many<Ticket>>, Required<3, Held<H, EncryptedData>, End>>,
+                Required<2, FieldOf<H, Many<Ticket>>, Required<3, FieldOf<H, EncryptedData>, End>>,
             >,
         >,
     >,
@@ -77,7 +77,7 @@ impl Der for KrbCred {
 
     ghost begins = { begins krb_cred krb_cred_value };
 
-    ghost prefix_free = { told krb_cred refl krb_cred_value krb_cred_of krb_cred-back };
+    ghost prefix_free = { type_is_prefix_free krb_cred refl krb_cred_value krb_cred_of krb_cred-back };
 }
 
 impl Item for KrbCred {
@@ -90,11 +90,11 @@ impl Item for KrbCred {
     ghost fits = { λ it fits. fits };
 }
 
-/// What is seen of its fields.
+/// The views of its fields.
 type Seen<'a> = (ItemsView<'a>, (EncryptedDataView<'a>, ()));
 
 impl<'a> KrbCredView<'a> {
-    /// Returns the view of the fields that are seen.
+    /// Returns the view by the views of the fields.
     #[inline(always)]
     fn of_fields(seen: &Seen<'a>) -> KrbCredView<'a>
         ensures value { krb_cred_view_value result ≡ ⟦<Layout<Owned> as View<'static>>⟧.value seen.now }

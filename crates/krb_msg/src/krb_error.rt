@@ -5,13 +5,13 @@ ghost use Rattle.krb_msg.specs.Term.{der, Fits, tag_of};
 ghost use Rattle.krb_msg.specs.Grammar.{krb_error};
 ghost use Rattle.krb_msg.specs.Views.{krb_error_value, krb_error_of};
 ghost use Rattle.krb_msg.specs.inner.RoundTrips.{krb_error-back};
-ghost use Rattle.krb_msg.specs.inner.Told.{begins, told};
-ghost use Rattle.krb_msg.specs.Seen.{krb_error_view_value, KrbErrorLists};
+ghost use Rattle.krb_msg.specs.inner.PrefixFree.{begins, type_is_prefix_free};
+ghost use Rattle.krb_msg.specs.ViewValues.{krb_error_view_value, KrbErrorLists};
 ghost use Rattle.krb_msg.specs.Viewed.{AreContents, AreNoContents};
 
 use crate::fields::{
-    Application, Borrowed, Cut, Encode, EncodeFields, End, Fixed, Held, Optional, Owned, Required,
-    Sequence, View, ViewFields,
+    Application, Borrowed, Cut, Encode, EncodeFields, End, FieldOf, Fixed, Optional, Owned,
+    Required, Sequence, View, ViewFields,
 };
 use crate::item::Item;
 use crate::principal_name::{PrincipalName, PrincipalNameView};
@@ -39,13 +39,13 @@ pub struct KrbError {
     pub realm: KString,
     /// The service.
     pub sname: PrincipalName,
-    /// What a person may be told.
+    /// A text for people.
     pub e_text: Option<KString>,
-    /// What a program may be told: METHOD-DATA if the code is 25. It is not judged.
+    /// Data for programs: METHOD-DATA if the code is 25. It is not judged.
     pub e_data: Option<Octets>,
 }
 
-/// A view of a KRB-ERROR, whose strings and lists stay where they stand.
+/// A view of a KRB-ERROR: its strings and lists are borrowed from the octets.
 #[derive(Clone, Copy)]
 pub struct KrbErrorView<'a> {
     /// The time of the client.
@@ -66,9 +66,9 @@ pub struct KrbErrorView<'a> {
     pub realm: &'a [u8],
     /// The service.
     pub sname: PrincipalNameView<'a>,
-    /// What a person may be told.
+    /// A text for people.
     pub e_text: Option<&'a [u8]>,
-    /// What a program may be told: METHOD-DATA if the code is 25. It is not judged.
+    /// Data for programs: METHOD-DATA if the code is 25. It is not judged.
     pub e_data: Option<&'a [u8]>,
 }
 
@@ -84,17 +84,17 @@ type Layout<H> = Application<
                 30,
                 Optional<
                     2,
-                    Held<H, KerberosTime>,
+                    FieldOf<H, KerberosTime>,
                     Optional<
                         3,
-                        Held<H, Micros>,
+                        FieldOf<H, Micros>,
                         Required<
                             4,
-                            Held<H, KerberosTime>,
+                            FieldOf<H, KerberosTime>,
                             Required<
                                 5,
-                                Held<H, Micros>,
-                                Required<6, Held<H, Int32>, Cut<Names<H>>>,
+                                FieldOf<H, Micros>,
+                                Required<6, FieldOf<H, Int32>, Cut<Names<H>>>,
                             >,
                         >,
                     >,
@@ -107,17 +107,17 @@ type Layout<H> = Application<
 /// Its fields from the names on.
 type Names<H> = Optional<
     7,
-    Held<H, KString>,
+    FieldOf<H, KString>,
     Optional<
         8,
-        Held<H, PrincipalName>,
+        FieldOf<H, PrincipalName>,
         Required<
             9,
-            Held<H, KString>,
+            FieldOf<H, KString>,
             Required<
                 10,
-                Held<H, PrincipalName>,
-                Optional<11, Held<H, KString>, Optional<12, Held<H, Octets>, End>>,
+                FieldOf<H, PrincipalName>,
+                Optional<11, FieldOf<H, KString>, Optional<12, FieldOf<H, Octets>, End>>,
             >,
         >,
     >,
@@ -183,7 +183,7 @@ impl Der for KrbError {
 
     ghost begins = { begins krb_error krb_error_value };
 
-    ghost prefix_free = { told krb_error refl krb_error_value krb_error_of krb_error-back };
+    ghost prefix_free = { type_is_prefix_free krb_error refl krb_error_value krb_error_of krb_error-back };
 }
 
 impl Item for KrbError {
@@ -207,13 +207,13 @@ pub struct NamesView<'a> {
     realm: &'a [u8],
     /// The service.
     sname: PrincipalNameView<'a>,
-    /// What a person may be told.
+    /// A text for people.
     e_text: Option<&'a [u8]>,
-    /// What a program may be told.
+    /// Data for programs.
     e_data: Option<&'a [u8]>,
 }
 
-/// What is seen of these fields.
+/// The views of these fields.
 type NamesSeen<'a> = (
     Option<&'a [u8]>,
     (
@@ -228,14 +228,14 @@ type NamesSeen<'a> = (
     ),
 );
 
-/// What is seen of all fields.
+/// The views of all fields.
 type Seen<'a> = (
     Option<&'a [u8]>,
     (Option<i64>, (&'a [u8], (i64, (i64, NamesView<'a>)))),
 );
 
 impl<'a> NamesView<'a> {
-    /// Returns the view of the fields that are seen.
+    /// Returns the view by the views of the fields.
     #[inline(always)]
     fn of_fields(seen: &NamesSeen<'a>) -> NamesView<'a>
         ensures values { ⟦<Cut<Names<Owned>> as ViewFields<'static>>⟧.values result ≡ ⟦<Names<Owned> as ViewFields<'static>>⟧.values seen.now }
@@ -271,7 +271,7 @@ impl<'a> ViewFields<'a> for Cut<Names<Owned>> {
 }
 
 impl<'a> KrbErrorView<'a> {
-    /// Returns the view of the fields that are seen.
+    /// Returns the view by the views of the fields.
     #[inline(always)]
     fn of_fields(seen: &Seen<'a>) -> KrbErrorView<'a>
         ensures value { krb_error_view_value result ≡ ⟦<Layout<Owned> as View<'static>>⟧.value seen.now }

@@ -4,13 +4,13 @@ ghost use Rattle.std.specs.Prelude.{◌≡◌, refl, ◌^◌, ◌<◌, true, len
 ghost use Rattle.krb_msg.specs.Term.{der, Fits, tag_of};
 ghost use Rattle.krb_msg.specs.Grammar.{krb_priv};
 ghost use Rattle.krb_msg.specs.Views.{krb_priv_value, krb_priv_of};
-ghost use Rattle.krb_msg.specs.inner.Told.{begins, told};
-ghost use Rattle.krb_msg.specs.Seen.{KrbPrivLists, krb_priv_view_value};
+ghost use Rattle.krb_msg.specs.inner.PrefixFree.{begins, type_is_prefix_free};
+ghost use Rattle.krb_msg.specs.ViewValues.{KrbPrivLists, krb_priv_view_value};
 ghost use Rattle.krb_msg.specs.Viewed.{AreContents, AreNoContents};
 
 use crate::encrypted_data::{EncryptedData, EncryptedDataView};
 use crate::fields::{
-    Application, Borrowed, Encode, End, Fixed, Held, Owned, Required, Sequence, View,
+    Application, Borrowed, Encode, End, FieldOf, Fixed, Owned, Required, Sequence, View,
 };
 use crate::item::Item;
 use krb_der::Der;
@@ -23,7 +23,7 @@ pub struct KrbPriv {
     pub enc_part: EncryptedData,
 }
 
-/// A view of a KRB-PRIV, whose strings and lists stay where they stand.
+/// A view of a KRB-PRIV: its strings and lists are borrowed from the octets.
 #[derive(Clone, Copy)]
 pub struct KrbPrivView<'a> {
     /// The sealed EncKrbPrivPart.
@@ -33,7 +33,7 @@ pub struct KrbPrivView<'a> {
 /// Its fields.
 type Layout<H> = Application<
     21,
-    Sequence<Fixed<0, 5, Fixed<1, 21, Required<3, Held<H, EncryptedData>, End>>>>,
+    Sequence<Fixed<0, 5, Fixed<1, 21, Required<3, FieldOf<H, EncryptedData>, End>>>>,
 >;
 
 impl KrbPriv {
@@ -60,7 +60,7 @@ impl Der for KrbPriv {
 
     ghost begins = { begins krb_priv krb_priv_value };
 
-    ghost prefix_free = { told krb_priv refl krb_priv_value krb_priv_of (λ it. refl) };
+    ghost prefix_free = { type_is_prefix_free krb_priv refl krb_priv_value krb_priv_of (λ it. refl) };
 }
 
 impl Item for KrbPriv {
@@ -73,11 +73,11 @@ impl Item for KrbPriv {
     ghost fits = { λ it fits. fits };
 }
 
-/// What is seen of its fields.
+/// The views of its fields.
 type Seen<'a> = (EncryptedDataView<'a>, ());
 
 impl<'a> KrbPrivView<'a> {
-    /// Returns the view of the fields that are seen.
+    /// Returns the view by the views of the fields.
     #[inline(always)]
     fn of_fields(seen: &Seen<'a>) -> KrbPrivView<'a>
         ensures value { krb_priv_view_value result ≡ ⟦<Layout<Owned> as View<'static>>⟧.value seen.now }

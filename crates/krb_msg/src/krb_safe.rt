@@ -5,13 +5,13 @@ ghost use Rattle.krb_msg.specs.Term.{der, Fits, tag_of};
 ghost use Rattle.krb_msg.specs.Grammar.{krb_safe};
 ghost use Rattle.krb_msg.specs.Views.{krb_safe_value, krb_safe_of};
 ghost use Rattle.krb_msg.specs.inner.RoundTrips.{krb_safe-back};
-ghost use Rattle.krb_msg.specs.inner.Told.{begins, told};
-ghost use Rattle.krb_msg.specs.Seen.{KrbSafeLists, krb_safe_view_value};
+ghost use Rattle.krb_msg.specs.inner.PrefixFree.{begins, type_is_prefix_free};
+ghost use Rattle.krb_msg.specs.ViewValues.{KrbSafeLists, krb_safe_view_value};
 ghost use Rattle.krb_msg.specs.Viewed.{AreContents, AreNoContents};
 
 use crate::checksum::{Checksum, ChecksumView};
 use crate::fields::{
-    Application, Borrowed, Encode, End, Fixed, Held, Owned, Required, Sequence, View,
+    Application, Borrowed, Encode, End, FieldOf, Fixed, Owned, Required, Sequence, View,
 };
 use crate::item::Item;
 use crate::krb_safe_body::{KrbSafeBody, KrbSafeBodyView};
@@ -27,7 +27,7 @@ pub struct KrbSafe {
     pub cksum: Checksum,
 }
 
-/// A view of a KRB-SAFE, whose strings and lists stay where they stand.
+/// A view of a KRB-SAFE: its strings and lists are borrowed from the octets.
 #[derive(Clone, Copy)]
 pub struct KrbSafeView<'a> {
     /// What is protected.
@@ -43,7 +43,11 @@ type Layout<H> = Application<
         Fixed<
             0,
             5,
-            Fixed<1, 20, Required<2, Held<H, KrbSafeBody>, Required<3, Held<H, Checksum>, End>>>,
+            Fixed<
+                1,
+                20,
+                Required<2, FieldOf<H, KrbSafeBody>, Required<3, FieldOf<H, Checksum>, End>>,
+            >,
         >,
     >,
 >;
@@ -72,7 +76,7 @@ impl Der for KrbSafe {
 
     ghost begins = { begins krb_safe krb_safe_value };
 
-    ghost prefix_free = { told krb_safe refl krb_safe_value krb_safe_of krb_safe-back };
+    ghost prefix_free = { type_is_prefix_free krb_safe refl krb_safe_value krb_safe_of krb_safe-back };
 }
 
 impl Item for KrbSafe {
@@ -85,11 +89,11 @@ impl Item for KrbSafe {
     ghost fits = { λ it fits. fits };
 }
 
-/// What is seen of its fields.
+/// The views of its fields.
 type Seen<'a> = (KrbSafeBodyView<'a>, (ChecksumView<'a>, ()));
 
 impl<'a> KrbSafeView<'a> {
-    /// Returns the view of the fields that are seen.
+    /// Returns the view by the views of the fields.
     #[inline(always)]
     fn of_fields(seen: &Seen<'a>) -> KrbSafeView<'a>
         ensures value { krb_safe_view_value result ≡ ⟦<Layout<Owned> as View<'static>>⟧.value seen.now }

@@ -5,11 +5,11 @@ ghost use Rattle.krb_msg.specs.Term.{der, Fits, tag_of};
 ghost use Rattle.krb_msg.specs.Grammar.{krb_safe_body};
 ghost use Rattle.krb_msg.specs.Views.{krb_safe_body_value, krb_safe_body_of};
 ghost use Rattle.krb_msg.specs.inner.RoundTrips.{krb_safe_body-back};
-ghost use Rattle.krb_msg.specs.inner.Told.{begins, told};
-ghost use Rattle.krb_msg.specs.Seen.{KrbSafeBodyLists, krb_safe_body_view_value};
+ghost use Rattle.krb_msg.specs.inner.PrefixFree.{begins, type_is_prefix_free};
+ghost use Rattle.krb_msg.specs.ViewValues.{KrbSafeBodyLists, krb_safe_body_view_value};
 ghost use Rattle.krb_msg.specs.Viewed.{AreContents, AreNoContents};
 
-use crate::fields::{Borrowed, Encode, End, Held, Optional, Owned, Required, Sequence, View};
+use crate::fields::{Borrowed, Encode, End, FieldOf, Optional, Owned, Required, Sequence, View};
 use crate::host_address::{HostAddress, HostAddressView};
 use crate::item::Item;
 use krb_der::{Der, KerberosTime, Micros, Octets, Wide32};
@@ -31,7 +31,7 @@ pub struct KrbSafeBody {
     pub r_address: Option<HostAddress>,
 }
 
-/// A view of a KRB-SAFE-BODY, whose strings and lists stay where they stand.
+/// A view of a KRB-SAFE-BODY: its strings and lists are borrowed from the octets.
 #[derive(Clone, Copy)]
 pub struct KrbSafeBodyView<'a> {
     /// What the sender has to say.
@@ -52,17 +52,17 @@ pub struct KrbSafeBodyView<'a> {
 type Layout<H> = Sequence<
     Required<
         0,
-        Held<H, Octets>,
+        FieldOf<H, Octets>,
         Optional<
             1,
-            Held<H, KerberosTime>,
+            FieldOf<H, KerberosTime>,
             Optional<
                 2,
-                Held<H, Micros>,
+                FieldOf<H, Micros>,
                 Optional<
                     3,
-                    Held<H, Wide32>,
-                    Required<4, Held<H, HostAddress>, Optional<5, Held<H, HostAddress>, End>>,
+                    FieldOf<H, Wide32>,
+                    Required<4, FieldOf<H, HostAddress>, Optional<5, FieldOf<H, HostAddress>, End>>,
                 >,
             >,
         >,
@@ -105,7 +105,7 @@ impl Der for KrbSafeBody {
 
     ghost begins = { begins krb_safe_body krb_safe_body_value };
 
-    ghost prefix_free = { told krb_safe_body refl krb_safe_body_value krb_safe_body_of krb_safe_body-back };
+    ghost prefix_free = { type_is_prefix_free krb_safe_body refl krb_safe_body_value krb_safe_body_of krb_safe_body-back };
 }
 
 impl Item for KrbSafeBody {
@@ -118,7 +118,7 @@ impl Item for KrbSafeBody {
     ghost fits = { λ it fits. fits };
 }
 
-/// What is seen of its fields.
+/// The views of its fields.
 type Seen<'a> = (
     &'a [u8],
     (
@@ -134,7 +134,7 @@ type Seen<'a> = (
 );
 
 impl<'a> KrbSafeBodyView<'a> {
-    /// Returns the view of the fields that are seen.
+    /// Returns the view by the views of the fields.
     #[inline(always)]
     fn of_fields(seen: &Seen<'a>) -> KrbSafeBodyView<'a>
         ensures value { krb_safe_body_view_value result ≡ ⟦<Layout<Owned> as View<'static>>⟧.value seen.now }

@@ -1,6 +1,6 @@
 //! Laws of grammars, of the messages, of their DER and of the judgement of octets. Each is the
 //! contract of a function that does nothing.
-ghost use Rattle.krb_msg.specs.Laws.{WholeIsValue, ValueIsWhole, ValueIsRead, ItemIsNotTruncated, WholeIsOneOf, RefusalIsFinal, AllIsDecided, RefusalIsNotTruncated, OneOfIsWhole, OneOfIsOctets, RefusalIsNoneOf, OneOfTells, MessagesAreGrammar, MessagesNest, WholeIsMessage, MessageIsWhole, MessageIsRead, RefusalIsRight, DerIsPrefixFree, MessageRoundTrips, StrictIsNarrower, StrictHasNoNotes, LenientHasNoCharset, StrictIsLenient};
+ghost use Rattle.krb_msg.specs.Laws.{WholeIsValue, ValueIsWhole, ValueOfDerIsValue, ItemIsNotTruncated, WholeIsOneOf, RefusalIsFinal, AllIsDecided, RefusalIsNotTruncated, OneOfIsWhole, OneOfIsOctets, RefusalIsNoneOf, OneOfIsPrefixFree, MessagesAreGrammar, MessagesNest, WholeIsMessage, MessageIsWhole, MessageOfDerIsMessage, RefusalIsRight, DerIsPrefixFree, MessageRoundTrips, StrictIsNarrower, StrictHasNoNotes, LenientHasNoCharset, StrictIsLenient};
 
 /// What is judged whole as an item of a term, a Ticket say, is the DER of one of its values.
 pub fn whole_is_value()
@@ -13,8 +13,8 @@ pub fn value_is_whole()
 {}
 
 /// What is read of the DER of a value is the value.
-pub fn value_is_read()
-    ensures { ValueIsRead }
+pub fn value_of_der_is_value()
+    ensures { ValueOfDerIsValue }
 {}
 
 /// No octets of an item are refused as `Truncated`.
@@ -27,7 +27,7 @@ pub fn whole_is_one_of()
     ensures { WholeIsOneOf }
 {}
 
-/// By any messages, a refusal is the same whatever follows the octet that it stands at, and comes
+/// By any messages, a refusal is the same whatever follows the octet that it is at, and comes
 /// with that octet.
 pub fn refusal_is_final()
     ensures { RefusalIsFinal }
@@ -59,10 +59,10 @@ pub fn refusal_is_none_of()
     ensures { RefusalIsNoneOf }
 {}
 
-/// In any grammar, no DER of a value of one of its messages begins another's, and it tells the
-/// message and the value.
-pub fn one_of_tells()
-    ensures { OneOfTells }
+/// In any grammar, no DER of a value of one of its messages begins another's, and different values
+/// have different DER.
+pub fn one_of_is_prefix_free()
+    ensures { OneOfIsPrefixFree }
 {}
 
 /// The messages of a profile are a grammar.
@@ -86,8 +86,8 @@ pub fn message_is_whole()
 {}
 
 /// What is read of the DER of a message is the message.
-pub fn message_is_read()
-    ensures { MessageIsRead }
+pub fn message_of_der_is_message()
+    ensures { MessageOfDerIsMessage }
 {}
 
 /// No message begins with the octets up to and with one that is refused.
@@ -121,7 +121,7 @@ pub fn strict_is_lenient()
     ensures { StrictIsLenient }
 {}
 
-/// The way back from the value of a message gives the message.
+/// A message comes back from its value.
 pub fn message_round_trips()
     ensures { MessageRoundTrips }
 {}

@@ -4,30 +4,30 @@
 //!
 //! A message is a [`Message`], an enum of ten kinds ([`Kind`]) whose fields are public. Its version
 //! and its message type are fixed by its kind, and so not kept. [`encode`] returns its DER octets,
-//! [`put`] appends them into room that is there, and [`size`] is their number.
+//! [`put`] appends them to a vector with the capacity for them, and [`size`] is their number.
 //!
-//! [`view_message`] judges and views a message where it stands, in one pass and with no memory
-//! ([`view_message_in`] by a profile): a [`MessageView`] has the same fields as plain numbers, borrowed octets and lists ([`ItemsView`],
-//! walked by [`next_item`]). [`MessageView::to_message`] copies it out as a `Message`. [`view_whole`]
+//! [`view_message`] judges and views a message in place, in one pass without allocating
+//! ([`view_message_in`] by a profile): a [`MessageView`] has the same fields as plain numbers,
+//! borrowed octets and lists ([`ItemsView`], walked by [`next_item`]). [`MessageView::to_message`] copies it out as a `Message`. [`view_whole`]
 //! views an item of any type alone (the trait [`View`]), such as a [`Ticket`], and [`FromView`] copies
 //! it.
 //!
-//! [`notes_of`], and [`notes_of_view`] of a view, tell what of a message is unusual, and [`is_strict`]
-//! whether it is in the strict profile, too. [`grammar`] is the table by which octets are judged, and
+//! [`notes_of`], and [`notes_of_view`] of a view, return what is unusual in a message, and
+//! [`is_strict`] whether it is in the strict profile, too. [`grammar`] is the table by which octets are judged, and
 //! [`law`] has the laws about all this.
 //!
 //! Nothing here says why octets are no message, nor where that shows: `krb_judge` does, and `krb_scan`
 //! of octets that come one after another. No cipher is opened, and
 //! what a field means is not looked into: not whether a time exists, nor whom a name names. Only what
-//! encodes or copies takes memory, and it says if there was none.
+//! encodes or copies allocates, and it says if it is out of memory.
 //!
 //! `specs/` reads from the bottom: `Term` (terms, their values and the DER of a value), `Profiles`
 //! (what the strict profile narrows), `Grammar` (appendix A as terms), `Judgement` (what the octets
 //! present of a message decide), `Stream` (the frames of a stream), `Views` (the types of this crate
-//! as values of terms), `Reading` (the value that octets are read as), `Viewed` and `Seen` (what octets
-//! are viewed as, and what a view stands for), and `Laws`, which the functions of [`law`] prove.
-//! `Nodes` and `Table` say what the table of the grammar has to do with the terms; on the files of
-//! `specs/inner` the laws of `Der` stand.
+//! as values of terms), `ValueOfDer` (the value whose DER octets are), `Viewed` and
+//! `ViewValues` (octets that a view is of, and the values of views), and `Laws`, which the functions of [`law`] prove.
+//! `Nodes` and `Table` say what the table of the grammar has to do with the terms; the files of
+//! `specs/inner` prove the laws of `Der`.
 #![tactic(auto)]
 
 mod ap_rep;

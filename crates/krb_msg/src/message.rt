@@ -17,7 +17,7 @@ use crate::krb_safe::KrbSafe;
 pub enum Message {
     /// What a client sends a KDC for its first ticket (5.4.1).
     AsReq(KdcReq),
-    /// What a KDC answers an AS-REQ (5.4.2).
+    /// The reply of a KDC to an AS-REQ (5.4.2).
     AsRep(KdcRep),
     /// What a client sends a KDC for a further ticket (5.4.1).
     TgsReq(KdcReq),
@@ -33,7 +33,7 @@ pub enum Message {
     KrbPriv(KrbPriv),
     /// Tickets that one hands on to the other (5.8.1).
     KrbCred(KrbCred),
-    /// What is sent in place of any answer (5.9.1).
+    /// The reply of a KDC or a server that reports an error (5.9.1).
     KrbError(KrbError),
 }
 
@@ -102,7 +102,7 @@ impl Kind {
         }
     }
 
-    /// Returns the tag octet with which its messages begin.
+    /// Returns the identifier octet with which its messages begin.
     pub fn tag(self) -> u8
         ensures { result ≡ kind_tag self }
     {
@@ -127,7 +127,7 @@ impl Kind {
         }
     }
 
-    /// Returns the kind whose messages begin with a tag octet.
+    /// Returns the kind whose messages begin with an identifier octet.
     pub fn of_tag(tag: u8) -> Option<Kind>
         ensures { result ≡ kind_with_tag tag }
     {

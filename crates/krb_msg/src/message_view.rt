@@ -1,4 +1,4 @@
-//! Messages viewed where they stand.
+//! Messages viewed in place.
 
 ghost use Rattle.std.specs.Prelude.{◌≡◌, ◌^◌, ◌<◌, length, MatchOption};
 ghost use Rattle.std.specs.Option.{option_map};
@@ -6,7 +6,7 @@ ghost use Rattle.krb_der.specs.declared.profile.Profile.TheVariants.{Strict};
 ghost use Rattle.krb_der.specs.declared.verdict.Verdict.TheVariants.{Whole};
 ghost use Rattle.krb_msg.specs.Judgement.{judgement};
 ghost use Rattle.krb_msg.specs.Realm.{realm_of};
-ghost use Rattle.krb_msg.specs.Seen.{BeginAs, IsMessageView, IsNoMessage, message_seen};
+ghost use Rattle.krb_msg.specs.ViewValues.{BeginAs, IsMessageView, IsNoMessage, message_of_view};
 ghost use Rattle.krb_msg.specs.Views.{kind_of};
 ghost use Rattle.krb_msg.specs.declared.message.Kind.TheVariants as kind;
 
@@ -23,13 +23,13 @@ use crate::notes::is_strict_view;
 use crate::view::view_whole;
 use krb_der::Profile;
 
-/// A view of a message of any kind (RFC 4120, section 5), whose strings and lists stay where they
-/// stand.
+/// A view of a message of any kind (RFC 4120, section 5): its strings and lists are borrowed
+/// from the octets.
 #[derive(Clone, Copy)]
 pub enum MessageView<'a> {
     /// What a client sends a KDC for its first ticket (5.4.1).
     AsReq(KdcReqView<'a>),
-    /// What a KDC answers an AS-REQ (5.4.2).
+    /// The reply of a KDC to an AS-REQ (5.4.2).
     AsRep(KdcRepView<'a>),
     /// What a client sends a KDC for a further ticket (5.4.1).
     TgsReq(KdcReqView<'a>),
@@ -45,14 +45,14 @@ pub enum MessageView<'a> {
     KrbPriv(KrbPrivView<'a>),
     /// Tickets that one hands on to the other (5.8.1).
     KrbCred(KrbCredView<'a>),
-    /// What is sent in place of any answer (5.9.1).
+    /// The reply of a KDC or a server that reports an error (5.9.1).
     KrbError(KrbErrorView<'a>),
 }
 
 impl<'a> MessageView<'a> {
     /// Returns the kind of the message.
     pub fn kind(&self) -> Kind
-        ensures { result ≡ kind_of (message_seen self.now) }
+        ensures { result ≡ kind_of (message_of_view self.now) }
     {
         match self {
             MessageView::AsReq(_) => Kind::AsReq,
@@ -70,7 +70,7 @@ impl<'a> MessageView<'a> {
 
     /// Returns the realm that the message is of, if it is of one (5.2.2).
     pub fn realm(&self) -> Option<&'a [u8]>
-        ensures { option_map (λ octets. octets.now) result ≡ realm_of (message_seen self.now) }
+        ensures { option_map (λ octets. octets.now) result ≡ realm_of (message_of_view self.now) }
     {
         match self {
             MessageView::AsReq(m) | MessageView::TgsReq(m) => Some(m.body.realm),
@@ -86,7 +86,7 @@ impl<'a> MessageView<'a> {
 }
 
 /// Returns a view of the message that octets are, if they are one in the lenient profile: all of
-/// them, judged and viewed in one pass. It takes no memory.
+/// them, judged and viewed in one pass. It allocates nothing.
 pub fn view_message(octets: &[u8]) -> Option<MessageView<'_>>
     requires short { length octets.now < 2 ^ 31 }
     ensures { MatchOption result (IsNoMessage octets.now) (λ m. IsMessageView octets.now m) }

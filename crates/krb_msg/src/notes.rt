@@ -303,7 +303,7 @@ impl Noted for KrbError {
     }
 }
 
-/// Returns the notes that hold in a message. It takes no memory.
+/// Returns the notes that hold in a message. It allocates nothing.
 pub fn notes_of(message: &Message) -> Notes
     ensures { result ≡ notes_of message.now }
 {
@@ -322,7 +322,7 @@ pub fn notes_of(message: &Message) -> Notes
 }
 
 /// Returns whether a message keeps the strict rules (`Profile::Strict`): none of the notes 1 to 4
-/// holds in it. It takes no memory.
+/// holds in it. It allocates nothing.
 pub fn is_strict(message: &Message) -> bool
     ensures { result ≡ is_strict message.now }
 {

@@ -4,11 +4,11 @@ ghost use Rattle.std.specs.Prelude.{◌≡◌, refl, ◌^◌, ◌<◌, true, len
 ghost use Rattle.krb_msg.specs.Term.{der, Fits, tag_of};
 ghost use Rattle.krb_msg.specs.Grammar.{pa_data};
 ghost use Rattle.krb_msg.specs.Views.{pa_data_value, pa_data_of};
-ghost use Rattle.krb_msg.specs.inner.Told.{begins, told};
-ghost use Rattle.krb_msg.specs.Seen.{PaDataLists, pa_data_view_value};
+ghost use Rattle.krb_msg.specs.inner.PrefixFree.{begins, type_is_prefix_free};
+ghost use Rattle.krb_msg.specs.ViewValues.{PaDataLists, pa_data_view_value};
 ghost use Rattle.krb_msg.specs.Viewed.{AreContents, AreNoContents};
 
-use crate::fields::{Borrowed, Encode, End, Held, Owned, Required, Sequence, View};
+use crate::fields::{Borrowed, Encode, End, FieldOf, Owned, Required, Sequence, View};
 use crate::item::Item;
 use krb_der::{Der, Int32, Octets};
 
@@ -21,7 +21,7 @@ pub struct PaData {
     pub padata_value: Octets,
 }
 
-/// A view of a PA-DATA, whose strings and lists stay where they stand.
+/// A view of a PA-DATA: its strings and lists are borrowed from the octets.
 #[derive(Clone, Copy)]
 pub struct PaDataView<'a> {
     /// What kind of data it is (7.5.2).
@@ -31,7 +31,7 @@ pub struct PaDataView<'a> {
 }
 
 /// Its fields.
-type Layout<H> = Sequence<Required<1, Held<H, Int32>, Required<2, Held<H, Octets>, End>>>;
+type Layout<H> = Sequence<Required<1, FieldOf<H, Int32>, Required<2, FieldOf<H, Octets>, End>>>;
 
 impl PaData {
     /// Returns the fields, borrowed.
@@ -57,7 +57,7 @@ impl Der for PaData {
 
     ghost begins = { begins pa_data pa_data_value };
 
-    ghost prefix_free = { told pa_data refl pa_data_value pa_data_of (λ it. refl) };
+    ghost prefix_free = { type_is_prefix_free pa_data refl pa_data_value pa_data_of (λ it. refl) };
 }
 
 impl Item for PaData {

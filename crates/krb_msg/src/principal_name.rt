@@ -4,11 +4,11 @@ ghost use Rattle.std.specs.Prelude.{◌≡◌, refl, ◌^◌, ◌<◌, true, len
 ghost use Rattle.krb_msg.specs.Term.{der, Fits, tag_of};
 ghost use Rattle.krb_msg.specs.Grammar.{principal_name};
 ghost use Rattle.krb_msg.specs.Views.{principal_name_value, principal_name_of};
-ghost use Rattle.krb_msg.specs.inner.Told.{begins, told};
-ghost use Rattle.krb_msg.specs.Seen.{principal_name_view_value, PrincipalNameLists};
+ghost use Rattle.krb_msg.specs.inner.PrefixFree.{begins, type_is_prefix_free};
+ghost use Rattle.krb_msg.specs.ViewValues.{principal_name_view_value, PrincipalNameLists};
 ghost use Rattle.krb_msg.specs.Viewed.{AreContents, AreNoContents};
 
-use crate::fields::{Borrowed, Encode, End, Held, Owned, Required, Sequence, View};
+use crate::fields::{Borrowed, Encode, End, FieldOf, Owned, Required, Sequence, View};
 use crate::item::Item;
 use crate::view::items::ItemsView;
 use krb_der::{Der, Int32, KString, Many};
@@ -22,7 +22,7 @@ pub struct PrincipalName {
     pub name: Many<KString>,
 }
 
-/// A view of a PrincipalName, whose strings and lists stay where they stand.
+/// A view of a PrincipalName: its strings and lists are borrowed from the octets.
 #[derive(Clone, Copy)]
 pub struct PrincipalNameView<'a> {
     /// How the name is meant (6.2). Two names that differ in this alone name one principal.
@@ -32,7 +32,9 @@ pub struct PrincipalNameView<'a> {
 }
 
 /// Its fields.
-type Layout<H> = Sequence<Required<0, Held<H, Int32>, Required<1, Held<H, Many<KString>>, End>>>;
+type Layout<H> = Sequence<
+    Required<0, FieldOf<H, Int32>, Required<1, FieldOf<H, Many<KString>>, End>>,
+>;
 
 impl PrincipalName {
     /// Returns the fields, borrowed.
@@ -58,7 +60,7 @@ impl Der for PrincipalName {
 
     ghost begins = { begins principal_name principal_name_value };
 
-    ghost prefix_free = { told principal_name refl principal_name_value principal_name_of (λ it. refl) };
+    ghost prefix_free = { type_is_prefix_free principal_name refl principal_name_value principal_name_of (λ it. refl) };
 }
 
 impl Item for PrincipalName {

@@ -2,7 +2,7 @@
 
 ghost use Rattle.std.specs.Prelude.{pos, map, refl};
 ghost use Rattle.krb_msg.specs.Grammar.{int32, wide32, microseconds, kerberos_string, octet_string, kerberos_time, kerberos_flags, sequence_of};
-ghost use Rattle.krb_msg.specs.inner.Told.{many_form};
+ghost use Rattle.krb_msg.specs.inner.PrefixFree.{many_form};
 ghost use Rattle.krb_msg.specs.inner.Fitting.{micros_fit, string_fits, flags_fit, many_fit};
 
 use crate::item::Item;

@@ -4,13 +4,13 @@ ghost use Rattle.std.specs.Prelude.{◌≡◌, refl, ◌^◌, ◌<◌, true, len
 ghost use Rattle.krb_msg.specs.Term.{der, Fits, tag_of};
 ghost use Rattle.krb_msg.specs.Grammar.{ticket as ticket_term};
 ghost use Rattle.krb_msg.specs.Views.{ticket_value, ticket_of};
-ghost use Rattle.krb_msg.specs.inner.Told.{begins, told};
-ghost use Rattle.krb_msg.specs.Seen.{ticket_view_value, TicketLists};
+ghost use Rattle.krb_msg.specs.inner.PrefixFree.{begins, type_is_prefix_free};
+ghost use Rattle.krb_msg.specs.ViewValues.{ticket_view_value, TicketLists};
 ghost use Rattle.krb_msg.specs.Viewed.{AreContents, AreNoContents};
 
 use crate::encrypted_data::{EncryptedData, EncryptedDataView};
 use crate::fields::{
-    Application, Borrowed, Encode, End, Fixed, Held, Owned, Required, Sequence, View,
+    Application, Borrowed, Encode, End, FieldOf, Fixed, Owned, Required, Sequence, View,
 };
 use crate::item::Item;
 use crate::principal_name::{PrincipalName, PrincipalNameView};
@@ -27,7 +27,7 @@ pub struct Ticket {
     pub enc_part: EncryptedData,
 }
 
-/// A view of a Ticket, whose strings and lists stay where they stand.
+/// A view of a Ticket: its strings and lists are borrowed from the octets.
 #[derive(Clone, Copy)]
 pub struct TicketView<'a> {
     /// The realm that issued it, and that of its server.
@@ -47,8 +47,8 @@ type Layout<H> = Application<
             5,
             Required<
                 1,
-                Held<H, KString>,
-                Required<2, Held<H, PrincipalName>, Required<3, Held<H, EncryptedData>, End>>,
+                FieldOf<H, KString>,
+                Required<2, FieldOf<H, PrincipalName>, Required<3, FieldOf<H, EncryptedData>, End>>,
             >,
         >,
     >,
@@ -81,7 +81,7 @@ impl Der for Ticket {
 
     ghost begins = { begins ticket_term ticket_value };
 
-    ghost prefix_free = { told ticket_term refl ticket_value ticket_of (λ it. refl) };
+    ghost prefix_free = { type_is_prefix_free ticket_term refl ticket_value ticket_of (λ it. refl) };
 }
 
 impl Item for Ticket {
@@ -94,14 +94,14 @@ impl Item for Ticket {
     ghost fits = { λ it fits. fits };
 }
 
-/// What is seen of its fields.
+/// The views of its fields.
 type Seen<'a> = (
     &'a [u8],
     (PrincipalNameView<'a>, (EncryptedDataView<'a>, ())),
 );
 
 impl<'a> TicketView<'a> {
-    /// Returns the view of the fields that are seen.
+    /// Returns the view by the views of the fields.
     #[inline(always)]
     fn of_fields(seen: &Seen<'a>) -> TicketView<'a>
         ensures value { ticket_view_value result ≡ ⟦<Layout<Owned> as View<'static>>⟧.value seen.now }

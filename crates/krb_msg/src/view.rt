@@ -1,4 +1,4 @@
-//! Items judged and viewed where they stand.
+//! Items judged and viewed in place.
 
 ghost use Rattle.std.specs.Prelude.{◌≡◌, ◌^◌, ◌<◌, true, length, MatchOption};
 ghost use Rattle.krb_msg.specs.Shape.{is_unambiguous, has_octet_tags};
@@ -14,7 +14,7 @@ use crate::fields::View;
 use head::only_item;
 
 /// Returns a view of the item that octets are, if they are one: all of them, judged and viewed in one
-/// pass. It takes no memory.
+/// pass. It allocates nothing.
 #[inline(always)]
 pub fn view_whole<'a, T: View<'a>>(octets: &'a [u8]) -> Option<T::Of>
     requires short { length octets.now < 2 ^ 31 }

@@ -12,7 +12,7 @@ second_positive octet = by_cases (ltb octet 128)
     by_cases true = omega (arith, one-le-pow octet 10 (omega arith))
     by_cases false = omega (arith, one-le-pow (octet - 128) 2 (omega arith))
 
--- of which a second has too many
+-- units of which a second has too many for a number of 128 bits
 pub none : (octet units : ℕ) → units < 2 ^ 64 → 2 ^ 128 ≤ units_in_second octet → nanoseconds octet units ≡ 0
 none octet units lt many =
     let small : units * 10 ^ 9 < 1 * units_in_second octet = omega (arith, lt, many) in

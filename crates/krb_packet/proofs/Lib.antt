@@ -4,9 +4,9 @@ pub mod Gathering
 pub mod Heads
 pub mod Options
 pub mod Parsing
-pub mod Passing
+pub mod Skipping
 pub mod Reaching
 pub mod Steps
 pub mod Stepwise
 pub mod Streams
-pub mod Told
+pub mod BodyContents

@@ -1,28 +1,28 @@
--- The options of an interface, as a loop reads them.
+-- The options of an interface, read by a loop.
 use Rattle.std.proofs.Common.{◌≡◌, ℕ, zero, suc, ◌+◌, ◌-◌, ◌<◌, ◌≤◌, Bool, true, false, Option, Some, None, Result, Ok, Err, List, [], refl, sym, ap, ◌∙◌, subst, arith}
 use Rattle.krb_der.specs.Octets.{when}
-use Rattle.krb_file.specs.Fields.{Source, Fault, Bounds, Reader, onward, ◌>>=◌, gives, is_at_end, reaches}
-use Rattle.krb_file.specs.FieldReaders.{Held, MayHave, source_at, HasRead, FailsBy}
+use Rattle.krb_file.specs.Fields.{Source, Fault, Bounds, Reader, and_then, ◌>>=◌, succeed, is_at_end, reaches}
+use Rattle.krb_file.specs.FieldReaders.{Cursor, MayRemain, source_at, HasRead, FailsBy}
 use Rattle.krb_file.specs.declared.fault.FileFault.{FileFault}
 use Rattle.krb_file.specs.declared.fault.FileFault.TheVariants as faults
-use Rattle.krb_packet.specs.declared.order.Order.{Order}
+use Rattle.krb_packet.specs.declared.order.ByteOrder.{ByteOrder}
 use Rattle.krb_packet.specs.declared.interface.Options.{Options}
 use Rattle.krb_packet.specs.declared.interface.Setting.{Setting}
 use Rattle.krb_packet.specs.Numbers.{from_here}
 use Rattle.krb_packet.specs.Interfaces.{option_at, with_setting, after_setting, options_within}
 
--- Reading on by the second reader gives what the first one gives from the beginning.
-pub record Continues {A : Type 0} (first second : Reader A) (old new : Held) : Type 0 where
+-- Reading on by the second reader returns what the first one returns from the beginning.
+pub record Continues {A : Type 0} (first second : Reader A) (old new : Cursor) : Type 0 where
   pub same_bounds : new.bounds ≡ old.bounds
-  pub from : (rest : List ℕ) → MayHave new rest → (octets : List ℕ) × MayHave old octets × (first old.bounds (source_at old.place octets) ≡ second old.bounds (source_at new.place rest))
+  pub from : (rest : List ℕ) → MayRemain new rest → (octets : List ℕ) × MayRemain old octets × (first old.bounds (source_at old.place octets) ≡ second old.bounds (source_at new.place rest))
 
-pub continues_here : {A : Type 0} (reader : Reader A) (held : Held) → Continues reader reader held held
-continues_here reader held = record { same_bounds = refl; from = λ rest there. (rest, there, refl) }
+pub continues_here : {A : Type 0} (reader : Reader A) (cursor : Cursor) → Continues reader reader cursor cursor
+continues_here reader cursor = record { same_bounds = refl; from = λ rest there. (rest, there, refl) }
 
-pub continues_from : {A : Type 0} (reader : ℕ → Reader A) (held : Held) → Continues (from_here reader) (reader held.place) held held
-continues_from reader held = record { same_bounds = refl; from = λ rest there. (rest, there, refl) }
+pub continues_from : {A : Type 0} (reader : ℕ → Reader A) (cursor : Cursor) → Continues (from_here reader) (reader cursor.place) cursor cursor
+continues_from reader cursor = record { same_bounds = refl; from = λ rest there. (rest, there, refl) }
 
-pub continues_read : {A : Type 0} (first second : Reader A) (v : A) (old mid new : Held) → Continues first second old mid → HasRead second v mid new → HasRead first v old new
+pub continues_read : {A : Type 0} (first second : Reader A) (v : A) (old mid new : Cursor) → Continues first second old mid → HasRead second v mid new → HasRead first v old new
 continues_read first second v old mid new on read = record {
   same_bounds = read.same_bounds ∙ on.same_bounds;
   from = λ rest there.
@@ -33,7 +33,7 @@ continues_read first second v old mid new on read = record {
       (a.0, a.1, a.2 ∙ whose);
 }
 
-pub continues_fails : {A : Type 0} (first second : Reader A) (e : FileFault) (MayFail : Type 0) (old mid : Held) → Continues first second old mid → FailsBy e second MayFail mid → FailsBy e first MayFail old
+pub continues_fails : {A : Type 0} (first second : Reader A) (e : FileFault) (MayFail : Type 0) (old mid : Cursor) → Continues first second old mid → FailsBy e second MayFail mid → FailsBy e first MayFail old
 continues_fails first second faults.Memory MayFail old mid on fails = tt
 continues_fails first second faults.Read MayFail old mid on fails = fails
 continues_fails first second (faults.Refused place why unnamed) MayFail old mid on fails =
@@ -43,7 +43,7 @@ continues_fails first second (faults.Refused place why unnamed) MayFail old mid 
     let whose : second old.bounds s ≡ Err fault = subst (λ (k : Bounds). second k s ≡ Err fault) on.same_bounds fails.refused in
     record { octets = a.0; there = a.1; refused = a.2 ∙ whose }
 
-pub continues_then : {A B : Type 0} (first : Reader B) (one : Reader A) (next : A → Reader B) (v : A) (old mid new : Held) → Continues first (one >>= next) old mid → HasRead one v mid new → Continues first (next v) old new
+pub continues_then : {A B : Type 0} (first : Reader B) (one : Reader A) (next : A → Reader B) (v : A) (old mid new : Cursor) → Continues first (one >>= next) old mid → HasRead one v mid new → Continues first (next v) old new
 continues_then {A} {B} first one next v old mid new on read = record {
   same_bounds = read.same_bounds ∙ on.same_bounds;
   from = λ rest there.
@@ -52,20 +52,20 @@ continues_then {A} {B} first one next v old mid new on read = record {
       let s = source_at mid.place b.0 in
       let t = source_at new.place rest in
       let whose : one old.bounds s ≡ Ok (v, t) = subst (λ (k : Bounds). one k s ≡ Ok (v, t)) on.same_bounds b.2 in
-      (a.0, a.1, a.2 ∙ ap (λ (r : Result (A × Source) Fault). onward r (λ x. next x.0 old.bounds x.1)) whose);
+      (a.0, a.1, a.2 ∙ ap (λ (r : Result (A × Source) Fault). and_then r (λ x. next x.0 old.bounds x.1)) whose);
 }
 
-then_fails : {A B : Type 0} (one : Reader A) (next : A → Reader B) (e : FileFault) (MayFail : Type 0) (old : Held) → FailsBy e one MayFail old → FailsBy e (one >>= next) MayFail old
+then_fails : {A B : Type 0} (one : Reader A) (next : A → Reader B) (e : FileFault) (MayFail : Type 0) (old : Cursor) → FailsBy e one MayFail old → FailsBy e (one >>= next) MayFail old
 then_fails one next faults.Memory MayFail old fails = tt
 then_fails one next faults.Read MayFail old fails = fails
 then_fails {A} one next (faults.Refused place why unnamed) MayFail old fails = record {
   octets = fails.octets;
   there = fails.there;
-  refused = ap (λ (r : Result (A × Source) Fault). onward r (λ x. next x.0 old.bounds x.1)) fails.refused;
+  refused = ap (λ (r : Result (A × Source) Fault). and_then r (λ x. next x.0 old.bounds x.1)) fails.refused;
 }
 
--- the same reading at a place
-continues_as : {A : Type 0} (first second third : Reader A) (old new : Held) → Continues first second old new → ((rest : List ℕ) → second new.bounds (source_at new.place rest) ≡ third new.bounds (source_at new.place rest)) → Continues first third old new
+-- the same at a place
+continues_as : {A : Type 0} (first second third : Reader A) (old new : Cursor) → Continues first second old new → ((rest : List ℕ) → second new.bounds (source_at new.place rest) ≡ third new.bounds (source_at new.place rest)) → Continues first third old new
 continues_as first second third old new on same = record {
   same_bounds = on.same_bounds;
   from = λ rest there.
@@ -76,20 +76,20 @@ continues_as first second third old new on same = record {
 }
 
 -- ---- options
-abbrev others : ℕ → Order → Options → Option Setting → Reader Options
+abbrev others : ℕ → ByteOrder → Options → Option Setting → Reader Options
 others bound order found setting = after_setting found setting (options_within bound order)
 
-abbrev one_more : ℕ → Order → Options → Reader Options
+abbrev one_more : ℕ → ByteOrder → Options → Reader Options
 one_more bound order found = option_at order >>= others bound order found
 
-module _ (first : Reader Options) (order : Order) (most counter : ℕ) (found : Options) (old mid : Held) (on : Continues first (options_within (most - counter) order found) old mid) where
+module _ (first : Reader Options) (order : ByteOrder) (most counter : ℕ) (found : Options) (old mid : Cursor) (on : Continues first (options_within (most - counter) order found) old mid) where
   pub at_end : counter < most → is_at_end mid.bounds (source_at mid.place []) ≡ true → HasRead first found old mid
   at_end less ended =
       let more : most - counter ≡ suc (most - (counter + 1)) = omega (arith, less) in
       let here : Continues first (options_within (suc (most - (counter + 1))) order found) old mid = subst (λ (n : ℕ). Continues first (options_within n order found) old mid) more on in
-      continues_read first (gives found) found old mid mid
-      (continues_as first (options_within (suc (most - (counter + 1))) order found) (gives found) old mid here
-      (λ rest. ap (λ (b : Bool). (when b (λ _. gives found) (λ _. one_more (most - (counter + 1)) order found)) mid.bounds (source_at mid.place rest)) ended))
+      continues_read first (succeed found) found old mid mid
+      (continues_as first (options_within (suc (most - (counter + 1))) order found) (succeed found) old mid here
+      (λ rest. ap (λ (b : Bool). (when b (λ _. succeed found) (λ _. one_more (most - (counter + 1)) order found)) mid.bounds (source_at mid.place rest)) ended))
       (record { same_bounds = refl; from = λ rest there. (rest, there, refl) })
 
   on_more : counter < most → is_at_end mid.bounds (source_at mid.place []) ≡ false → Continues first (one_more (most - (counter + 1)) order found) old mid
@@ -97,14 +97,14 @@ module _ (first : Reader Options) (order : Order) (most counter : ℕ) (found : 
       let more : most - counter ≡ suc (most - (counter + 1)) = omega (arith, less) in
       let here : Continues first (options_within (suc (most - (counter + 1))) order found) old mid = subst (λ (n : ℕ). Continues first (options_within n order found) old mid) more on in
       continues_as first (options_within (suc (most - (counter + 1))) order found) (one_more (most - (counter + 1)) order found) old mid here
-      (λ rest. ap (λ (b : Bool). (when b (λ _. gives found) (λ _. one_more (most - (counter + 1)) order found)) mid.bounds (source_at mid.place rest)) ended)
+      (λ rest. ap (λ (b : Bool). (when b (λ _. succeed found) (λ _. one_more (most - (counter + 1)) order found)) mid.bounds (source_at mid.place rest)) ended)
 
-  pub goes_on : counter < most → is_at_end mid.bounds (source_at mid.place []) ≡ false → (setting : Setting) (new : Held) → HasRead (option_at order) (Some setting) mid new → Continues first (options_within (most - (counter + 1)) order (with_setting setting found)) old new
+  pub goes_on : counter < most → is_at_end mid.bounds (source_at mid.place []) ≡ false → (setting : Setting) (new : Cursor) → HasRead (option_at order) (Some setting) mid new → Continues first (options_within (most - (counter + 1)) order (with_setting setting found)) old new
   goes_on less ended setting new read = continues_then first (option_at order) (others (most - (counter + 1)) order found) (Some setting) old mid new (on_more less ended) read
 
-  pub ends : counter < most → is_at_end mid.bounds (source_at mid.place []) ≡ false → (new : Held) → HasRead (option_at order) None mid new → HasRead first found old new
+  pub ends : counter < most → is_at_end mid.bounds (source_at mid.place []) ≡ false → (new : Cursor) → HasRead (option_at order) None mid new → HasRead first found old new
   ends less ended new read =
-      continues_read first (gives found) found old new new
+      continues_read first (succeed found) found old new new
       (continues_then first (option_at order) (others (most - (counter + 1)) order found) None old mid new (on_more less ended) read)
       (record { same_bounds = refl; from = λ rest there. (rest, there, refl) })
 
@@ -116,5 +116,5 @@ module _ (first : Reader Options) (order : Order) (most counter : ℕ) (found : 
   pub is_full : most ≤ counter → HasRead first found old mid
   is_full full =
       let none : most - counter ≡ 0 = omega (arith, full) in
-      continues_read first (gives found) found old mid mid (subst (λ (n : ℕ). Continues first (options_within n order found) old mid) none on)
+      continues_read first (succeed found) found old mid mid (subst (λ (n : ℕ). Continues first (options_within n order found) old mid) none on)
       (record { same_bounds = refl; from = λ rest there. (rest, there, refl) })

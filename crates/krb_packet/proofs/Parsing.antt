@@ -1,26 +1,26 @@
--- Parsers: what readers of fields give them, how far they go, and how they follow one another.
+-- Parsers: made of readers of fields, one after another, and how many octets they read.
 use Rattle.std.proofs.Common.{◌≡◌, ℕ, ◌+◌, ◌-◌, ◌≤◌, Option, Some, None, Result, Ok, Err, List, length, refl, ap, sym, ◌∙◌, subst, arith}
 use Rattle.std.specs.Int.{Width}
 use Rattle.krb_file.specs.Fields.{Source, Fault, Bounds, Reader}
-use Rattle.krb_file.specs.Fields.{onward as read_onward, ◌>>=◌ as ◌then◌}
-use Rattle.krb_file.specs.FieldReaders.{Held, MayHave, HasRead, HasMet, FailsBy, Follows, source_at}
+use Rattle.krb_file.specs.Fields.{and_then as read_onward, ◌>>=◌ as ◌then◌}
+use Rattle.krb_file.specs.FieldReaders.{Cursor, MayRemain, HasRead, HasMet, FailsBy, Follows, source_at}
 use Rattle.krb_file.specs.declared.fault.FileWhy.{FileWhy}
 use Rattle.krb_file.specs.declared.fault.FileFault.{FileFault}
 use Rattle.krb_file.specs.declared.fault.FileFault.TheVariants as faults
 use Rattle.krb_file.proofs.FieldReaders.{some_rest}
-use Rattle.krb_packet.specs.declared.order.Order.{Order}
+use Rattle.krb_packet.specs.declared.order.ByteOrder.{ByteOrder}
 use Rattle.krb_packet.specs.declared.field.CaptureField.{CaptureField}
 use Rattle.krb_packet.specs.declared.fault.CaptureFault.{CaptureFault}
-use Rattle.krb_packet.specs.Numbers.{number_in, telling, number_telling, told}
+use Rattle.krb_packet.specs.Numbers.{number_in, checked_at, checked_number, checked}
 use Rattle.krb_packet.specs.Numbers.{from_here as here}
 use Rattle.krb_packet.proofs.Options.{Continues}
-use Rattle.krb_packet.specs.Parsers.{Refusal, Parser, onward, ◌>>=◌, gives, from_here, naming, fields, named, HasParsed, HasRefused, FailsIn, Parses, in_field, offset_of}
+use Rattle.krb_packet.specs.Parsers.{Refusal, Parser, and_then, ◌>>=◌, succeed, from_here, naming, fields, named, HasParsed, HasRefused, FailsIn, Parses, in_field, offset_of}
 use Rattle.krb_packet.proofs.Reaching.{Passes}
 
--- ---- a number that tells something, or nothing
-module _ {A : Type 0} (w : Width) (order : Order) (tells : ℕ → Result A FileWhy) (MayFail : Type 0) (number : ℕ) (old new : Held) (read : HasRead (number_in w order) number old new) where
-  told_so : (r : Result A FileWhy) → tells number ≡ r → Follows (λ (value : A). value) (told old.place r) (number_telling w order tells) MayFail old new
-  told_so (Ok value) e = record {
+-- ---- a number that has a meaning, or is refused
+module _ {A : Type 0} (w : Width) (order : ByteOrder) (check : ℕ → Result A FileWhy) (MayFail : Type 0) (number : ℕ) (old new : Cursor) (read : HasRead (number_in w order) number old new) where
+  checked_so : (r : Result A FileWhy) → check number ≡ r → Follows (λ (value : A). value) (checked old.place r) (checked_number w order check) MayFail old new
+  checked_so (Ok value) e = record {
     same_bounds = read.same_bounds;
     from = λ rest there.
         let a = read.from rest there in
@@ -28,11 +28,11 @@ module _ {A : Type 0} (w : Width) (order : Order) (tells : ℕ → Result A File
         let t = source_at new.place rest in (
           a.0,
           a.1,
-          ap (λ (r : Result (ℕ × Source) Fault). read_onward r (λ p. telling old.place (tells p.0) old.bounds p.1)) a.2
-              ∙ ap (λ (r : Result A FileWhy). telling old.place r old.bounds t) e,
+          ap (λ (r : Result (ℕ × Source) Fault). read_onward r (λ p. checked_at old.place (check p.0) old.bounds p.1)) a.2
+              ∙ ap (λ (r : Result A FileWhy). checked_at old.place r old.bounds t) e,
         );
   }
-  told_so (Err why) e =
+  checked_so (Err why) e =
       let now = some_rest new in
       let a = read.from now.rest now.there in
       let t = source_at new.place now.rest in
@@ -40,34 +40,34 @@ module _ {A : Type 0} (w : Width) (order : Order) (tells : ℕ → Result A File
         octets = a.0;
         there = a.1;
         refused =
-            ap (λ (r : Result (ℕ × Source) Fault). read_onward r (λ p. telling old.place (tells p.0) old.bounds p.1)) a.2
-            ∙ ap (λ (r : Result A FileWhy). telling old.place r old.bounds t) e;
+            ap (λ (r : Result (ℕ × Source) Fault). read_onward r (λ p. checked_at old.place (check p.0) old.bounds p.1)) a.2
+            ∙ ap (λ (r : Result A FileWhy). checked_at old.place r old.bounds t) e;
       }
 
-  pub telling_follows : (place : ℕ) (result : Result A FileFault) → place ≡ old.place → result ≡ told place (tells number) → Follows (λ (value : A). value) result (number_telling w order tells) MayFail old new
-  telling_follows place result here is = rw (is, here) (told_so (tells number) refl)
+  pub telling_follows : (place : ℕ) (result : Result A FileFault) → place ≡ old.place → result ≡ checked place (check number) → Follows (λ (value : A). value) result (checked_number w order check) MayFail old new
+  telling_follows place result here is = rw (is, here) (checked_so (check number) refl)
 
-module _ {A : Type 0} (tells : Result A FileWhy) (MayFail : Type 0) (held : Held) where
-  told_here : (r : Result A FileWhy) → tells ≡ r → Follows (λ (value : A). value) (told held.place r) (here (λ place. telling place tells)) MayFail held held
-  told_here (Ok value) e = record { same_bounds = refl; from = λ rest there. (rest, there, ap (λ (r : Result A FileWhy). telling held.place r held.bounds (source_at held.place rest)) e) }
-  told_here (Err why) e =
-      let now = some_rest held in
-      record { octets = now.rest; there = now.there; refused = ap (λ (r : Result A FileWhy). telling held.place r held.bounds (source_at held.place now.rest)) e }
+module _ {A : Type 0} (check : Result A FileWhy) (MayFail : Type 0) (cursor : Cursor) where
+  checked_here : (r : Result A FileWhy) → check ≡ r → Follows (λ (value : A). value) (checked cursor.place r) (here (λ place. checked_at place check)) MayFail cursor cursor
+  checked_here (Ok value) e = record { same_bounds = refl; from = λ rest there. (rest, there, ap (λ (r : Result A FileWhy). checked_at cursor.place r cursor.bounds (source_at cursor.place rest)) e) }
+  checked_here (Err why) e =
+      let now = some_rest cursor in
+      record { octets = now.rest; there = now.there; refused = ap (λ (r : Result A FileWhy). checked_at cursor.place r cursor.bounds (source_at cursor.place now.rest)) e }
 
-  pub tells_follows : (place : ℕ) (result : Result A FileFault) → place ≡ held.place → result ≡ told place tells → Follows (λ (value : A). value) result (here (λ place. telling place tells)) MayFail held held
-  tells_follows place result is e = rw (e, is) (told_here tells refl)
+  pub checked_follows : (place : ℕ) (result : Result A FileFault) → place ≡ cursor.place → result ≡ checked place check → Follows (λ (value : A). value) result (here (λ place. checked_at place check)) MayFail cursor cursor
+  checked_follows place result is e = rw (e, is) (checked_here check refl)
 
--- what follows fields that were read is refused where it says nothing
-pub told_fails : {A B : Type 0} (reader : Reader B) (place : ℕ) (tells : Result A FileWhy) (next : A → Reader B) (e : FileFault) (MayFail : Type 0) (old mid : Held) → told place tells ≡ Err e → Continues reader (telling place tells then next) old mid → FailsBy e reader MayFail old
-told_fails reader place (Ok value) next e MayFail old mid is on = absurd cc
-told_fails reader place (Err why) next e MayFail old mid is on =
+-- a number after fields that were read is refused if it has no meaning
+pub checked_fails : {A B : Type 0} (reader : Reader B) (place : ℕ) (check : Result A FileWhy) (next : A → Reader B) (e : FileFault) (MayFail : Type 0) (old mid : Cursor) → checked place check ≡ Err e → Continues reader (checked_at place check then next) old mid → FailsBy e reader MayFail old
+checked_fails reader place (Ok value) next e MayFail old mid is on = absurd cc
+checked_fails reader place (Err why) next e MayFail old mid is on =
     let same : faults.Refused place why None ≡ e = cc in
     let now = some_rest mid in
     let a = on.from now.rest now.there in
     rw (sym same) (record { octets = a.0; there = a.1; refused = a.2 })
 
--- ---- the fields that a reader reads
-module _ {A B : Type 0} (view : A → B) (reader : Reader B) (MayFail : Type 0) (old new : Held) where
+-- ---- the parser of the fields of a reader
+module _ {A B : Type 0} (view : A → B) (reader : Reader B) (MayFail : Type 0) (old new : Cursor) where
   pub named_follows : (field : CaptureField) (r : Result A FileFault) (result : Result A CaptureFault) → result ≡ in_field field r → Follows view r reader MayFail old new → Parses view result (named field reader) MayFail old new
   named_follows field (Ok value) result is follows = rw is (record {
     same_bounds = follows.same_bounds;
@@ -81,13 +81,13 @@ module _ {A : Type 0} (reader : Reader A) (MayFail : Type 0) (field_of : ℕ →
   abbrev placed_fields : Parser A
   placed_fields = from_here (λ start. fields (λ place. field_of (place - start)) reader)
 
-  pub fields_read : (value : A) (old new : Held) → HasRead reader value old new → HasParsed placed_fields value old new
+  pub fields_read : (value : A) (old new : Cursor) → HasRead reader value old new → HasParsed placed_fields value old new
   fields_read value old new read = record {
     same_bounds = read.same_bounds;
     from = λ rest there. let a = read.from rest there in (a.0, a.1, ap (naming (λ place. field_of (place - old.place))) a.2);
   }
 
-  pub fields_fail : (e : FileFault) (start offset : ℕ) (field : CaptureField) (old : Held) → start ≡ old.place → offset ≡ offset_of e start → field ≡ field_of offset → FailsBy e reader MayFail old → FailsIn e field placed_fields MayFail old
+  pub fields_fail : (e : FileFault) (start offset : ℕ) (field : CaptureField) (old : Cursor) → start ≡ old.place → offset ≡ offset_of e start → field ≡ field_of offset → FailsBy e reader MayFail old → FailsIn e field placed_fields MayFail old
   fields_fail faults.Memory start offset field old here is named fails = tt
   fields_fail faults.Read start offset field old here is named fails = fails
   fields_fail (faults.Refused place why unnamed) start offset field old here is named fails =
@@ -103,7 +103,7 @@ module _ {A : Type 0} (reader : Reader A) (MayFail : Type 0) (field_of : ℕ →
 
 -- ---- one parser after another
 module _ {A B : Type 0} (first : Parser A) (next : A → Parser B) (MayFail : Type 0) where
-  pub then_parsed : (v : A) (w : B) (old mid new : Held) → HasParsed first v old mid → HasParsed (next v) w mid new → HasParsed (first >>= next) w old new
+  pub then_parsed : (v : A) (w : B) (old mid new : Cursor) → HasParsed first v old mid → HasParsed (next v) w mid new → HasParsed (first >>= next) w old new
   then_parsed v w old mid new p q = record {
     same_bounds = q.same_bounds ∙ p.same_bounds;
     from = λ rest there.
@@ -111,19 +111,19 @@ module _ {A B : Type 0} (first : Parser A) (next : A → Parser B) (MayFail : Ty
         let a = p.from b.0 b.1 in
         let s = source_at mid.place b.0 in
         let whose : next v old.bounds s ≡ Ok (w, source_at new.place rest) = subst (λ (k : Bounds). next v k s ≡ Ok (w, source_at new.place rest)) p.same_bounds b.2 in
-        (a.0, a.1, ap (λ (r : Result (A × Source) Refusal). onward r (λ x. next x.0 old.bounds x.1)) a.2 ∙ whose);
+        (a.0, a.1, ap (λ (r : Result (A × Source) Refusal). and_then r (λ x. next x.0 old.bounds x.1)) a.2 ∙ whose);
   }
 
-  pub first_fails : (e : FileFault) (field : CaptureField) (old : Held) → FailsIn e field first MayFail old → FailsIn e field (first >>= next) MayFail old
+  pub first_fails : (e : FileFault) (field : CaptureField) (old : Cursor) → FailsIn e field first MayFail old → FailsIn e field (first >>= next) MayFail old
   first_fails faults.Memory field old fails = tt
   first_fails faults.Read field old fails = fails
   first_fails (faults.Refused place why unnamed) field old fails = record {
     octets = fails.octets;
     there = fails.there;
-    refused = ap (λ (r : Result (A × Source) Refusal). onward r (λ x. next x.0 old.bounds x.1)) fails.refused;
+    refused = ap (λ (r : Result (A × Source) Refusal). and_then r (λ x. next x.0 old.bounds x.1)) fails.refused;
   }
 
-  pub next_fails : (v : A) (e : FileFault) (field : CaptureField) (old mid : Held) → HasParsed first v old mid → FailsIn e field (next v) MayFail mid → FailsIn e field (first >>= next) MayFail old
+  pub next_fails : (v : A) (e : FileFault) (field : CaptureField) (old mid : Cursor) → HasParsed first v old mid → FailsIn e field (next v) MayFail mid → FailsIn e field (first >>= next) MayFail old
   next_fails v faults.Memory field old mid p fails = tt
   next_fails v faults.Read field old mid p fails = fails
   next_fails v (faults.Refused place why unnamed) field old mid p fails =
@@ -135,15 +135,15 @@ module _ {A B : Type 0} (first : Parser A) (next : A → Parser B) (MayFail : Ty
       record {
         octets = a.0;
         there = a.1;
-        refused = ap (λ (r : Result (A × Source) Refusal). onward r (λ x. next x.0 old.bounds x.1)) a.2 ∙ whose;
+        refused = ap (λ (r : Result (A × Source) Refusal). and_then r (λ x. next x.0 old.bounds x.1)) a.2 ∙ whose;
       }
 
--- whatever the last one gives
-pub then_parses : {A B C : Type 0} (first : Parser A) (next : A → Parser B) (MayFail : Type 0) (view : C → B) (v : A) (result : Result C CaptureFault) (old mid new : Held) → HasParsed first v old mid → Parses view result (next v) MayFail mid new → Parses view result (first >>= next) MayFail old new
+-- whatever the last one returns
+pub then_parses : {A B C : Type 0} (first : Parser A) (next : A → Parser B) (MayFail : Type 0) (view : C → B) (v : A) (result : Result C CaptureFault) (old mid new : Cursor) → HasParsed first v old mid → Parses view result (next v) MayFail mid new → Parses view result (first >>= next) MayFail old new
 then_parses first next MayFail view v (Ok w) old mid new p q = then_parsed first next MayFail v (view w) old mid new p q
 then_parses first next MayFail view v (Err error) old mid new p q = next_fails first next MayFail v error.fault error.field old mid p q
 
--- ---- n octets at least are passed, and no more than there are
+-- ---- n octets at least are read, and no more than there are
 pub record Onward {A : Type 0} (n : ℕ) (parser : Parser A) : Type 0 where
   pub on : (bounds : Bounds) (s : Source) (v : A) (t : Source) → parser bounds s ≡ Ok (v, t) → s.place + n ≤ t.place
   pub same : (bounds : Bounds) (s : Source) (v : A) (t : Source) → parser bounds s ≡ Ok (v, t) → t.place + length t.octets ≡ s.place + length s.octets
@@ -154,7 +154,7 @@ parsed x = Ok x
 pub parsed_is : {A : Type 0} (x y : A) → parsed x ≡ parsed y → x ≡ y
 parsed_is x y e = cc
 
-pub parsed-ok : {A B : Type 0} (r : Result A Refusal) (f : A → Result B Refusal) (y : B) → onward r f ≡ Ok y → (x : A) × (r ≡ Ok x) × (f x ≡ Ok y)
+pub parsed-ok : {A B : Type 0} (r : Result A Refusal) (f : A → Result B Refusal) (y : B) → and_then r f ≡ Ok y → (x : A) × (r ≡ Ok x) × (f x ≡ Ok y)
 parsed-ok (Ok x) f y e = (x, refl, e)
 parsed-ok (Err d) f y e = absurd cc
 
@@ -168,8 +168,8 @@ Onward-fields n field_of reader p = record {
   same = λ bounds s v t e. p.same bounds s v t (naming-ok field_of (reader bounds s) (v, t) e);
 }
 
-pub Onward-gives : {A : Type 0} (value : A) → Onward 0 (gives value)
-Onward-gives {A} value = record {
+pub Onward-succeed : {A : Type 0} (value : A) → Onward 0 (succeed value)
+Onward-succeed {A} value = record {
   on = λ bounds s v t e. subst (λ (p : A × Source). s.place + 0 ≤ p.1.place) (parsed_is (value, s) (v, t) e) (omega arith);
   same = λ bounds s v t e. subst (λ (p : A × Source). p.1.place + length p.1.octets ≡ s.place + length s.octets) (parsed_is (value, s) (v, t) e) refl;
 }
@@ -189,7 +189,7 @@ Onward-then m n first next p others = record {
 pub Onward-from_here : {A : Type 0} (n : ℕ) (parser : ℕ → Parser A) → ((place : ℕ) → Onward n (parser place)) → Onward n (from_here parser)
 Onward-from_here n parser each = record { on = λ bounds s v t e. (each s.place).on bounds s v t e; same = λ bounds s v t e. (each s.place).same bounds s v t e }
 
-pub parsed_goes : {A : Type 0} (n : ℕ) (parser : Parser A) (value : A) (old new : Held) → Onward n parser → HasParsed parser value old new → old.place + n ≤ new.place
+pub parsed_goes : {A : Type 0} (n : ℕ) (parser : Parser A) (value : A) (old new : Cursor) → Onward n parser → HasParsed parser value old new → old.place + n ≤ new.place
 parsed_goes n parser value old new goes read =
     let now = some_rest new in
     let a = read.from now.rest now.there in

@@ -1,23 +1,23 @@
--- How far the fields of a capture file go, and where their faults stand.
+-- How many octets the fields of a capture file have, and the places of their faults.
 use Rattle.std.proofs.Common.{◌≡◌, ℕ, zero, suc, ◌+◌, ◌≤◌, ◌⊎◌, inl, inr, Bool, true, false, Option, Some, None, Result, Ok, Err, List, length, refl, ap, ◌∙◌, subst, arith, length-drop}
 use Rattle.std.specs.Int.{Width, w8, w16, w32, w64, byte_len, from_be_bytes, cast_signed}
 use Rattle.krb_der.specs.Octets.{when}
-use Rattle.krb_file.specs.Fields.{Source, Fault, Bounds, Reader, onward, ◌>>=◌, gives, are_zero, next_octets_at, octets_at, number_at, room, is_at_end}
-use Rattle.krb_file.specs.FieldReaders.{Held, HasRead, source_at, skipped_at}
+use Rattle.krb_file.specs.Fields.{Source, Fault, Bounds, Reader, and_then, ◌>>=◌, succeed, are_zero, next_octets_at, octets_at, number_at, octets_to_end, is_at_end}
+use Rattle.krb_file.specs.FieldReaders.{Cursor, HasRead, source_at, skipped_at}
 use Rattle.krb_file.specs.declared.fault.FileWhy.{FileWhy}
-use Rattle.krb_file.proofs.Fields.{ok_is, err_is, onward-ok, onward-err, piece-ok}
+use Rattle.krb_file.proofs.Fields.{ok_is, err_is, and_then-ok, and_then-err, piece-ok}
 use Rattle.krb_file.proofs.FieldReaders.{some_rest}
 use Rattle.krb_file.proofs.Steps.{Steps-piece, Steps-octets}
-use Rattle.krb_packet.specs.declared.order.Order.{Order}
-use Rattle.krb_packet.specs.Numbers.{in_order, number_in, telling, from_here, number_telling, moved_to, refused_at}
+use Rattle.krb_packet.specs.declared.order.ByteOrder.{ByteOrder}
+use Rattle.krb_packet.specs.Numbers.{in_order, number_in, checked_at, from_here, checked_number, moved_to, refused_at}
 
--- ---- n octets at least are passed, and no more than there are
+-- ---- n octets at least are read, and no more than there are
 pub record Passes {A : Type 0} (n : ℕ) (reader : Reader A) : Type 0 where
   pub on : (bounds : Bounds) (s : Source) (v : A) (t : Source) → reader bounds s ≡ Ok (v, t) → s.place + n ≤ t.place
   pub same : (bounds : Bounds) (s : Source) (v : A) (t : Source) → reader bounds s ≡ Ok (v, t) → t.place + length t.octets ≡ s.place + length s.octets
 
-pub Passes-gives : {A : Type 0} (value : A) → Passes 0 (gives value)
-Passes-gives {A} value = record {
+pub Passes-succeed : {A : Type 0} (value : A) → Passes 0 (succeed value)
+Passes-succeed {A} value = record {
   on = λ bounds s v t e. subst (λ (p : A × Source). s.place + 0 ≤ p.1.place) (ok_is (value, s) (v, t) e) (omega arith);
   same = λ bounds s v t e. subst (λ (p : A × Source). p.1.place + length p.1.octets ≡ s.place + length s.octets) (ok_is (value, s) (v, t) e) refl;
 }
@@ -25,12 +25,12 @@ Passes-gives {A} value = record {
 pub Passes-then : {A B : Type 0} (m n : ℕ) (reader : Reader A) (next : A → Reader B) → Passes m reader → ((value : A) → Passes n (next value)) → Passes (m + n) (reader >>= next)
 Passes-then m n reader next first others = record {
   on = λ bounds s v t e.
-      let a = onward-ok (reader bounds s) (λ p. next p.0 bounds p.1) (v, t) e in
+      let a = and_then-ok (reader bounds s) (λ p. next p.0 bounds p.1) (v, t) e in
       let one = first.on bounds s a.0.0 a.0.1 a.1 in
       let two = (others a.0.0).on bounds a.0.1 v t a.2 in
       omega (arith, one, two);
   same = λ bounds s v t e.
-      let a = onward-ok (reader bounds s) (λ p. next p.0 bounds p.1) (v, t) e in
+      let a = and_then-ok (reader bounds s) (λ p. next p.0 bounds p.1) (v, t) e in
       (others a.0.0).same bounds a.0.1 v t a.2 ∙ first.same bounds s a.0.0 a.0.1 a.1;
 }
 
@@ -52,9 +52,9 @@ Passes-octets size = record {
   same = λ bounds s v t e. (piece_passes bounds.limit size).same bounds s v t e;
 }
 
-pub Passes-made : {A B : Type 0} (n : ℕ) (reader : Reader A) (make : A → B) → Passes n reader → Passes n (reader >>= λ x. gives (make x))
+pub Passes-made : {A B : Type 0} (n : ℕ) (reader : Reader A) (make : A → B) → Passes n reader → Passes n (reader >>= λ x. succeed (make x))
 Passes-made n reader make first =
-    let p = Passes-then n 0 reader (λ x. gives (make x)) first (λ x. Passes-gives (make x)) in
+    let p = Passes-then n 0 reader (λ x. succeed (make x)) first (λ x. Passes-succeed (make x)) in
     record { on = λ bounds s v t e. let q = p.on bounds s v t e in omega (arith, q); same = p.same }
 
 pub Passes-skipped : (size : ℕ) → Passes size (skipped_at size)
@@ -63,18 +63,18 @@ Passes-skipped size = Passes-made size (next_octets_at None size) are_zero (Pass
 pub Passes-number_at : (w : Width) → Passes (byte_len w) (number_at w)
 Passes-number_at w = Passes-made (byte_len w) (next_octets_at None (byte_len w)) (from_be_bytes w) (Passes-piece (byte_len w))
 
-pub Passes-number : (w : Width) (order : Order) → Passes (byte_len w) (number_in w order)
+pub Passes-number : (w : Width) (order : ByteOrder) → Passes (byte_len w) (number_in w order)
 Passes-number w order = Passes-made (byte_len w) (next_octets_at None (byte_len w)) (in_order w order) (Passes-piece (byte_len w))
 
-pub Passes-tells : {A : Type 0} (place : ℕ) (tells : Result A FileWhy) → Passes 0 (telling place tells)
-Passes-tells place (Ok value) = Passes-gives value
-Passes-tells place (Err why) = record { on = λ bounds s v t e. absurd cc; same = λ bounds s v t e. absurd cc }
+pub Passes-check : {A : Type 0} (place : ℕ) (check : Result A FileWhy) → Passes 0 (checked_at place check)
+Passes-check place (Ok value) = Passes-succeed value
+Passes-check place (Err why) = record { on = λ bounds s v t e. absurd cc; same = λ bounds s v t e. absurd cc }
 
 pub Passes-from_here : {A : Type 0} (n : ℕ) (reader : ℕ → Reader A) → ((place : ℕ) → Passes n (reader place)) → Passes n (from_here reader)
 Passes-from_here n reader each = record { on = λ bounds s v t e. (each s.place).on bounds s v t e; same = λ bounds s v t e. (each s.place).same bounds s v t e }
 
-pub Passes-telling : {A : Type 0} (w : Width) (order : Order) (tells : ℕ → Result A FileWhy) → Passes (byte_len w + 0) (number_telling w order tells)
-Passes-telling w order tells = Passes-from_here (byte_len w + 0) _ (λ place. Passes-then (byte_len w) 0 (number_in w order) _ (Passes-number w order) (λ number. Passes-tells place (tells number)))
+pub Passes-checked_at : {A : Type 0} (w : Width) (order : ByteOrder) (check : ℕ → Result A FileWhy) → Passes (byte_len w + 0) (checked_number w order check)
+Passes-checked_at w order check = Passes-from_here (byte_len w + 0) _ (λ place. Passes-then (byte_len w) 0 (number_in w order) _ (Passes-number w order) (λ number. Passes-check place (check number)))
 
 moved-ok : {A : Type 0} (place : ℕ) (r : Result A Fault) (v : A) → moved_to place r ≡ Ok v → r ≡ Ok v
 moved-ok place (Ok read) v e = e
@@ -90,26 +90,26 @@ pub Passes-when : {A : Type 0} (n : ℕ) (test : Bool) (one two : Unit {0} → R
 Passes-when n true one two p q = p
 Passes-when n false one two p q = q
 
--- ---- so of what a reader of fields still has
-pub read_goes : {A : Type 0} (n : ℕ) (reader : Reader A) (value : A) (old new : Held) → Passes n reader → HasRead reader value old new → old.place + n ≤ new.place
+-- ---- the same of a cursor
+pub read_goes : {A : Type 0} (n : ℕ) (reader : Reader A) (value : A) (old new : Cursor) → Passes n reader → HasRead reader value old new → old.place + n ≤ new.place
 read_goes n reader value old new passes read =
     let now = some_rest new in
     let a = read.from now.rest now.there in
     passes.on old.bounds (source_at old.place a.0) value (source_at new.place now.rest) a.2
 
--- ---- a fault stands among the octets or at their end
+-- ---- a fault is at the place of an octet or at the end
 pub record Stops {A : Type 0} (reader : Reader A) : Type 0 where
   pub passes : Passes 0 reader
   pub upto : (bounds : Bounds) (s : Source) (f : Fault) → reader bounds s ≡ Err f → f.place ≤ s.place + length s.octets
 
-pub Stops-gives : {A : Type 0} (value : A) → Stops (gives value)
-Stops-gives value = record { passes = Passes-gives value; upto = λ bounds s f e. absurd cc }
+pub Stops-succeed : {A : Type 0} (value : A) → Stops (succeed value)
+Stops-succeed value = record { passes = Passes-succeed value; upto = λ bounds s f e. absurd cc }
 
 pub Stops-then : {A B : Type 0} (reader : Reader A) (next : A → Reader B) → Stops reader → ((value : A) → Stops (next value)) → Stops (reader >>= next)
 Stops-then reader next first others = record {
   passes = Passes-then 0 0 reader next first.passes (λ value. (others value).passes);
   upto = λ bounds s f e.
-      elim (onward-err (reader bounds s) (λ p. next p.0 bounds p.1) f e) [
+      elim (and_then-err (reader bounds s) (λ p. next p.0 bounds p.1) f e) [
         | inl a ↦ first.upto bounds s f a
         | inr a ↦
             let there = (others a.0.0).upto bounds a.0.1 f a.2 in
@@ -124,26 +124,26 @@ Stops-piece size = record { passes = Passes-fewer size _ (Passes-piece size); up
 pub Stops-octets : (size : ℕ) → Stops (octets_at size)
 Stops-octets size = record { passes = Passes-fewer size _ (Passes-octets size); upto = λ bounds s f e. ((Steps-octets size).faults bounds s f e).upto }
 
-pub Stops-number : (w : Width) (order : Order) → Stops (number_in w order)
-Stops-number w order = Stops-then (next_octets_at None (byte_len w)) _ (Stops-piece (byte_len w)) (λ octets. Stops-gives (in_order w order octets))
+pub Stops-number : (w : Width) (order : ByteOrder) → Stops (number_in w order)
+Stops-number w order = Stops-then (next_octets_at None (byte_len w)) _ (Stops-piece (byte_len w)) (λ octets. Stops-succeed (in_order w order octets))
 
-telling-err : {A : Type 0} (place : ℕ) (tells : Result A FileWhy) (bounds : Bounds) (s : Source) (f : Fault) → telling place tells bounds s ≡ Err f → f.place ≡ place
-telling-err place (Ok value) bounds s f e = absurd cc
-telling-err {A} place (Err why) bounds s f e = ap (λ (x : Fault). x.place) (err_is (A × Source) f (record { place = place; why = why; field = None }) cc)
+checked_at-err : {A : Type 0} (place : ℕ) (check : Result A FileWhy) (bounds : Bounds) (s : Source) (f : Fault) → checked_at place check bounds s ≡ Err f → f.place ≡ place
+checked_at-err place (Ok value) bounds s f e = absurd cc
+checked_at-err {A} place (Err why) bounds s f e = ap (λ (x : Fault). x.place) (err_is (A × Source) f (record { place = place; why = why; field = None }) cc)
 
-pub Stops-tells : {A : Type 0} (tells : Result A FileWhy) → Stops (from_here (λ place. telling place tells))
-Stops-tells tells = record {
-  passes = Passes-from_here 0 _ (λ place. Passes-tells place tells);
-  upto = λ bounds s f e. let here = telling-err s.place tells bounds s f e in omega (arith, here);
+pub Stops-check : {A : Type 0} (check : Result A FileWhy) → Stops (from_here (λ place. checked_at place check))
+Stops-check check = record {
+  passes = Passes-from_here 0 _ (λ place. Passes-check place check);
+  upto = λ bounds s f e. let here = checked_at-err s.place check bounds s f e in omega (arith, here);
 }
 
-pub Stops-telling : {A : Type 0} (w : Width) (order : Order) (tells : ℕ → Result A FileWhy) → Stops (number_telling w order tells)
-Stops-telling w order tells = record {
-  passes = Passes-fewer (byte_len w + 0) _ (Passes-telling w order tells);
+pub Stops-checked_at : {A : Type 0} (w : Width) (order : ByteOrder) (check : ℕ → Result A FileWhy) → Stops (checked_number w order check)
+Stops-checked_at w order check = record {
+  passes = Passes-fewer (byte_len w + 0) _ (Passes-checked_at w order check);
   upto = λ bounds s f e.
-      elim (onward-err (number_in w order bounds s) (λ p. telling s.place (tells p.0) bounds p.1) f e) [
+      elim (and_then-err (number_in w order bounds s) (λ p. checked_at s.place (check p.0) bounds p.1) f e) [
         | inl a ↦ (Stops-number w order).upto bounds s f a
-        | inr a ↦ let here = telling-err s.place (tells a.0.0) bounds a.0.1 f a.2 in omega (arith, here)
+        | inr a ↦ let here = checked_at-err s.place (check a.0.0) bounds a.0.1 f a.2 in omega (arith, here)
       ];
 }
 
@@ -151,7 +151,7 @@ moved-err : {A : Type 0} (place : ℕ) (r : Result A Fault) (f : Fault) → move
 moved-err place (Ok read) f e = absurd cc
 moved-err {A} place (Err fault) f e = let moved : Fault = record fault { place = place } in ap (λ (x : Fault). x.place) (err_is A f moved cc)
 
--- one whose faults stand at its first octet
+-- a reader whose faults are at its first octet
 pub Stops-whole : {A : Type 0} (reader : Reader A) → Passes 0 reader → Stops (from_here (λ place. refused_at place reader))
 Stops-whole reader p = record {
   passes = Passes-from_here 0 _ (λ place. Passes-refused 0 place reader p);

@@ -1,12 +1,12 @@
--- How far each step of a file goes, and how many blocks it reads.
+-- How many octets and blocks each step of a file reads.
 use Rattle.std.proofs.Common.{◌≡◌, ℕ, ◌+◌, ◌≤◌, Option, Some, None, Result, Ok, Err, List, [], ◌∷◌, length, refl, ap, ◌∙◌, subst, arith}
 use Rattle.std.specs.Int.{w32}
 use Rattle.krb_file.specs.Fields.{Source, Fault, Bounds, octets_at, next_octets_at}
-use Rattle.krb_file.specs.FieldReaders.{Held, source_at, skipped_at}
-use Rattle.krb_file.proofs.Fields.{at, ok_is, onward-ok}
+use Rattle.krb_file.specs.FieldReaders.{Cursor, source_at, skipped_at}
+use Rattle.krb_file.proofs.Fields.{at, ok_is, and_then-ok}
 use Rattle.krb_file.proofs.FieldReaders.{some_rest}
-use Rattle.krb_packet.specs.declared.order.Order.{Order}
-use Rattle.krb_packet.specs.declared.order.Order.TheVariants as orders
+use Rattle.krb_packet.specs.declared.order.ByteOrder.{ByteOrder}
+use Rattle.krb_packet.specs.declared.order.ByteOrder.TheVariants as orders
 use Rattle.krb_packet.specs.declared.packet.Packet.{Packet}
 use Rattle.krb_packet.specs.declared.pcap.Form.{Form}
 use Rattle.krb_packet.specs.declared.pcap.Header.{Header}
@@ -24,19 +24,19 @@ use Rattle.krb_packet.specs.declared.format.Next.{Next}
 use Rattle.krb_packet.specs.declared.format.Next.TheVariants as nexts
 use Rattle.krb_packet.specs.declared.field.CaptureField.TheVariants as capture
 use Rattle.krb_packet.specs.declared.field.BlockField.TheVariants as block
-use Rattle.krb_packet.specs.Numbers.{in_order, number_in, telling, number_telling, refused_at}
-use Rattle.krb_packet.specs.Parsers.{Refusal, Parser, onward, ◌>>=◌, gives, fields, named, HasParsed}
+use Rattle.krb_packet.specs.Numbers.{in_order, number_in, checked_at, checked_number, refused_at}
+use Rattle.krb_packet.specs.Parsers.{Refusal, Parser, and_then, ◌>>=◌, succeed, fields, named, HasParsed}
 use Rattle.krb_packet.specs.Pcaps.{magic_of, magic_at, version, header_at, captured, packet_at, next_at}
 use Rattle.krb_packet.specs.Bodies.{byte_order, body_size, after_byte_order, section_head_at, head_of, head_at, same_length, next_kind_at, content_at, in_body, block_kind}
-use Rattle.krb_packet.specs.Blocks.{head_in, skipped_body, told_in_body, read_body, body_in, block_in, after_content, block_after, after_kind, next_block}
+use Rattle.krb_packet.specs.Blocks.{head_in, skipped_body, content_in_file, read_body, body_in, block_in, after_content, block_after, after_kind, next_block}
 use Rattle.krb_packet.specs.Captures.{header_in, packet_in, after_magic, begin_in, after_packet, next_in, blocks_of}
-use Rattle.krb_packet.proofs.Reaching.{Passes, Passes-gives, Passes-then, Passes-fewer, Passes-made, Passes-piece, Passes-octets, Passes-skipped, Passes-number_at, Passes-number, Passes-tells, Passes-telling, Passes-from_here, Passes-refused}
-use Rattle.krb_packet.proofs.Parsing.{Onward, Onward-fields, Onward-gives, Onward-then, Onward-from_here, parsed_is, parsed-ok, naming-ok}
+use Rattle.krb_packet.proofs.Reaching.{Passes, Passes-succeed, Passes-then, Passes-fewer, Passes-made, Passes-piece, Passes-octets, Passes-skipped, Passes-number_at, Passes-number, Passes-check, Passes-checked_at, Passes-from_here, Passes-refused}
+use Rattle.krb_packet.proofs.Parsing.{Onward, Onward-fields, Onward-succeed, Onward-then, Onward-from_here, parsed_is, parsed-ok, naming-ok}
 
 -- ---- a pcap
 Passes-header : (form : Form) → Passes 0 (header_at form)
 Passes-header form =
-    Passes-then 0 0 (number_telling w32 form.order (version form.order)) _ (Passes-fewer 4 _ (Passes-telling w32 form.order (version form.order))) (λ _.
+    Passes-then 0 0 (checked_number w32 form.order (version form.order)) _ (Passes-fewer 4 _ (Passes-checked_at w32 form.order (version form.order))) (λ _.
     Passes-then 0 0 _ _ (Passes-fewer 4 _ (Passes-number_at w32)) (λ thiszone.
     Passes-then 0 0 _ _ (Passes-fewer 4 _ (Passes-number_at w32)) (λ sigfigs.
     Passes-then 0 0 _ _ (Passes-fewer 4 _ (Passes-number_at w32)) (λ snaplen.
@@ -47,7 +47,7 @@ Passes-packet header count =
     let order = header.form.order in
     Passes-then 4 12 (number_in w32 order) _ (Passes-number w32 order) (λ seconds.
     Passes-then 4 8 (number_in w32 order) _ (Passes-number w32 order) (λ fraction.
-    Passes-then 4 4 (number_telling w32 order captured) _ (Passes-telling w32 order captured) (λ size.
+    Passes-then 4 4 (checked_number w32 order captured) _ (Passes-checked_at w32 order captured) (λ size.
     Passes-then 4 0 (number_in w32 order) _ (Passes-number w32 order) (λ original.
     Passes-fewer size _ (Passes-made size (octets_at size) _ (Passes-octets size))))))
 
@@ -59,38 +59,38 @@ next_passes header count bounds place [] packet t e =
     absurd cc
 next_passes header count bounds place (octet ∷ octets) packet t e =
     let s = at place (octet ∷ octets) in
-    let a = onward-ok (packet_at header count bounds s) (λ p. Ok (Some p.0, p.1)) (Some packet, t) e in
+    let a = and_then-ok (packet_at header count bounds s) (λ p. Ok (Some p.0, p.1)) (Some packet, t) e in
     let same : a.0.1 ≡ t = ap (λ (p : Option Packet × Source). p.1) (ok_is (Some a.0.0, a.0.1) (Some packet, t) a.2) in
     let passed = Passes-packet header count in
     subst (λ (x : Source). (place + 16 ≤ x.place) × (x.place + length x.octets ≡ place + length (octet ∷ octets))) same
     (passed.on bounds s a.0.0 a.0.1 a.1, passed.same bounds s a.0.0 a.0.1 a.1)
 
 -- ---- a block
-next_kind_passes : (order : Order) (bounds : Bounds) (place : ℕ) (octets : List ℕ) (kind : BlockKind) (t : Source) → next_kind_at order bounds (at place octets) ≡ Ok (Some kind, t)
+next_kind_passes : (order : ByteOrder) (bounds : Bounds) (place : ℕ) (octets : List ℕ) (kind : BlockKind) (t : Source) → next_kind_at order bounds (at place octets) ≡ Ok (Some kind, t)
     → (place + 4 ≤ t.place) × (t.place + length t.octets ≡ place + length octets)
 next_kind_passes order bounds place [] kind t e =
     let same : ◌≡◌ {A = Option BlockKind} None (Some kind) = ap (λ (p : Option BlockKind × Source). p.0) (ok_is (None, at place []) (Some kind, t) e) in
     absurd cc
 next_kind_passes order bounds place (octet ∷ octets) kind t e =
     let s = at place (octet ∷ octets) in
-    let a = onward-ok (number_in w32 order bounds s) (λ p. Ok (Some (block_kind p.0), p.1)) (Some kind, t) e in
+    let a = and_then-ok (number_in w32 order bounds s) (λ p. Ok (Some (block_kind p.0), p.1)) (Some kind, t) e in
     let same : a.0.1 ≡ t = ap (λ (p : Option BlockKind × Source). p.1) (ok_is (Some (block_kind a.0.0), a.0.1) (Some kind, t) a.2) in
     let passed = Passes-number w32 order in
     subst (λ (x : Source). (place + 4 ≤ x.place) × (x.place + length x.octets ≡ place + length (octet ∷ octets))) same
     (passed.on bounds s a.0.0 a.0.1 a.1, passed.same bounds s a.0.0 a.0.1 a.1)
 
-Passes-block_head : (order : Order) → Passes 0 (number_telling w32 order (head_of order))
-Passes-block_head order = Passes-fewer 4 _ (Passes-telling w32 order (head_of order))
+Passes-block_head : (order : ByteOrder) → Passes 0 (checked_number w32 order (head_of order))
+Passes-block_head order = Passes-fewer 4 _ (Passes-checked_at w32 order (head_of order))
 
 Passes-section_head : Passes 0 section_head_at
 Passes-section_head =
     Passes-from_here 0 _ (λ place.
     Passes-then 0 0 (next_octets_at None 4) _ (Passes-fewer 4 _ (Passes-piece 4)) (λ octets.
-    Passes-then 0 0 (number_telling w32 orders.BigEndian byte_order) _ (Passes-fewer 4 _ (Passes-telling w32 orders.BigEndian byte_order)) (λ order.
-    Passes-then 0 0 (telling place (body_size (in_order w32 order octets))) _ (Passes-tells place (body_size (in_order w32 order octets))) (λ size.
-    Passes-made 0 (telling (place + 4) (after_byte_order size)) _ (Passes-tells (place + 4) (after_byte_order size))))))
+    Passes-then 0 0 (checked_number w32 orders.BigEndian byte_order) _ (Passes-fewer 4 _ (Passes-checked_at w32 orders.BigEndian byte_order)) (λ order.
+    Passes-then 0 0 (checked_at place (body_size (in_order w32 order octets))) _ (Passes-check place (body_size (in_order w32 order octets))) (λ size.
+    Passes-made 0 (checked_at (place + 4) (after_byte_order size)) _ (Passes-check (place + 4) (after_byte_order size))))))
 
-Passes-head : (kind : BlockKind) (order : Order) → Passes 0 (head_at kind order)
+Passes-head : (kind : BlockKind) (order : ByteOrder) → Passes 0 (head_at kind order)
 Passes-head kinds.Section order = Passes-section_head
 Passes-head kinds.Interface order = Passes-block_head order
 Passes-head kinds.OldPacket order = Passes-block_head order
@@ -98,15 +98,15 @@ Passes-head kinds.SimplePacket order = Passes-block_head order
 Passes-head kinds.EnhancedPacket order = Passes-block_head order
 Passes-head kinds.Other order = Passes-block_head order
 
-Onward-told : (section : Section) (kind : BlockKind) (begin : ℕ) (r : Result Content Fault) → Onward 0 (told_in_body section kind begin r)
-Onward-told section kind begin (Ok content) = Onward-gives content
-Onward-told section kind begin (Err fault) = record { on = λ bounds s v t e. absurd cc; same = λ bounds s v t e. absurd cc }
+Onward-checked : (section : Section) (kind : BlockKind) (begin : ℕ) (r : Result Content Fault) → Onward 0 (content_in_file section kind begin r)
+Onward-checked section kind begin (Ok content) = Onward-succeed content
+Onward-checked section kind begin (Err fault) = record { on = λ bounds s v t e. absurd cc; same = λ bounds s v t e. absurd cc }
 
 Onward-read : (kind : BlockKind) (section : Section) (count place : ℕ) (head : Head) → Onward 0 (read_body kind section count place head)
 Onward-read kind section count place head =
     Onward-from_here 0 _ (λ begin.
     Onward-then 0 0 _ _ (Onward-fields 0 _ _ (Passes-refused 0 place (octets_at head.left) (Passes-fewer head.left _ (Passes-octets head.left)))) (λ octets.
-    Onward-told section kind begin (in_body (content_at kind head.order count section.interfaces) octets)))
+    Onward-checked section kind begin (in_body (content_at kind head.order count section.interfaces) octets)))
 
 Onward-body : (kind : BlockKind) (section : Section) (count place : ℕ) (head : Head) → Onward 0 (body_in kind section count place head)
 Onward-body kinds.Section section count place head = Onward-read kinds.Section section count place head
@@ -115,16 +115,16 @@ Onward-body kinds.OldPacket section count place head = Onward-read kinds.OldPack
 Onward-body kinds.SimplePacket section count place head = Onward-read kinds.SimplePacket section count place head
 Onward-body kinds.EnhancedPacket section count place head = Onward-read kinds.EnhancedPacket section count place head
 Onward-body kinds.Other section count place head =
-    Onward-then 0 0 _ _ (Onward-fields 0 _ _ (Passes-fewer head.left _ (Passes-skipped head.left))) (λ zeros. Onward-gives contents.Other)
+    Onward-then 0 0 _ _ (Onward-fields 0 _ _ (Passes-fewer head.left _ (Passes-skipped head.left))) (λ zeros. Onward-succeed contents.Other)
 
 Onward-block : (kind : BlockKind) (section : Section) (count : ℕ) → Onward 0 (block_in kind section count)
 Onward-block kind section count =
     Onward-from_here 0 _ (λ start.
     Onward-then 0 0 (head_in kind section) _ (Onward-from_here 0 _ (λ begin. Onward-fields 0 _ _ (Passes-head kind section.order))) (λ head.
     Onward-then 0 0 (body_in kind section count (start + 4) head) _ (Onward-body kind section count (start + 4) head) (λ content.
-    Onward-then 0 0 _ _ (Onward-fields 0 _ _ (Passes-fewer 4 _ (Passes-telling w32 head.order (same_length head.length)))) (λ same. Onward-gives content))))
+    Onward-then 0 0 _ _ (Onward-fields 0 _ _ (Passes-fewer 4 _ (Passes-checked_at w32 head.order (same_length head.length)))) (λ same. Onward-succeed content))))
 
--- ---- a step: it goes on, and reads a block at most
+-- ---- a step: it reads an octet at least, and a block at most
 pub record Goes (before : Format) (after : Format) (s t : Source) : Type 0 where
   pub on : s.place + 4 ≤ t.place
   pub same : t.place + length t.octets ≡ s.place + length s.octets
@@ -132,7 +132,7 @@ pub record Goes (before : Format) (after : Format) (s t : Source) : Type 0 where
 
 abbrev pub Advances : Format → Next → Source → Source → Type 0
 Advances before (nexts.Packet packet after) s t = Goes before after s t
-Advances before (nexts.Passed after) s t = Goes before after s t
+Advances before (nexts.NoPacket after) s t = Goes before after s t
 Advances before nexts.End s t = Unit {0}
 
 content_advances : (before : Format) (section : Section) (content : Content) (s t : Source) → section.blocks ≡ blocks_of before → s.place + 4 ≤ t.place → t.place + length t.octets ≡ s.place + length s.octets → Advances before (after_content section content) s t
@@ -145,7 +145,7 @@ content_advances before section contents.Other s t is on same = record { on = on
 block_advances : (before : Format) (kind : BlockKind) (section : Section) (count : ℕ) (bounds : Bounds) (s u : Source) (v : Next) (t : Source) → section.blocks ≡ blocks_of before → s.place + 4 ≤ u.place → u.place + length u.octets ≡ s.place + length s.octets
     → block_after kind section count bounds u ≡ Ok (v, t) → Advances before v s t
 block_advances before kind section count bounds s u v t is on same e =
-    let a = parsed-ok (block_in kind section count bounds u) (λ x. gives (after_content section x.0) bounds x.1) (v, t) e in
+    let a = parsed-ok (block_in kind section count bounds u) (λ x. succeed (after_content section x.0) bounds x.1) (v, t) e in
     let goes = (Onward-block kind section count).on bounds u a.0.0 a.0.1 a.1 in
     let all = (Onward-block kind section count).same bounds u a.0.0 a.0.1 a.1 in
     subst (λ (p : Next × Source). Advances before p.0 s p.1) (parsed_is (after_content section a.0.0, a.0.1) (v, t) a.2)
@@ -167,21 +167,21 @@ Onward-header form = Onward-from_here 0 _ (λ begin. Onward-fields 0 _ (header_a
 
 magic_advances : (count : ℕ) (magic : Magic) (bounds : Bounds) (s u : Source) (v : Next) (t : Source) → s.place + 4 ≤ u.place → u.place + length u.octets ≡ s.place + length s.octets → after_magic count magic bounds u ≡ Ok (v, t) → Advances formats.Unknown v s t
 magic_advances count (magics.Pcap form) bounds s u v t on same e =
-    let a = parsed-ok (header_in form bounds u) (λ x. gives (nexts.Passed (formats.Pcap x.0)) bounds x.1) (v, t) e in
+    let a = parsed-ok (header_in form bounds u) (λ x. succeed (nexts.NoPacket (formats.Pcap x.0)) bounds x.1) (v, t) e in
     let goes = (Onward-header form).on bounds u a.0.0 a.0.1 a.1 in
     let all = (Onward-header form).same bounds u a.0.0 a.0.1 a.1 in
-    subst (λ (p : Next × Source). Advances formats.Unknown p.0 s p.1) (parsed_is (nexts.Passed (formats.Pcap a.0.0), a.0.1) (v, t) a.2)
+    subst (λ (p : Next × Source). Advances formats.Unknown p.0 s p.1) (parsed_is (nexts.NoPacket (formats.Pcap a.0.0), a.0.1) (v, t) a.2)
     (record { on = omega (arith, on, goes); same = all ∙ same; blocks = omega arith })
 magic_advances count magics.Pcapng bounds s u v t on same e =
     block_advances formats.Unknown kinds.Section (record { order = orders.BigEndian; interfaces = []; blocks = 0 }) count bounds s u v t refl on same e
 
 pub step_advances : (format : Format) (count : ℕ) (bounds : Bounds) (s : Source) (v : Next) (t : Source) → next_in format count bounds s ≡ Ok (v, t) → Advances format v s t
 step_advances formats.Unknown count bounds s v t e =
-    let first : Onward 4 (named capture.Magic magic_at) = Onward-fields 4 (λ place. capture.Magic) magic_at (Passes-telling w32 orders.BigEndian magic_of) in
+    let first : Onward 4 (named capture.Magic magic_at) = Onward-fields 4 (λ place. capture.Magic) magic_at (Passes-checked_at w32 orders.BigEndian magic_of) in
     let a = parsed-ok (named capture.Magic magic_at bounds s) (λ x. after_magic count x.0 bounds x.1) (v, t) e in
     magic_advances count a.0.0 bounds s a.0.1 v t (first.on bounds s a.0.0 a.0.1 a.1) (first.same bounds s a.0.0 a.0.1 a.1) a.2
 step_advances (formats.Pcap header) count bounds s v t e =
-    let a = parsed-ok (packet_in header count bounds s) (λ x. gives (after_packet header x.0) bounds x.1) (v, t) e in
+    let a = parsed-ok (packet_in header count bounds s) (λ x. succeed (after_packet header x.0) bounds x.1) (v, t) e in
     let read = naming-ok _ (next_at header count bounds s) a.0 a.1 in
     subst (λ (p : Next × Source). Advances (formats.Pcap header) p.0 s p.1) (parsed_is (after_packet header a.0.0, a.0.1) (v, t) a.2)
     (pcap_advances header a.0.0 s a.0.1 (λ p is.
@@ -193,17 +193,17 @@ step_advances (formats.Pcapng section) count bounds s v t e =
     (λ k is. next_kind_passes section.order bounds s.place s.octets k a.0.1 (subst (λ (o : Option BlockKind). next_kind_at section.order bounds s ≡ Ok (o, a.0.1)) is read))
     a.2
 
--- of what a reader of fields still has
-pub packet_goes : (format : Format) (count : ℕ) (packet : Packet) (after : Format) (old new : Held) → HasParsed (next_in format count) (nexts.Packet packet after) old new → (old.place + 4 ≤ new.place) × (blocks_of after ≤ blocks_of format + 1)
+-- the same of a cursor
+pub packet_goes : (format : Format) (count : ℕ) (packet : Packet) (after : Format) (old new : Cursor) → HasParsed (next_in format count) (nexts.Packet packet after) old new → (old.place + 4 ≤ new.place) × (blocks_of after ≤ blocks_of format + 1)
 packet_goes format count packet after old new read =
     let now = some_rest new in
     let a = read.from now.rest now.there in
     let goes = step_advances format count old.bounds (source_at old.place a.0) (nexts.Packet packet after) (source_at new.place now.rest) a.2 in
     (goes.on, goes.blocks)
 
-pub passed_goes : (format : Format) (count : ℕ) (after : Format) (old new : Held) → HasParsed (next_in format count) (nexts.Passed after) old new → (old.place + 4 ≤ new.place) × (blocks_of after ≤ blocks_of format + 1)
+pub passed_goes : (format : Format) (count : ℕ) (after : Format) (old new : Cursor) → HasParsed (next_in format count) (nexts.NoPacket after) old new → (old.place + 4 ≤ new.place) × (blocks_of after ≤ blocks_of format + 1)
 passed_goes format count after old new read =
     let now = some_rest new in
     let a = read.from now.rest now.there in
-    let goes = step_advances format count old.bounds (source_at old.place a.0) (nexts.Passed after) (source_at new.place now.rest) a.2 in
+    let goes = step_advances format count old.bounds (source_at old.place a.0) (nexts.NoPacket after) (source_at new.place now.rest) a.2 in
     (goes.on, goes.blocks)

@@ -1,4 +1,4 @@
--- The packets of a file, one step at a time: what a reader has left decides the rest.
+-- The packets of a file, one step at a time: those that follow depend only on what is left of the file.
 use Rattle.std.proofs.Common.{◌≡◌, ℕ, zero, suc, ◌+◌, ◌<◌, ◌≤◌, Option, Some, None, Result, Ok, Err, List, [], ◌∷◌, length, refl, ◌∙◌, ap, arith}
 use Rattle.krb_file.specs.Fields.{Source, limited}
 use Rattle.krb_file.proofs.Fields.{at}
@@ -19,19 +19,19 @@ packet_shorter format count s packet after t e =
     let goes = step_advances format count (limited (Some most_captured)) s (nexts.Packet packet after) t e in
     omega (arith, goes.on, goes.same)
 
-passed_shorter : (format : Format) (count : ℕ) (s : Source) (after : Format) (t : Source) → step format count s ≡ Ok (nexts.Passed after, t) → length t.octets < length s.octets
+passed_shorter : (format : Format) (count : ℕ) (s : Source) (after : Format) (t : Source) → step format count s ≡ Ok (nexts.NoPacket after, t) → length t.octets < length s.octets
 passed_shorter format count s after t e =
-    let goes = step_advances format count (limited (Some most_captured)) s (nexts.Passed after) t e in
+    let goes = step_advances format count (limited (Some most_captured)) s (nexts.NoPacket after) t e in
     omega (arith, goes.on, goes.same)
 
 packets_from-same : (count : ℕ) (r : Result (Next × Source) Refusal) (f g : Format → ℕ → Source → Packets)
     → ((packet : Packet) (after : Format) (t : Source) → r ≡ Ok (nexts.Packet packet after, t) → f after (count + 1) t ≡ g after (count + 1) t)
-    → ((after : Format) (t : Source) → r ≡ Ok (nexts.Passed after, t) → f after count t ≡ g after count t)
+    → ((after : Format) (t : Source) → r ≡ Ok (nexts.NoPacket after, t) → f after count t ≡ g after count t)
     → packets_from count r f ≡ packets_from count r g
 packets_from-same count (Err e) f g one two = refl
 packets_from-same count (Ok (nexts.End, t)) f g one two = refl
 packets_from-same count (Ok (nexts.Packet packet after, t)) f g one two = ap (with_first packet) (one packet after t refl)
-packets_from-same count (Ok (nexts.Passed after, t)) f g one two = two after t refl
+packets_from-same count (Ok (nexts.NoPacket after, t)) f g one two = two after t refl
 
 -- any bound that is large enough
 packets_within-same : (b c : ℕ) (format : Format) (count : ℕ) (s : Source) → length s.octets < b → length s.octets < c → packets_within b format count s ≡ packets_within c format count s
@@ -52,7 +52,7 @@ after-step format count s =
 pub after-packet : (format : Format) (count : ℕ) (s : Source) (packet : Packet) (after : Format) (t : Source) → step format count s ≡ Ok (nexts.Packet packet after, t) → packets_after format count s ≡ with_first packet (packets_after after (count + 1) t)
 after-packet format count s packet after t e = after-step format count s ∙ ap (λ (r : Result (Next × Source) Refusal). packets_from count r packets_after) e
 
-pub after-passed : (format : Format) (count : ℕ) (s : Source) (after : Format) (t : Source) → step format count s ≡ Ok (nexts.Passed after, t) → packets_after format count s ≡ packets_after after count t
+pub after-passed : (format : Format) (count : ℕ) (s : Source) (after : Format) (t : Source) → step format count s ≡ Ok (nexts.NoPacket after, t) → packets_after format count s ≡ packets_after after count t
 after-passed format count s after t e = after-step format count s ∙ ap (λ (r : Result (Next × Source) Refusal). packets_from count r packets_after) e
 
 pub after-end : (format : Format) (count : ℕ) (s t : Source) → step format count s ≡ Ok (nexts.End, t) → packets_after format count s ≡ no_packets None

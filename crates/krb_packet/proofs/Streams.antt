@@ -1,7 +1,7 @@
--- A capture file that is read one packet at a time: what each call makes of what is still to be given.
+-- A capture file that is read one packet at a time: how each call changes the packets that are left.
 use Rattle.std.proofs.Common.{◌≡◌, ℕ, suc, ◌+◌, Option, Some, None, Ok, Err, List, [], ◌∷◌, ◌++◌, length, refl, sym, ◌∙◌, ap, subst, arith, append_assoc, append-nil, length-append}
 use Rattle.krb_file.specs.Fields.{Fault, Bounds, limited}
-use Rattle.krb_file.specs.FieldReaders.{Held, source_at}
+use Rattle.krb_file.specs.FieldReaders.{Cursor, source_at}
 use Rattle.krb_file.specs.declared.fault.FileFault.{FileFault}
 use Rattle.krb_file.specs.declared.fault.FileFault.TheVariants as faults
 use Rattle.krb_file.proofs.FieldReaders.{some_rest}
@@ -15,7 +15,7 @@ use Rattle.krb_packet.specs.declared.packets.State.TheVariants as states
 use Rattle.krb_packet.specs.Parsers.{Refusal, HasParsed, FailsIn}
 use Rattle.krb_packet.specs.Pcaps.{most_captured}
 use Rattle.krb_packet.specs.Captures.{next_in, Packets, with_first, no_packets, packets_after, packets}
-use Rattle.krb_packet.specs.Streaming.{Reading, before, Reads, IsPacket, EndsBy, FailsAfter}
+use Rattle.krb_packet.specs.Streaming.{PacketsModel, before, Reads, IsPacket, EndsBy, FailsAfter}
 use Rattle.krb_packet.proofs.Stepwise.{after-packet, after-passed, after-end, after-fault}
 
 abbrev limits : Bounds
@@ -25,7 +25,7 @@ regroup : (given : List Packet) (x : Packet) (left : Packets) → before given (
 regroup given x left = ap (λ (xs : List Packet). let it : Packets = record { packets = xs; refusal = left.refusal } in it) (sym (append_assoc given (x ∷ []) left.packets))
 
 -- nothing was read
-pub starts : (file : List ℕ) (known : Option (List ℕ)) → known ≡ Some file → Reads (record { held = record { ahead = []; left = known; place = 0; bounds = limits }; state = states.Open formats.Unknown; count = 0 }) file 0
+pub starts : (file : List ℕ) (known : Option (List ℕ)) → known ≡ Some file → Reads (record { cursor = record { ahead = []; left = known; place = 0; bounds = limits }; state = states.Open formats.Unknown; count = 0 }) file 0
 starts file known is = rw is (record {
   bounds = refl;
   same = refl;
@@ -34,11 +34,11 @@ starts file known is = rw is (record {
   rest = λ octets there. (packets octets, refl, ap packets there);
 })
 
-abbrev pub opening : Held → Format → ℕ → Reading
-opening held format count = record { held = held; state = states.Open format; count = count }
+abbrev pub opening : Cursor → Format → ℕ → PacketsModel
+opening cursor format count = record { cursor = cursor; state = states.Open format; count = count }
 
 -- a step without a packet was read
-pub passed_read : (file : List ℕ) (count number : ℕ) (format after : Format) (old new : Held) → Reads (opening old format number) file count → HasParsed (next_in format number) (nexts.Passed after) old new → Reads (opening new after number) file count
+pub passed_read : (file : List ℕ) (count number : ℕ) (format after : Format) (old new : Cursor) → Reads (opening old format number) file count → HasParsed (next_in format number) (nexts.NoPacket after) old new → Reads (opening new after number) file count
 passed_read file count number format after old new reads read = record {
   bounds = read.same_bounds ∙ reads.bounds;
   same = reads.same;
@@ -49,13 +49,13 @@ passed_read file count number format after old new reads read = record {
       let b = reads.rest a.0 a.1 in
       let s = source_at old.place a.0 in
       let t = source_at new.place octets in
-      let whose : next_in format number limits s ≡ Ok (nexts.Passed after, t) = subst (λ (k : Bounds). next_in format number k s ≡ Ok (nexts.Passed after, t)) reads.bounds a.2 in
-      let e : next_in format count limits s ≡ Ok (nexts.Passed after, t) = subst (λ (n : ℕ). next_in format n limits s ≡ Ok (nexts.Passed after, t)) reads.same whose in
+      let whose : next_in format number limits s ≡ Ok (nexts.NoPacket after, t) = subst (λ (k : Bounds). next_in format number k s ≡ Ok (nexts.NoPacket after, t)) reads.bounds a.2 in
+      let e : next_in format count limits s ≡ Ok (nexts.NoPacket after, t) = subst (λ (n : ℕ). next_in format n limits s ≡ Ok (nexts.NoPacket after, t)) reads.same whose in
       (packets_after after count t, refl, ap (before reads.given) (sym (b.1 ∙ after-passed format count s after t e)) ∙ b.2);
 }
 
 -- a packet was read
-next_packet : (file : List ℕ) (count number : ℕ) (format after : Format) (x : Packet) (old new : Held) (reads : Reads (opening old format number) file count) (rest octets : List ℕ)
+next_packet : (file : List ℕ) (count number : ℕ) (format after : Format) (x : Packet) (old new : Cursor) (reads : Reads (opening old format number) file count) (rest octets : List ℕ)
     → next_in format number old.bounds (source_at old.place octets) ≡ Ok (nexts.Packet x after, source_at new.place rest) → packets_after format count (source_at old.place octets) ≡ with_first x (packets_after after (suc count) (source_at new.place rest))
 next_packet file count number format after x old new reads rest octets read =
     let s = source_at old.place octets in
@@ -65,7 +65,7 @@ next_packet file count number format after x old new reads rest octets read =
     let one : count + 1 ≡ suc count = omega arith in
     after-packet format count s x after t e ∙ ap (λ (n : ℕ). with_first x (packets_after after n t)) one
 
-packet_read : (file : List ℕ) (count number more : ℕ) (format after : Format) (x : Packet) (old new : Held) → more ≡ number + 1 → Reads (opening old format number) file count → HasParsed (next_in format number) (nexts.Packet x after) old new → Reads (opening new after more) file (suc count)
+packet_read : (file : List ℕ) (count number more : ℕ) (format after : Format) (x : Packet) (old new : Cursor) → more ≡ number + 1 → Reads (opening old format number) file count → HasParsed (next_in format number) (nexts.Packet x after) old new → Reads (opening new after more) file (suc count)
 packet_read file count number more format after x old new next reads read = record {
   bounds = read.same_bounds ∙ reads.bounds;
   same = omega (arith, next, reads.same);
@@ -81,7 +81,7 @@ packet_read file count number more format after x old new next reads read = reco
       );
 }
 
-pub packet_given : (file : List ℕ) (count number more : ℕ) (format after : Format) (x : Packet) (old new : Held) → more ≡ number + 1 → Reads (opening old format number) file count → HasParsed (next_in format number) (nexts.Packet x after) old new
+pub packet_given : (file : List ℕ) (count number more : ℕ) (format after : Format) (x : Packet) (old new : Cursor) → more ≡ number + 1 → Reads (opening old format number) file count → HasParsed (next_in format number) (nexts.Packet x after) old new
     → IsPacket (packets file) count x × Reads (opening new after more) file (suc count)
 packet_given file count number more format after x old new next reads read =
     let now = some_rest new in
@@ -90,8 +90,8 @@ packet_given file count number more format after x old new next reads read =
     let left = packets_after after (suc count) (source_at new.place now.rest) in
     let whole : before reads.given (with_first x left) ≡ packets file = ap (before reads.given) (sym (b.1 ∙ next_packet file count number format after x old new reads now.rest a.0 a.2)) ∙ b.2 in (
       record {
-        front = reads.given;
-        back = left.packets;
+        prefix = reads.given;
+        suffix = left.packets;
         counted = reads.counted;
         parts = sym (ap (λ (i : Packets). i.packets) whole);
       },
@@ -106,7 +106,7 @@ ends_so file count refusal given left counted is whole =
       is = ap (λ (i : Packets). i.refusal) all;
     }
 
-pub end_given : (file : List ℕ) (count number : ℕ) (format : Format) (old new : Held) → Reads (opening old format number) file count → HasParsed (next_in format number) nexts.End old new → EndsBy (packets file) count None
+pub end_given : (file : List ℕ) (count number : ℕ) (format : Format) (old new : Cursor) → Reads (opening old format number) file count → HasParsed (next_in format number) nexts.End old new → EndsBy (packets file) count None
 end_given file count number format old new reads read =
     let now = some_rest new in
     let a = read.from now.rest now.there in
@@ -117,7 +117,7 @@ end_given file count number format old new reads read =
     let e : next_in format count limits s ≡ Ok (nexts.End, t) = subst (λ (n : ℕ). next_in format n limits s ≡ Ok (nexts.End, t)) reads.same whose in
     ends_so file count None reads.given b.0 reads.counted (b.1 ∙ after-end format count s t e) b.2
 
-pub fault_given : (file : List ℕ) (count number : ℕ) (format : Format) (e : FileFault) (field : CaptureField) (MayFail : Type 0) (old : Held) → Reads (opening old format number) file count → FailsIn e field (next_in format number) MayFail old → FailsAfter file count e field
+pub fault_given : (file : List ℕ) (count number : ℕ) (format : Format) (e : FileFault) (field : CaptureField) (MayFail : Type 0) (old : Cursor) → Reads (opening old format number) file count → FailsIn e field (next_in format number) MayFail old → FailsAfter file count e field
 fault_given file count number format faults.Read field MayFail old reads fails = tt
 fault_given file count number format faults.Memory field MayFail old reads fails = tt
 fault_given file count number format (faults.Refused place why unnamed) field MayFail old reads fails =
@@ -128,8 +128,8 @@ fault_given file count number format (faults.Refused place why unnamed) field Ma
     let e : next_in format count limits s ≡ Err refusal = subst (λ (n : ℕ). next_in format n limits s ≡ Err refusal) reads.same whose in
     ends_so file count (Some refusal) reads.given b.0 reads.counted (b.1 ∙ after-fault format count s refusal e) b.2
 
-pub not_done : (file : List ℕ) (count number : ℕ) (held : Held) → Reads (record { held = held; state = states.Done; count = number }) file count → ⊥
-not_done file count number held reads = let now = some_rest held in (reads.rest now.rest now.there).1
+pub not_done : (file : List ℕ) (count number : ℕ) (cursor : Cursor) → Reads (record { cursor = cursor; state = states.Done; count = number }) file count → ⊥
+not_done file count number cursor reads = let now = some_rest cursor in (reads.rest now.rest now.there).1
 
-pub not_failed : (file : List ℕ) (count number : ℕ) (fault : CaptureFault) (held : Held) → Reads (record { held = held; state = states.Failed fault; count = number }) file count → ⊥
-not_failed file count number fault held reads = let now = some_rest held in (reads.rest now.rest now.there).1
+pub not_failed : (file : List ℕ) (count number : ℕ) (fault : CaptureFault) (cursor : Cursor) → Reads (record { cursor = cursor; state = states.Failed fault; count = number }) file count → ⊥
+not_failed file count number fault cursor reads = let now = some_rest cursor in (reads.rest now.rest now.there).1

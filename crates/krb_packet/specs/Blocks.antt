@@ -1,4 +1,4 @@
--- The blocks of a pcapng, with the fields that each has, and what stands in a file with them.
+-- The blocks of a pcapng with the names of their fields, and the progress in a file after each.
 use Rattle.std.specs.Prelude.{ℕ, ◌+◌, ◌-◌, ◌||◌, ◌==◌, Option, Some, None, Result, Ok, Err, List, [], ◌∷◌, ◌++◌}
 use Rattle.krb_der.specs.Octets.{when}
 use Rattle.std.specs.Int.{w32}
@@ -20,11 +20,11 @@ use Rattle.krb_packet.specs.declared.field.CaptureField.{CaptureField}
 use Rattle.krb_packet.specs.declared.field.CaptureField.TheVariants as capture
 use Rattle.krb_packet.specs.declared.field.BlockField.{BlockField}
 use Rattle.krb_packet.specs.declared.field.BlockField.TheVariants as block
-use Rattle.krb_packet.specs.Numbers.{number_telling, refused_at}
-use Rattle.krb_packet.specs.Parsers.{Parser, ◌>>=◌, gives, from_here, fields, named, naming, Refusal}
+use Rattle.krb_packet.specs.Numbers.{checked_number, refused_at}
+use Rattle.krb_packet.specs.Parsers.{Parser, ◌>>=◌, succeed, from_here, fields, named, naming, Refusal}
 use Rattle.krb_packet.specs.Bodies.{next_kind_at, head_at, content_at, in_body, same_length}
 
--- ---- the field that begins after so many octets: of what stands between the type and the body, and of a body
+-- ---- the field at an offset: of what is between the type and the body, and of a body
 
 abbrev pub head_field : ℕ → BlockField
 head_field offset = when (offset == 0) (λ _. block.Length) (λ _. block.ByteOrder)
@@ -45,7 +45,7 @@ packet_block_field offset =
     when (offset == 16) (λ _. block.OriginalLength) (λ _.
     block.Data)))))
 
--- a simple packet is of the first interface, before any of its fields
+-- a simple packet block is at fault before its first field if there is no interface
 abbrev pub simple_packet_field : List Interface → BlockField
 simple_packet_field [] = block.Interface
 simple_packet_field (interface ∷ others) = block.OriginalLength
@@ -61,56 +61,56 @@ body_field kind interfaces offset = packet_block_field offset
 abbrev pub head_in : BlockKind → Section → Parser Head
 head_in kind section = from_here (λ start. fields (λ place. capture.Block section.blocks (head_field (place - start))) (head_at kind section.order))
 
--- the body of another block is passed over
+-- the body of another block is skipped
 abbrev pub skipped_body : ℕ → Head → Parser Content
-skipped_body blocks head = named (capture.Block blocks block.Body) (skipped_at head.left) >>= λ zeros. gives contents.Other
+skipped_body blocks head = named (capture.Block blocks block.Body) (skipped_at head.left) >>= λ zeros. succeed contents.Other
 
--- what a body tells that was read from a place on
-abbrev pub told_in_body : Section → BlockKind → ℕ → Result Content Fault → Parser Content
-told_in_body section kind begin (Ok content) = gives content
-told_in_body section kind begin (Err fault) = λ bounds source.
+-- the content of a body that begins at a place, with places in the file for those in the body
+abbrev pub content_in_file : Section → BlockKind → ℕ → Result Content Fault → Parser Content
+content_in_file section kind begin (Ok content) = succeed content
+content_in_file section kind begin (Err fault) = λ bounds source.
     Err (record { fault = record fault { place = begin + fault.place }; field = capture.Block section.blocks (body_field kind section.interfaces fault.place) })
 
--- a body has to be there whole before it is read; it begins at a place, with what was read of it before
+-- the content of a body, all of which has to be in the file; it begins at `place`, and some of it may be read already
 abbrev pub read_body : BlockKind → Section → ℕ → ℕ → Head → Parser Content
 read_body kind section count place head = from_here (λ begin.
     named (capture.Block section.blocks block.Body) (refused_at place (octets_at head.left)) >>= λ octets.
-    told_in_body section kind begin (in_body (content_at kind head.order count section.interfaces) octets))
+    content_in_file section kind begin (in_body (content_at kind head.order count section.interfaces) octets))
 
 abbrev pub body_in : BlockKind → Section → ℕ → ℕ → Head → Parser Content
 body_in kinds.Other section count place head = skipped_body section.blocks head
 body_in kind section count place head = read_body kind section count place head
 
 abbrev pub end_in : ℕ → Head → Parser (Unit {0})
-end_in blocks head = named (capture.Block blocks block.LengthAgain) (number_telling w32 head.order (same_length head.length))
+end_in blocks head = named (capture.Block blocks block.LengthAgain) (checked_number w32 head.order (same_length head.length))
 
 abbrev pub block_in : BlockKind → Section → ℕ → Parser Content
 block_in kind section count = from_here (λ start. do
   head ← head_in kind section
   content ← body_in kind section count (start + 4) head
   same ← end_in section.blocks head
-  gives content)
+  succeed content)
 
--- ---- what stands in a file with a block: a section header ends the interfaces of the section before
+-- ---- the progress after a block: a section header begins with no interfaces
 
 abbrev pub after_content : Section → Content → Next
-after_content section (contents.Section order) = nexts.Passed (formats.Pcapng (record { order = order; interfaces = []; blocks = section.blocks + 1 }))
-after_content section (contents.Interface interface) = nexts.Passed (formats.Pcapng (record { order = section.order; interfaces = section.interfaces ++ interface ∷ []; blocks = section.blocks + 1 }))
+after_content section (contents.Section order) = nexts.NoPacket (formats.Pcapng (record { order = order; interfaces = []; blocks = section.blocks + 1 }))
+after_content section (contents.Interface interface) = nexts.NoPacket (formats.Pcapng (record { order = section.order; interfaces = section.interfaces ++ interface ∷ []; blocks = section.blocks + 1 }))
 after_content section (contents.Packet packet) = nexts.Packet packet (formats.Pcapng (record section { blocks = section.blocks + 1 }))
-after_content section contents.Other = nexts.Passed (formats.Pcapng (record section { blocks = section.blocks + 1 }))
+after_content section contents.Other = nexts.NoPacket (formats.Pcapng (record section { blocks = section.blocks + 1 }))
 
 abbrev pub block_after : BlockKind → Section → ℕ → Parser Next
-block_after kind section count = block_in kind section count >>= λ content. gives (after_content section content)
+block_after kind section count = block_in kind section count >>= λ content. succeed (after_content section content)
 
 abbrev pub after_kind : Section → ℕ → Option BlockKind → Parser Next
-after_kind section count None = gives nexts.End
+after_kind section count None = succeed nexts.End
 after_kind section count (Some kind) = block_after kind section count
 
--- the next block, if the file has not ended
+-- the next block, or the end of the file
 abbrev pub next_block : Section → ℕ → Parser Next
 next_block section count = named (capture.Block section.blocks block.Type) (next_kind_at section.order) >>= after_kind section count
 
--- ---- as the code has it
+-- ---- for results of functions
 
 abbrev pub fault_from : ℕ → FileFault → FileFault
 fault_from begin (faults.Refused place why unnamed) = faults.Refused (begin + place) why unnamed

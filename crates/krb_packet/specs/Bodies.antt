@@ -1,12 +1,12 @@
--- The heads and the bodies of the blocks of a pcapng (draft-ietf-opsawg-pcapng, 3.1 and 4).
+-- What is before the bodies of the blocks of a pcapng, and the bodies (draft-ietf-opsawg-pcapng, 3.1 and 4).
 use Rattle.std.specs.Prelude.{ℕ, ◌+◌, ◌-◌, ◌*◌, ◌%◌, ◌^◌, min, max, not, ◌||◌, ◌==◌, nat_lt, Option, Some, None, Result, Ok, Err, List, length, slice_get}
 use Rattle.std.specs.Int.{w16, w32}
 use Rattle.krb_der.specs.Octets.{when}
-use Rattle.krb_file.specs.Fields.{Source, Fault, ended, source_of, Reader, ◌>>=◌, gives, next_octets_at, octets_at, room, is_empty}
+use Rattle.krb_file.specs.Fields.{Source, Fault, ended, source_of, Reader, ◌>>=◌, succeed, next_octets_at, octets_at, octets_to_end, is_empty}
 use Rattle.krb_file.specs.declared.fault.FileWhy.{FileWhy}
 use Rattle.krb_file.specs.declared.fault.FileWhy.TheVariants as why
-use Rattle.krb_packet.specs.declared.order.Order.{Order}
-use Rattle.krb_packet.specs.declared.order.Order.TheVariants as orders
+use Rattle.krb_packet.specs.declared.order.ByteOrder.{ByteOrder}
+use Rattle.krb_packet.specs.declared.order.ByteOrder.TheVariants as orders
 use Rattle.krb_packet.specs.declared.packet.Packet.{Packet}
 use Rattle.krb_packet.specs.declared.interface.Interface.{Interface}
 use Rattle.krb_packet.specs.declared.block.BlockKind.{BlockKind}
@@ -14,10 +14,10 @@ use Rattle.krb_packet.specs.declared.block.BlockKind.TheVariants as kinds
 use Rattle.krb_packet.specs.declared.block.Head.{Head}
 use Rattle.krb_packet.specs.declared.body.Content.{Content}
 use Rattle.krb_packet.specs.declared.body.Content.TheVariants as contents
-use Rattle.krb_packet.specs.Numbers.{in_order, number_in, telling, from_here, number_telling}
+use Rattle.krb_packet.specs.Numbers.{in_order, number_in, checked_at, from_here, checked_number}
 use Rattle.krb_packet.specs.Interfaces.{interface_at, clock_time}
 
--- ---- what stands before a body (3.1): the type, and the length of the block, in fours
+-- ---- before a body (3.1): the type, and the length of the block, a multiple of 4
 
 abbrev pub block_kind : ℕ → BlockKind
 block_kind number =
@@ -28,27 +28,27 @@ block_kind number =
     when (number == 6) (λ _. kinds.EnhancedPacket) (λ _.
     kinds.Other)))))
 
--- the type of the next block, if the file has not ended
-abbrev pub next_kind_at : Order → Reader (Option BlockKind)
+-- the type of the next block, or none at the end of the file
+abbrev pub next_kind_at : ByteOrder → Reader (Option BlockKind)
 next_kind_at order = λ bounds source.
-    when (is_empty source.octets) (λ _. Ok (None, source)) (λ _. (number_in w32 order >>= λ number. gives (Some (block_kind number))) bounds source)
+    when (is_empty source.octets) (λ _. Ok (None, source)) (λ _. (number_in w32 order >>= λ number. succeed (Some (block_kind number))) bounds source)
 
--- the type and the length, which stands at the end, too, are no part of the body; a block has no more than 2^24 octets
+-- the size of a body: that of the block without the type and the two lengths; a block has at most 2^24 octets
 abbrev pub body_size : ℕ → Result ℕ FileWhy
 body_size length =
     when (nat_lt length 12 || not (length % 4 == 0)) (λ _. Err why.Overrun) (λ _.
     when (nat_lt 16777216 length) (λ _. Err why.TooLong) (λ _.
     Ok (length - 12)))
 
-abbrev pub whole_head : Order → ℕ → Result ℕ FileWhy → Result Head FileWhy
+abbrev pub whole_head : ByteOrder → ℕ → Result ℕ FileWhy → Result Head FileWhy
 whole_head order length (Ok size) = Ok (record { order = order; length = length; left = size })
 whole_head order length (Err reason) = Err reason
 
-abbrev pub head_of : Order → ℕ → Result Head FileWhy
+abbrev pub head_of : ByteOrder → ℕ → Result Head FileWhy
 head_of order length = whole_head order length (body_size length)
 
--- The body of a section header (4.1) begins with what tells the order of octets, of the length before it, too.
-abbrev pub byte_order : ℕ → Result Order FileWhy
+-- The body of a section header (4.1) begins with the byte-order magic, which says the byte order of the length before it, too.
+abbrev pub byte_order : ℕ → Result ByteOrder FileWhy
 byte_order number =
     when (number == 0x1A2B3C4D) (λ _. Ok orders.BigEndian) (λ _.
     when (number == 0x4D3C2B1A) (λ _. Ok orders.LittleEndian) (λ _.
@@ -60,28 +60,28 @@ after_byte_order size = when (nat_lt size 4) (λ _. Err why.Overrun) (λ _. Ok (
 abbrev pub section_head_at : Reader Head
 section_head_at = from_here (λ place. do
   octets ← next_octets_at None 4
-  order ← number_telling w32 orders.BigEndian byte_order
-  size ← telling place (body_size (in_order w32 order octets))
-  left ← telling (place + 4) (after_byte_order size)
-  gives (record { order = order; length = in_order w32 order octets; left = left }))
+  order ← checked_number w32 orders.BigEndian byte_order
+  size ← checked_at place (body_size (in_order w32 order octets))
+  left ← checked_at (place + 4) (after_byte_order size)
+  succeed (record { order = order; length = in_order w32 order octets; left = left }))
 
-abbrev pub head_at : BlockKind → Order → Reader Head
+abbrev pub head_at : BlockKind → ByteOrder → Reader Head
 head_at kinds.Section order = section_head_at
-head_at kind order = number_telling w32 order (head_of order)
+head_at kind order = checked_number w32 order (head_of order)
 
--- the length again, after the body
+-- the length at the end of the block
 abbrev pub same_length : ℕ → ℕ → Result (Unit {0}) FileWhy
 same_length length again = when (again == length) (λ _. Ok tt) (λ _. Err why.Overrun)
 
--- ---- bodies: that of a section header, after what tells the order of octets
+-- ---- bodies: that of a section header, after the byte-order magic
 
--- the major version; the minor one is not looked at
+-- the major version; the minor one is not read
 abbrev pub section_version : ℕ → Result (Unit {0}) FileWhy
 section_version number = when (number == 1) (λ _. Ok tt) (λ _. Err why.Version)
 
--- ---- those of packets (4.3, 4.4, A)
+-- ---- the bodies of packets (4.3, 4.4, A)
 
--- the interface after so many others
+-- the interface of an index, or its refusal if there is none
 abbrev pub is_announced : Option Interface → Result Interface FileWhy
 is_announced None = Err why.Overrun
 is_announced (Some interface) = Ok interface
@@ -89,59 +89,59 @@ is_announced (Some interface) = Ok interface
 abbrev pub announced : List Interface → ℕ → Result Interface FileWhy
 announced interfaces index = is_announced (slice_get interfaces index)
 
-abbrev pub timed_packet_at : Order → ℕ → Interface → Reader Packet
+abbrev pub timed_packet_at : ByteOrder → ℕ → Interface → Reader Packet
 timed_packet_at order count interface = do
   high ← number_in w32 order
   low ← number_in w32 order
   captured ← number_in w32 order
   original ← number_in w32 order
   octets ← octets_at captured
-  gives (record { number = count + 1; time = clock_time interface.clock (high * 2 ^ 32 + low); link = interface.link; octets = octets; size = max captured original })
+  succeed (record { number = count + 1; time = clock_time interface.clock (high * 2 ^ 32 + low); link = interface.link; octets = octets; size = max captured original })
 
-abbrev pub enhanced_packet_at : Order → ℕ → List Interface → Reader Packet
+abbrev pub enhanced_packet_at : ByteOrder → ℕ → List Interface → Reader Packet
 enhanced_packet_at order count interfaces = do
-  interface ← number_telling w32 order (announced interfaces)
+  interface ← checked_number w32 order (announced interfaces)
   timed_packet_at order count interface
 
-abbrev pub old_packet_at : Order → ℕ → List Interface → Reader Packet
+abbrev pub old_packet_at : ByteOrder → ℕ → List Interface → Reader Packet
 old_packet_at order count interfaces = do
-  interface ← number_telling w16 order (announced interfaces)
+  interface ← checked_number w16 order (announced interfaces)
   drops ← number_in w16 order
   timed_packet_at order count interface
 
--- what an interface captures of a packet: no more than its snaplen, if that is not 0
+-- the number of octets of a packet that are captured: at most the snaplen of the interface, if that is not 0
 abbrev pub most_of : ℕ → ℕ → ℕ
 most_of snaplen original = when (snaplen == 0) (λ _. original) (λ _. min original snaplen)
 
--- as many octets, or as the body has
+-- `most` octets, or those that are left of the body if these are fewer
 abbrev pub most_octets_at : ℕ → Reader (List ℕ)
-most_octets_at most = λ bounds source. octets_at (min most (room bounds.end source.place)) bounds source
+most_octets_at most = λ bounds source. octets_at (min most (octets_to_end bounds.end source.place)) bounds source
 
--- of the first interface, without a time
+-- the first interface, which a simple packet block is of
 abbrev pub first_interface : List Interface → Reader Interface
-first_interface interfaces = from_here (λ place. telling place (announced interfaces 0))
+first_interface interfaces = from_here (λ place. checked_at place (announced interfaces 0))
 
-abbrev pub simple_packet_at : Order → ℕ → List Interface → Reader Packet
+abbrev pub simple_packet_at : ByteOrder → ℕ → List Interface → Reader Packet
 simple_packet_at order count interfaces = do
   interface ← first_interface interfaces
   original ← number_in w32 order
-  octets ← most_octets_at (most_of interface.most original)
-  gives (record { number = count + 1; time = None; link = interface.link; octets = octets; size = original })
+  octets ← most_octets_at (most_of interface.snaplen original)
+  succeed (record { number = count + 1; time = None; link = interface.link; octets = octets; size = original })
 
 -- ---- any body
 
-abbrev pub content_at : BlockKind → Order → ℕ → List Interface → Reader Content
-content_at kinds.Section order count interfaces = number_telling w16 order section_version >>= λ version. gives (contents.Section order)
-content_at kinds.Interface order count interfaces = interface_at order >>= λ interface. gives (contents.Interface interface)
-content_at kinds.OldPacket order count interfaces = old_packet_at order count interfaces >>= λ packet. gives (contents.Packet packet)
-content_at kinds.SimplePacket order count interfaces = simple_packet_at order count interfaces >>= λ packet. gives (contents.Packet packet)
-content_at kinds.EnhancedPacket order count interfaces = enhanced_packet_at order count interfaces >>= λ packet. gives (contents.Packet packet)
-content_at kinds.Other order count interfaces = gives contents.Other
+abbrev pub content_at : BlockKind → ByteOrder → ℕ → List Interface → Reader Content
+content_at kinds.Section order count interfaces = checked_number w16 order section_version >>= λ version. succeed (contents.Section order)
+content_at kinds.Interface order count interfaces = interface_at order >>= λ interface. succeed (contents.Interface interface)
+content_at kinds.OldPacket order count interfaces = old_packet_at order count interfaces >>= λ packet. succeed (contents.Packet packet)
+content_at kinds.SimplePacket order count interfaces = simple_packet_at order count interfaces >>= λ packet. succeed (contents.Packet packet)
+content_at kinds.EnhancedPacket order count interfaces = enhanced_packet_at order count interfaces >>= λ packet. succeed (contents.Packet packet)
+content_at kinds.Other order count interfaces = succeed contents.Other
 
 abbrev pub value_of : {A : Type 0} → Result (A × Source) Fault → Result A Fault
 value_of (Ok read) = Ok read.0
 value_of (Err fault) = Err fault
 
--- fields that may not pass a body; places are counted from its first octet
+-- fields that have to be inside a body; places are counted from its first octet
 abbrev pub in_body : {A : Type 0} → Reader A → List ℕ → Result A Fault
 in_body reader body = value_of (reader (ended (Some (length body))) (source_of body))

@@ -2,7 +2,7 @@
 use Rattle.std.specs.Prelude.{ℕ, zero, suc, ◌+◌, ◌-◌, ◌==◌, Option, Some, None, Result, Ok, Err, List, [], ◌∷◌, length}
 use Rattle.krb_der.specs.Octets.{when}
 use Rattle.krb_file.specs.Fields.{Source, source_of, limited}
-use Rattle.krb_packet.specs.declared.order.Order.TheVariants as orders
+use Rattle.krb_packet.specs.declared.order.ByteOrder.TheVariants as orders
 use Rattle.krb_packet.specs.declared.packet.Packet.{Packet}
 use Rattle.krb_packet.specs.declared.pcap.Form.{Form}
 use Rattle.krb_packet.specs.declared.pcap.Header.{Header}
@@ -17,11 +17,11 @@ use Rattle.krb_packet.specs.declared.field.CaptureField.{CaptureField}
 use Rattle.krb_packet.specs.declared.field.CaptureField.TheVariants as capture
 use Rattle.krb_packet.specs.declared.field.PacketField.{PacketField}
 use Rattle.krb_packet.specs.declared.field.PacketField.TheVariants as packet_fields
-use Rattle.krb_packet.specs.Parsers.{Refusal, Parser, ◌>>=◌, gives, from_here, fields, named}
+use Rattle.krb_packet.specs.Parsers.{Refusal, Parser, ◌>>=◌, succeed, from_here, fields, named}
 use Rattle.krb_packet.specs.Pcaps.{magic_at, header_at, most_captured, next_at}
 use Rattle.krb_packet.specs.Blocks.{block_after, next_block}
 
--- ---- the fields of a pcap, by the octets before them
+-- ---- the field of a pcap at an offset
 
 -- in the header, after the magic
 abbrev pub header_field : ℕ → CaptureField
@@ -49,7 +49,7 @@ packet_in header count = from_here (λ start. fields (λ place. capture.Packet c
 -- ---- A file is read in steps: the header of a pcap or the first block, and then packets or blocks.
 
 abbrev pub after_magic : ℕ → Magic → Parser Next
-after_magic count (magics.Pcap form) = header_in form >>= λ header. gives (nexts.Passed (formats.Pcap header))
+after_magic count (magics.Pcap form) = header_in form >>= λ header. succeed (nexts.NoPacket (formats.Pcap header))
 after_magic count magics.Pcapng = block_after kinds.Section (record { order = orders.BigEndian; interfaces = []; blocks = 0 }) count
 
 abbrev pub begin_in : ℕ → Parser Next
@@ -62,16 +62,16 @@ after_packet header (Some packet) = nexts.Packet packet (formats.Pcap header)
 -- the step after `count` packets
 abbrev pub next_in : Format → ℕ → Parser Next
 next_in formats.Unknown count = begin_in count
-next_in (formats.Pcap header) count = packet_in header count >>= λ packet. gives (after_packet header packet)
+next_in (formats.Pcap header) count = packet_in header count >>= λ packet. succeed (after_packet header packet)
 next_in (formats.Pcapng section) count = next_block section count
 
--- how many blocks were read
+-- the number of blocks that were read
 abbrev pub blocks_of : Format → ℕ
 blocks_of formats.Unknown = 0
 blocks_of (formats.Pcap header) = 0
 blocks_of (formats.Pcapng section) = section.blocks
 
--- ---- The packets before the end of the file or before the first fault; and that fault.
+-- ---- The packets before the end of the file or the first fault; and that fault.
 pub record Packets : Type 0 where
   pub packets : List Packet
   pub refusal : Option Refusal
@@ -82,22 +82,22 @@ no_packets refusal = record { packets = []; refusal = refusal }
 abbrev pub with_first : Packet → Packets → Packets
 with_first first others = record { packets = first ∷ others.packets; refusal = others.refusal }
 
--- what a step gives, and then the others, of a format after so many packets
+-- the packet of a step, if it has one, and then the others
 abbrev pub with_others : ℕ → Next → Source → (Format → ℕ → Source → Packets) → Packets
 with_others count (nexts.Packet packet format) source others = with_first packet (others format (count + 1) source)
-with_others count (nexts.Passed format) source others = others format count source
+with_others count (nexts.NoPacket format) source others = others format count source
 with_others count nexts.End source others = no_packets None
 
 abbrev pub packets_from : ℕ → Result (Next × Source) Refusal → (Format → ℕ → Source → Packets) → Packets
 packets_from count (Err refusal) others = no_packets (Some refusal)
 packets_from count (Ok read) others = with_others count read.0 read.1 others
 
--- the first number bounds how many steps there are
+-- at most as many steps as the first number
 abbrev pub packets_within : ℕ → Format → ℕ → Source → Packets
 packets_within zero format count source = no_packets None
 packets_within (suc bound) format count source = packets_from count (next_in format count (limited (Some most_captured)) source) (packets_within bound)
 
--- each step but the last takes an octet
+-- the packets of what is left; each step but the last one reads an octet at least
 abbrev pub packets_after : Format → ℕ → Source → Packets
 packets_after format count source = packets_within (suc (length source.octets)) format count source
 

@@ -1,4 +1,4 @@
--- What a packet carries. None is what cannot be read: a header that is cut or wrong, or a link that is not known.
+-- What a packet carries; None if it cannot be read, since a header is cut or wrong or the link type is not known.
 use Rattle.std.specs.Prelude.{ℕ, zero, suc, ◌+◌, ◌*◌, ◌-◌, ◌/◌, ◌%◌, ◌^◌, Bool, not, ◌&&◌, ◌||◌, ◌==◌, nat_le, bit_and, true, false, Option, Some, None, List, length}
 use Rattle.std.specs.Option.{option_map_or}
 use Rattle.std.specs.Net.Addr.{segments_of}
@@ -13,15 +13,15 @@ use Rattle.krb_packet.specs.declared.contents.Contents.TheVariants as contents
 use Rattle.krb_packet.specs.declared.packet.LinkType.{LinkType}
 use Rattle.krb_packet.specs.declared.packet.LinkType.TheVariants as links
 
--- a value, where the header is as it must be
+-- the value, if the header is valid
 abbrev pub if_valid : {A : Type 0} → Bool → A → Option A
 if_valid valid value = when valid (λ _. Some value) (λ _. None)
 
--- headers of some kinds, each of which tells the kind of the next one, are passed; the first number bounds how many there are
-abbrev pub passes : (ℕ → Captured → Bool) → (ℕ → Captured → Option (ℕ × Captured)) → ℕ → ℕ → Captured → Option (ℕ × Captured)
-passes is_passed pass zero kind packet = None
-passes is_passed pass (suc bound) kind packet =
-    when (is_passed kind packet) (λ _. pass kind packet >>= λ next. passes is_passed pass bound next.0 next.1) (λ _. Some (kind, packet))
+-- skips the headers of some kinds, each of which has the kind of the next one; at most as many as the first number
+abbrev pub skip_headers : (ℕ → Captured → Bool) → (ℕ → Captured → Option (ℕ × Captured)) → ℕ → ℕ → Captured → Option (ℕ × Captured)
+skip_headers is_skipped pass zero kind packet = None
+skip_headers is_skipped pass (suc bound) kind packet =
+    when (is_skipped kind packet) (λ _. pass kind packet >>= λ next. skip_headers is_skipped pass bound next.0 next.1) (λ _. Some (kind, packet))
 
 abbrev pub endpoint : IpAddr → ℕ → Endpoint
 endpoint address port = record { address = address; port = port }
@@ -51,21 +51,21 @@ segment from to packet = do
   rest ← after (offset / 16 * 4) packet
   if_valid (nat_le 5 (offset / 16)) (contents.Segment (record { source = endpoint from source; target = endpoint to target; sequence = sequence; fin = is_set 1 flags; syn = is_set 2 flags; rst = is_set 4 flags; payload = rest }))
 
--- by the number of the protocol
+-- by the protocol number
 unfoldable pub transport : IpAddr → IpAddr → ℕ → Captured → Option Contents
 transport from to protocol packet =
     when (protocol == 17) (λ _. datagram from to packet) (λ _.
     when (protocol == 6) (λ _. segment from to packet) (λ _.
     Some contents.Other))
 
--- ---- IP. What stands after the announced length is padding; a length of 0, as offloading leaves it, is all that there is.
+-- ---- IP. Octets after the length in the header are padding; a length of 0, as segmentation offload leaves it, means all octets.
 
 unfoldable pub announced : ℕ → Captured → Captured
 announced size packet = when (size == 0) (λ _. packet) (λ _. within size packet)
 
--- a fragment of an IP datagram: what it has in common with the others, what it begins with, its place, and its octets
+-- a fragment of an IP datagram: what it has in common with the others, the protocol of what it begins with, its offset, and its octets
 abbrev pub fragment_of : Original → ℕ → ℕ → Bool → Captured → Contents
-fragment_of original protocol place is_last payload = contents.Fragment (record { original = original; protocol = protocol; place = place; is_last = is_last; payload = payload })
+fragment_of original protocol offset is_last payload = contents.Fragment (record { original = original; protocol = protocol; offset = offset; is_last = is_last; payload = payload })
 
 abbrev pub original4 : List ℕ → List ℕ → ℕ → ℕ → Original
 original4 from to identification protocol = record { source = ip.V4 (record { octets = from }); target = ip.V4 (record { octets = to }); identification = identification; protocol = Some protocol }
@@ -94,7 +94,7 @@ options packet = do
   rest ← after (8 * size + 8) packet
   Some (next, rest)
 
--- the fragment header (4.5), which is passed in a packet that is all of its datagram (RFC 6946): of one the offset is 0, and no more fragments follow
+-- the fragment header (4.5), which is skipped in an atomic fragment (RFC 6946), which is a whole datagram: its offset is 0, and no more fragments follow
 unfoldable pub fragment_header : Captured → Option (ℕ × Captured)
 fragment_header packet = do
   next ← number8 0 packet
@@ -102,28 +102,28 @@ fragment_header packet = do
   Some (next, rest)
 
 unfoldable pub is_whole : Captured → Bool
-is_whole packet = option_map_or (λ place. place / 8 == 0 && place % 2 == 0) (number16 2 packet) false
+is_whole packet = option_map_or (λ offset. offset / 8 == 0 && offset % 2 == 0) (number16 2 packet) false
 
 -- hop-by-hop options, routing, destination options, and the fragment header
-abbrev pub is_passed : ℕ → Captured → Bool
-is_passed kind packet = when (kind == 0 || (kind == 43 || kind == 60)) (λ _. true) (λ _. when (kind == 44) (λ _. is_whole packet) (λ _. false))
+abbrev pub is_skipped : ℕ → Captured → Bool
+is_skipped kind packet = when (kind == 0 || (kind == 43 || kind == 60)) (λ _. true) (λ _. when (kind == 44) (λ _. is_whole packet) (λ _. false))
 
 unfoldable pub extension : ℕ → Captured → Option (ℕ × Captured)
 extension kind packet = when (kind == 44) (λ _. fragment_header packet) (λ _. options packet)
 
 abbrev pub extensions : ℕ → ℕ → Captured → Option (ℕ × Captured)
-extensions = passes is_passed extension
+extensions = skip_headers is_skipped extension
 
--- any other fragment: the offset counts groups of eight octets, and stands before three bits, of which the last one says that more fragments follow
+-- any other fragment: the offset counts groups of eight octets, and three bits follow it, of which the last one says that more fragments follow
 unfoldable pub fragment : IpAddr → IpAddr → Captured → Option Contents
 fragment from to packet = do
   next ← number8 0 packet
-  place ← number16 2 packet
+  offset ← number16 2 packet
   identification ← number32 4 packet
   rest ← after 8 packet
-  Some (fragment_of (record { source = from; target = to; identification = identification; protocol = None }) next (place / 8 * 8) (place % 2 == 0) rest)
+  Some (fragment_of (record { source = from; target = to; identification = identification; protocol = None }) next (offset / 8 * 8) (offset % 2 == 0) rest)
 
--- what stands after the extension headers, the first of which is of this kind
+-- what follows the extension headers, the first of which is of this kind
 unfoldable pub after_headers : IpAddr → IpAddr → ℕ → Captured → Option Contents
 after_headers from to kind packet = do
   last ← extensions (length packet.octets + 1) kind packet
@@ -161,7 +161,7 @@ tag packet = do
   Some (kind, rest)
 
 abbrev pub tags : ℕ → ℕ → Captured → Option (ℕ × Captured)
-tags = passes (λ kind packet. is_tag kind) (λ kind. tag)
+tags = skip_headers (λ kind packet. is_tag kind) (λ kind. tag)
 
 unfoldable pub ethernet : Captured → Option Contents
 ethernet packet = do
@@ -170,20 +170,20 @@ ethernet packet = do
   last ← tags (length packet.octets) kind rest
   network last.0 last.1
 
--- a header of n octets in which an EtherType stands after `at` others
+-- a header of n octets, in which an EtherType follows `at` others
 unfoldable pub cooked : ℕ → ℕ → Captured → Option Contents
 cooked at size packet = do
   kind ← number16 at packet
   rest ← after size packet
   network kind rest
 
--- the version tells which
+-- IPv4 or IPv6, by the version
 unfoldable pub raw_ip : Captured → Option Contents
 raw_ip packet = do
   first ← number8 0 packet
   when (first / 16 == 4) (λ _. ipv4 packet) (λ _. when (first / 16 == 6) (λ _. ipv6 packet) (λ _. None))
 
--- AF_INET, and what AF_INET6 is on the systems that capture so
+-- AF_INET, and the numbers of AF_INET6 on the systems that have this link type
 unfoldable pub of_family : ℕ → Captured → Option Contents
 of_family family packet =
     when (family == 2) (λ _. ipv4 packet) (λ _.
@@ -196,7 +196,7 @@ openbsd_loopback packet = do
   rest ← after 4 packet
   of_family family rest
 
--- the family in either order of octets
+-- the family in either byte order
 abbrev pub in_either_order : ℕ → ℕ
 in_either_order family = when (family % 2 ^ 24 == 0) (λ _. family / 2 ^ 24) (λ _. family)
 

@@ -132,10 +132,10 @@ abbrev original : Original
 original = record { source = local; target = local; identification = 0xA468; protocol = Some 6 }
 
 abbrev first : Fragment
-first = record { original = original; protocol = 6; place = 0; is_last = false; payload = whole first_octets }
+first = record { original = original; protocol = 6; offset = 0; is_last = false; payload = whole first_octets }
 
 abbrev second : Fragment
-second = record { original = original; protocol = 6; place = 16; is_last = true; payload = whole second_octets }
+second = record { original = original; protocol = 6; offset = 16; is_last = true; payload = whole second_octets }
 
 first_is_carried : contents_of links.RawIp (whole (hex (codes "45000024 A4682000 40060000 7F000001 7F000001") ++ first_octets)) ≡ contents.Fragment first
 unfolding frame raw_ip number16 number8 field after within ipv4 announced
@@ -150,26 +150,26 @@ abbrev after_all : Table → List Fragment → Table
 after_all table [] = table
 after_all table (fragment ∷ fragments) = after_all (step table fragment).1 fragments
 
-abbrev kept : List Fragment → Table
-kept = after_all no_fragments
+abbrev table_after : List Fragment → Table
+table_after = after_all no_fragments
 
--- in the other order, the first one twice
-fragments_are_put_together : (step (kept (second ∷ second ∷ [])) first).0 ≡ Some (record { original = original; protocol = 6; octets = segment_octets })
+-- in the other order, the second one twice
+fragments_are_put_together : (step (table_after (second ∷ second ∷ [])) first).0 ≡ Some (record { original = original; protocol = 6; octets = segment_octets })
 unfolding step
 fragments_are_put_together = refl
 
-none_is_left : kept (second ∷ second ∷ first ∷ []) ≡ no_fragments
+none_is_left : table_after (second ∷ second ∷ first ∷ []) ≡ no_fragments
 unfolding step
 none_is_left = refl
 
 -- eight octets of the second one again, as the first ones of a third
 abbrev third : Fragment
-third = record { original = original; protocol = 6; place = 8; is_last = false; payload = whole (take 16 (drop 8 segment_octets)) }
+third = record { original = original; protocol = 6; offset = 8; is_last = false; payload = whole (take 16 (drop 8 segment_octets)) }
 
-overlap_spoils : (step (kept (first ∷ third ∷ [])) second).0 ≡ None
+overlap_discards : (step (table_after (first ∷ third ∷ [])) second).0 ≡ None
 unfolding step
-overlap_spoils = refl
+overlap_discards = refl
 
-spoiled_are_unread : unread (kept (first ∷ third ∷ second ∷ [])) ≡ 3
+discarded_are_unread : unread (table_after (first ∷ third ∷ second ∷ [])) ≡ 3
 unfolding step unread
-spoiled_are_unread = refl
+discarded_are_unread = refl

@@ -1,4 +1,4 @@
--- The fields of capture files, as they are told.
+-- The names of the fields of capture files as text.
 use Rattle.std.specs.Prelude.{ℕ, List, ◌++◌, codes}
 use Rattle.std.specs.Fmt.{decimal}
 use Rattle.krb_packet.specs.declared.field.CaptureField.{CaptureField}
@@ -33,7 +33,7 @@ block_field_name block.Data = codes "data"
 block_field_name block.Body = codes "body"
 block_field_name block.LengthAgain = codes "length-again"
 
--- packets and blocks are counted from 0
+-- the path of a field; packets and blocks are counted from 0
 abbrev pub capture_field_text : CaptureField → List ℕ
 capture_field_text capture.Magic = codes "magic"
 capture_field_text capture.Version = codes "version"

@@ -8,13 +8,13 @@ use Rattle.std.specs.declared.net.ip_addr.IpAddr.TheVariants as ip
 use Rattle.krb_der.specs.Octets.{when}
 use Rattle.krb_packet.specs.Payloads.{Captured}
 use Rattle.krb_packet.specs.Contents.{transport, after_headers}
-use Rattle.krb_packet.specs.Parts.{Parts, no_parts, taking, is_complete}
+use Rattle.krb_packet.specs.Parts.{Parts, no_parts, add_fragment, is_complete}
 use Rattle.krb_packet.specs.declared.contents.Original.{Original}
 use Rattle.krb_packet.specs.declared.contents.Fragment.{Fragment}
 use Rattle.krb_packet.specs.declared.contents.Contents.{Contents}
 use Rattle.krb_packet.specs.declared.contents.Contents.TheVariants as contents
 use Rattle.krb_packet.specs.declared.fragments.Progress.{Progress}
-use Rattle.krb_packet.specs.declared.fragments.Progress.TheVariants.{Open, Spoiled}
+use Rattle.krb_packet.specs.declared.fragments.Progress.TheVariants.{Open, Discarded}
 use Rattle.krb_packet.specs.declared.fragments.Pending.{Pending}
 use Rattle.krb_packet.specs.declared.fragments.Reassembled.{Reassembled}
 use Rattle.krb_packet.specs.Table.{Table}
@@ -42,32 +42,32 @@ same_original one other =
 
 -- ---- a datagram
 
--- a sum that stays at the greatest number of 64 bits
+-- a sum, at most the greatest number of 64 bits
 abbrev pub plus : ℕ → ℕ → ℕ
 plus count more = min (count + more) (2 ^ 64 - 1)
 
-abbrev pub begun : Original → Pending
-begun original = record { original = original; count = 0; progress = Open no_parts }
+abbrev pub no_fragments_of : Original → Pending
+no_fragments_of original = record { original = original; count = 0; progress = Open no_parts }
 
-abbrev pub or_spoiled : Option Parts → Progress
-or_spoiled (Some parts) = Open parts
-or_spoiled None = Spoiled
+abbrev pub or_discarded : Option Parts → Progress
+or_discarded (Some parts) = Open parts
+or_discarded None = Discarded
 
 abbrev pub progress_with : Fragment → Progress → Progress
-progress_with fragment (Open parts) = or_spoiled (taking parts fragment)
-progress_with fragment Spoiled = Spoiled
+progress_with fragment (Open parts) = or_discarded (add_fragment parts fragment)
+progress_with fragment Discarded = Discarded
 
 abbrev pub pending_with : Fragment → Pending → Pending
 pending_with fragment pending = record { original = pending.original; count = plus pending.count 1; progress = progress_with fragment pending.progress }
 
 abbrev pub whole : Original → Progress → Option Reassembled
 whole original (Open parts) = when (is_complete parts) (λ _. Some (record { original = original; protocol = parts.protocol; octets = parts.octets })) (λ _. None)
-whole original Spoiled = None
+whole original Discarded = None
 
 abbrev pub whole_of : Pending → Option Reassembled
 whole_of pending = whole pending.original pending.progress
 
--- ---- all datagrams, of which at most 1024 are kept
+-- ---- the table of datagrams, of which at most 1024 are kept
 
 abbrev pub most_datagrams : ℕ
 most_datagrams = 1024
@@ -75,44 +75,44 @@ most_datagrams = 1024
 abbrev pub no_fragments : Table
 no_fragments = record { pending = []; given_up = 0 }
 
-abbrev pub place_of : Original → List Pending → Option ℕ
-place_of original pending = position (λ other. same_original other.original original) pending
+abbrev pub index_of : Original → List Pending → Option ℕ
+index_of original pending = position (λ other. same_original other.original original) pending
 
--- of more than 1024 the one begun first gives way
+-- the table without the datagram that began first
 abbrev pub without_first : List Pending → ℕ → Table
 without_first [] given_up = record { pending = []; given_up = given_up }
 without_first (first ∷ others) given_up = record { pending = others; given_up = plus given_up first.count }
 
-abbrev pub kept : Table → Table
-kept table = when (nat_lt most_datagrams (length table.pending)) (λ _. without_first table.pending table.given_up) (λ _. table)
+abbrev pub within_limit : Table → Table
+within_limit table = when (nat_lt most_datagrams (length table.pending)) (λ _. without_first table.pending table.given_up) (λ _. table)
 
 abbrev pub with_datagram : Table → Pending → Table
-with_datagram table pending = kept (record table { pending = table.pending ++ pending ∷ [] })
+with_datagram table pending = within_limit (record table { pending = table.pending ++ pending ∷ [] })
 
--- The datagrams after a fragment, and the place of its own among them: where it stood, or else the last one.
-abbrev pub placed : Table → Fragment → Option ℕ → Table × ℕ
-placed table fragment (Some place) = (record table { pending = slice_set table.pending place (pending_with fragment (slice_index_or table.pending place (begun fragment.original))) }, place)
-placed table fragment None = let more = with_datagram table (pending_with fragment (begun fragment.original)) in (more, length more.pending - 1)
+-- the table with a fragment, and the index of its datagram in it: that which it had, or else the last one
+abbrev pub with_fragment_at : Table → Fragment → Option ℕ → Table × ℕ
+with_fragment_at table fragment (Some place) = (record table { pending = slice_set table.pending place (pending_with fragment (slice_index_or table.pending place (no_fragments_of fragment.original))) }, place)
+with_fragment_at table fragment None = let more = with_datagram table (pending_with fragment (no_fragments_of fragment.original)) in (more, length more.pending - 1)
 
--- the datagram at a place leaves if it is whole
-abbrev pub left_by : Option Reassembled → Table × ℕ → Option Reassembled × Table
-left_by None at = (None, at.0)
-left_by (Some whole) at = (Some whole, record at.0 { pending = remove at.0.pending at.1 })
+-- the table without the datagram at an index, if that is whole
+abbrev pub without_whole : Option Reassembled → Table × ℕ → Option Reassembled × Table
+without_whole None at = (None, at.0)
+without_whole (Some whole) at = (Some whole, record at.0 { pending = remove at.0.pending at.1 })
 
 abbrev pub finished : Table × ℕ → Option Reassembled × Table
-finished at = left_by (option_and_then whole_of (slice_get at.0.pending at.1)) at
+finished at = without_whole (option_and_then whole_of (slice_get at.0.pending at.1)) at
 
--- the whole datagram that a fragment completes, and the datagrams that are left
+-- the whole datagram that a fragment completes, if it does, and the table then
 unfoldable pub step : Table → Fragment → Option Reassembled × Table
-step table fragment = finished (placed table fragment (place_of fragment.original table.pending))
+step table fragment = finished (with_fragment_at table fragment (index_of fragment.original table.pending))
 
--- how many fragments came, of those of which no whole datagram came
+-- the number of fragments that came of datagrams that were not completed
 unfoldable pub unread : Table → ℕ
 unread table = fold (λ count pending. plus count pending.count) table.given_up table.pending
 
 -- ---- what a whole datagram carries
 
--- there are no fragments of fragments
+-- a fragment in a datagram that was put together cannot be read
 abbrev pub or_unread : Option Contents → Contents
 or_unread None = contents.Unread
 or_unread (Some (contents.Fragment fragment)) = contents.Unread
@@ -121,7 +121,7 @@ or_unread (Some (contents.Segment segment)) = contents.Segment segment
 or_unread (Some contents.Other) = contents.Other
 or_unread (Some contents.Unread) = contents.Unread
 
--- in IPv4 all fragments tell the protocol; in IPv6 other headers may come before that
+-- in IPv4 each fragment has the protocol; in IPv6 other headers may come before it
 abbrev pub carried : Original → ℕ → Captured → Option ℕ → Option Contents
 carried original kind packet (Some protocol) = transport original.source original.target protocol packet
 carried original kind packet None = after_headers original.source original.target kind packet

@@ -3,9 +3,9 @@ use Rattle.std.specs.Prelude.{ℕ, zero, suc, ℤ, pos, ◌+◌, ◌-◌, ◌*�
 use Rattle.std.specs.Option.{unwrap_or}
 use Rattle.std.specs.Int.{w8, w16, w32, w64, cast_signed}
 use Rattle.krb_der.specs.Octets.{when}
-use Rattle.krb_file.specs.Fields.{Reader, ◌>>=◌, gives, next_octets_at, number_at, is_at_end, room}
+use Rattle.krb_file.specs.Fields.{Reader, ◌>>=◌, succeed, next_octets_at, number_at, is_at_end, octets_to_end}
 use Rattle.krb_file.specs.FieldReaders.{skipped_at}
-use Rattle.krb_packet.specs.declared.order.Order.{Order}
+use Rattle.krb_packet.specs.declared.order.ByteOrder.{ByteOrder}
 use Rattle.krb_packet.specs.declared.packet.Time.{Time}
 use Rattle.krb_packet.specs.declared.interface.Interface.{Interface}
 use Rattle.krb_packet.specs.declared.interface.Clock.{Clock}
@@ -20,25 +20,25 @@ use Rattle.krb_packet.specs.Values.{link_type, time_at}
 abbrev pub padded : ℕ → ℕ
 padded size = (size + 3) / 4 * 4
 
--- if_tsresol (9) has one octet, and if_tsoffset (14) eight; what has another size tells nothing
-abbrev pub value_at : Order → ℕ → ℕ → Reader Setting
+-- if_tsresol (9) has one octet, and if_tsoffset (14) eight; an option of another size is not read
+abbrev pub value_at : ByteOrder → ℕ → ℕ → Reader Setting
 value_at order code size =
-    when (code == 9 && size == 1) (λ _. number_at w8 >>= λ octet. skipped_at 3 >>= λ zeros. gives (settings.Resolution octet)) (λ _.
-    when (code == 14 && size == 8) (λ _. next_octets_at None 8 >>= λ octets. gives (settings.Offset (cast_signed w64 (in_order w64 order octets)))) (λ _.
-    skipped_at (padded size) >>= λ zeros. gives settings.Other))
+    when (code == 9 && size == 1) (λ _. number_at w8 >>= λ octet. skipped_at 3 >>= λ zeros. succeed (settings.Resolution octet)) (λ _.
+    when (code == 14 && size == 8) (λ _. next_octets_at None 8 >>= λ octets. succeed (settings.Offset (cast_signed w64 (in_order w64 order octets)))) (λ _.
+    skipped_at (padded size) >>= λ zeros. succeed settings.Other))
 
 -- code 0 ends the options
-abbrev pub setting_at : Order → Reader (Option Setting)
+abbrev pub setting_at : ByteOrder → Reader (Option Setting)
 setting_at order = do
   code ← number_in w16 order
   size ← number_in w16 order
-  when (code == 0) (λ _. gives None) (λ _. value_at order code size >>= λ setting. gives (Some setting))
+  when (code == 0) (λ _. succeed None) (λ _. value_at order code size >>= λ setting. succeed (Some setting))
 
 -- an option is one field
-abbrev pub option_at : Order → Reader (Option Setting)
+abbrev pub option_at : ByteOrder → Reader (Option Setting)
 option_at order = from_here (λ place. refused_at place (setting_at order))
 
--- of several that tell the same, the first counts
+-- of several options of one code, the first counts
 abbrev pub first : {A : Type 0} → Option A → A → Option A
 first None value = Some value
 first (Some before) value = Some before
@@ -52,42 +52,42 @@ abbrev pub no_options : Options
 no_options = record { resolution = None; offset = None }
 
 abbrev pub after_setting : Options → Option Setting → (Options → Reader Options) → Reader Options
-after_setting found None others = gives found
+after_setting found None others = succeed found
 after_setting found (Some setting) others = others (with_setting setting found)
 
--- up to the one that ends them, or up to the end of the body; the first number bounds how many there are
-abbrev pub options_within : ℕ → Order → Options → Reader Options
-options_within zero order found = gives found
+-- up to the option that ends them, or up to the end of the body; at most as many as the first number
+abbrev pub options_within : ℕ → ByteOrder → Options → Reader Options
+options_within zero order found = succeed found
 options_within (suc bound) order found = λ bounds source.
-    (when (is_at_end bounds source) (λ _. gives found) (λ _. option_at order >>= λ setting. after_setting found setting (options_within bound order))) bounds source
+    (when (is_at_end bounds source) (λ _. succeed found) (λ _. option_at order >>= λ setting. after_setting found setting (options_within bound order))) bounds source
 
-abbrev pub options_at : Order → Reader Options
-options_at order = λ bounds source. options_within (room bounds.end source.place) order no_options bounds source
+abbrev pub options_at : ByteOrder → Reader Options
+options_at order = λ bounds source. options_within (octets_to_end bounds.end source.place) order no_options bounds source
 
 -- ---- an interface
 
--- microseconds from 1970 on, if nothing else is told
+-- microseconds from 1970 on, unless the options say something else
 abbrev pub clock_of : Options → Clock
 clock_of options = record { resolution = unwrap_or options.resolution 6; offset = unwrap_or options.offset (pos 0) }
 
-abbrev pub interface_at : Order → Reader Interface
+abbrev pub interface_at : ByteOrder → Reader Interface
 interface_at order = do
   link ← number_in w16 order
   reserved ← number_in w16 order
   snaplen ← number_in w32 order
   options ← options_at order
-  gives (record { link = link_type link; most = snaplen; clock = clock_of options })
+  succeed (record { link = link_type link; snaplen = snaplen; clock = clock_of options })
 
 -- ---- times
 
--- the highest bit of the octet tells a power of 2, not of 10
+-- if the highest bit of the octet is set, a power of 2, else one of 10
 abbrev pub units_in_second : ℕ → ℕ
 units_in_second octet = when (nat_lt octet 128) (λ _. 10 ^ octet) (λ _. 2 ^ (octet - 128))
 
 abbrev pub nanoseconds : ℕ → ℕ → ℕ
 nanoseconds resolution units = units * 10 ^ 9 / units_in_second resolution
 
--- seconds before 1970 are none
+-- 0 for seconds before 1970
 abbrev pub seconds_after : ℤ → ℕ → ℕ
 seconds_after offset seconds = when (int_lt offset (pos 0)) (λ _. seconds - unsigned_abs offset) (λ _. seconds + unsigned_abs offset)
 

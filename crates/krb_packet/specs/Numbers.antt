@@ -1,39 +1,39 @@
--- Numbers whose octets stand in either order, and fields that are refused where they say nothing.
+-- Numbers in either byte order, and fields that are refused if their number has no meaning.
 use Rattle.std.specs.Prelude.{ℕ, Option, Some, None, Result, Ok, Err, List, reverse}
 use Rattle.std.specs.Int.{Width, byte_len, from_be_bytes}
-use Rattle.krb_file.specs.Fields.{Source, Fault, Reader, ◌>>=◌, gives, next_octets_at}
+use Rattle.krb_file.specs.Fields.{Source, Fault, Reader, ◌>>=◌, succeed, next_octets_at}
 use Rattle.krb_file.specs.declared.fault.FileWhy.{FileWhy}
 use Rattle.krb_file.specs.declared.fault.FileFault.{FileFault}
 use Rattle.krb_file.specs.declared.fault.FileFault.TheVariants as faults
-use Rattle.krb_packet.specs.declared.order.Order.{Order}
-use Rattle.krb_packet.specs.declared.order.Order.TheVariants as orders
+use Rattle.krb_packet.specs.declared.order.ByteOrder.{ByteOrder}
+use Rattle.krb_packet.specs.declared.order.ByteOrder.TheVariants as orders
 
--- the octets of a number, the highest first
-abbrev pub highest_first : Order → List ℕ → List ℕ
+-- the octets of a number as big-endian ones
+abbrev pub highest_first : ByteOrder → List ℕ → List ℕ
 highest_first orders.BigEndian octets = octets
 highest_first orders.LittleEndian octets = reverse octets
 
-abbrev pub in_order : Width → Order → List ℕ → ℕ
+abbrev pub in_order : Width → ByteOrder → List ℕ → ℕ
 in_order width order octets = from_be_bytes width (highest_first order octets)
 
-abbrev pub number_in : Width → Order → Reader ℕ
+abbrev pub number_in : Width → ByteOrder → Reader ℕ
 number_in width order = do
   octets ← next_octets_at None (byte_len width)
-  gives (in_order width order octets)
+  succeed (in_order width order octets)
 
--- what a field at a place tells, or the reason for which it is refused there
-abbrev pub telling : {A : Type 0} → ℕ → Result A FileWhy → Reader A
-telling place (Ok value) = gives value
-telling place (Err reason) = λ bounds source. Err (record { place = place; why = reason; field = None })
+-- the meaning of the field at a place, or its refusal there
+abbrev pub checked_at : {A : Type 0} → ℕ → Result A FileWhy → Reader A
+checked_at place (Ok value) = succeed value
+checked_at place (Err reason) = λ bounds source. Err (record { place = place; why = reason; field = None })
 
--- what is read from a place on
+-- a reader that depends on the place at which it begins
 abbrev pub from_here : {A : Type 0} → (ℕ → Reader A) → Reader A
 from_here reader = λ bounds source. reader source.place bounds source
 
-abbrev pub number_telling : {A : Type 0} → Width → Order → (ℕ → Result A FileWhy) → Reader A
-number_telling width order tells = from_here (λ place. number_in width order >>= λ number. telling place (tells number))
+abbrev pub checked_number : {A : Type 0} → Width → ByteOrder → (ℕ → Result A FileWhy) → Reader A
+checked_number width order check = from_here (λ place. number_in width order >>= λ number. checked_at place (check number))
 
--- a fault is told at a place
+-- the same result, whose fault is at this place
 abbrev pub moved_to : {A : Type 0} → ℕ → Result A Fault → Result A Fault
 moved_to place (Ok read) = Ok read
 moved_to place (Err fault) = Err (record fault { place = place })
@@ -41,7 +41,7 @@ moved_to place (Err fault) = Err (record fault { place = place })
 abbrev pub refused_at : {A : Type 0} → ℕ → Reader A → Reader A
 refused_at place reader = λ bounds source. moved_to place (reader bounds source)
 
--- the same, as the code has it
-abbrev pub told : {A : Type 0} → ℕ → Result A FileWhy → Result A FileFault
-told place (Ok value) = Ok value
-told place (Err reason) = Err (faults.Refused place reason None)
+-- `checked_at`, as a result of a function
+abbrev pub checked : {A : Type 0} → ℕ → Result A FileWhy → Result A FileFault
+checked place (Ok value) = Ok value
+checked place (Err reason) = Err (faults.Refused place reason None)

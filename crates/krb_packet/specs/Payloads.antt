@@ -1,20 +1,20 @@
--- Octets of a packet, and the fields of headers that stand in them. Numbers have their highest octet first.
+-- Octets of a packet, and the fields of headers in them. Numbers are big-endian.
 use Rattle.std.specs.Prelude.{ℕ, ◌+◌, ◌-◌, nat_lt, Option, Some, None, List, length, take, drop}
 use Rattle.std.specs.Int.{Width, w8, w16, w32, byte_len, from_be_bytes}
 use Rattle.krb_der.specs.Octets.{when}
 
--- The octets that were captured of a packet, or of what stands in one, and how many there are on the wire.
+-- The octets that were captured of a packet, or of what is in one, and how many there are on the wire.
 pub record Captured : Type 0 where
   pub octets : List ℕ
   pub size : ℕ
 
--- what needs a field that was not captured cannot be read
+-- nothing can be read that needs a field which was not captured
 infixl 10 ◌>>=◌
 abbrev pub ◌>>=◌ : {A B : Type 0} → Option A → (A → Option B) → Option B
 None >>= next = None
 (Some value) >>= next = next value
 
--- the field of n octets that stands after `at` others
+-- the field of n octets after `at` others
 unfoldable pub field : ℕ → ℕ → Captured → Option (List ℕ)
 field size at payload = when (nat_lt (length payload.octets) (at + size)) (λ _. None) (λ _. Some (take size (drop at payload.octets)))
 
@@ -32,7 +32,7 @@ number16 = number w16
 unfoldable pub number32 : ℕ → Captured → Option ℕ
 number32 = number w32
 
--- what stands after a header of n octets
+-- what follows a header of n octets
 unfoldable pub after : ℕ → Captured → Option Captured
 after size payload = when (nat_lt (length payload.octets) size) (λ _. None) (λ _. Some (record { octets = drop size payload.octets; size = payload.size - size }))
 

@@ -1,12 +1,12 @@
--- The fields of a pcap (draft-ietf-opsawg-pcap, 4 and 5), and what tells the format of a capture file.
+-- The fields of a pcap (draft-ietf-opsawg-pcap, 4 and 5), and the magic, which says which format a capture file has.
 use Rattle.std.specs.Prelude.{ℕ, ◌+◌, ◌*◌, ◌%◌, ◌^◌, max, ◌==◌, nat_lt, Option, Some, None, Result, Ok, Err}
 use Rattle.std.specs.Int.{w32}
 use Rattle.krb_der.specs.Octets.{when}
-use Rattle.krb_file.specs.Fields.{Reader, ◌>>=◌, gives, octets_at, number_at, is_empty}
+use Rattle.krb_file.specs.Fields.{Reader, ◌>>=◌, succeed, octets_at, number_at, is_empty}
 use Rattle.krb_file.specs.declared.fault.FileWhy.{FileWhy}
 use Rattle.krb_file.specs.declared.fault.FileWhy.TheVariants as why
-use Rattle.krb_packet.specs.declared.order.Order.{Order}
-use Rattle.krb_packet.specs.declared.order.Order.TheVariants as orders
+use Rattle.krb_packet.specs.declared.order.ByteOrder.{ByteOrder}
+use Rattle.krb_packet.specs.declared.order.ByteOrder.TheVariants as orders
 use Rattle.krb_packet.specs.declared.packet.Packet.{Packet}
 use Rattle.krb_packet.specs.declared.pcap.Precision.{Precision}
 use Rattle.krb_packet.specs.declared.pcap.Precision.TheVariants as precisions
@@ -14,12 +14,12 @@ use Rattle.krb_packet.specs.declared.pcap.Form.{Form}
 use Rattle.krb_packet.specs.declared.pcap.Header.{Header}
 use Rattle.krb_packet.specs.declared.pcap.Magic.{Magic}
 use Rattle.krb_packet.specs.declared.pcap.Magic.TheVariants as magics
-use Rattle.krb_packet.specs.Numbers.{number_in, number_telling}
+use Rattle.krb_packet.specs.Numbers.{number_in, checked_number}
 use Rattle.krb_packet.specs.Values.{link_type, time_of}
 
--- ---- the magic: it tells the format, and of a pcap the order of octets and what fractions of seconds count.
+-- ---- the magic: the format and, of a pcap, the byte order and the unit of the fractions of seconds
 
-abbrev pub pcap : Order → Precision → Result Magic FileWhy
+abbrev pub pcap : ByteOrder → Precision → Result Magic FileWhy
 pcap order precision = Ok (magics.Pcap (record { order = order; precision = precision }))
 
 abbrev pub magic_of : ℕ → Result Magic FileWhy
@@ -32,27 +32,27 @@ magic_of number =
     Err why.Magic)))))
 
 abbrev pub magic_at : Reader Magic
-magic_at = number_telling w32 orders.BigEndian magic_of
+magic_at = checked_number w32 orders.BigEndian magic_of
 
 -- ---- the header of a pcap, after the magic
 
 -- 2 and 4, each of 16 bits
-abbrev pub known_version : Order → ℕ
+abbrev pub known_version : ByteOrder → ℕ
 known_version orders.BigEndian = 0x00020004
 known_version orders.LittleEndian = 0x00040002
 
-abbrev pub version : Order → ℕ → Result (Unit {0}) FileWhy
+abbrev pub version : ByteOrder → ℕ → Result (Unit {0}) FileWhy
 version order number = when (number == known_version order) (λ _. Ok tt) (λ _. Err why.Version)
 
--- After the version stand thiszone, sigfigs and snaplen, which tell nothing here; the low 28 bits of the last number are the link type.
+-- After the version come thiszone, sigfigs and snaplen, which are not read; the low 28 bits of the last number are the link type.
 abbrev pub header_at : Form → Reader Header
 header_at form = do
-  version ← number_telling w32 form.order (version form.order)
+  version ← checked_number w32 form.order (version form.order)
   thiszone ← number_at w32
   sigfigs ← number_at w32
   snaplen ← number_at w32
   link ← number_in w32 form.order
-  gives (record { form = form; link = link_type (link % 2 ^ 28) })
+  succeed (record { form = form; link = link_type (link % 2 ^ 28) })
 
 -- ---- a packet of a pcap
 
@@ -60,7 +60,7 @@ abbrev pub unit : Precision → ℕ
 unit precisions.Microseconds = 1000
 unit precisions.Nanoseconds = 1
 
--- how many octets were captured: no more than 2^24
+-- the greatest number of octets of a packet that may be captured, 2^24
 abbrev pub most_captured : ℕ
 most_captured = 16777216
 
@@ -72,12 +72,12 @@ abbrev pub packet_at : Header → ℕ → Reader Packet
 packet_at header count = do
   seconds ← number_in w32 header.form.order
   fraction ← number_in w32 header.form.order
-  size ← number_telling w32 header.form.order captured
+  size ← checked_number w32 header.form.order captured
   original ← number_in w32 header.form.order
   octets ← octets_at size
-  gives (record { number = count + 1; time = time_of (seconds * 10 ^ 9 + fraction * unit header.form.precision); link = header.link; octets = octets; size = max size original })
+  succeed (record { number = count + 1; time = time_of (seconds * 10 ^ 9 + fraction * unit header.form.precision); link = header.link; octets = octets; size = max size original })
 
--- the next packet, if the file has not ended
+-- the next packet, or none at the end of the file
 abbrev pub next_at : Header → ℕ → Reader (Option Packet)
 next_at header count = λ bounds source.
-    when (is_empty source.octets) (λ _. Ok (None, source)) (λ _. (packet_at header count >>= λ packet. gives (Some packet)) bounds source)
+    when (is_empty source.octets) (λ _. Ok (None, source)) (λ _. (packet_at header count >>= λ packet. succeed (Some packet)) bounds source)

@@ -17,7 +17,7 @@ link_type number =
     when (number == 108) (λ _. links.OpenBsdLoopback) (λ _.
     links.Other number))))))))
 
--- a time after the beginning of 1970, if it has seconds that 32 bits hold, and these are not 0
+-- a time after the beginning of 1970, if its seconds are a number of 32 bits and not 0
 abbrev pub time_at : ℕ → ℕ → Option Time
 time_at seconds nanoseconds = when (seconds == 0 || nat_le (2 ^ 32) seconds) (λ _. None) (λ _. Some (record { seconds = seconds; nanoseconds = nanoseconds }))
 

@@ -5,22 +5,22 @@ use krb_der::Memory;
 use std::alloc::Global;
 use std::marker::Model;
 
-/// The most octets of a datagram (RFC 791, 3.1).
+/// The greatest number of octets of a datagram (RFC 791, 3.1).
 const MOST_OCTETS: usize = 65535;
 
-/// Where the octets of a fragment stand in their datagram.
+/// The places of the octets of a fragment in their datagram.
 #[derive(Clone, Copy)]
 pub struct Span {
     /// The place of the first one.
-    place: u16,
+    start: u16,
     /// The place after the last one.
     end: u16,
     /// No more octets follow these.
     is_last: bool,
 }
 
-/// What came of a datagram. It takes memory for the octets up to the last one that came, and a few
-/// more for each fragment.
+/// The fragments of a datagram that came, put together. It allocates for the octets up to the last
+/// one that came, and a few octets for each fragment.
 #[derive(Drop)]
 pub struct Assembly {
     octets: Vec<u8>,
@@ -43,28 +43,28 @@ impl Model for Assembly {
 
 ghost use Rattle.std.specs.Prelude.{◌≡◌, ◌+◌, ◌<◌, ◌≤◌, if◌then◌else◌, true, Some, None, not, ◌&&◌, ◌||◌, nat_le, length, IfOk, OnErr, OnOk, nat_eq, drop};
 ghost use Rattle.std.specs.List.{list_all, list_any, starts_with};
-ghost use Rattle.krb_packet.specs.Parts.{no_parts, is_sound, span_of, same_span, is_copy, are_apart, fits, reaching, laid, with_fragment, taking, is_complete};
+ghost use Rattle.krb_packet.specs.Parts.{no_parts, is_sound, span_of, same_span, is_copy, are_apart, fits, lengthened, overwritten, with_fragment, add_fragment, is_complete};
 
 /// Returns whether a fragment is sound by itself: it was captured whole, it is within a datagram, and
 /// it has a multiple of eight octets unless it is the last one.
 fn is_sound(fragment: &Fragment<'_>) -> bool
     ensures value { result ≡ is_sound fragment.now }
-    ensures within { result ≡ true → fragment.now.place + length fragment.now.payload.octets ≤ 65535 }
+    ensures within { result ≡ true → fragment.now.offset + length fragment.now.payload.octets ≤ 65535 }
 {
     let octets = fragment.payload.octets().len();
     fragment.payload.size() == octets as u64
-        && octets <= MOST_OCTETS - usize::from(fragment.place)
+        && octets <= MOST_OCTETS - usize::from(fragment.offset)
         && (fragment.is_last || octets % 8 == 0)
 }
 
-/// Returns where the octets of a fragment stand.
+/// Returns the places of the octets of a fragment.
 fn span_of(fragment: &Fragment<'_>) -> Span
-    requires { fragment.now.place + length fragment.now.payload.octets ≤ 65535 }
+    requires { fragment.now.offset + length fragment.now.payload.octets ≤ 65535 }
     ensures { result ≡ span_of fragment.now }
 {
     Span {
-        place: fragment.place,
-        end: fragment.place + fragment.payload.octets().len() as u16,
+        start: fragment.offset,
+        end: fragment.offset + fragment.payload.octets().len() as u16,
         is_last: fragment.is_last,
     }
 }
@@ -74,14 +74,14 @@ impl Span {
     fn is_same(self, other: Span) -> bool
         ensures { result ≡ same_span self other }
     {
-        self.place == other.place && self.end == other.end && self.is_last == other.is_last
+        self.start == other.start && self.end == other.end && self.is_last == other.is_last
     }
 
-    /// Returns whether no octet stands in both, and none of one within the other.
+    /// Returns whether one span ends before the other begins.
     fn is_apart(self, other: Span) -> bool
         ensures { result ≡ are_apart self other }
     {
-        self.end <= other.place || other.end <= self.place
+        self.end <= other.start || other.end <= self.start
     }
 }
 
@@ -99,17 +99,17 @@ fn is_apart_from(span: Span, spans: &[Span]) -> bool
     spans.iter().all(|other| span.is_apart(*other))
 }
 
-/// Returns whether a span agrees with what came about the end of the datagram: with as many octets as
-/// came, and whether these are all.
-fn is_within(span: Span, reach: usize, is_ended: bool) -> bool
-    ensures { result ≡ ((not is_ended || nat_le span.end reach) && (not span.is_last || nat_le reach span.end)) }
+/// Returns whether a span agrees with the end of the datagram: `size` octets came up to the last
+/// one, and these are all if `is_ended`.
+fn is_within(span: Span, size: usize, is_ended: bool) -> bool
+    ensures { result ≡ ((not is_ended || nat_le span.end size) && (not span.is_last || nat_le size span.end)) }
 {
     let end = usize::from(span.end);
-    (!is_ended | (end <= reach)) & (!span.is_last | (reach <= end))
+    (!is_ended | (end <= size)) & (!span.is_last | (size <= end))
 }
 
-/// Returns whether octets stand at a place of others.
-fn stand_at(octets: &[u8], place: usize, wanted: &[u8]) -> bool
+/// Returns whether `octets` has the octets `wanted` from a place on.
+fn has_at(octets: &[u8], place: usize, wanted: &[u8]) -> bool
     ensures { result ≡ starts_with nat_eq (drop place octets.now) wanted.now }
 {
     match octets.get(place..) {
@@ -118,9 +118,9 @@ fn stand_at(octets: &[u8], place: usize, wanted: &[u8]) -> bool
     }
 }
 
-/// Lengthens octets to a size, unless they are as long.
-fn reach(octets: &mut Vec<u8>, size: usize) -> Result<(), Memory>
-    ensures reaches { OnOk result (octets.new.items ≡ reaching size octets.old.items) }
+/// Lengthens octets to a size by octets 0, unless they are at least as long.
+fn lengthen(octets: &mut Vec<u8>, size: usize) -> Result<(), Memory>
+    ensures reaches { OnOk result (octets.new.items ≡ lengthened size octets.old.items) }
     ensures memory { OnErr result (octets.new.items ≡ octets.old.items) }
 {
     if octets.len() < size {
@@ -129,10 +129,10 @@ fn reach(octets: &mut Vec<u8>, size: usize) -> Result<(), Memory>
     Ok(())
 }
 
-/// Writes octets over those that stand from a place on.
-fn lay(octets: &mut [u8], place: usize, new: &[u8])
+/// Writes octets over those from a place on.
+fn overwrite(octets: &mut [u8], place: usize, new: &[u8])
     requires { place + length new.now ≤ length octets.old }
-    ensures { octets.new ≡ laid place new.now octets.old }
+    ensures { octets.new ≡ overwritten place new.now octets.old }
 {
     octets[place..place + new.len()].copy_from_slice(new);
 }
@@ -157,15 +157,15 @@ impl Assembly {
         ensures { result ≡ is_copy self.now fragment.now }
     {
         is_among(span, &self.spans)
-            && stand_at(
+            && has_at(
                 &self.octets,
-                usize::from(span.place),
+                usize::from(span.start),
                 fragment.payload.octets(),
             )
     }
 
     /// Returns whether a fragment fits beside those that came.
-    fn has_room(&self, fragment: &Fragment<'_>, span: Span) -> bool
+    fn fits(&self, fragment: &Fragment<'_>, span: Span) -> bool
         requires { span ≡ span_of fragment.now }
         ensures { result ≡ fits self.now fragment.now }
     {
@@ -183,21 +183,21 @@ impl Assembly {
     {
         let octets = fragment.payload.octets();
         self.spans.try_reserve(1)?;
-        reach(&mut self.octets, usize::from(span.end))?;
+        lengthen(&mut self.octets, usize::from(span.end))?;
         self.spans.push(span)?;
-        lay(&mut self.octets, usize::from(span.place), octets);
+        overwrite(&mut self.octets, usize::from(span.start), octets);
         self.count += octets.len();
         self.is_ended |= span.is_last;
-        if span.place == 0 {
+        if span.start == 0 {
             self.protocol = fragment.protocol;
         }
         Ok(())
     }
 
-    /// Takes a fragment of the datagram. Returns whether it does not spoil it. Out of memory, nothing
-    /// changes.
+    /// Adds a fragment of the datagram. Returns `false` if the datagram has to be discarded. Out of
+    /// memory, nothing changes.
     pub(crate) fn take(&mut self, fragment: &Fragment<'_>) -> Result<bool, Memory>
-        ensures takes { IfOk result (λ is_taken. taking self.old fragment.now ≡ (if is_taken then Some self.new else None)) }
+        ensures takes { IfOk result (λ is_taken. add_fragment self.old fragment.now ≡ (if is_taken then Some self.new else None)) }
         ensures memory { OnErr result (self.new ≡ self.old) }
     {
         if !is_sound(fragment) {
@@ -207,7 +207,7 @@ impl Assembly {
         if self.has_copy(fragment, span) {
             return Ok(true);
         }
-        if !self.has_room(fragment, span) {
+        if !self.fits(fragment, span) {
             return Ok(false);
         }
         self.keep(fragment, span)?;

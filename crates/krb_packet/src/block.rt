@@ -4,12 +4,12 @@ ghost use Rattle.std.specs.Prelude.{◌≡◌, ◌≤◌, OnOk};
 ghost use Rattle.std.specs.Int.{w32};
 ghost use Rattle.krb_file.specs.Fields.{octets_at};
 ghost use Rattle.krb_file.specs.FieldReaders.{Follows, Stays, Keeps};
-ghost use Rattle.krb_packet.specs.declared.order.Order.TheVariants as orders;
-ghost use Rattle.krb_packet.specs.Numbers.{number_telling, refused_at};
+ghost use Rattle.krb_packet.specs.declared.order.ByteOrder.TheVariants as orders;
+ghost use Rattle.krb_packet.specs.Numbers.{checked_number, refused_at};
 ghost use Rattle.krb_packet.specs.Bodies.{block_kind, byte_order, body_size, after_byte_order, section_head_at, head_of, head_at, same_length, next_kind_at};
 
 use crate::interface::Interface;
-use crate::order::{Order, number32, told};
+use crate::order::{ByteOrder, checked, number32};
 use crate::pcap::MOST_CAPTURED;
 use krb_der::Many;
 use krb_file::{FieldReader, FileFault, FileWhy};
@@ -58,31 +58,31 @@ impl BlockKind {
 #[derive(Drop, Debug)]
 pub struct Section {
     /// The order of the octets of numbers.
-    pub order: Order,
+    pub order: ByteOrder,
     /// The interfaces, in order.
     pub interfaces: Many<Interface>,
     /// How many blocks of the file were read.
     pub blocks: u64,
 }
 
-/// What stands before the body of a block.
+/// The fields before the body of a block.
 #[derive(Clone, Copy, PartialEq, Eq, Debug)]
 pub struct Head {
     /// The order of the octets of numbers.
-    pub order: Order,
+    pub order: ByteOrder,
     /// How many octets the block has.
     pub length: u32,
     /// How many octets of the body are still to be read.
     pub left: u32,
 }
 
-/// Returns the order of octets that a number tells.
-fn byte_order(number: u32) -> Result<Order, FileWhy>
+/// Returns the byte order that a byte-order magic means.
+fn byte_order(number: u32) -> Result<ByteOrder, FileWhy>
     ensures { result ≡ byte_order number }
 {
     match number {
-        0x1A2B_3C4D => Ok(Order::BigEndian),
-        0x4D3C_2B1A => Ok(Order::LittleEndian),
+        0x1A2B_3C4D => Ok(ByteOrder::BigEndian),
+        0x4D3C_2B1A => Ok(ByteOrder::LittleEndian),
         _ => Err(FileWhy::Magic),
     }
 }
@@ -100,7 +100,7 @@ fn body_size(length: u32) -> Result<u32, FileWhy>
     }
 }
 
-/// Returns how many octets of a body of `size` octets stand after what tells the order of octets.
+/// Returns how many octets of a body of `size` octets follow the byte-order magic.
 fn after_byte_order(size: u32) -> Result<u32, FileWhy>
     ensures { result ≡ after_byte_order size }
 {
@@ -111,29 +111,29 @@ fn after_byte_order(size: u32) -> Result<u32, FileWhy>
     }
 }
 
-/// Reads what tells the order of octets.
-fn read_byte_order<F: FieldReader>(reader: &mut F) -> Result<Order, FileFault>
-    ensures read { Follows (λ order. order) result (number_telling w32 orders.BigEndian byte_order) F.MayFail (F.held reader.old) (F.held reader.new) }
-    ensures keeps { Keeps (F.held reader.old) (F.held reader.new) }
+/// Reads the byte-order magic.
+fn read_byte_order<F: FieldReader>(reader: &mut F) -> Result<ByteOrder, FileFault>
+    ensures read { Follows (λ order. order) result (checked_number w32 orders.BigEndian byte_order) F.MayFail (F.cursor reader.old) (F.cursor reader.new) }
+    ensures keeps { Keeps (F.cursor reader.old) (F.cursor reader.new) }
 {
     let place = reader.place();
-    let number = number32(Order::BigEndian, reader)?;
-    told(place, byte_order(number))
+    let number = number32(ByteOrder::BigEndian, reader)?;
+    checked(place, byte_order(number))
 }
 
-/// Reads the head of a section header, after its type. What tells the order of octets stands after the
-/// length, which is read in that order.
+/// Reads the head of a section header, after its type. The byte-order magic follows the length,
+/// which is read in that byte order.
 fn section_head<F: FieldReader>(reader: &mut F) -> Result<Head, FileFault>
-    ensures read { Follows (λ head. head) result section_head_at F.MayFail (F.held reader.old) (F.held reader.new) }
-    ensures keeps { Keeps (F.held reader.old) (F.held reader.new) }
+    ensures read { Follows (λ head. head) result section_head_at F.MayFail (F.cursor reader.old) (F.cursor reader.new) }
+    ensures keeps { Keeps (F.cursor reader.old) (F.cursor reader.new) }
 {
     let place = reader.place();
     let mut octets = [0; 4];
     reader.fill(&mut octets)?;
     let order = read_byte_order(reader)?;
     let length = u32::from_be_bytes(order.highest_first(octets));
-    let size = told(place, body_size(length))?;
-    let left = told(place + 4, after_byte_order(size))?;
+    let size = checked(place, body_size(length))?;
+    let left = checked(place + 4, after_byte_order(size))?;
     Ok(Head {
         order,
         length,
@@ -142,7 +142,7 @@ fn section_head<F: FieldReader>(reader: &mut F) -> Result<Head, FileFault>
 }
 
 /// Returns the head of another block that has `length` octets.
-fn head_of(order: Order, length: u32) -> Result<Head, FileWhy>
+fn head_of(order: ByteOrder, length: u32) -> Result<Head, FileWhy>
     ensures { result ≡ head_of order length }
 {
     match body_size(length) {
@@ -156,23 +156,23 @@ fn head_of(order: Order, length: u32) -> Result<Head, FileWhy>
 }
 
 /// Reads the head of another block, after its type.
-fn block_head<F: FieldReader>(order: Order, reader: &mut F) -> Result<Head, FileFault>
-    ensures read { Follows (λ head. head) result (number_telling w32 order (head_of order)) F.MayFail (F.held reader.old) (F.held reader.new) }
-    ensures keeps { Keeps (F.held reader.old) (F.held reader.new) }
+fn block_head<F: FieldReader>(order: ByteOrder, reader: &mut F) -> Result<Head, FileFault>
+    ensures read { Follows (λ head. head) result (checked_number w32 order (head_of order)) F.MayFail (F.cursor reader.old) (F.cursor reader.new) }
+    ensures keeps { Keeps (F.cursor reader.old) (F.cursor reader.new) }
 {
     let place = reader.place();
     let number = number32(order, reader)?;
-    told(place, head_of(order, number))
+    checked(place, head_of(order, number))
 }
 
 /// Reads the head of a block of a kind, after its type.
 pub(crate) fn read_head<F: FieldReader>(
     kind: BlockKind,
-    order: Order,
+    order: ByteOrder,
     reader: &mut F,
 ) -> Result<Head, FileFault>
-    ensures read { Follows (λ head. head) result (head_at kind order) F.MayFail (F.held reader.old) (F.held reader.new) }
-    ensures keeps { Keeps (F.held reader.old) (F.held reader.new) }
+    ensures read { Follows (λ head. head) result (head_at kind order) F.MayFail (F.cursor reader.old) (F.cursor reader.new) }
+    ensures keeps { Keeps (F.cursor reader.old) (F.cursor reader.new) }
 {
     match kind {
         BlockKind::Section => section_head(reader),
@@ -187,10 +187,10 @@ pub(crate) fn body_octets<F: FieldReader>(
     left: u32,
     reader: &mut F,
 ) -> Result<Vec<u8>, FileFault>
-    ensures read { Follows (λ octets. octets.items) result (refused_at place (octets_at left)) F.MayFail (F.held reader.old) (F.held reader.new) }
-    ensures keeps { Keeps (F.held reader.old) (F.held reader.new) }
+    ensures read { Follows (λ octets. octets.items) result (refused_at place (octets_at left)) F.MayFail (F.cursor reader.old) (F.cursor reader.new) }
+    ensures keeps { Keeps (F.cursor reader.old) (F.cursor reader.new) }
 {
-    let mut octets = reader.room(alloc);
+    let mut octets = reader.spare_octets(alloc);
     match reader.octets(alloc, u64::from(left), &mut octets) {
         Ok(()) => Ok(octets),
         Err(FileFault::Refused { why, field, .. }) => Err(FileFault::Refused { place, why, field }),
@@ -200,12 +200,12 @@ pub(crate) fn body_octets<F: FieldReader>(
 
 /// Reads the length at the end of a block, which is the same as the one before.
 pub(crate) fn length_again<F: FieldReader>(head: Head, reader: &mut F) -> Result<(), FileFault>
-    ensures read { Follows (λ done. done) result (number_telling w32 head.order (same_length head.length)) F.MayFail (F.held reader.old) (F.held reader.new) }
-    ensures keeps { Keeps (F.held reader.old) (F.held reader.new) }
+    ensures read { Follows (λ done. done) result (checked_number w32 head.order (same_length head.length)) F.MayFail (F.cursor reader.old) (F.cursor reader.new) }
+    ensures keeps { Keeps (F.cursor reader.old) (F.cursor reader.new) }
 {
     let place = reader.place();
     let number = number32(head.order, reader)?;
-    told(place, same_length(head.length, number))
+    checked(place, same_length(head.length, number))
 }
 
 /// Accepts a length that is the same as another.
@@ -221,12 +221,12 @@ fn same_length(length: u32, again: u32) -> Result<(), FileWhy>
 
 /// Reads the kind of the next block, if the file has not ended.
 pub(crate) fn next_kind<F: FieldReader>(
-    order: Order,
+    order: ByteOrder,
     reader: &mut F,
 ) -> Result<Option<BlockKind>, FileFault>
-    ensures read { Follows (λ kind. kind) result (next_kind_at order) F.MayFail (F.held reader.old) (F.held reader.new) }
-    ensures stays { OnOk result (Stays (F.held reader.old) (F.held reader.new)) }
-    ensures on { (F.held reader.old).place ≤ (F.held reader.new).place }
+    ensures read { Follows (λ kind. kind) result (next_kind_at order) F.MayFail (F.cursor reader.old) (F.cursor reader.new) }
+    ensures stays { OnOk result (Stays (F.cursor reader.old) (F.cursor reader.new)) }
+    ensures on { (F.cursor reader.old).place ≤ (F.cursor reader.new).place }
 {
     reader.look_ahead(4)?;
     if reader.is_empty()? {

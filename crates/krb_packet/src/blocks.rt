@@ -21,8 +21,8 @@ fn head<F: FieldReader>(
     section: &Section,
     reader: &mut F,
 ) -> Result<Head, CaptureFault>
-    ensures read { Parses (λ head. head) result (head_in kind section.now) F.MayFail (F.held reader.old) (F.held reader.new) }
-    ensures keeps { Keeps (F.held reader.old) (F.held reader.new) }
+    ensures read { Parses (λ head. head) result (head_in kind section.now) F.MayFail (F.cursor reader.old) (F.cursor reader.new) }
+    ensures keeps { Keeps (F.cursor reader.old) (F.cursor reader.new) }
 {
     let start = reader.place();
     match read_head(kind, section.order, reader) {
@@ -35,14 +35,14 @@ fn head<F: FieldReader>(
     }
 }
 
-/// Passes over the rest of a body.
+/// Skips the rest of a body.
 fn skip_body<F: FieldReader>(
     blocks: u64,
     head: Head,
     reader: &mut F,
 ) -> Result<Content, CaptureFault>
-    ensures read { Parses (λ content. content) result (skipped_body blocks head) F.MayFail (F.held reader.old) (F.held reader.new) }
-    ensures keeps { Keeps (F.held reader.old) (F.held reader.new) }
+    ensures read { Parses (λ content. content) result (skipped_body blocks head) F.MayFail (F.cursor reader.old) (F.cursor reader.new) }
+    ensures keeps { Keeps (F.cursor reader.old) (F.cursor reader.new) }
 {
     let field = CaptureField::Block(blocks, BlockField::Body);
     in_field(field, reader.skip(u64::from(head.left)))?;
@@ -76,8 +76,8 @@ fn read_body<F: FieldReader>(
     reader: &mut F,
 ) -> Result<Content, CaptureFault>
     requires { count < 2 ^ 63 }
-    ensures read { Parses (λ content. content) result (read_body kind section.now count place head) F.MayFail (F.held reader.old) (F.held reader.new) }
-    ensures keeps { Keeps (F.held reader.old) (F.held reader.new) }
+    ensures read { Parses (λ content. content) result (read_body kind section.now count place head) F.MayFail (F.cursor reader.old) (F.cursor reader.new) }
+    ensures keeps { Keeps (F.cursor reader.old) (F.cursor reader.new) }
 {
     let begin = reader.place();
     let field = CaptureField::Block(section.blocks, BlockField::Body);
@@ -101,7 +101,7 @@ fn read_body<F: FieldReader>(
     }
 }
 
-/// Reads the rest of a body, which begins at `place`, or passes over it.
+/// Reads the rest of a body, which begins at `place`, or skips it.
 fn body<F: FieldReader>(
     alloc: Global,
     kind: BlockKind,
@@ -112,8 +112,8 @@ fn body<F: FieldReader>(
     reader: &mut F,
 ) -> Result<Content, CaptureFault>
     requires { count < 2 ^ 63 }
-    ensures read { Parses (λ content. content) result (body_in kind section.now count place head) F.MayFail (F.held reader.old) (F.held reader.new) }
-    ensures keeps { Keeps (F.held reader.old) (F.held reader.new) }
+    ensures read { Parses (λ content. content) result (body_in kind section.now count place head) F.MayFail (F.cursor reader.old) (F.cursor reader.new) }
+    ensures keeps { Keeps (F.cursor reader.old) (F.cursor reader.new) }
 {
     match kind {
         BlockKind::Other => skip_body(section.blocks, head, reader),
@@ -123,8 +123,8 @@ fn body<F: FieldReader>(
 
 /// Reads the length at the end of a block.
 fn end<F: FieldReader>(blocks: u64, head: Head, reader: &mut F) -> Result<(), CaptureFault>
-    ensures read { Parses (λ done. done) result (end_in blocks head) F.MayFail (F.held reader.old) (F.held reader.new) }
-    ensures keeps { Keeps (F.held reader.old) (F.held reader.new) }
+    ensures read { Parses (λ done. done) result (end_in blocks head) F.MayFail (F.cursor reader.old) (F.cursor reader.new) }
+    ensures keeps { Keeps (F.cursor reader.old) (F.cursor reader.new) }
 {
     let field = CaptureField::Block(blocks, BlockField::LengthAgain);
     in_field(field, length_again(head, reader))
@@ -139,8 +139,8 @@ fn block<F: FieldReader>(
     reader: &mut F,
 ) -> Result<Content, CaptureFault>
     requires { count < 2 ^ 63 }
-    ensures read { Parses (λ content. content) result (block_in kind section.now count) F.MayFail (F.held reader.old) (F.held reader.new) }
-    ensures keeps { Keeps (F.held reader.old) (F.held reader.new) }
+    ensures read { Parses (λ content. content) result (block_in kind section.now count) F.MayFail (F.cursor reader.old) (F.cursor reader.new) }
+    ensures keeps { Keeps (F.cursor reader.old) (F.cursor reader.new) }
 {
     let place = reader.place() + 4;
     let head = head(kind, section, reader)?;
@@ -170,7 +170,7 @@ fn no_interfaces(interfaces: Many<Interface>) -> Many<Interface>
     Many::new(interfaces)
 }
 
-/// Returns what stands in a file with a block of this content.
+/// Returns the progress in a file after a block of this content.
 fn after_content(section: Section, content: Content) -> Result<Next, AllocError>
     requires { section.blocks < 2 ^ 63 }
     ensures { IfOk result (λ next. next ≡ after_content section content) }
@@ -182,12 +182,12 @@ fn after_content(section: Section, content: Content) -> Result<Next, AllocError>
     } = section;
     let blocks = blocks + 1;
     match content {
-        Content::Section(order) => Ok(Next::Passed(Format::Pcapng(Section {
+        Content::Section(order) => Ok(Next::NoPacket(Format::Pcapng(Section {
             order,
             interfaces: no_interfaces(interfaces),
             blocks,
         }))),
-        Content::Interface(interface) => Ok(Next::Passed(Format::Pcapng(Section {
+        Content::Interface(interface) => Ok(Next::NoPacket(Format::Pcapng(Section {
             order,
             interfaces: with_interface(interfaces, interface)?,
             blocks,
@@ -200,7 +200,7 @@ fn after_content(section: Section, content: Content) -> Result<Next, AllocError>
             };
             Ok(Next::Packet(packet, Format::Pcapng(section)))
         }
-        Content::Other => Ok(Next::Passed(Format::Pcapng(Section {
+        Content::Other => Ok(Next::NoPacket(Format::Pcapng(Section {
             order,
             interfaces,
             blocks,
@@ -208,7 +208,7 @@ fn after_content(section: Section, content: Content) -> Result<Next, AllocError>
     }
 }
 
-/// Reads a block of a kind, after its type, and returns what stands in the file with it.
+/// Reads a block of a kind, after its type, and returns the progress in the file after it.
 pub(crate) fn block_after<F: FieldReader>(
     alloc: Global,
     kind: BlockKind,
@@ -218,8 +218,8 @@ pub(crate) fn block_after<F: FieldReader>(
 ) -> Result<Next, CaptureFault>
     requires packets { count < 2 ^ 63 }
     requires blocks { section.blocks < 2 ^ 63 }
-    ensures read { Parses (λ next. next) result (block_after kind section count) F.MayFail (F.held reader.old) (F.held reader.new) }
-    ensures keeps { Keeps (F.held reader.old) (F.held reader.new) }
+    ensures read { Parses (λ next. next) result (block_after kind section count) F.MayFail (F.cursor reader.old) (F.cursor reader.new) }
+    ensures keeps { Keeps (F.cursor reader.old) (F.cursor reader.new) }
 {
     let field = CaptureField::Block(section.blocks, BlockField::Body);
     match block(alloc, kind, &section, count, reader) {
@@ -243,9 +243,9 @@ pub(crate) fn next_block<F: FieldReader>(
 ) -> Result<Next, CaptureFault>
     requires packets { count < 2 ^ 63 }
     requires blocks { section.blocks < 2 ^ 63 }
-    ensures read { Parses (λ next. next) result (next_block section count) F.MayFail (F.held reader.old) (F.held reader.new) }
-    ensures stays { OnOk result (Stays (F.held reader.old) (F.held reader.new)) }
-    ensures on { (F.held reader.old).place ≤ (F.held reader.new).place }
+    ensures read { Parses (λ next. next) result (next_block section count) F.MayFail (F.cursor reader.old) (F.cursor reader.new) }
+    ensures stays { OnOk result (Stays (F.cursor reader.old) (F.cursor reader.new)) }
+    ensures on { (F.cursor reader.old).place ≤ (F.cursor reader.new).place }
 {
     let field = CaptureField::Block(section.blocks, BlockField::Type);
     match in_field(field, next_kind(section.order, reader)) {

@@ -2,16 +2,16 @@
 
 ghost use Rattle.std.specs.Prelude.{◌≡◌, ◌^◌, ◌<◌, IfErr};
 ghost use Rattle.std.specs.Int.{w16, w32};
-ghost use Rattle.krb_file.specs.Fields.{Gives, StandsIn};
+ghost use Rattle.krb_file.specs.Fields.{Agrees, IsStreamFaultIn};
 ghost use Rattle.krb_file.specs.FieldReaders.{Follows, Keeps};
-ghost use Rattle.krb_packet.specs.Numbers.{number_telling};
+ghost use Rattle.krb_packet.specs.Numbers.{checked_number};
 ghost use Rattle.krb_packet.specs.Bodies.{announced, section_version, timed_packet_at, enhanced_packet_at, old_packet_at, first_interface, most_of, simple_packet_at, content_at, in_body};
 ghost use Rattle.krb_packet.specs.Blocks.{body_field};
 
 use crate::block::{BlockKind, Section};
 use crate::field::{BlockField, interface_field, packet_block_field};
-use crate::interface::{Interface, read_interface, room};
-use crate::order::{Order, number16, number32, told};
+use crate::interface::{Interface, octets_to_end, read_interface};
+use crate::order::{ByteOrder, checked, number16, number32};
 use crate::packet::Packet;
 use krb_der::Octets;
 use krb_file::{FieldReader, FileFault, FileWhy, SliceReader};
@@ -21,7 +21,7 @@ use std::alloc::Global;
 #[derive(Drop)]
 pub enum Content {
     /// The header of a section, and the order of the octets of its numbers.
-    Section(Order),
+    Section(ByteOrder),
     /// An interface.
     Interface(Interface),
     /// A packet.
@@ -42,16 +42,16 @@ fn section_version(number: u16) -> Result<(), FileWhy>
 }
 
 /// Reads the version of a section.
-fn read_version<F: FieldReader>(order: Order, reader: &mut F) -> Result<(), FileFault>
-    ensures read { Follows (λ done. done) result (number_telling w16 order section_version) F.MayFail (F.held reader.old) (F.held reader.new) }
-    ensures keeps { Keeps (F.held reader.old) (F.held reader.new) }
+fn read_version<F: FieldReader>(order: ByteOrder, reader: &mut F) -> Result<(), FileFault>
+    ensures read { Follows (λ done. done) result (checked_number w16 order section_version) F.MayFail (F.cursor reader.old) (F.cursor reader.new) }
+    ensures keeps { Keeps (F.cursor reader.old) (F.cursor reader.new) }
 {
     let place = reader.place();
     let number = number16(order, reader)?;
-    told(place, section_version(number))
+    checked(place, section_version(number))
 }
 
-/// Returns the interface after so many others.
+/// Returns the interface of an index.
 fn announced(interfaces: &[Interface], index: u32) -> Result<Interface, FileWhy>
     ensures { result ≡ announced interfaces.now index }
 {
@@ -61,32 +61,32 @@ fn announced(interfaces: &[Interface], index: u32) -> Result<Interface, FileWhy>
     }
 }
 
-/// Reads what tells an interface in 32 bits.
+/// Reads the index of an interface in 32 bits.
 fn interface32<F: FieldReader>(
-    order: Order,
+    order: ByteOrder,
     interfaces: &[Interface],
     reader: &mut F,
 ) -> Result<Interface, FileFault>
-    ensures read { Follows (λ interface. interface) result (number_telling w32 order (announced interfaces.now)) F.MayFail (F.held reader.old) (F.held reader.new) }
-    ensures keeps { Keeps (F.held reader.old) (F.held reader.new) }
+    ensures read { Follows (λ interface. interface) result (checked_number w32 order (announced interfaces.now)) F.MayFail (F.cursor reader.old) (F.cursor reader.new) }
+    ensures keeps { Keeps (F.cursor reader.old) (F.cursor reader.new) }
 {
     let place = reader.place();
     let number = number32(order, reader)?;
-    told(place, announced(interfaces, number))
+    checked(place, announced(interfaces, number))
 }
 
-/// Reads what tells an interface in 16 bits.
+/// Reads the index of an interface in 16 bits.
 fn interface16<F: FieldReader>(
-    order: Order,
+    order: ByteOrder,
     interfaces: &[Interface],
     reader: &mut F,
 ) -> Result<Interface, FileFault>
-    ensures read { Follows (λ interface. interface) result (number_telling w16 order (announced interfaces.now)) F.MayFail (F.held reader.old) (F.held reader.new) }
-    ensures keeps { Keeps (F.held reader.old) (F.held reader.new) }
+    ensures read { Follows (λ interface. interface) result (checked_number w16 order (announced interfaces.now)) F.MayFail (F.cursor reader.old) (F.cursor reader.new) }
+    ensures keeps { Keeps (F.cursor reader.old) (F.cursor reader.new) }
 {
     let place = reader.place();
     let number = number16(order, reader)?;
-    told(place, announced(interfaces, u32::from(number)))
+    checked(place, announced(interfaces, u32::from(number)))
 }
 
 /// Returns the first interface.
@@ -94,28 +94,28 @@ fn first_interface<F: FieldReader>(
     interfaces: &[Interface],
     reader: &F,
 ) -> Result<Interface, FileFault>
-    ensures { Follows (λ interface. interface) result (first_interface interfaces.now) F.MayFail (F.held reader.now) (F.held reader.now) }
+    ensures { Follows (λ interface. interface) result (first_interface interfaces.now) F.MayFail (F.cursor reader.now) (F.cursor reader.now) }
 {
-    told(reader.place(), announced(interfaces, 0))
+    checked(reader.place(), announced(interfaces, 0))
 }
 
-/// Reads a packet of an interface after what tells the interface.
+/// Reads a packet of an interface, after the index of the interface.
 fn timed_packet<F: FieldReader>(
     alloc: Global,
-    order: Order,
+    order: ByteOrder,
     count: u64,
     interface: Interface,
     reader: &mut F,
 ) -> Result<Packet, FileFault>
     requires { count < 2 ^ 63 }
-    ensures read { Follows (λ packet. packet) result (timed_packet_at order count interface) F.MayFail (F.held reader.old) (F.held reader.new) }
-    ensures keeps { Keeps (F.held reader.old) (F.held reader.new) }
+    ensures read { Follows (λ packet. packet) result (timed_packet_at order count interface) F.MayFail (F.cursor reader.old) (F.cursor reader.new) }
+    ensures keeps { Keeps (F.cursor reader.old) (F.cursor reader.new) }
 {
     let high = number32(order, reader)?;
     let low = number32(order, reader)?;
     let captured = number32(order, reader)?;
     let original = number32(order, reader)?;
-    let mut octets = reader.room(alloc);
+    let mut octets = reader.spare_octets(alloc);
     reader.octets(alloc, u64::from(captured), &mut octets)?;
     Ok(Packet {
         number: count + 1,
@@ -131,14 +131,14 @@ fn timed_packet<F: FieldReader>(
 /// Reads the body of an enhanced packet block.
 fn enhanced_packet<F: FieldReader>(
     alloc: Global,
-    order: Order,
+    order: ByteOrder,
     count: u64,
     interfaces: &[Interface],
     reader: &mut F,
 ) -> Result<Packet, FileFault>
     requires { count < 2 ^ 63 }
-    ensures read { Follows (λ packet. packet) result (enhanced_packet_at order count interfaces.now) F.MayFail (F.held reader.old) (F.held reader.new) }
-    ensures keeps { Keeps (F.held reader.old) (F.held reader.new) }
+    ensures read { Follows (λ packet. packet) result (enhanced_packet_at order count interfaces.now) F.MayFail (F.cursor reader.old) (F.cursor reader.new) }
+    ensures keeps { Keeps (F.cursor reader.old) (F.cursor reader.new) }
 {
     let interface = interface32(order, interfaces, reader)?;
     timed_packet(alloc, order, count, interface, reader)
@@ -147,48 +147,48 @@ fn enhanced_packet<F: FieldReader>(
 /// Reads the body of an obsolete packet block.
 fn old_packet<F: FieldReader>(
     alloc: Global,
-    order: Order,
+    order: ByteOrder,
     count: u64,
     interfaces: &[Interface],
     reader: &mut F,
 ) -> Result<Packet, FileFault>
     requires { count < 2 ^ 63 }
-    ensures read { Follows (λ packet. packet) result (old_packet_at order count interfaces.now) F.MayFail (F.held reader.old) (F.held reader.new) }
-    ensures keeps { Keeps (F.held reader.old) (F.held reader.new) }
+    ensures read { Follows (λ packet. packet) result (old_packet_at order count interfaces.now) F.MayFail (F.cursor reader.old) (F.cursor reader.new) }
+    ensures keeps { Keeps (F.cursor reader.old) (F.cursor reader.new) }
 {
     let interface = interface16(order, interfaces, reader)?;
     number16(order, reader)?;
     timed_packet(alloc, order, count, interface, reader)
 }
 
-/// Returns the most octets of a packet that were captured, if an interface captures `most` of each, or
+/// Returns the most octets of a packet that were captured, if an interface captures `snaplen` of each, or
 /// any number if that is 0.
-fn most_of(most: u32, original: u32) -> u32
-    ensures { result ≡ most_of most original }
+fn most_of(snaplen: u32, original: u32) -> u32
+    ensures { result ≡ most_of snaplen original }
 {
-    if most == 0 {
+    if snaplen == 0 {
         original
     } else {
-        original.min(most)
+        original.min(snaplen)
     }
 }
 
 /// Reads the body of a simple packet block, whose packet is one of the first interface.
 fn simple_packet<F: FieldReader>(
     alloc: Global,
-    order: Order,
+    order: ByteOrder,
     count: u64,
     interfaces: &[Interface],
     reader: &mut F,
 ) -> Result<Packet, FileFault>
     requires { count < 2 ^ 63 }
-    ensures read { Follows (λ packet. packet) result (simple_packet_at order count interfaces.now) F.MayFail (F.held reader.old) (F.held reader.new) }
-    ensures keeps { Keeps (F.held reader.old) (F.held reader.new) }
+    ensures read { Follows (λ packet. packet) result (simple_packet_at order count interfaces.now) F.MayFail (F.cursor reader.old) (F.cursor reader.new) }
+    ensures keeps { Keeps (F.cursor reader.old) (F.cursor reader.new) }
 {
     let interface = first_interface(interfaces, reader)?;
     let original = number32(order, reader)?;
-    let captured = u64::from(most_of(interface.most, original)).min(room(reader));
-    let mut octets = reader.room(alloc);
+    let captured = u64::from(most_of(interface.snaplen, original)).min(octets_to_end(reader));
+    let mut octets = reader.spare_octets(alloc);
     reader.octets(alloc, captured, &mut octets)?;
     Ok(Packet {
         number: count + 1,
@@ -203,14 +203,14 @@ fn simple_packet<F: FieldReader>(
 fn read_content<F: FieldReader>(
     alloc: Global,
     kind: BlockKind,
-    order: Order,
+    order: ByteOrder,
     count: u64,
     interfaces: &[Interface],
     reader: &mut F,
 ) -> Result<Content, FileFault>
     requires { count < 2 ^ 63 }
-    ensures read { Follows (λ content. content) result (content_at kind order count interfaces.now) F.MayFail (F.held reader.old) (F.held reader.new) }
-    ensures keeps { Keeps (F.held reader.old) (F.held reader.new) }
+    ensures read { Follows (λ content. content) result (content_at kind order count interfaces.now) F.MayFail (F.cursor reader.old) (F.cursor reader.new) }
+    ensures keeps { Keeps (F.cursor reader.old) (F.cursor reader.new) }
 {
     match kind {
         BlockKind::Section => {
@@ -241,21 +241,21 @@ fn read_content<F: FieldReader>(
 pub(crate) fn body_content(
     alloc: Global,
     kind: BlockKind,
-    order: Order,
+    order: ByteOrder,
     count: u64,
     interfaces: &[Interface],
     body: &[u8],
 ) -> Result<Content, FileFault>
     requires { count < 2 ^ 63 }
-    ensures read { Gives (λ content. content) result (in_body (content_at kind order count interfaces.now) body.now) }
-    ensures inside { IfErr result (StandsIn body.now) }
+    ensures read { Agrees (λ content. content) result (in_body (content_at kind order count interfaces.now) body.now) }
+    ensures inside { IfErr result (IsStreamFaultIn body.now) }
 {
     let mut reader = SliceReader::new(body);
     reader.set_end(Some(body.len() as u64));
     read_content(alloc, kind, order, count, interfaces, &mut reader)
 }
 
-/// Returns the field that begins after so many octets of a body.
+/// Returns the field of a body that begins after `offset` octets.
 pub(crate) fn body_field(kind: BlockKind, interfaces: &[Interface], offset: u64) -> BlockField
     ensures { result ≡ body_field kind interfaces.now offset }
 {

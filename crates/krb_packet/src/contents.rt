@@ -3,7 +3,7 @@
 use crate::payload::Payload;
 use std::net::IpAddr;
 
-/// Where octets come from or go to.
+/// A source or a target of octets.
 #[derive(Clone, Copy, PartialEq, Eq, PartialOrd, Ord, Hash, Debug)]
 pub struct Endpoint {
     /// The address.
@@ -63,8 +63,8 @@ pub struct Fragment<'a> {
     /// What the octets of the datagram begin with, as this fragment says: the number of a protocol or,
     /// in IPv6, of a header.
     pub protocol: u8,
-    /// How many octets of the datagram stand before it.
-    pub place: u16,
+    /// How many octets of the datagram are before it.
+    pub offset: u16,
     /// No more octets of the datagram follow it.
     pub is_last: bool,
     /// Its octets.

@@ -28,7 +28,7 @@ pub(crate) fn in_field<T>(
     }
 }
 
-/// Returns how many octets after a place a fault stands.
+/// Returns the number of octets between a place and that of a fault.
 pub(crate) fn offset(fault: FileFault, start: u64) -> u64
     ensures { result ≡ offset_of fault start }
 {

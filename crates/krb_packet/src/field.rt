@@ -10,7 +10,7 @@ use std::fmt;
 /// A field of a capture file.
 #[derive(Clone, Copy, PartialEq, Eq, Debug)]
 pub enum CaptureField {
-    /// What tells the format, and in a pcap the order of octets and what fractions of seconds count.
+    /// The magic: the format, and of a pcap the byte order and the unit of fractions of seconds.
     Magic,
     /// The version.
     Version,
@@ -22,9 +22,9 @@ pub enum CaptureField {
     SnapLen,
     /// The type of the link.
     LinkType,
-    /// A field of the packet after so many others.
+    /// A field of a packet, by the packet's index from 0.
     Packet(u64, PacketField),
-    /// A field of the block after so many others.
+    /// A field of a block, by the block's index from 0.
     Block(u64, BlockField),
 }
 
@@ -50,7 +50,7 @@ pub enum BlockField {
     Type,
     /// The length of the block.
     Length,
-    /// What tells the order of octets.
+    /// The byte-order magic.
     ByteOrder,
     /// The version.
     Version,
@@ -76,11 +76,11 @@ pub enum BlockField {
     Data,
     /// All between the two lengths.
     Body,
-    /// The length of the block, told again at its end.
+    /// The length of the block, again at its end.
     LengthAgain,
 }
 
-/// Returns the field that begins so many octets after the magic.
+/// Returns the field of the header that begins `offset` octets after the magic.
 pub(crate) fn header_field(offset: u64) -> CaptureField
     ensures { result ≡ header_field offset }
 {
@@ -93,7 +93,7 @@ pub(crate) fn header_field(offset: u64) -> CaptureField
     }
 }
 
-/// Returns the field that begins after so many octets of a packet.
+/// Returns the field of a packet that begins after `offset` octets.
 pub(crate) fn packet_field(offset: u64) -> PacketField
     ensures { result ≡ packet_field offset }
 {
@@ -106,7 +106,7 @@ pub(crate) fn packet_field(offset: u64) -> PacketField
     }
 }
 
-/// Returns the field that begins so many octets after the type of a block.
+/// Returns the field that begins `offset` octets after the type of a block.
 pub(crate) fn head_field(offset: u64) -> BlockField
     ensures { result ≡ head_field offset }
 {
@@ -116,7 +116,7 @@ pub(crate) fn head_field(offset: u64) -> BlockField
     }
 }
 
-/// Returns the field that begins after so many octets of the body of an interface.
+/// Returns the field of the body of an interface that begins after `offset` octets.
 pub(crate) fn interface_field(offset: u64) -> BlockField
     ensures { result ≡ interface_field offset }
 {
@@ -128,7 +128,7 @@ pub(crate) fn interface_field(offset: u64) -> BlockField
     }
 }
 
-/// Returns the field that begins after so many octets of the body of a packet with a time.
+/// Returns the field of the body of a packet with a time that begins after `offset` octets.
 pub(crate) fn packet_block_field(offset: u64) -> BlockField
     ensures { result ≡ packet_block_field offset }
 {

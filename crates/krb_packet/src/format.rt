@@ -1,4 +1,4 @@
-//! The formats of capture files, which the first four octets tell apart.
+//! The formats of capture files, which differ in their first four octets.
 
 ghost use Rattle.std.specs.Prelude.{◌≡◌, ◌^◌, ◌<◌, ◌≤◌, OnOk, [], Ok};
 ghost use Rattle.krb_file.specs.FieldReaders.{Stays, Keeps};
@@ -9,14 +9,14 @@ use crate::block::{BlockKind, Section};
 use crate::blocks::{block_after, next_block};
 use crate::fault::{CaptureFault, in_field, offset};
 use crate::field::{CaptureField, header_field, packet_field};
-use crate::order::Order;
+use crate::order::ByteOrder;
 use crate::packet::Packet;
 use crate::pcap::{Form, Header, Magic, next_captured, read_header, read_magic};
 use krb_der::Many;
 use krb_file::FieldReader;
 use std::alloc::Global;
 
-/// What was read of a file.
+/// The progress in a file: its format, once that is known, and what of it later fields depend on.
 #[derive(Drop)]
 pub enum Format {
     /// Nothing.
@@ -27,21 +27,21 @@ pub enum Format {
     Pcapng(Section),
 }
 
-/// What stands next in a file.
+/// A step in reading a file.
 #[derive(Drop)]
 pub enum Next {
     /// A packet, and what was read with it.
     Packet(Packet, Format),
     /// No packet, and what was read.
-    Passed(Format),
+    NoPacket(Format),
     /// The end.
     End,
 }
 
 /// Reads the header of a pcap after its magic.
 fn header<F: FieldReader>(form: Form, reader: &mut F) -> Result<Header, CaptureFault>
-    ensures read { Parses (λ header. header) result (header_in form) F.MayFail (F.held reader.old) (F.held reader.new) }
-    ensures keeps { Keeps (F.held reader.old) (F.held reader.new) }
+    ensures read { Parses (λ header. header) result (header_in form) F.MayFail (F.cursor reader.old) (F.cursor reader.new) }
+    ensures keeps { Keeps (F.cursor reader.old) (F.cursor reader.new) }
 {
     let start = reader.place();
     match read_header(form, reader) {
@@ -62,10 +62,10 @@ fn packet<F: FieldReader>(
     reader: &mut F,
 ) -> Result<Option<Packet>, CaptureFault>
     requires few { count < 2 ^ 63 }
-    requires place { start ≡ (F.held reader.old).place }
-    ensures read { Parses (λ packet. packet) result (packet_in header count) F.MayFail (F.held reader.old) (F.held reader.new) }
-    ensures stays { OnOk result (Stays (F.held reader.old) (F.held reader.new)) }
-    ensures on { (F.held reader.old).place ≤ (F.held reader.new).place }
+    requires place { start ≡ (F.cursor reader.old).place }
+    ensures read { Parses (λ packet. packet) result (packet_in header count) F.MayFail (F.cursor reader.old) (F.cursor reader.new) }
+    ensures stays { OnOk result (Stays (F.cursor reader.old) (F.cursor reader.new)) }
+    ensures on { (F.cursor reader.old).place ≤ (F.cursor reader.new).place }
 {
     match next_captured(alloc, header, count, reader) {
         Ok(packet) => Ok(packet),
@@ -77,17 +77,17 @@ fn packet<F: FieldReader>(
     }
 }
 
-/// Reads what a file begins with: the header of a pcap, or the first block of a pcapng.
+/// Reads the first field of a file and then the header of a pcap or the first block of a pcapng.
 fn begin<F: FieldReader>(alloc: Global, count: u64, reader: &mut F) -> Result<Next, CaptureFault>
     requires { count < 2 ^ 63 }
-    ensures read { Parses (λ next. next) result (begin_in count) F.MayFail (F.held reader.old) (F.held reader.new) }
-    ensures keeps { Keeps (F.held reader.old) (F.held reader.new) }
+    ensures read { Parses (λ next. next) result (begin_in count) F.MayFail (F.cursor reader.old) (F.cursor reader.new) }
+    ensures keeps { Keeps (F.cursor reader.old) (F.cursor reader.new) }
 {
     match in_field(CaptureField::Magic, read_magic(reader))? {
-        Magic::Pcap(form) => Ok(Next::Passed(Format::Pcap(header(form, reader)?))),
+        Magic::Pcap(form) => Ok(Next::NoPacket(Format::Pcap(header(form, reader)?))),
         Magic::Pcapng => {
             let section = Section {
-                order: Order::BigEndian,
+                order: ByteOrder::BigEndian,
                 interfaces: Many::new(Vec::new(alloc)),
                 blocks: 0,
             };
@@ -103,12 +103,12 @@ pub(crate) fn next_step<F: FieldReader>(
     count: u64,
     reader: &mut F,
 ) -> Result<Next, CaptureFault>
-    requires packets { count ≤ (F.held reader.old).place }
-    requires blocks { blocks_of format ≤ (F.held reader.old).place }
-    ensures few { (F.held reader.old).place < 2 ^ 63 }
-    ensures read { Parses (λ next. next) result (next_in format count) F.MayFail (F.held reader.old) (F.held reader.new) }
-    ensures stays { OnOk result (Stays (F.held reader.old) (F.held reader.new)) }
-    ensures on { (F.held reader.old).place ≤ (F.held reader.new).place }
+    requires packets { count ≤ (F.cursor reader.old).place }
+    requires blocks { blocks_of format ≤ (F.cursor reader.old).place }
+    ensures few { (F.cursor reader.old).place < 2 ^ 63 }
+    ensures read { Parses (λ next. next) result (next_in format count) F.MayFail (F.cursor reader.old) (F.cursor reader.new) }
+    ensures stays { OnOk result (Stays (F.cursor reader.old) (F.cursor reader.new)) }
+    ensures on { (F.cursor reader.old).place ≤ (F.cursor reader.new).place }
 {
     let start = reader.place();
     match format {

@@ -13,16 +13,16 @@ use std::net::IpAddr;
 /// How many datagrams are put together at once.
 const MOST_DATAGRAMS: usize = 1024;
 
-/// How far the octets of a datagram came. Only contracts read it from outside.
+/// The progress of a datagram. It is public for contracts alone.
 #[derive(Drop)]
 pub enum Progress {
     /// These came.
     Open(Assembly),
-    /// A fragment spoiled it: no whole datagram comes of it.
-    Spoiled,
+    /// It is discarded for one of its fragments (RFC 5722), and will not be put together.
+    Discarded,
 }
 
-/// A datagram of which a fragment came. Only contracts read it from outside.
+/// A datagram of which a fragment came. It is public for contracts alone.
 #[derive(Drop)]
 pub struct Pending {
     original: Original,
@@ -42,13 +42,13 @@ pub struct Reassembled {
     pub octets: Octets,
 }
 
-/// Datagrams that are put together, at most 1024 at once: for one more, the one begun first gives way.
-/// It takes memory for at most 65535 octets of each, and a few more for each fragment.
+/// Datagrams that are put together, at most 1024 at once: for one more, the one that began first is
+/// given up. It allocates for at most 65535 octets of each, and a few for each fragment.
 #[derive(Drop)]
 pub struct Fragments {
     alloc: Global,
     pending: Vec<Pending>,
-    /// How many fragments those datagrams had that gave way.
+    /// How many fragments came of the datagrams that were given up.
     given_up: u64,
 }
 
@@ -62,8 +62,8 @@ impl Model for Fragments {
 }
 
 ghost use Rattle.std.specs.Prelude.{◌≡◌, ◌+◌, ◌<◌, ◌≤◌, Some, None, is_some, length, max, IfOk, OnErr, OnOk};
-ghost use Rattle.krb_packet.specs.Parts.{no_parts, taking};
-ghost use Rattle.krb_packet.specs.Fragments.{same_original, begun, pending_with, whole_of, no_fragments, place_of, kept, placed, finished, step, unread, carried, or_unread, contents_of_whole};
+ghost use Rattle.krb_packet.specs.Parts.{no_parts, add_fragment};
+ghost use Rattle.krb_packet.specs.Fragments.{same_original, no_fragments_of, pending_with, whole_of, no_fragments, index_of, within_limit, with_fragment_at, finished, step, unread, carried, or_unread, contents_of_whole};
 
 impl Original {
     /// Returns whether another one is the same.
@@ -75,9 +75,9 @@ impl Original {
 }
 
 impl Pending {
-    /// Creates a datagram of which nothing came.
+    /// Returns a datagram of which no fragment came.
     fn new(alloc: Global, original: Original) -> Pending
-        ensures { result ≡ begun original }
+        ensures { result ≡ no_fragments_of original }
     {
         Pending {
             original,
@@ -86,14 +86,14 @@ impl Pending {
         }
     }
 
-    /// Takes a fragment of the datagram. Out of memory, nothing changes.
+    /// Adds a fragment of the datagram. Out of memory, nothing changes.
     fn take(&mut self, fragment: &Fragment<'_>) -> Result<(), Memory>
         ensures takes { OnOk result (self.new ≡ pending_with fragment.now self.old) }
         ensures memory { OnErr result (self.new ≡ self.old) }
     {
         if let Progress::Open(assembly) = &mut self.progress {
             if !assembly.take(fragment)? {
-                self.progress = Progress::Spoiled;
+                self.progress = Progress::Discarded;
             }
         }
         self.count = self.count.saturating_add(1);
@@ -106,7 +106,7 @@ impl Pending {
     {
         match &self.progress {
             Progress::Open(assembly) => assembly.is_complete(),
-            Progress::Spoiled => false,
+            Progress::Discarded => false,
         }
     }
 
@@ -128,7 +128,7 @@ impl Pending {
                     octets: Octets::new(octets),
                 })
             }
-            Progress::Open(_) | Progress::Spoiled => None,
+            Progress::Open(_) | Progress::Discarded => None,
         }
     }
 }
@@ -165,18 +165,18 @@ impl Fragments {
         }
     }
 
-    /// Takes a fragment, and returns the whole datagram if that is completed by it. Fragments of a
-    /// datagram may come in any order, and copies of one are passed over. One that overlaps another in
-    /// any other way, passes 65535 octets, was not captured whole, has no multiple of 8 octets without
-    /// being the last, or disagrees about the end spoils its datagram: nothing comes of that until it
-    /// gives way. Out of memory, nothing changes.
+    /// Adds a fragment, and returns the whole datagram if that is completed by it. Fragments of a
+    /// datagram may come in any order, and copies of one are ignored. If one overlaps another in any
+    /// other way, ends after 65535 octets, was not captured whole, has no multiple of 8 octets without
+    /// being the last, or disagrees about the end, its datagram is discarded, and so are its later
+    /// fragments until it is given up. Out of memory, nothing changes.
     #[tactic(auto, unfolding(crate::specs::Fragments::step))]
     pub fn take(&mut self, fragment: &Fragment<'_>) -> Result<Option<Reassembled>, Memory>
         ensures whole { IfOk result (λ whole. whole ≡ (step self.old fragment.now).0) }
         ensures state { OnOk result (self.new ≡ (step self.old fragment.now).1) }
         ensures memory { OnErr result (self.new ≡ self.old) }
     {
-        let place = match self.place_of(&fragment.original) {
+        let place = match self.index_of(&fragment.original) {
             Some(place) => {
                 self.pending[place].take(fragment)?;
                 place
@@ -197,17 +197,17 @@ impl Fragments {
     }
 
     /// Returns the place of a datagram.
-    fn place_of(&self, original: &Original) -> Option<usize>
-        ensures { result ≡ place_of original.now self.now.pending }
+    fn index_of(&self, original: &Original) -> Option<usize>
+        ensures { result ≡ index_of original.now self.now.pending }
     {
         self.pending
             .iter()
             .position(|other| other.original.is_same(original))
     }
 
-    /// Gives up the datagram that was begun first, if there are more than 1024.
-    fn give_way(&mut self)
-        ensures kept { self.new ≡ kept self.old }
+    /// Gives up the datagram that began first, if there are more than 1024.
+    fn give_up_first(&mut self)
+        ensures within_limit { self.new ≡ within_limit self.old }
         ensures some { 0 < length self.old.pending → 0 < length self.new.pending }
     {
         if self.pending.len() > MOST_DATAGRAMS {
@@ -218,18 +218,18 @@ impl Fragments {
 
     /// Begins a datagram with a fragment, and returns its place. Out of memory, nothing changes.
     fn begin(&mut self, fragment: &Fragment<'_>) -> Result<usize, Memory>
-        ensures begins { IfOk result (λ place. (self.new, place) ≡ placed self.old fragment.now None) }
+        ensures begins { IfOk result (λ place. (self.new, place) ≡ with_fragment_at self.old fragment.now None) }
         ensures within { IfOk result (λ place. place < length self.new.pending) }
         ensures memory { OnErr result (self.new ≡ self.old) }
     {
         let mut pending = Pending::new(self.alloc, fragment.original);
         pending.take(fragment)?;
         self.pending.push(pending)?;
-        self.give_way();
+        self.give_up_first();
         Ok(self.pending.len().saturating_sub(1))
     }
 
-    /// Takes out the datagram at a place, if no octet of it is missing.
+    /// Removes and returns the datagram at a place, if no octet of it is missing.
     fn finish(&mut self, place: usize) -> Option<Reassembled>
         requires { place < length self.old.pending }
         ensures whole { result ≡ (finished (self.old, place)).0 }

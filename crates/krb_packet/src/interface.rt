@@ -2,11 +2,11 @@
 
 ghost use Rattle.std.specs.Prelude.{◌≡◌, ◌*◌, ◌^◌, ◌<◌, ◌≤◌, []};
 ghost use Rattle.std.specs.Option.{SomeIff};
-ghost use Rattle.krb_file.specs.Fields.{is_at_end, room};
+ghost use Rattle.krb_file.specs.Fields.{is_at_end, octets_to_end};
 ghost use Rattle.krb_file.specs.FieldReaders.{Follows, Keeps, source_at};
 ghost use Rattle.krb_packet.specs.Interfaces.{padded, with_setting, setting_at, value_at, option_at, options_within, options_at, clock_of, interface_at, units_in_second, nanoseconds, seconds_after, clock_time, no_options};
 
-use crate::order::{Order, number16, number32};
+use crate::order::{ByteOrder, number16, number32};
 use crate::packet::{LinkType, NANOSECONDS, Time};
 use krb_file::{FieldReader, FileFault};
 
@@ -16,22 +16,22 @@ pub struct Interface {
     /// The type of the link.
     pub link: LinkType,
     /// How many octets of a packet are captured at most; 0 for any number.
-    pub most: u32,
-    /// What its times tell.
+    pub snaplen: u32,
+    /// The unit and the offset of its times.
     pub clock: Clock,
 }
 
-/// What the times of an interface tell.
+/// The unit and the offset of the times of an interface.
 #[derive(Clone, Copy, PartialEq, Eq, Debug)]
 pub struct Clock {
-    /// The units of a second, as the octet of `if_tsresol` tells them: a power of 2 if its highest bit
+    /// The units of a second, as the octet of `if_tsresol`: a power of 2 if its highest bit
     /// is set, else a power of 10.
     pub resolution: u8,
     /// The seconds that are added to each time.
     pub offset: i64,
 }
 
-/// What the options of an interface tell, as far as it was told.
+/// The options of an interface that were read.
 #[derive(Clone, Copy, PartialEq, Eq, Debug)]
 pub struct Options {
     /// The octet of `if_tsresol`.
@@ -40,7 +40,7 @@ pub struct Options {
     pub offset: Option<i64>,
 }
 
-/// What one option tells.
+/// An option of an interface.
 #[derive(Clone, Copy, PartialEq, Eq, Debug)]
 pub enum Setting {
     /// The octet of `if_tsresol`.
@@ -60,11 +60,11 @@ const TIME_RESOLUTION: u16 = 9;
 /// The code of `if_tsoffset`.
 const TIME_OFFSET: u16 = 14;
 
-/// The resolution of times if none is told: microseconds.
+/// The resolution of times without an option for it: microseconds.
 const MICROSECONDS: u8 = 6;
 
 impl Options {
-    /// Returns the options with what one more tells. Of several that tell the same, the first counts.
+    /// Returns the options with one more. Of several of one code, the first counts.
     fn with(self, setting: Setting) -> Options
         ensures { result ≡ with_setting setting self }
     {
@@ -81,7 +81,7 @@ impl Options {
         }
     }
 
-    /// Returns what the times of an interface with these options tell.
+    /// Returns the unit and the offset of the times of an interface with these options.
     fn clock(self) -> Clock
         ensures { result ≡ clock_of self }
     {
@@ -101,13 +101,13 @@ fn padded(size: u16) -> u64
 
 /// Reads the value of an option, and its padding.
 fn value<F: FieldReader>(
-    order: Order,
+    order: ByteOrder,
     code: u16,
     size: u16,
     reader: &mut F,
 ) -> Result<Setting, FileFault>
-    ensures read { Follows (λ setting. setting) result (value_at order code size) F.MayFail (F.held reader.old) (F.held reader.new) }
-    ensures keeps { Keeps (F.held reader.old) (F.held reader.new) }
+    ensures read { Follows (λ setting. setting) result (value_at order code size) F.MayFail (F.cursor reader.old) (F.cursor reader.new) }
+    ensures keeps { Keeps (F.cursor reader.old) (F.cursor reader.new) }
 {
     if code == TIME_RESOLUTION && size == 1 {
         let octet = reader.number8()?;
@@ -124,9 +124,12 @@ fn value<F: FieldReader>(
 }
 
 /// Reads an option, or the end of the options.
-fn next_setting<F: FieldReader>(order: Order, reader: &mut F) -> Result<Option<Setting>, FileFault>
-    ensures read { Follows (λ setting. setting) result (setting_at order) F.MayFail (F.held reader.old) (F.held reader.new) }
-    ensures keeps { Keeps (F.held reader.old) (F.held reader.new) }
+fn next_setting<F: FieldReader>(
+    order: ByteOrder,
+    reader: &mut F,
+) -> Result<Option<Setting>, FileFault>
+    ensures read { Follows (λ setting. setting) result (setting_at order) F.MayFail (F.cursor reader.old) (F.cursor reader.new) }
+    ensures keeps { Keeps (F.cursor reader.old) (F.cursor reader.new) }
 {
     let code = number16(order, reader)?;
     let size = number16(order, reader)?;
@@ -137,9 +140,12 @@ fn next_setting<F: FieldReader>(order: Order, reader: &mut F) -> Result<Option<S
 }
 
 /// Reads an option, or the end of the options. One that passes the end is refused at its first octet.
-fn next_option<F: FieldReader>(order: Order, reader: &mut F) -> Result<Option<Setting>, FileFault>
-    ensures read { Follows (λ setting. setting) result (option_at order) F.MayFail (F.held reader.old) (F.held reader.new) }
-    ensures keeps { Keeps (F.held reader.old) (F.held reader.new) }
+fn next_option<F: FieldReader>(
+    order: ByteOrder,
+    reader: &mut F,
+) -> Result<Option<Setting>, FileFault>
+    ensures read { Follows (λ setting. setting) result (option_at order) F.MayFail (F.cursor reader.old) (F.cursor reader.new) }
+    ensures keeps { Keeps (F.cursor reader.old) (F.cursor reader.new) }
 {
     let place = reader.place();
     match next_setting(order, reader) {
@@ -149,8 +155,8 @@ fn next_option<F: FieldReader>(order: Order, reader: &mut F) -> Result<Option<Se
 }
 
 /// Returns how many octets are left up to the end.
-pub(crate) fn room<F: FieldReader>(reader: &F) -> u64
-    ensures { result ≡ room (F.held reader.now).bounds.end (F.held reader.now).place }
+pub(crate) fn octets_to_end<F: FieldReader>(reader: &F) -> u64
+    ensures { result ≡ octets_to_end (F.cursor reader.now).bounds.end (F.cursor reader.now).place }
 {
     match reader.end() {
         Some(end) => end.saturating_sub(reader.place()),
@@ -160,7 +166,7 @@ pub(crate) fn room<F: FieldReader>(reader: &F) -> u64
 
 /// Returns whether the end is reached.
 fn is_at_end<F: FieldReader>(reader: &F) -> bool
-    ensures { result ≡ is_at_end (F.held reader.now).bounds (source_at (F.held reader.now).place []) }
+    ensures { result ≡ is_at_end (F.cursor reader.now).bounds (source_at (F.cursor reader.now).place []) }
 {
     match reader.end() {
         Some(end) => end <= reader.place(),
@@ -170,12 +176,12 @@ fn is_at_end<F: FieldReader>(reader: &F) -> bool
 
 /// Reads options up to the one that ends them, or up to the end, but no more than `most`.
 fn read_options<F: FieldReader>(
-    order: Order,
+    order: ByteOrder,
     most: u64,
     reader: &mut F,
 ) -> Result<Options, FileFault>
-    ensures read { Follows (λ options. options) result (options_within most order no_options) F.MayFail (F.held reader.old) (F.held reader.new) }
-    ensures keeps { Keeps (F.held reader.old) (F.held reader.new) }
+    ensures read { Follows (λ options. options) result (options_within most order no_options) F.MayFail (F.cursor reader.old) (F.cursor reader.new) }
+    ensures keeps { Keeps (F.cursor reader.old) (F.cursor reader.new) }
 {
     let mut options = Options {
         resolution: None,
@@ -193,21 +199,21 @@ fn read_options<F: FieldReader>(
     Ok(options)
 }
 
-/// Reads what the body of an interface tells.
+/// Reads the body of an interface description block.
 pub(crate) fn read_interface<F: FieldReader>(
-    order: Order,
+    order: ByteOrder,
     reader: &mut F,
 ) -> Result<Interface, FileFault>
-    ensures read { Follows (λ interface. interface) result (interface_at order) F.MayFail (F.held reader.old) (F.held reader.new) }
-    ensures keeps { Keeps (F.held reader.old) (F.held reader.new) }
+    ensures read { Follows (λ interface. interface) result (interface_at order) F.MayFail (F.cursor reader.old) (F.cursor reader.new) }
+    ensures keeps { Keeps (F.cursor reader.old) (F.cursor reader.new) }
 {
     let link = number16(order, reader)?;
     number16(order, reader)?;
-    let most = number32(order, reader)?;
-    let options = read_options(order, room(reader), reader)?;
+    let snaplen = number32(order, reader)?;
+    let options = read_options(order, octets_to_end(reader), reader)?;
     Ok(Interface {
         link: LinkType::of(u32::from(link)),
-        most,
+        snaplen,
         clock: options.clock(),
     })
 }
@@ -223,7 +229,7 @@ fn units_in_second(resolution: u8) -> Option<u128>
     }
 }
 
-/// Returns how many nanoseconds so many units have, rounded down.
+/// Returns the number of nanoseconds of a number of units, rounded down.
 fn nanoseconds(resolution: u8, units: u64) -> u128
     ensures value { result ≡ nanoseconds resolution units }
     ensures few { result ≤ units * 10 ^ 9 }
@@ -231,12 +237,12 @@ fn nanoseconds(resolution: u8, units: u64) -> u128
     let nanoseconds = u128::from(units) * u128::from(NANOSECONDS);
     match units_in_second(resolution) {
         Some(second) => nanoseconds / second,
-        // A nanosecond has more units than 64 bits tell.
+        // A nanosecond has more units than a number of 64 bits.
         None => 0,
     }
 }
 
-/// Returns the seconds so many before or after others, and 0 for those before 1970.
+/// Returns seconds moved by an offset, or 0 for those before 1970.
 fn seconds_after(offset: i64, seconds: u128) -> u128
     requires { seconds < 2 ^ 64 }
     ensures { result ≡ seconds_after offset seconds }
@@ -250,7 +256,7 @@ fn seconds_after(offset: i64, seconds: u128) -> u128
 }
 
 impl Clock {
-    /// Returns the time that so many units tell.
+    /// Returns the time of a number of units.
     pub(crate) fn time(self, units: u64) -> Option<Time>
         ensures { result ≡ clock_time self units }
     {

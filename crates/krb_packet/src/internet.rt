@@ -2,7 +2,7 @@
 
 ghost use Rattle.std.specs.Prelude.{◌≡◌};
 ghost use Rattle.std.specs.Option.{option_map};
-ghost use Rattle.krb_packet.specs.Contents.{announced, ipv4, options, fragment_header, is_whole, is_passed, extension, extensions, fragment, after_headers, ipv6};
+ghost use Rattle.krb_packet.specs.Contents.{announced, ipv4, options, fragment_header, is_whole, is_skipped, extension, extensions, fragment, after_headers, ipv6};
 
 use crate::contents::{Contents, Fragment, Original};
 use crate::payload::Payload;
@@ -63,7 +63,7 @@ pub(crate) fn ipv4<'a>(packet: Payload<'a>) -> Option<Contents<'a>>
             protocol: Some(protocol),
         },
         protocol,
-        place: flags % (1 << 13) * 8,
+        offset: flags % (1 << 13) * 8,
         is_last: flags / (1 << 13) % 2 == 0,
         payload,
     }))
@@ -96,14 +96,14 @@ fn is_whole(packet: &Payload<'_>) -> bool
     ensures { result ≡ is_whole packet.now }
 {
     match packet.number16(2) {
-        Some(place) => (place / 8 == 0) & (place % 2 == 0),
+        Some(offset) => (offset / 8 == 0) & (offset % 2 == 0),
         None => false,
     }
 }
 
 /// Returns whether a header is an extension header that is passed.
-fn is_passed(kind: u8, packet: &Payload<'_>) -> bool
-    ensures { result ≡ is_passed kind packet.now }
+fn is_skipped(kind: u8, packet: &Payload<'_>) -> bool
+    ensures { result ≡ is_skipped kind packet.now }
 {
     match kind {
         HOP_BY_HOP_OPTIONS | ROUTING | DESTINATION_OPTIONS => true,
@@ -131,7 +131,7 @@ fn extensions<'a>(most: usize, kind: u8, packet: Payload<'a>) -> Option<(u8, Pay
     let mut kind = kind;
     let mut packet = packet;
     for _ in 0..most {
-        if !is_passed(kind, &packet) {
+        if !is_skipped(kind, &packet) {
             return Some((kind, packet));
         }
         let (next, rest) = extension(kind, packet)?;
@@ -147,7 +147,7 @@ fn fragment<'a>(source: IpAddr, target: IpAddr, packet: &Payload<'a>) -> Option<
     ensures { result ≡ fragment source target packet.now }
 {
     let next = packet.number8(0)?;
-    let place = packet.number16(2)?;
+    let offset = packet.number16(2)?;
     let identification = packet.number32(4)?;
     let payload = packet.after(8)?;
     Some(Contents::Fragment(Fragment {
@@ -158,8 +158,8 @@ fn fragment<'a>(source: IpAddr, target: IpAddr, packet: &Payload<'a>) -> Option<
             protocol: None,
         },
         protocol: next,
-        place: place / 8 * 8,
-        is_last: place % 2 == 0,
+        offset: offset / 8 * 8,
+        is_last: offset % 2 == 0,
         payload,
     }))
 }

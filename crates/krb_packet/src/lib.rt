@@ -39,7 +39,7 @@ pub use field::{BlockField, CaptureField, PacketField};
 pub use format::Format;
 pub use fragments::{Fragments, Reassembled};
 pub use interface::{Clock, Interface};
-pub use order::Order;
+pub use order::ByteOrder;
 pub use packet::{LinkType, Packet, Time, contents_of};
 pub use packets::{Packets, State};
 pub use payload::Payload;

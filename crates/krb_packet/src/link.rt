@@ -70,8 +70,8 @@ fn ethernet<'a>(packet: Payload<'a>) -> Option<Contents<'a>>
     network(kind, packet)
 }
 
-/// Returns what a packet carries after a header of `size` octets, in which an EtherType stands after
-/// `at` octets.
+/// Returns what a packet carries after a header of `size` octets, in which an EtherType follows `at`
+/// octets.
 #[tactic(auto, unfolding(crate::specs::Contents::cooked))]
 fn cooked<'a>(at: usize, size: usize, packet: Payload<'a>) -> Option<Contents<'a>>
     ensures { result ≡ cooked at size packet.entry }
@@ -116,7 +116,7 @@ fn openbsd_loopback<'a>(packet: Payload<'a>) -> Option<Contents<'a>>
     of_family(family, rest)
 }
 
-/// Returns an address family whose octets stand in either order.
+/// Returns an address family that is in either byte order.
 fn in_either_order(family: u32) -> u32
     ensures { result ≡ in_either_order family }
 {

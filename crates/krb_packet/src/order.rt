@@ -3,37 +3,37 @@
 ghost use Rattle.std.specs.Prelude.{◌≡◌};
 ghost use Rattle.std.specs.Int.{w16, w32};
 ghost use Rattle.krb_file.specs.FieldReaders.{Follows, Keeps};
-ghost use Rattle.krb_packet.specs.Numbers.{highest_first, number_in, told};
+ghost use Rattle.krb_packet.specs.Numbers.{highest_first, number_in, checked};
 
 use krb_file::{FieldReader, FileFault, FileWhy};
 
 /// The order of the octets of a number.
 #[derive(Clone, Copy, PartialEq, Eq, Debug)]
-pub enum Order {
+pub enum ByteOrder {
     /// The highest octet first.
     BigEndian,
     /// The lowest octet first.
     LittleEndian,
 }
 
-impl Order {
+impl ByteOrder {
     /// Returns the octets of a number with the highest one first.
     pub(crate) fn highest_first<const N: usize>(self, octets: [u8; N]) -> [u8; N]
         ensures { result ≡ highest_first self octets.entry }
     {
         let mut octets = octets;
         match self {
-            Order::BigEndian => {}
-            Order::LittleEndian => octets.reverse(),
+            ByteOrder::BigEndian => {}
+            ByteOrder::LittleEndian => octets.reverse(),
         }
         octets
     }
 }
 
 /// Reads a number of 16 bits.
-pub(crate) fn number16<F: FieldReader>(order: Order, reader: &mut F) -> Result<u16, FileFault>
-    ensures read { Follows (λ number. number) result (number_in w16 order) F.MayFail (F.held reader.old) (F.held reader.new) }
-    ensures keeps { Keeps (F.held reader.old) (F.held reader.new) }
+pub(crate) fn number16<F: FieldReader>(order: ByteOrder, reader: &mut F) -> Result<u16, FileFault>
+    ensures read { Follows (λ number. number) result (number_in w16 order) F.MayFail (F.cursor reader.old) (F.cursor reader.new) }
+    ensures keeps { Keeps (F.cursor reader.old) (F.cursor reader.new) }
 {
     let mut octets = [0; 2];
     reader.fill(&mut octets)?;
@@ -42,20 +42,20 @@ pub(crate) fn number16<F: FieldReader>(order: Order, reader: &mut F) -> Result<u
 
 /// Reads a number of 32 bits.
 #[inline(always)]
-pub(crate) fn number32<F: FieldReader>(order: Order, reader: &mut F) -> Result<u32, FileFault>
-    ensures read { Follows (λ number. number) result (number_in w32 order) F.MayFail (F.held reader.old) (F.held reader.new) }
-    ensures keeps { Keeps (F.held reader.old) (F.held reader.new) }
+pub(crate) fn number32<F: FieldReader>(order: ByteOrder, reader: &mut F) -> Result<u32, FileFault>
+    ensures read { Follows (λ number. number) result (number_in w32 order) F.MayFail (F.cursor reader.old) (F.cursor reader.new) }
+    ensures keeps { Keeps (F.cursor reader.old) (F.cursor reader.new) }
 {
     let mut octets = [0; 4];
     reader.fill(&mut octets)?;
     Ok(u32::from_be_bytes(order.highest_first(octets)))
 }
 
-/// Returns what a field tells, or refuses it at its place.
-pub(crate) fn told<T>(place: u64, tells: Result<T, FileWhy>) -> Result<T, FileFault>
-    ensures { result ≡ told place tells }
+/// Returns the meaning of a field, or refuses it at its place.
+pub(crate) fn checked<T>(place: u64, check: Result<T, FileWhy>) -> Result<T, FileFault>
+    ensures { result ≡ checked place check }
 {
-    match tells {
+    match check {
         Ok(value) => Ok(value),
         Err(why) => Err(FileFault::Refused {
             place,

@@ -64,7 +64,7 @@ pub struct Time {
 }
 
 impl Time {
-    /// Returns the time of so many seconds and nanoseconds, or `None` if the seconds are 0 or above
+    /// Returns the time of these seconds and nanoseconds, or `None` if the seconds are 0 or above
     /// 4294967295.
     pub(crate) fn at(seconds: u128, nanoseconds: u32) -> Option<Time>
         ensures { result ≡ time_at seconds nanoseconds }
@@ -78,7 +78,7 @@ impl Time {
         })
     }
 
-    /// Returns the time of so many nanoseconds, or `None` if its seconds are 0 or above 4294967295.
+    /// Returns the time of these nanoseconds, or `None` if its seconds are 0 or above 4294967295.
     pub(crate) fn of(nanoseconds: u64) -> Option<Time>
         ensures { result ≡ time_of nanoseconds }
     {
@@ -92,7 +92,7 @@ impl Time {
 pub struct Packet {
     /// Which one of the file it is, from 1.
     pub number: u64,
-    /// When it was captured, if that is told.
+    /// When it was captured, if the file says so.
     pub time: Option<Time>,
     /// What it was captured from.
     pub link: LinkType,

@@ -10,34 +10,34 @@ use std::io::Read;
 use std::marker::Model;
 use std::mem::replace;
 
-/// What a reader of packets came to. Only contracts read it from outside.
+/// The progress of a reader of packets. It is public for contracts alone.
 #[derive(Drop)]
 pub enum State {
     /// The file was read so far.
     Open(Format),
     /// The file ended.
     Done,
-    /// A fault was met.
+    /// There was a fault.
     Failed(CaptureFault),
 }
 
-/// A reader of the packets of a capture file, which takes no octet of its reader after the packet that
-/// it gives. It keeps none of the packets that it gave, and takes memory for the octets that came.
+/// A reader of the packets of a capture file, one after another. It reads no octet after the
+/// packet that it returns, keeps none that it returned, and allocates by the octets that came.
 #[derive(Drop)]
 pub struct Packets<R: Read> {
     reader: StreamReader<R>,
     state: State,
-    /// How many packets were given.
+    /// How many packets were returned.
     count: u64,
 }
 
 impl<R: Read> Model for Packets<R> {
     ghost use Rattle.std.specs.Prelude.{◌≤◌};
-    ghost use Rattle.krb_packet.specs.Streaming.{Reading, blocks_before};
+    ghost use Rattle.krb_packet.specs.Streaming.{PacketsModel, blocks_before};
 
-    ghost Value = { Reading };
+    ghost Value = { PacketsModel };
 
-    ghost view = { λ packets. record { held = packets.reader; state = packets.state; count = packets.count } };
+    ghost view = { λ packets. record { cursor = packets.reader; state = packets.state; count = packets.count } };
 
     ghost invariant = { λ packets. (packets.count ≤ packets.reader.place) × (blocks_before packets.state ≤ packets.reader.place) };
 }
@@ -47,14 +47,14 @@ ghost use Rattle.krb_file.specs.FieldReaders.{Stays};
 ghost use Rattle.krb_packet.specs.declared.packets.State.TheVariants as states;
 ghost use Rattle.krb_packet.specs.declared.fault.CaptureFault.{CaptureFault as CaptureFaultValue};
 ghost use Rattle.krb_packet.specs.Captures.{blocks_of};
-ghost use Rattle.krb_packet.specs.Streaming.{Reads, GivesNext};
+ghost use Rattle.krb_packet.specs.Streaming.{Reads, ReturnsNext};
 
 impl<R: Read> Packets<R> {
-    /// Creates the reader of the packets of what a [`Read`] gives. Nothing is read yet.
+    /// Returns a reader of the packets of `reader`. Nothing is read yet.
     pub fn new(reader: R) -> Packets<R>
         ensures begins { (file : List ℕ) → R.remaining reader ≡ Some file → Reads result file 0 }
-        // No octet was taken.
-        ensures reach { result.held.ahead ≡ [] }
+        // No octet was read.
+        ensures fetched { result.cursor.ahead ≡ [] }
     {
         let limit = FieldLimit::new(MOST_CAPTURED).unwrap();
         Packets {
@@ -64,14 +64,14 @@ impl<R: Read> Packets<R> {
         }
     }
 
-    /// Reads the next packet, if the file has not ended. A file is refused at the first field at fault,
-    /// which the fault names. After a fault of any kind each call answers this fault, and after the
-    /// end each call answers the end; neither reads any more.
+    /// Reads the next packet; returns `None` at the end of the file. A file is refused at the first field at fault,
+    /// which the fault names. After a fault each call returns this fault, and after the end each
+    /// call returns `None`; neither reads any more.
     pub fn next_packet(&mut self, alloc: Global) -> Result<Option<Packet>, CaptureFault>
-        // The packets of a file that its reader tells, one after another, and then the end or the fault.
-        ensures next { (file : List ℕ) (given : ℕ) → Reads self.old file given → GivesNext file given result self.new }
-        // No octet after what is answered was taken, if none was ahead before.
-        ensures reach { OnOk result (self.old.held.ahead ≡ [] → self.new.held.ahead ≡ []) }
+        // The packets of the file that is read, one after another, and then the end or the fault.
+        ensures next { (file : List ℕ) (given : ℕ) → Reads self.old file given → ReturnsNext file given result self.new }
+        // No octet after what is returned was read, if none was read ahead before.
+        ensures fetched { OnOk result (self.old.cursor.ahead ≡ [] → self.new.cursor.ahead ≡ []) }
         ensures ends { result ≡ Ok None → self.new.state ≡ states.Done }
         ensures fails { IfErr result (λ fault. self.new.state ≡ states.Failed fault) }
         // After the end or a fault nothing more is read.
@@ -79,7 +79,7 @@ impl<R: Read> Packets<R> {
         ensures failed { (fault : CaptureFaultValue) → self.old.state ≡ states.Failed fault → (result ≡ Err fault) × (self.new ≡ self.old) }
     {
         match replace(&mut self.state, State::Done) {
-            State::Open(format) => self.next_open(format, alloc),
+            State::Open(format) => self.read_next(format, alloc),
             State::Done => Ok(None),
             State::Failed(fault) => {
                 self.state = State::Failed(fault);
@@ -88,7 +88,7 @@ impl<R: Read> Packets<R> {
         }
     }
 
-    /// Gives back a packet that was read, whose room the next ones take.
+    /// Gives back a packet that was read, whose vector is used for the next packets.
     pub fn give_back(&mut self, packet: Packet)
         ensures { self.new ≡ self.old }
     {
@@ -97,17 +97,17 @@ impl<R: Read> Packets<R> {
     }
 
     /// Returns the next packet of a file that was read so far.
-    fn next_open(&mut self, format: Format, alloc: Global) -> Result<Option<Packet>, CaptureFault>
-        requires { blocks_of format ≤ self.old.held.place }
-        ensures next { (file : List ℕ) (given : ℕ) → Reads (record self.old { state = states.Open format }) file given → GivesNext file given result self.new }
-        ensures stays { OnOk result (Stays self.old.held self.new.held) }
+    fn read_next(&mut self, format: Format, alloc: Global) -> Result<Option<Packet>, CaptureFault>
+        requires { blocks_of format ≤ self.old.cursor.place }
+        ensures next { (file : List ℕ) (given : ℕ) → Reads (record self.old { state = states.Open format }) file given → ReturnsNext file given result self.new }
+        ensures stays { OnOk result (Stays self.old.cursor self.new.cursor) }
         ensures ends { result ≡ Ok None → self.new.state ≡ states.Done }
         ensures fails { IfErr result (λ fault. self.new.state ≡ states.Failed fault) }
     {
         let mut format = format;
         'steps: loop {
             match next_step(alloc, format, self.count, &mut self.reader) {
-                Ok(Next::Passed(passed)) => format = passed,
+                Ok(Next::NoPacket(passed)) => format = passed,
                 Ok(Next::Packet(packet, after)) => {
                     self.state = State::Open(after);
                     self.count += 1;

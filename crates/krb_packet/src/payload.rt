@@ -1,8 +1,8 @@
-//! Octets of a packet, and the fields of headers that stand in them.
+//! Octets of a packet, and the fields of headers in them.
 
 use std::marker::Model;
 
-/// The octets that were captured of a packet, or of what stands in one, borrowed; and how many there
+/// The octets that were captured of a packet, or of what is in one, borrowed; and how many there
 /// are on the wire, which is no fewer.
 #[derive(Drop)]
 pub struct Payload<'a> {
@@ -49,7 +49,7 @@ impl<'a> Payload<'a> {
         self.size
     }
 
-    /// Returns the field of `N` octets that stands after `at` others, if it was captured.
+    /// Returns the field of `N` octets after `at` others, if it was captured.
     #[tactic(auto, unfolding(crate::specs::Payloads::field))]
     pub(crate) fn field<const N: usize>(&self, at: usize) -> Option<[u8; N]>
         ensures { result ≡ field N at self.now }
@@ -58,7 +58,7 @@ impl<'a> Payload<'a> {
         rest.first_chunk::<N>().copied()
     }
 
-    /// Returns the number of 8 bits that stands after `at` octets.
+    /// Returns the number of 8 bits after `at` octets.
     #[tactic(auto, unfolding(crate::specs::Payloads::number8))]
     pub(crate) fn number8(&self, at: usize) -> Option<u8>
         ensures { result ≡ number8 at self.now }
@@ -66,7 +66,7 @@ impl<'a> Payload<'a> {
         Some(u8::from_be_bytes(self.field::<1>(at)?))
     }
 
-    /// Returns the number of 16 bits that stands after `at` octets.
+    /// Returns the number of 16 bits after `at` octets.
     #[tactic(auto, unfolding(crate::specs::Payloads::number16))]
     pub(crate) fn number16(&self, at: usize) -> Option<u16>
         ensures { result ≡ number16 at self.now }
@@ -74,7 +74,7 @@ impl<'a> Payload<'a> {
         Some(u16::from_be_bytes(self.field::<2>(at)?))
     }
 
-    /// Returns the number of 32 bits that stands after `at` octets.
+    /// Returns the number of 32 bits after `at` octets.
     #[tactic(auto, unfolding(crate::specs::Payloads::number32))]
     pub(crate) fn number32(&self, at: usize) -> Option<u32>
         ensures { result ≡ number32 at self.now }
@@ -82,7 +82,7 @@ impl<'a> Payload<'a> {
         Some(u32::from_be_bytes(self.field::<4>(at)?))
     }
 
-    /// Returns what stands after a header of `size` octets, if that was captured.
+    /// Returns what follows a header of `size` octets, if that was captured.
     #[tactic(auto, unfolding(crate::specs::Payloads::after))]
     pub(crate) fn after(&self, size: usize) -> Option<Payload<'a>>
         ensures { result ≡ after size self.now }

@@ -3,12 +3,12 @@
 ghost use Rattle.std.specs.Prelude.{◌≡◌, ◌+◌, ◌*◌, ◌^◌, ◌<◌, ◌≤◌, OnOk};
 ghost use Rattle.krb_file.specs.FieldReaders.{Follows, Stays, Keeps};
 ghost use Rattle.std.specs.Int.{w32};
-ghost use Rattle.krb_packet.specs.Numbers.{number_telling};
+ghost use Rattle.krb_packet.specs.Numbers.{checked_number};
 ghost use Rattle.krb_packet.specs.Values.{time_of};
 ghost use Rattle.krb_packet.specs.Pcaps.{pcap, magic_of, magic_at, version, header_at, unit, captured, packet_at, next_at};
 
 use crate::block::SECTION_HEADER;
-use crate::order::{Order, number32, told};
+use crate::order::{ByteOrder, checked, number32};
 use crate::packet::{LinkType, NANOSECONDS, Packet, Time};
 use krb_der::Octets;
 use krb_file::{FieldReader, FileFault, FileWhy};
@@ -23,19 +23,19 @@ pub enum Precision {
     Nanoseconds,
 }
 
-/// What the magic of a file tells.
+/// The byte order and the precision of a pcap, by its magic.
 #[derive(Clone, Copy, PartialEq, Eq, Debug)]
 pub struct Form {
     /// The order of the octets of numbers.
-    pub order: Order,
+    pub order: ByteOrder,
     /// What the fractions of seconds count.
     pub precision: Precision,
 }
 
-/// What the header of a file tells.
+/// The header of a pcap.
 #[derive(Clone, Copy, PartialEq, Eq, Debug)]
 pub struct Header {
-    /// What the magic tells.
+    /// The byte order and the precision.
     pub form: Form,
     /// What the packets were captured from.
     pub link: LinkType,
@@ -44,7 +44,7 @@ pub struct Header {
 /// The greatest number of octets of a packet that may be captured.
 pub(crate) const MOST_CAPTURED: u32 = 16_777_216;
 
-/// What the first four octets of a file tell.
+/// The magic of a capture file: its first four octets.
 #[derive(Clone, Copy, PartialEq, Eq, Debug)]
 pub enum Magic {
     /// A pcap.
@@ -54,33 +54,33 @@ pub enum Magic {
 }
 
 /// Returns the magic of a pcap.
-fn pcap(order: Order, precision: Precision) -> Result<Magic, FileWhy>
+fn pcap(order: ByteOrder, precision: Precision) -> Result<Magic, FileWhy>
     ensures { result ≡ pcap order precision }
 {
     Ok(Magic::Pcap(Form { order, precision }))
 }
 
-/// Returns what the magic of a file tells.
+/// Returns the magic that a number is.
 fn magic_of(number: u32) -> Result<Magic, FileWhy>
     ensures { result ≡ magic_of number }
 {
     match number {
-        0xA1B2_C3D4 => pcap(Order::BigEndian, Precision::Microseconds),
-        0xD4C3_B2A1 => pcap(Order::LittleEndian, Precision::Microseconds),
-        0xA1B2_3C4D => pcap(Order::BigEndian, Precision::Nanoseconds),
-        0x4D3C_B2A1 => pcap(Order::LittleEndian, Precision::Nanoseconds),
+        0xA1B2_C3D4 => pcap(ByteOrder::BigEndian, Precision::Microseconds),
+        0xD4C3_B2A1 => pcap(ByteOrder::LittleEndian, Precision::Microseconds),
+        0xA1B2_3C4D => pcap(ByteOrder::BigEndian, Precision::Nanoseconds),
+        0x4D3C_B2A1 => pcap(ByteOrder::LittleEndian, Precision::Nanoseconds),
         SECTION_HEADER => Ok(Magic::Pcapng),
         _ => Err(FileWhy::Magic),
     }
 }
 
 /// Accepts the version of a pcap: 2 and 4, each of 16 bits.
-fn version(order: Order, number: u32) -> Result<(), FileWhy>
+fn version(order: ByteOrder, number: u32) -> Result<(), FileWhy>
     ensures { result ≡ version order number }
 {
     let known = match order {
-        Order::BigEndian => 0x0002_0004,
-        Order::LittleEndian => 0x0004_0002,
+        ByteOrder::BigEndian => 0x0002_0004,
+        ByteOrder::LittleEndian => 0x0004_0002,
     };
     if number == known {
         Ok(())
@@ -102,28 +102,28 @@ fn captured(size: u32) -> Result<u32, FileWhy>
 
 /// Reads the magic of a file.
 pub(crate) fn read_magic<F: FieldReader>(reader: &mut F) -> Result<Magic, FileFault>
-    ensures read { Follows (λ magic. magic) result magic_at F.MayFail (F.held reader.old) (F.held reader.new) }
-    ensures keeps { Keeps (F.held reader.old) (F.held reader.new) }
+    ensures read { Follows (λ magic. magic) result magic_at F.MayFail (F.cursor reader.old) (F.cursor reader.new) }
+    ensures keeps { Keeps (F.cursor reader.old) (F.cursor reader.new) }
 {
     let place = reader.place();
-    let number = number32(Order::BigEndian, reader)?;
-    told(place, magic_of(number))
+    let number = number32(ByteOrder::BigEndian, reader)?;
+    checked(place, magic_of(number))
 }
 
 /// Reads the version of a file.
-fn read_version<F: FieldReader>(order: Order, reader: &mut F) -> Result<(), FileFault>
-    ensures read { Follows (λ done. done) result (number_telling w32 order (version order)) F.MayFail (F.held reader.old) (F.held reader.new) }
-    ensures keeps { Keeps (F.held reader.old) (F.held reader.new) }
+fn read_version<F: FieldReader>(order: ByteOrder, reader: &mut F) -> Result<(), FileFault>
+    ensures read { Follows (λ done. done) result (checked_number w32 order (version order)) F.MayFail (F.cursor reader.old) (F.cursor reader.new) }
+    ensures keeps { Keeps (F.cursor reader.old) (F.cursor reader.new) }
 {
     let place = reader.place();
     let number = number32(order, reader)?;
-    told(place, version(order, number))
+    checked(place, version(order, number))
 }
 
 /// Reads the header of a pcap after its magic.
 pub(crate) fn read_header<F: FieldReader>(form: Form, reader: &mut F) -> Result<Header, FileFault>
-    ensures read { Follows (λ header. header) result (header_at form) F.MayFail (F.held reader.old) (F.held reader.new) }
-    ensures keeps { Keeps (F.held reader.old) (F.held reader.new) }
+    ensures read { Follows (λ header. header) result (header_at form) F.MayFail (F.cursor reader.old) (F.cursor reader.new) }
+    ensures keeps { Keeps (F.cursor reader.old) (F.cursor reader.new) }
 {
     read_version(form.order, reader)?;
     reader.number32()?;
@@ -148,13 +148,13 @@ fn time(precision: Precision, seconds: u32, fraction: u32) -> Option<Time>
 }
 
 /// Reads how many octets of a packet were captured.
-fn captured_length<F: FieldReader>(order: Order, reader: &mut F) -> Result<u32, FileFault>
-    ensures read { Follows (λ size. size) result (number_telling w32 order captured) F.MayFail (F.held reader.old) (F.held reader.new) }
-    ensures keeps { Keeps (F.held reader.old) (F.held reader.new) }
+fn captured_length<F: FieldReader>(order: ByteOrder, reader: &mut F) -> Result<u32, FileFault>
+    ensures read { Follows (λ size. size) result (checked_number w32 order captured) F.MayFail (F.cursor reader.old) (F.cursor reader.new) }
+    ensures keeps { Keeps (F.cursor reader.old) (F.cursor reader.new) }
 {
     let place = reader.place();
     let number = number32(order, reader)?;
-    told(place, captured(number))
+    checked(place, captured(number))
 }
 
 /// Reads the packet after `count` others.
@@ -165,15 +165,15 @@ fn packet<F: FieldReader>(
     reader: &mut F,
 ) -> Result<Packet, FileFault>
     requires { count < 2 ^ 63 }
-    ensures read { Follows (λ packet. packet) result (packet_at header count) F.MayFail (F.held reader.old) (F.held reader.new) }
-    ensures keeps { Keeps (F.held reader.old) (F.held reader.new) }
+    ensures read { Follows (λ packet. packet) result (packet_at header count) F.MayFail (F.cursor reader.old) (F.cursor reader.new) }
+    ensures keeps { Keeps (F.cursor reader.old) (F.cursor reader.new) }
 {
     let order = header.form.order;
     let seconds = number32(order, reader)?;
     let fraction = number32(order, reader)?;
     let captured = captured_length(order, reader)?;
     let original = number32(order, reader)?;
-    let mut octets = reader.room(alloc);
+    let mut octets = reader.spare_octets(alloc);
     reader.octets(alloc, u64::from(captured), &mut octets)?;
     Ok(Packet {
         number: count + 1,
@@ -184,7 +184,7 @@ fn packet<F: FieldReader>(
     })
 }
 
-/// How many octets stand before the octets of a packet.
+/// How many octets are before the octets of a packet.
 const PACKET_HEADER: u64 = 16;
 
 /// Reads the packet after `count` others, if the file has not ended.
@@ -195,9 +195,9 @@ pub(crate) fn next_captured<F: FieldReader>(
     reader: &mut F,
 ) -> Result<Option<Packet>, FileFault>
     requires { count < 2 ^ 63 }
-    ensures read { Follows (λ packet. packet) result (next_at header count) F.MayFail (F.held reader.old) (F.held reader.new) }
-    ensures stays { OnOk result (Stays (F.held reader.old) (F.held reader.new)) }
-    ensures on { (F.held reader.old).place ≤ (F.held reader.new).place }
+    ensures read { Follows (λ packet. packet) result (next_at header count) F.MayFail (F.cursor reader.old) (F.cursor reader.new) }
+    ensures stays { OnOk result (Stays (F.cursor reader.old) (F.cursor reader.new)) }
+    ensures on { (F.cursor reader.old).place ≤ (F.cursor reader.new).place }
 {
     reader.look_ahead(PACKET_HEADER)?;
     if reader.is_empty()? {

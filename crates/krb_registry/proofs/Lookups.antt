@@ -1,4 +1,4 @@
--- What is found in the rows of a registry.
+-- The row that is found in the rows of a registry.
 use Rattle.std.proofs.Common.{◌≡◌, ℕ, ℤ, cond, true, false, Bor, List, [], ◌∷◌, map, refl, ap, sym, ◌∙◌, Option, Some}
 use Rattle.std.specs.List.{find}
 use Rattle.std.specs.Option.{option_copied, option_map}
@@ -16,7 +16,7 @@ name_in-rows (row ∷ rows) number =
       | false ↦ name_in-rows rows number
     ]
 
--- the name of the row that was found is the name of the number
+-- the name of the row that is found is the name of the number
 pub name_found : {listed : List (ℤ × List ℕ)} {result found : Option (Bor Row)} (rows : List Row) (number : ℤ) → result ≡ found → map number_and_name rows ≡ listed → option_copied result ≡ find (λ row. int_eq row.number number) rows → option_map (λ row. row.name.now) (option_copied found) ≡ name_in listed number
 name_found {listed} rows number same rows-listed is =
     ap (λ row. option_map (λ row. row.name.now) (option_copied row)) (sym same)

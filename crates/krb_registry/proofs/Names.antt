@@ -11,7 +11,7 @@ use Rattle.krb_registry.specs.declared.registry.Registry.TheVariants as registri
 use Rattle.krb_registry.specs.Laws.{is_plain, NamesArePlain}
 use Rattle.krb_registry.specs.Rows.{name_in, name_of, rows}
 
--- what every name of some rows passes, the one that is found passes
+-- a test that the name of each row passes is passed by the name that is found
 found_passes : (p : List ℕ → Bool) (listed : List (ℤ × List ℕ)) (number : ℤ) (name : List ℕ) → list_all (λ row. p row.1) listed ≡ true → name_in listed number ≡ Some name → p name ≡ true
 unfolding name_in
 found_passes p [] number name all found = absurd (none-some name found)
@@ -62,6 +62,6 @@ each_octet P holds (octet ∷ name) plain =
     let parts = and_parts (is_plain octet) (list_all is_plain name) plain in
     (holds octet parts.0, each_octet P holds name parts.1)
 
--- each octet of a name is one
+-- each octet of a name is a plain octet
 pub name_octets : (registry : Registry) (number : ℤ) (name : List ℕ) → name_of registry number ≡ Some name → AllByRecursion PlainOctet name
 name_octets registry number name found = each_octet PlainOctet plain_octet name (name_is_plain registry number name found)

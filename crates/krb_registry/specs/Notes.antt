@@ -1,5 +1,5 @@
 -- The notes on a message, which are our own, with their names, in order of number.
--- What is not a fault, but what a reader of messages may stumble over.
+-- None of them is a fault; each is of something that a reader of messages may misread.
 use Rattle.std.specs.Prelude.{ℕ, ℤ, pos, List, [], ◌∷◌, codes}
 
 abbrev pub notes : List (ℤ × List ℕ)

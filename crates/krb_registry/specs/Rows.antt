@@ -30,7 +30,7 @@ rows registry.NameTypes = name_types
 rows registry.AddressTypes = address_types
 rows registry.Notes = notes
 
--- the name that the first row of a number has, if there is one
+-- the name in the first row that has the number, if there is one
 unfoldable pub name_in : List (ℤ × List ℕ) → ℤ → Option (List ℕ)
 name_in rows number = option_map (λ row. row.1) (find (λ row. int_eq row.0 number) rows)
 
@@ -38,6 +38,6 @@ name_in rows number = option_map (λ row. row.1) (find (λ row. int_eq row.0 num
 unfoldable pub name_of : Registry → ℤ → Option (List ℕ)
 name_of registry number = name_in (rows registry) number
 
--- a row as it is held
+-- a row, as a pair of its number and its name
 abbrev pub number_and_name : Row → ℤ × List ℕ
 number_and_name row = (row.number, row.name.now)

@@ -13,7 +13,7 @@
 mod judging;
 
 use judging::{Judging, is_whole};
-use krb_der::{GiveBack, Room};
+use krb_der::{GiveBack, SpareVectors};
 use krb_judge::parse;
 use krb_msg::{Message, encode};
 use krb_scan::Scanner;
@@ -52,14 +52,14 @@ impl Work {
 }
 
 /// Returns whether octets are parsed as a message which, with `encodes`, is encoded as the same
-/// octets. The message gives its vectors to `room`, so that no drop of a message has to be proved.
+/// octets. The message gives its vectors to `spare`, so that no drop of a message has to be proved.
 /// This is a function of its own so that its values need no stack when octets are only judged.
 #[inline(never)]
-fn is_parsed(alloc: Global, room: &mut Room, octets: &[u8], encodes: bool) -> bool {
+fn is_parsed(alloc: Global, spare: &mut SpareVectors, octets: &[u8], encodes: bool) -> bool {
     match parse(alloc, octets) {
         Ok(message) => {
             let comes_again = !encodes || is_encoded(alloc, &message, octets);
-            message.give_back(room);
+            message.give_back(spare);
             comes_again
         }
         Err(_) => false,
@@ -88,7 +88,7 @@ fn first_frame(octets: &[u8]) -> Option<(&[u8], &[u8])> {
 #[derive(Drop)]
 struct Kept {
     scanner: Scanner,
-    room: Room,
+    spare: SpareVectors,
 }
 
 impl Kept {
@@ -98,8 +98,8 @@ impl Kept {
         match work {
             Work::Frames => true,
             Work::Judge(judging) => is_whole(&mut self.scanner, octets, judging),
-            Work::Parse => is_parsed(alloc, &mut self.room, octets, false),
-            Work::Encode => is_parsed(alloc, &mut self.room, octets, true),
+            Work::Parse => is_parsed(alloc, &mut self.spare, octets, false),
+            Work::Encode => is_parsed(alloc, &mut self.spare, octets, true),
         }
     }
 }
@@ -161,7 +161,7 @@ fn main(rt: HostRuntime) -> io::Result<ExitCode> {
     rt.stdin().read_to_end(&mut stream)?;
     let mut kept = Kept {
         scanner: Scanner::new(alloc, 1),
-        room: Room::new(),
+        spare: SpareVectors::new(),
     };
     let mut outcome = work_on(alloc, &mut kept, stream.as_slice(), work);
     for _ in 0..times {

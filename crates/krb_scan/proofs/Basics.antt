@@ -1,8 +1,8 @@
--- Laws of `when` and `then_seen`.
+-- Laws of `when` and `scan_then`.
 use Rattle.std.proofs.Common.{◌≡◌, ℕ, ◌≤◌, Bool, true, false, List, refl, le_trans}
 use Rattle.krb_der.specs.declared.why.Why.{Why}
 use Rattle.krb_der.specs.Octets.{when}
-use Rattle.krb_scan.specs.Reading.{Mark, State, Seen, Within, Fault, Past, then_seen}
+use Rattle.krb_scan.specs.Scan.{Mark, State, PartScan, Within, Fault, Past, scan_then}
 
 pub when_holds : {A : Type 0} (P : A → Type 0) (b : Bool) (chosen other : Unit {0} → A) → P (chosen tt) → P (other tt) → P (when b chosen other)
 when_holds P true chosen other yes_holds no_holds = yes_holds
@@ -22,13 +22,13 @@ pub when_apply : {A B : Type 0} (f : A → B) (b : Bool) (x y : Unit {0} → A) 
 when_apply f true x y = refl
 when_apply f false x y = refl
 
-abbrev pub IsFrom : ℕ → Seen → Type 0
+abbrev pub IsFrom : ℕ → PartScan → Type 0
 IsFrom low (Within state) = Unit {0}
 IsFrom low (Fault place reason) = Unit {0}
 IsFrom low (Past marks place rest) = low ≤ place
 
--- what is complete ends at a place or after it
-pub record AtLeast (low : ℕ) (seen : Seen) : Type 0 where
+-- a complete part ends at a place or after it
+pub record AtLeast (low : ℕ) (seen : PartScan) : Type 0 where
   pub is_from : IsFrom low seen
 
 pub within_at : (low : ℕ) {state : State} → AtLeast low (Within state)
@@ -40,22 +40,22 @@ fault_at low = record { is_from = tt {0} }
 pub past_at : (low : ℕ) {marks : List Mark} {place : ℕ} {rest : List ℕ} → low ≤ place → AtLeast low (Past marks place rest)
 past_at low h = record { is_from = h }
 
-pub at_least_weaken : (low high : ℕ) (seen : Seen) → low ≤ high → AtLeast high seen → AtLeast low seen
+pub at_least_weaken : (low high : ℕ) (seen : PartScan) → low ≤ high → AtLeast high seen → AtLeast low seen
 at_least_weaken low high (Within state) h k = within_at low
 at_least_weaken low high (Fault place reason) h k = fault_at low
 at_least_weaken low high (Past marks place rest) h k = past_at low (le_trans h k.is_from)
 
-pub at_least_then : (low middle : ℕ) (seen : Seen) (next : List Mark → ℕ → List ℕ → Seen) → AtLeast middle seen → ((marks : List Mark) (place : ℕ) (rest : List ℕ) → middle ≤ place → AtLeast low (next marks place rest)) → AtLeast low (then_seen seen next)
+pub at_least_then : (low middle : ℕ) (seen : PartScan) (next : List Mark → ℕ → List ℕ → PartScan) → AtLeast middle seen → ((marks : List Mark) (place : ℕ) (rest : List ℕ) → middle ≤ place → AtLeast low (next marks place rest)) → AtLeast low (scan_then seen next)
 at_least_then low middle (Within state) next h k = within_at low
 at_least_then low middle (Fault place reason) next h k = fault_at low
 at_least_then low middle (Past marks place rest) next h k = k marks place rest h.is_from
 
-pub then_same : (low : ℕ) (seen : Seen) (f g : List Mark → ℕ → List ℕ → Seen) → AtLeast low seen → ((marks : List Mark) (place : ℕ) (rest : List ℕ) → low ≤ place → f marks place rest ≡ g marks place rest) → then_seen seen f ≡ then_seen seen g
+pub then_same : (low : ℕ) (seen : PartScan) (f g : List Mark → ℕ → List ℕ → PartScan) → AtLeast low seen → ((marks : List Mark) (place : ℕ) (rest : List ℕ) → low ≤ place → f marks place rest ≡ g marks place rest) → scan_then seen f ≡ scan_then seen g
 then_same low (Within state) f g h e = refl
 then_same low (Fault place reason) f g h e = refl
 then_same low (Past marks place rest) f g h e = e marks place rest h.is_from
 
-pub then_assoc : (seen : Seen) (f g : List Mark → ℕ → List ℕ → Seen) → then_seen (then_seen seen f) g ≡ then_seen seen (λ marks place rest. then_seen (f marks place rest) g)
+pub then_assoc : (seen : PartScan) (f g : List Mark → ℕ → List ℕ → PartScan) → scan_then (scan_then seen f) g ≡ scan_then seen (λ marks place rest. scan_then (f marks place rest) g)
 then_assoc (Within state) f g = refl
 then_assoc (Fault place reason) f g = refl
 then_assoc (Past marks place rest) f g = refl

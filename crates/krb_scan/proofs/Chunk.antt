@@ -1,4 +1,4 @@
--- Octets inside a string, taken at once.
+-- Octets inside a string, scanned at once.
 use Rattle.std.proofs.Common.{◌≡◌, ℕ, ◌+◌, ◌<◌, ◌≤◌, true, nat_le, if◌then◌else◌, List, [], ◌∷◌, ◌++◌, length, take, sym, ap, ◌∙◌, subst, arith}
 use Rattle.std.proofs.lemmas.List.{length-append, take_all}
 use Rattle.std.proofs.lemmas.Bool.{lt-ltb, le-leb, leb-true}
@@ -6,11 +6,11 @@ use Rattle.krb_der.specs.Octets.{AreOctets}
 use Rattle.krb_der.specs.declared.why.Why.TheVariants as why
 use Rattle.krb_msg.specs.Term.{Term, Integer, Text, Octets, Time, Bits, Sequence, SequenceOf, Tagged, Application}
 use Rattle.krb_msg.specs.Judgement.{Open, Bad, Done, each_contents, text_octet}
-use Rattle.krb_scan.specs.Reading.{Mark, Frame, State, state_of, InLeaf, then_seen, leaf_outcome, of_leaf, Answer, Ongoing, Refusing, Whole, answer, reading}
+use Rattle.krb_scan.specs.Scan.{Mark, Container, State, state_of, InLeaf, scan_then, leaf_outcome, of_leaf, Answer, Ongoing, Refusing, Whole, answer, scan}
 use Rattle.krb_scan.specs.Runs.{is_string}
 use Rattle.krb_scan.specs.inner.Machine.{step, go_on, initial}
-use Rattle.krb_scan.proofs.Resume.{Reached, ReachedAnswer, run, run_reading, run_right, step_reached, initial_reached, ongoing_reached, rest_seen}
-use Rattle.krb_scan.proofs.Prefix.{reading_append}
+use Rattle.krb_scan.proofs.Resume.{Reached, ReachedAnswer, run, run_scan, run_right, step_reached, initial_reached, ongoing_reached, scan_rest}
+use Rattle.krb_scan.proofs.Prefix.{scan_append}
 
 run_reached : (state : State) (octets : List ℕ) → Reached state → ReachedAnswer (run state octets)
 run_reached state [] h = ongoing_reached state h
@@ -21,9 +21,9 @@ run_reached state (octet ∷ octets) h = by_answer (step state octet) (step_reac
     by_answer (Refusing place reason) r k = record { reached = tt {0} }
     by_answer (Whole marks) r k = record { reached = tt {0} }
 
--- each state that a reading gives is one in which an octet is due
-pub reading_reached : (terms : List Term) (n : ℕ) (octets : List ℕ) → 0 < n → ReachedAnswer (reading terms n octets)
-reading_reached terms n octets some = subst ReachedAnswer (sym (run_reading terms n octets some)) (run_reached (initial terms n) octets (initial_reached terms n some))
+-- each state of a scan is one in which an octet is expected
+pub scan_reached : (terms : List Term) (n : ℕ) (octets : List ℕ) → 0 < n → ReachedAnswer (scan terms n octets)
+scan_reached terms n octets some = subst ReachedAnswer (sym (run_scan terms n octets some)) (run_reached (initial terms n) octets (initial_reached terms n some))
 
 string_open : (term : Term) (count : ℕ) (octets : List ℕ) → is_string term ≡ true → AreOctets octets → length octets < count → leaf_outcome term count octets ≡ Open
 string_open (Text greatest) count octets h are le = text_open greatest count 0 octets h are (omega arith)
@@ -44,15 +44,15 @@ string_open (SequenceOf empty term) count octets h are le = absurd (cc h)
 string_open (Tagged index term) count octets h are le = absurd (cc h)
 string_open (Application number term) count octets h are le = absurd (cc h)
 
--- Octets that lie inside an open string and stop short of its last one change nothing but how many are taken.
-pub chunk_right : (terms : List Term) (n : ℕ) (octets chunk : List ℕ) (term : Term) (start count : ℕ) (present : List ℕ) (stack : List Frame) (marks : List Mark) → 0 < n → is_string term ≡ true → AreOctets (present ++ chunk) → length present + length chunk < count →
-    reading terms n octets ≡ Ongoing (state_of marks stack (InLeaf term start count present)) → reading terms n (octets ++ chunk) ≡ Ongoing (state_of marks stack (InLeaf term start count (present ++ chunk)))
+-- Octets inside an open string that stop short of its last one change nothing but how many were scanned.
+pub chunk_right : (terms : List Term) (n : ℕ) (octets chunk : List ℕ) (term : Term) (start count : ℕ) (present : List ℕ) (stack : List Container) (marks : List Mark) → 0 < n → is_string term ≡ true → AreOctets (present ++ chunk) → length present + length chunk < count →
+    scan terms n octets ≡ Ongoing (state_of marks stack (InLeaf term start count present)) → scan terms n (octets ++ chunk) ≡ Ongoing (state_of marks stack (InLeaf term start count (present ++ chunk)))
 chunk_right terms n octets chunk term start count present stack marks some string are short h =
-    let reached : ReachedAnswer (Ongoing (state_of marks stack (InLeaf term start count present))) = subst ReachedAnswer h (reading_reached terms n octets some) in
+    let reached : ReachedAnswer (Ongoing (state_of marks stack (InLeaf term start count present))) = subst ReachedAnswer h (scan_reached terms n octets some) in
     let size : length (present ++ chunk) < count = omega (arith, length-append present chunk) in
     let part : take count (present ++ chunk) ≡ present ++ chunk = take_all count (present ++ chunk) (omega arith) in
     let open_still : leaf_outcome term count (take count (present ++ chunk)) ≡ Open = ap (leaf_outcome term count) part ∙ string_open term count (present ++ chunk) string are size in
-    reading_append terms n octets chunk some
+    scan_append terms n octets chunk some
     ∙ ap (λ given. go_on given (λ state. run state chunk)) h
     ∙ sym (run_right (state_of marks stack (InLeaf term start count present)) chunk reached.reached)
-    ∙ ap (λ outcome. answer (then_seen (of_leaf outcome term start count stack marks (present ++ chunk)) (rest_seen stack))) open_still
+    ∙ ap (λ outcome. answer (scan_then (of_leaf outcome term start count stack marks (present ++ chunk)) (scan_rest stack))) open_still

@@ -7,7 +7,7 @@ use Rattle.krb_msg.specs.Grammar.{messages}
 use Rattle.krb_msg.proofs.Judged.{messages_nest}
 use Rattle.krb_msg.specs.Shape.{depth, depth_of_fields, greatest_depth}
 use Rattle.krb_msg.specs.Judgement.{Outcome, Open, Bad, Done, Head, Partial, Refused, Got, head, has_size}
-use Rattle.krb_scan.specs.Reading.{Mark, Due, Listed, Each, OneOf, Frame, Tip, InHead, State, Seen, Within, Fault, Past, then_seen, limit, sole_in, frame_of, with_mark, leaf_outcome, of_leaf, leaf_seen, of_head_seen, begun, between, required_seen, optional_seen, ended_seen, each_seen, contents_seen, fields_seen, one_of_seen, message_seen, lengths_at, Answer, Ongoing, Refusing, Whole, answer, reading}
+use Rattle.krb_scan.specs.Scan.{Mark, Expected, Listed, Each, OneOf, Container, Tip, InHead, State, PartScan, Within, Fault, Past, scan_then, limit, sole_in, container_of, with_mark, leaf_outcome, of_leaf, scan_leaf, scan_after_head, begun, between, scan_required, scan_optional, scan_end, scan_each, scan_contents, scan_fields, scan_one_of, scan_message, lengths_at, Answer, Ongoing, Refusing, Whole, answer, scan}
 use Rattle.krb_scan.proofs.Basics.{when_holds}
 
 depth_some : (term : Term) → 1 ≤ depth term
@@ -32,12 +32,12 @@ levels_at tip containers = lengths_at tip containers
 abbrev pub levels_of : State → ℕ
 levels_of state = levels_at state.tip (length state.stack)
 
-abbrev pub NoDeeper : ℕ → Seen → Type 0
+abbrev pub NoDeeper : ℕ → PartScan → Type 0
 NoDeeper most (Within state) = levels_of state ≤ most
 NoDeeper most (Fault place reason) = Unit {0}
 NoDeeper most (Past marks place rest) = Unit {0}
 
-pub record IsNoDeeper (most : ℕ) (seen : Seen) : Type 0 where
+pub record IsNoDeeper (most : ℕ) (seen : PartScan) : Type 0 where
   pub no_deeper : NoDeeper most seen
 
 within_deep : (most : ℕ) {state : State} → levels_of state ≤ most → IsNoDeeper most (Within state)
@@ -49,34 +49,34 @@ fault_deep most = record { no_deeper = tt {0} }
 past_deep : (most : ℕ) {marks : List Mark} {place : ℕ} {rest : List ℕ} → IsNoDeeper most (Past marks place rest)
 past_deep most = record { no_deeper = tt {0} }
 
-deeper : (low high : ℕ) (seen : Seen) → low ≤ high → IsNoDeeper low seen → IsNoDeeper high seen
+deeper : (low high : ℕ) (seen : PartScan) → low ≤ high → IsNoDeeper low seen → IsNoDeeper high seen
 deeper low high (Within state) h k = within_deep high (le_trans k.no_deeper h)
 deeper low high (Fault place reason) h k = fault_deep high
 deeper low high (Past marks place rest) h k = past_deep high
 
-then_deep : (most : ℕ) (seen : Seen) (next : List Mark → ℕ → List ℕ → Seen) → IsNoDeeper most seen → ((marks : List Mark) (place : ℕ) (rest : List ℕ) → IsNoDeeper most (next marks place rest)) → IsNoDeeper most (then_seen seen next)
+then_deep : (most : ℕ) (seen : PartScan) (next : List Mark → ℕ → List ℕ → PartScan) → IsNoDeeper most seen → ((marks : List Mark) (place : ℕ) (rest : List ℕ) → IsNoDeeper most (next marks place rest)) → IsNoDeeper most (scan_then seen next)
 then_deep most (Within state) next h k = within_deep most h.no_deeper
 then_deep most (Fault place reason) next h k = fault_deep most
 then_deep most (Past marks place rest) next h k = k marks place rest
 
 abbrev pub Reader : Type 0
-Reader = ℕ → ℕ → List Frame → List Mark → List ℕ → Seen
+Reader = ℕ → ℕ → List Container → List Mark → List ℕ → PartScan
 
 abbrev pub ReadsTo : ℕ → Reader → Type 0
-ReadsTo levels contents = (start count : ℕ) (stack : List Frame) (marks : List Mark) (octets : List ℕ) (most : ℕ) → length stack + levels ≤ most → IsNoDeeper most (contents start count stack marks octets)
+ReadsTo levels contents = (start count : ℕ) (stack : List Container) (marks : List Mark) (octets : List ℕ) (most : ℕ) → length stack + levels ≤ most → IsNoDeeper most (contents start count stack marks octets)
 
-begun_deep : (levels : ℕ) → 1 ≤ levels → (contents : Reader) → ReadsTo levels contents → (term : Term) (stack : List Frame) (marks : List Mark) (from : ℕ) (octets : List ℕ) (most : ℕ) → length stack + levels ≤ most → IsNoDeeper most (begun contents term stack marks from octets)
+begun_deep : (levels : ℕ) → 1 ≤ levels → (contents : Reader) → ReadsTo levels contents → (term : Term) (stack : List Container) (marks : List Mark) (from : ℕ) (octets : List ℕ) (most : ℕ) → length stack + levels ≤ most → IsNoDeeper most (begun contents term stack marks from octets)
 begun_deep levels some contents reads term stack marks from octets most le =
     when_holds (IsNoDeeper most) (limit stack - from == 1) _ _ (fault_deep most) (by_head (head (limit stack - from) octets))
   where
-    by_head : (got : Head) → IsNoDeeper most (of_head_seen got contents term stack marks from octets)
+    by_head : (got : Head) → IsNoDeeper most (scan_after_head got contents term stack marks from octets)
     by_head Partial = within_deep most (omega arith)
     by_head (Refused offset reason) = fault_deep most
     by_head (Got header count) =
         when_holds (IsNoDeeper most) (sole_in stack && nat_lt (header + count) (limit stack - from)) _ _ (fault_deep most)
         (when_holds (IsNoDeeper most) (has_size term count) _ _ (reads (from + header) count stack marks (drop header octets) most le) (fault_deep most))
 
-leaf_deep : (term : Term) → ReadsTo 1 (λ start count stack marks octets. leaf_seen term start count stack marks octets)
+leaf_deep : (term : Term) → ReadsTo 1 (λ start count stack marks octets. scan_leaf term start count stack marks octets)
 leaf_deep term start count stack marks octets most le = by_outcome (leaf_outcome term count (take count octets))
   where
     by_outcome : (outcome : Outcome) → IsNoDeeper most (of_leaf outcome term start count stack marks octets)
@@ -84,31 +84,31 @@ leaf_deep term start count stack marks octets most le = by_outcome (leaf_outcome
     by_outcome (Bad offset reason) = fault_deep most
     by_outcome (Done present) = past_deep most
 
-between_deep : (end : ℕ) (due : Due) (outer : List Frame) (marks : List Mark) (place most : ℕ) → length outer + 1 ≤ most → IsNoDeeper most (between due end outer marks place)
-between_deep end due outer marks place most le = within_deep most (omega arith)
+between_deep : (end : ℕ) (expected : Expected) (outer : List Container) (marks : List Mark) (place most : ℕ) → length outer + 1 ≤ most → IsNoDeeper most (between expected end outer marks place)
+between_deep end expected outer marks place most le = within_deep most (omega arith)
 
-required_deep : (levels : ℕ) → 1 ≤ levels → (contents : Reader) → ReadsTo levels contents → (term : Term) (due left : Due) (end : ℕ) (outer : List Frame) (marks : List Mark) (place room : ℕ) (octets : List ℕ) (next : List Mark → ℕ → List ℕ → Seen) (most : ℕ) → length outer + 1 + levels ≤ most →
-    ((marks_then : List Mark) (there : ℕ) (rest : List ℕ) → IsNoDeeper most (next marks_then there rest)) → IsNoDeeper most (required_seen (begun contents term) term due left end outer marks place room octets next)
-required_deep levels some contents reads term due left end outer marks place zero octets next most le k = fault_deep most
-required_deep levels some contents reads term due left end outer marks place (suc room) [] next most le k = between_deep end due outer marks place most (omega arith)
-required_deep levels some contents reads term due left end outer marks place (suc room) (octet ∷ octets) next most le k =
+required_deep : (levels : ℕ) → 1 ≤ levels → (contents : Reader) → ReadsTo levels contents → (term : Term) (expected left : Expected) (end : ℕ) (outer : List Container) (marks : List Mark) (place room : ℕ) (octets : List ℕ) (next : List Mark → ℕ → List ℕ → PartScan) (most : ℕ) → length outer + 1 + levels ≤ most →
+    ((marks_then : List Mark) (there : ℕ) (rest : List ℕ) → IsNoDeeper most (next marks_then there rest)) → IsNoDeeper most (scan_required (begun contents term) term expected left end outer marks place room octets next)
+required_deep levels some contents reads term expected left end outer marks place zero octets next most le k = fault_deep most
+required_deep levels some contents reads term expected left end outer marks place (suc room) [] next most le k = between_deep end expected outer marks place most (omega arith)
+required_deep levels some contents reads term expected left end outer marks place (suc room) (octet ∷ octets) next most le k =
     when_holds (IsNoDeeper most) (octet == tag_of term) _ _
-    (then_deep most (begun contents term (frame_of end left ∷ outer) marks place (octet ∷ octets)) next (begun_deep levels some contents reads term (frame_of end left ∷ outer) marks place (octet ∷ octets) most (omega arith)) k) (fault_deep most)
+    (then_deep most (begun contents term (container_of end left ∷ outer) marks place (octet ∷ octets)) next (begun_deep levels some contents reads term (container_of end left ∷ outer) marks place (octet ∷ octets) most (omega arith)) k) (fault_deep most)
 
-optional_deep : (levels : ℕ) → 1 ≤ levels → (contents : Reader) → ReadsTo levels contents → (term : Term) (due left : Due) (end : ℕ) (outer : List Frame) (marks : List Mark) (place room : ℕ) (octets : List ℕ) (next : List Mark → ℕ → List ℕ → Seen) (other : Unit {0} → Seen) (most : ℕ) → length outer + 1 + levels ≤ most →
-    ((marks_then : List Mark) (there : ℕ) (rest : List ℕ) → IsNoDeeper most (next marks_then there rest)) → IsNoDeeper most (other tt) → IsNoDeeper most (optional_seen (begun contents term) term due left end outer marks place room octets next other)
-optional_deep levels some contents reads term due left end outer marks place zero octets next other most le k m = m
-optional_deep levels some contents reads term due left end outer marks place (suc room) [] next other most le k m = between_deep end due outer marks place most (omega arith)
-optional_deep levels some contents reads term due left end outer marks place (suc room) (octet ∷ octets) next other most le k m =
+optional_deep : (levels : ℕ) → 1 ≤ levels → (contents : Reader) → ReadsTo levels contents → (term : Term) (expected left : Expected) (end : ℕ) (outer : List Container) (marks : List Mark) (place room : ℕ) (octets : List ℕ) (next : List Mark → ℕ → List ℕ → PartScan) (other : Unit {0} → PartScan) (most : ℕ) → length outer + 1 + levels ≤ most →
+    ((marks_then : List Mark) (there : ℕ) (rest : List ℕ) → IsNoDeeper most (next marks_then there rest)) → IsNoDeeper most (other tt) → IsNoDeeper most (scan_optional (begun contents term) term expected left end outer marks place room octets next other)
+optional_deep levels some contents reads term expected left end outer marks place zero octets next other most le k m = m
+optional_deep levels some contents reads term expected left end outer marks place (suc room) [] next other most le k m = between_deep end expected outer marks place most (omega arith)
+optional_deep levels some contents reads term expected left end outer marks place (suc room) (octet ∷ octets) next other most le k m =
     when_holds (IsNoDeeper most) (octet == tag_of term) _ _
-    (then_deep most (begun contents term (frame_of end left ∷ outer) marks place (octet ∷ octets)) next (begun_deep levels some contents reads term (frame_of end left ∷ outer) marks place (octet ∷ octets) most (omega arith)) k) m
+    (then_deep most (begun contents term (container_of end left ∷ outer) marks place (octet ∷ octets)) next (begun_deep levels some contents reads term (container_of end left ∷ outer) marks place (octet ∷ octets) most (omega arith)) k) m
 
-ended_deep : (due : Due) (end : ℕ) (outer : List Frame) (marks : List Mark) (place room : ℕ) (octets : List ℕ) (most : ℕ) → length outer + 1 ≤ most → IsNoDeeper most (ended_seen due end outer marks place room octets)
-ended_deep due end outer marks place zero octets most le = past_deep most
-ended_deep due end outer marks place (suc room) [] most le = between_deep end due outer marks place most le
-ended_deep due end outer marks place (suc room) (octet ∷ octets) most le = fault_deep most
+ended_deep : (expected : Expected) (end : ℕ) (outer : List Container) (marks : List Mark) (place room : ℕ) (octets : List ℕ) (most : ℕ) → length outer + 1 ≤ most → IsNoDeeper most (scan_end expected end outer marks place room octets)
+ended_deep expected end outer marks place zero octets most le = past_deep most
+ended_deep expected end outer marks place (suc room) [] most le = between_deep end expected outer marks place most le
+ended_deep expected end outer marks place (suc room) (octet ∷ octets) most le = fault_deep most
 
-each_deep : (levels : ℕ) → 1 ≤ levels → (contents : Reader) → ReadsTo levels contents → (term : Term) (bound : ℕ) (end : ℕ) (outer : List Frame) (marks : List Mark) (place room : ℕ) (octets : List ℕ) (most : ℕ) → length outer + 1 + levels ≤ most → IsNoDeeper most (each_seen (begun contents term) term bound end outer marks place room octets)
+each_deep : (levels : ℕ) → 1 ≤ levels → (contents : Reader) → ReadsTo levels contents → (term : Term) (bound : ℕ) (end : ℕ) (outer : List Container) (marks : List Mark) (place room : ℕ) (octets : List ℕ) (most : ℕ) → length outer + 1 + levels ≤ most → IsNoDeeper most (scan_each (begun contents term) term bound end outer marks place room octets)
 each_deep levels some contents reads term bound end outer marks place zero octets most le = past_deep most
 each_deep levels some contents reads term zero end outer marks place (suc room) octets most le = between_deep end (Each term) outer marks place most (omega arith)
 each_deep levels some contents reads term (suc bound) end outer marks place (suc room) octets most le =
@@ -116,7 +116,7 @@ each_deep levels some contents reads term (suc bound) end outer marks place (suc
     (λ marks_then there rest. each_deep levels some contents reads term bound end outer marks_then there (end - there) rest most le)
 
 mutual
-  pub contents_deep : (term : Term) (start count : ℕ) (stack : List Frame) (marks : List Mark) (octets : List ℕ) (most : ℕ) → length stack + depth term ≤ most → IsNoDeeper most (contents_seen term start count stack marks octets)
+  pub contents_deep : (term : Term) (start count : ℕ) (stack : List Container) (marks : List Mark) (octets : List ℕ) (most : ℕ) → length stack + depth term ≤ most → IsNoDeeper most (scan_contents term start count stack marks octets)
   contents_deep (Integer low high) start count stack marks octets most le = leaf_deep (Integer low high) start count stack marks octets most le
   contents_deep (Text greatest) start count stack marks octets most le = leaf_deep (Text greatest) start count stack marks octets most le
   contents_deep Octets start count stack marks octets most le = leaf_deep Octets start count stack marks octets most le
@@ -124,31 +124,31 @@ mutual
   contents_deep (Bits least) start count stack marks octets most le = leaf_deep (Bits least) start count stack marks octets most le
   contents_deep (Sequence fields) start count stack marks octets most le = fields_deep fields (start + count) stack (with_mark marks (Sequence fields) start count) start count octets most (omega arith)
   contents_deep (SequenceOf empty term) start count stack marks octets most le =
-      each_deep (depth term) (depth_some term) (contents_seen term) (contents_deep term) term count (start + count) stack (with_mark marks (SequenceOf empty term) start count) start count octets most (omega arith)
+      each_deep (depth term) (depth_some term) (scan_contents term) (contents_deep term) term count (start + count) stack (with_mark marks (SequenceOf empty term) start count) start count octets most (omega arith)
   contents_deep (Tagged index term) start count stack marks octets most le =
-      required_deep (depth term) (depth_some term) (contents_seen term) (contents_deep term) term _ _ (start + count) stack (with_mark marks (Tagged index term) start count) start count octets _ most (omega arith)
+      required_deep (depth term) (depth_some term) (scan_contents term) (contents_deep term) term _ _ (start + count) stack (with_mark marks (Tagged index term) start count) start count octets _ most (omega arith)
       (λ marks_then there rest. ended_deep (OneOf []) (start + count) stack marks_then there (start + count - there) rest most (omega arith))
   contents_deep (Application number term) start count stack marks octets most le =
-      required_deep (depth term) (depth_some term) (contents_seen term) (contents_deep term) term _ _ (start + count) stack (with_mark marks (Application number term) start count) start count octets _ most (omega arith)
+      required_deep (depth term) (depth_some term) (scan_contents term) (contents_deep term) term _ _ (start + count) stack (with_mark marks (Application number term) start count) start count octets _ most (omega arith)
       (λ marks_then there rest. ended_deep (OneOf []) (start + count) stack marks_then there (start + count - there) rest most (omega arith))
 
-  fields_deep : (fields : Fields) (end : ℕ) (outer : List Frame) (marks : List Mark) (place room : ℕ) (octets : List ℕ) (most : ℕ) → length outer + 1 + depth_of_fields fields ≤ most → IsNoDeeper most (fields_seen fields end outer marks place room octets)
+  fields_deep : (fields : Fields) (end : ℕ) (outer : List Container) (marks : List Mark) (place room : ℕ) (octets : List ℕ) (most : ℕ) → length outer + 1 + depth_of_fields fields ≤ most → IsNoDeeper most (scan_fields fields end outer marks place room octets)
   fields_deep End end outer marks place room octets most le = ended_deep (Listed End) end outer marks place room octets most (omega arith)
   fields_deep (Required term fields) end outer marks place room octets most le =
-      required_deep (depth term) (depth_some term) (contents_seen term) (contents_deep term) term _ _ end outer marks place room octets _ most (omega arith)
+      required_deep (depth term) (depth_some term) (scan_contents term) (contents_deep term) term _ _ end outer marks place room octets _ most (omega arith)
       (λ marks_then there rest. fields_deep fields end outer marks_then there (end - there) rest most (omega arith))
   fields_deep (Optional term fields) end outer marks place room octets most le =
-      optional_deep (depth term) (depth_some term) (contents_seen term) (contents_deep term) term _ _ end outer marks place room octets _ _ most (omega arith)
+      optional_deep (depth term) (depth_some term) (scan_contents term) (contents_deep term) term _ _ end outer marks place room octets _ _ most (omega arith)
       (λ marks_then there rest. fields_deep fields end outer marks_then there (end - there) rest most (omega arith))
       (fields_deep fields end outer marks place room octets most (omega arith))
 
-one_of_deep : (terms : List Term) (due : Due) (end : ℕ) (outer : List Frame) (marks : List Mark) (place room : ℕ) (octets : List ℕ) (most : ℕ) → length outer + 1 + greatest_depth terms ≤ most → IsNoDeeper most (one_of_seen terms due end outer marks place room octets)
-one_of_deep [] due end outer marks place room octets most le = ended_deep due end outer marks place room octets most (omega arith)
-one_of_deep (term ∷ terms) due end outer marks place zero octets most le = fault_deep most
-one_of_deep (term ∷ terms) due end outer marks place (suc room) octets most le =
-    optional_deep (depth term) (depth_some term) (contents_seen term) (contents_deep term) term due (OneOf []) end outer marks place (suc room) octets _ _ most (omega arith)
+one_of_deep : (terms : List Term) (expected : Expected) (end : ℕ) (outer : List Container) (marks : List Mark) (place room : ℕ) (octets : List ℕ) (most : ℕ) → length outer + 1 + greatest_depth terms ≤ most → IsNoDeeper most (scan_one_of terms expected end outer marks place room octets)
+one_of_deep [] expected end outer marks place room octets most le = ended_deep expected end outer marks place room octets most (omega arith)
+one_of_deep (term ∷ terms) expected end outer marks place zero octets most le = fault_deep most
+one_of_deep (term ∷ terms) expected end outer marks place (suc room) octets most le =
+    optional_deep (depth term) (depth_some term) (scan_contents term) (contents_deep term) term expected (OneOf []) end outer marks place (suc room) octets _ _ most (omega arith)
     (λ marks_then there rest. ended_deep (OneOf []) end outer marks_then there (end - there) rest most (omega arith))
-    (one_of_deep terms due end outer marks place (suc room) octets most (omega arith))
+    (one_of_deep terms expected end outer marks place (suc room) octets most (omega arith))
 
 -- with the message counted, and an item whose length is being read
 abbrev pub OpenAtMost : ℕ → Answer → Type 0
@@ -157,10 +157,10 @@ OpenAtMost most (Refusing place reason) = Unit {0}
 OpenAtMost most (Whole marks) = Unit {0}
 
 -- Never more than thirteen lengths are open.
-pub reading_deep : (profile : Profile) (n : ℕ) (octets : List ℕ) → OpenAtMost 14 (reading (messages profile) n octets)
-reading_deep profile n octets = by_seen (message_seen (messages profile) n octets) (one_of_deep (messages profile) (OneOf (messages profile)) n [] [] 0 n octets 14 (omega (arith, messages_depth profile)))
+pub scan_deep : (profile : Profile) (n : ℕ) (octets : List ℕ) → OpenAtMost 14 (scan (messages profile) n octets)
+scan_deep profile n octets = by_seen (scan_message (messages profile) n octets) (one_of_deep (messages profile) (OneOf (messages profile)) n [] [] 0 n octets 14 (omega (arith, messages_depth profile)))
   where
-    by_seen : (seen : Seen) → IsNoDeeper 14 seen → OpenAtMost 14 (answer seen)
+    by_seen : (seen : PartScan) → IsNoDeeper 14 seen → OpenAtMost 14 (answer seen)
     by_seen (Within state) h = h.no_deeper
     by_seen (Fault place reason) h = tt {0}
     by_seen (Past marks place rest) h = tt {0}

@@ -2,8 +2,8 @@
 use Rattle.std.proofs.Common.{◌≡◌, ℕ, zero, suc, ◌-◌, ◌<◌, ℤ, pos, List, [], ◌∷◌, ◌++◌, length, map, get_or, set, refl, sym, ap, ◌∙◌, arith}
 use Rattle.std.proofs.lemmas.List.{map-append}
 use Rattle.krb_scan.specs.inner.Paths.{with_value}
-use Rattle.krb_scan.specs.Reading as reading
-use Rattle.krb_scan.specs.Reading.{mark_of}
+use Rattle.krb_scan.specs.Scan as scan
+use Rattle.krb_scan.specs.Scan.{mark_of}
 use Rattle.krb_msg.specs.Term.{Term}
 use Rattle.krb_msg.specs.Table.{IsNode}
 use Rattle.std.specs.List.{AllByRecursion}
@@ -24,14 +24,14 @@ pub set_last : (marks : List Mark) (last : ℕ) (there : Mark) (value : ℤ) →
 set_last marks last there value some e is =
     ap (λ mark. set marks (last - 1) (with_number mark value)) is ∙ set_at marks (last - 1) there value (omega arith)
 
-not_empty : (given : List reading.Mark) (last : reading.Mark) → [] ≡ given ++ last ∷ [] → ⊥
+not_empty : (given : List scan.Mark) (last : scan.Mark) → [] ≡ given ++ last ∷ [] → ⊥
 not_empty [] last e = cc
 not_empty (first ∷ given) last e = cc
 
 last_value : (mark : Mark) (term : Term) (start count : ℕ) (value : ℤ) → mark_value mark ≡ mark_of term start count (pos 0) → mark_value (record mark { value = value }) ≡ mark_of term start count value
-last_value mark term start count value e = ap (λ (m : reading.Mark). mark_of m.term m.start m.count value) e
+last_value mark term start count value e = ap (λ (m : scan.Mark). mark_of m.term m.start m.count value) e
 
-with_value-marks : (marks : List Mark) (given : List reading.Mark) (term : Term) (start count : ℕ) (value : ℤ) → map mark_value marks ≡ given ++ mark_of term start count (pos 0) ∷ [] → map mark_value (with_value marks value) ≡ given ++ mark_of term start count value ∷ []
+with_value-marks : (marks : List Mark) (given : List scan.Mark) (term : Term) (start count : ℕ) (value : ℤ) → map mark_value marks ≡ given ++ mark_of term start count (pos 0) ∷ [] → map mark_value (with_value marks value) ≡ given ++ mark_of term start count value ∷ []
 with_value-marks [] given term start count value e = absurd (not_empty given (mark_of term start count (pos 0)) e)
 with_value-marks (mark ∷ []) [] term start count value e =
     let same : mark_value mark ≡ mark_of term start count (pos 0) = cc in
@@ -51,7 +51,7 @@ with_value-nodes (mark ∷ []) value h = h
 with_value-nodes (mark ∷ next ∷ marks) value h = (h.0, with_value-nodes (next ∷ marks) value h.1)
 
 -- the number of the last mark
-pub marks_with_value : (marks : List Mark) (given : List reading.Mark) (term : Term) (start count : ℕ) (value : ℤ) → AreMarks marks (given ++ mark_of term start count (pos 0) ∷ []) → AreMarks (with_value marks value) (given ++ mark_of term start count value ∷ [])
+pub marks_with_value : (marks : List Mark) (given : List scan.Mark) (term : Term) (start count : ℕ) (value : ℤ) → AreMarks marks (given ++ mark_of term start count (pos 0) ∷ []) → AreMarks (with_value marks value) (given ++ mark_of term start count value ∷ [])
 marks_with_value marks given term start count value h = record { nodes = with_value-nodes marks value h.nodes; values = with_value-marks marks given term start count value h.values }
 
 nodes_push : (marks : List Mark) (mark : Mark) → AllByRecursion (λ m. IsNode m.node) marks → IsNode mark.node → AllByRecursion (λ m. IsNode m.node) (marks ++ mark ∷ [])
@@ -59,10 +59,10 @@ nodes_push [] mark h k = (k, tt {0})
 nodes_push (first ∷ marks) mark h k = (h.0, nodes_push marks mark h.1 k)
 
 -- one mark more
-pub marks_push : (marks : List Mark) (given : List reading.Mark) (mark : Mark) → AreMarks marks given → IsNode mark.node → AreMarks (marks ++ mark ∷ []) (given ++ mark_value mark ∷ [])
+pub marks_push : (marks : List Mark) (given : List scan.Mark) (mark : Mark) → AreMarks marks given → IsNode mark.node → AreMarks (marks ++ mark ∷ []) (given ++ mark_value mark ∷ [])
 marks_push marks given mark h k = record { nodes = nodes_push marks mark h.nodes k; values = map-append mark_value marks (mark ∷ []) ∙ ap (λ some. some ++ mark_value mark ∷ []) h.values }
 
-pub length_values : (marks : List Mark) (given : List reading.Mark) → AreMarks marks given → length given ≡ length marks
+pub length_values : (marks : List Mark) (given : List scan.Mark) → AreMarks marks given → length given ≡ length marks
 length_values marks given h = ap length (sym h.values) ∙ by_list marks
   where
     by_list : (some : List Mark) → length (map mark_value some) ≡ length some

@@ -9,7 +9,7 @@ use Rattle.krb_der.specs.declared.why.Why.{Why}
 use Rattle.krb_der.specs.declared.why.Why.TheVariants as why
 use Rattle.krb_msg.specs.Term.{Term, Integer, Text, Octets, Time, Bits, Sequence, SequenceOf, Tagged, Application}
 use Rattle.krb_msg.specs.Judgement.{Outcome, Open, Bad, Done, Head, Partial, Refused, Got, head, long_head, fitting, int_le, is_padded, integer_contents, each_contents, text_octet, time_octet, bits_contents, any_contents}
-use Rattle.krb_scan.specs.Reading.{leaf_outcome}
+use Rattle.krb_scan.specs.Scan.{leaf_outcome}
 use Rattle.krb_scan.specs.inner.Numbers.{first_head, next_head, extended, pads, in_range, integer_next, each_next, bits_next, any_next, leaf_next, first_or_zero}
 use Rattle.krb_scan.proofs.Stable.{IsPartial}
 
@@ -168,7 +168,7 @@ padded_push (first ∷ []) octet fit h = by_sign (nat_lt first 128) refl
 padded_push (first ∷ second ∷ octets) octet fit h =
     h ∙ sym (ap (λ b. b && pads (integer_value (first ∷ second ∷ octets)) octet) (ne_eqb (length (first ∷ second ∷ octets)) 1 (λ e. absurd (omega arith))))
 
--- what an outcome that is open says of the tests before it
+-- the tests before an outcome that is open have failed
 -- the place law needs these: a fault lies at the octet that is new
 abbrev pub FaultAt : ℕ → Outcome → Type 0
 FaultAt present Open = Unit {0}

@@ -1,4 +1,4 @@
--- The reading's outcome is the judgement's.
+-- The outcome of the scan is that of the judgement.
 use Rattle.std.proofs.Common.{◌≡◌, ℕ, zero, suc, ℤ, ◌+◌, ◌-◌, ◌%◌, ◌*◌, ◌^◌, ◌<◌, ◌≤◌, Bool, true, false, ◌&&◌, ◌||◌, ◌==◌, nat_lt, if◌then◌else◌, ◌⊎◌, inl, inr, List, [], ◌∷◌, length, take, drop, refl, sym, ap, ◌∙◌, subst, arith, min}
 use Rattle.std.proofs.lemmas.List.{take-take, drop-drop, drop-take, take_all, length-take}
 use Rattle.std.proofs.lemmas.Bool.{ltb-false, eqb-false, le-ltb, cases_lt}
@@ -7,9 +7,9 @@ use Rattle.krb_der.specs.declared.why.Why.{Why}
 use Rattle.krb_der.specs.declared.why.Why.TheVariants as why
 use Rattle.krb_msg.specs.Term.{Term, Fields, Integer, Text, Octets, Time, Bits, Sequence, SequenceOf, Tagged, Application, End, Required, Optional, tag_of}
 use Rattle.krb_msg.specs.Judgement.{Outcome, Open, Bad, Done, after, then_after, Head, Partial, Refused, Got, head, long_head, fitting, has_size, int_le, is_padded, integer_contents, each_contents, text_octet, time_octet, bits_contents, any_contents, items_contents, only_contents, of_head, item_with, contents_outcome, fields_outcome, message_outcome, verdict_of}
-use Rattle.krb_scan.specs.Reading.{Mark, Due, Listed, Each, OneOf, Frame, State, Seen, Within, Fault, Past, then_seen, limit, is_sole, sole_in, frame_of, with_mark, leaf_outcome, of_leaf, leaf_seen, of_head_seen, head_seen, begun, required_seen, optional_seen, ended_seen, only_seen, each_seen, contents_seen, fields_seen, one_of_seen, message_seen, Answer, Ongoing, Refusing, Whole, answer, reading}
+use Rattle.krb_scan.specs.Scan.{Mark, Expected, Listed, Each, OneOf, Container, State, PartScan, Within, Fault, Past, scan_then, limit, is_sole, sole_in, container_of, with_mark, leaf_outcome, of_leaf, scan_leaf, scan_after_head, scan_head, begun, scan_required, scan_optional, scan_end, scan_only, scan_each, scan_contents, scan_fields, scan_one_of, scan_message, Answer, Ongoing, Refusing, Whole, answer, scan}
 use Rattle.krb_scan.specs.inner.Machine.{outcome_of}
-use Rattle.krb_scan.specs.Laws.{decided_by, ReadingJudges}
+use Rattle.krb_scan.specs.Laws.{decided_by, ScanJudges}
 use Rattle.krb_scan.proofs.Progress.{if_holds, Next}
 
 -- ---- a header needs no octets past the room
@@ -147,7 +147,7 @@ leaf_done_at (Application number term) count octets = any_done count octets
 -- ---- agreement
 
 -- of contents after a number of octets of an item that begins at a place, in a room that they fill
-abbrev pub AgreeContents : ℕ → ℕ → ℕ → List ℕ → Seen → Outcome → Type 0
+abbrev pub AgreeContents : ℕ → ℕ → ℕ → List ℕ → PartScan → Outcome → Type 0
 AgreeContents base before room octets (Within state) Open = Unit {0}
 AgreeContents base before room octets (Within state) (Bad offset because) = ⊥
 AgreeContents base before room octets (Within state) (Done count) = ⊥
@@ -158,11 +158,11 @@ AgreeContents base before room octets (Past marks place rest) Open = ⊥
 AgreeContents base before room octets (Past marks place rest) (Bad offset because) = ⊥
 AgreeContents base before room octets (Past marks place rest) (Done count) = (place ≡ base + before + room) × (count ≡ before + room) × (rest ≡ drop room octets)
 
-pub record ContentsAgree (base before room : ℕ) (octets : List ℕ) (seen : Seen) (outcome : Outcome) : Type 0 where
+pub record ContentsAgree (base before room : ℕ) (octets : List ℕ) (seen : PartScan) (outcome : Outcome) : Type 0 where
   pub agree : AgreeContents base before room octets seen outcome
 
 -- of an item at a place, in a room
-abbrev pub AgreeItem : ℕ → ℕ → Bool → List ℕ → Seen → Outcome → Type 0
+abbrev pub AgreeItem : ℕ → ℕ → Bool → List ℕ → PartScan → Outcome → Type 0
 AgreeItem from room sole octets (Within state) Open = Unit {0}
 AgreeItem from room sole octets (Within state) (Bad offset because) = ⊥
 AgreeItem from room sole octets (Within state) (Done count) = ⊥
@@ -173,7 +173,7 @@ AgreeItem from room sole octets (Past marks place rest) Open = ⊥
 AgreeItem from room sole octets (Past marks place rest) (Bad offset because) = ⊥
 AgreeItem from room sole octets (Past marks place rest) (Done count) = (place ≡ from + count) × (0 < count) × (count ≤ room) × (sole ≡ true → count ≡ room) × (rest ≡ drop count octets)
 
-pub record ItemAgree (from room : ℕ) (sole : Bool) (octets : List ℕ) (seen : Seen) (outcome : Outcome) : Type 0 where
+pub record ItemAgree (from room : ℕ) (sole : Bool) (octets : List ℕ) (seen : PartScan) (outcome : Outcome) : Type 0 where
   pub agree : AgreeItem from room sole octets seen outcome
 
 contents_fault : (base before room : ℕ) (octets : List ℕ) (place offset : ℕ) (reason : Why) → place ≡ base + offset → ContentsAgree base before room octets (Fault place reason) (Bad offset reason)
@@ -186,9 +186,9 @@ contents_open : (base before room : ℕ) (octets : List ℕ) (state : State) →
 contents_open base before room octets state = record { agree = tt {0} }
 
 -- an item, and what follows it
-then_agree : (base before whole from room : ℕ) (sole : Bool) (octets : List ℕ) (seen : Seen) (outcome : Outcome) (next : Next) (next' : ℕ → Outcome) → from ≡ base + before → ItemAgree from room sole octets seen outcome →
+then_agree : (base before whole from room : ℕ) (sole : Bool) (octets : List ℕ) (seen : PartScan) (outcome : Outcome) (next : Next) (next' : ℕ → Outcome) → from ≡ base + before → ItemAgree from room sole octets seen outcome →
     ((marks : List Mark) (there : ℕ) (rest : List ℕ) (count : ℕ) → there ≡ from + count → 0 < count → count ≤ room → (sole ≡ true → count ≡ room) → rest ≡ drop count octets → ContentsAgree base before whole octets (next marks there rest) (next' count)) →
-    ContentsAgree base before whole octets (then_seen seen next) (then_after before outcome next')
+    ContentsAgree base before whole octets (scan_then seen next) (then_after before outcome next')
 then_agree base before whole from room sole octets (Within state) Open next next' e h k = contents_open base before whole octets state
 then_agree base before whole from room sole octets (Within state) (Bad offset because) next next' e h k = absurd h.agree
 then_agree base before whole from room sole octets (Within state) (Done count) next next' e h k = absurd h.agree
@@ -202,7 +202,7 @@ then_agree base before whole from room sole octets (Past marks place rest) (Bad 
 then_agree base before whole from room sole octets (Past marks place rest) (Done count) next next' e h k = k marks place rest count h.agree.0 h.agree.1 h.agree.2 h.agree.3 h.agree.4
 
 -- contents that agree are the contents of an item that agrees
-from_contents : (from room : ℕ) (sole : Bool) (octets : List ℕ) (header count : ℕ) (seen : Seen) (outcome : Outcome) → 0 < header → header + count ≤ room → (sole && nat_lt (header + count) room) ≡ false →
+from_contents : (from room : ℕ) (sole : Bool) (octets : List ℕ) (header count : ℕ) (seen : PartScan) (outcome : Outcome) → 0 < header → header + count ≤ room → (sole && nat_lt (header + count) room) ≡ false →
     ContentsAgree from header count (drop header octets) seen outcome → ItemAgree from room sole octets seen outcome
 from_contents from room sole octets header count (Within state) Open p q loose h = record { agree = tt {0} }
 from_contents from room sole octets header count (Within state) (Bad offset because) p q loose h = absurd h.agree
@@ -225,13 +225,13 @@ from_contents from room sole octets header count (Past marks place rest) (Done t
     fill : sole ≡ true → total ≡ header + count → total ≡ room
     fill is_sole size = let le : room ≤ header + count = ltb-false (header + count) room (full sole is_sole loose) in omega arith
 
--- an item's outcome from its tag octet on, the tag being right
+-- an item's outcome from its identifier octet on, the tag being right
 abbrev pub begun_outcome : Term → ℕ → Bool → List ℕ → Outcome
 begun_outcome term room sole octets = if room == 1 then Bad 0 why.Overrun else of_head term (head room octets) room sole octets (contents_outcome term)
 
 abbrev pub ContentsRight : Term → Type 0
-ContentsRight term = (start count base before : ℕ) (stack : List Frame) (marks : List Mark) (octets : List ℕ) → start ≡ base + before → 0 < before →
-    ContentsAgree base before count octets (contents_seen term start count stack marks octets) (contents_outcome term before count (take count octets))
+ContentsRight term = (start count base before : ℕ) (stack : List Container) (marks : List Mark) (octets : List ℕ) → start ≡ base + before → 0 < before →
+    ContentsAgree base before count octets (scan_contents term start count stack marks octets) (contents_outcome term before count (take count octets))
 
 take_drop_take : (count header room : ℕ) (octets : List ℕ) → header + count ≤ room → take count (drop header (take room octets)) ≡ take count (drop header octets)
 take_drop_take count header room octets h =
@@ -240,47 +240,47 @@ take_drop_take count header room octets h =
     let dropped_at : drop header (take room octets) ≡ take (room - header) (drop header octets) = rw left at dropped in
     ap (take count) dropped_at ∙ take-take count (room - header) (drop header octets) (omega arith)
 
-item_agree : (term : Term) → ContentsRight term → (stack : List Frame) (marks : List Mark) (from : ℕ) (octets : List ℕ) → 0 < limit stack - from →
-    ItemAgree from (limit stack - from) (sole_in stack) octets (begun (contents_seen term) term stack marks from octets) (begun_outcome term (limit stack - from) (sole_in stack) (take (limit stack - from) octets))
+item_agree : (term : Term) → ContentsRight term → (stack : List Container) (marks : List Mark) (from : ℕ) (octets : List ℕ) → 0 < limit stack - from →
+    ItemAgree from (limit stack - from) (sole_in stack) octets (begun (scan_contents term) term stack marks from octets) (begun_outcome term (limit stack - from) (sole_in stack) (take (limit stack - from) octets))
 item_agree term right stack marks from octets room_pos = by_one (limit stack - from == 1) refl
   where
     by_size : (b : Bool) (header count : ℕ) → has_size term count ≡ b → 0 < header → header + count ≤ limit stack - from → (sole_in stack && nat_lt (header + count) (limit stack - from)) ≡ false →
         ItemAgree from (limit stack - from) (sole_in stack) octets
-        (when b (λ _. contents_seen term (from + header) count stack marks (drop header octets)) (λ _. Fault (from + header - 1) why.Size))
+        (when b (λ _. scan_contents term (from + header) count stack marks (drop header octets)) (λ _. Fault (from + header - 1) why.Size))
         (if b then contents_outcome term header count (take count (drop header (take (limit stack - from) octets))) else Bad (header - 1) why.Size)
     by_size true header count e p q loose =
-        let agreed : ContentsAgree from header count (drop header octets) (contents_seen term (from + header) count stack marks (drop header octets)) (contents_outcome term header count (take count (drop header octets)))
+        let agreed : ContentsAgree from header count (drop header octets) (scan_contents term (from + header) count stack marks (drop header octets)) (contents_outcome term header count (take count (drop header octets)))
         = right (from + header) count from header stack marks (drop header octets) refl p in
         from_contents from (limit stack - from) (sole_in stack) octets header count _ _ p q loose
-        (subst (λ part. ContentsAgree from header count (drop header octets) (contents_seen term (from + header) count stack marks (drop header octets)) (contents_outcome term header count part)) (sym (take_drop_take count header (limit stack - from) octets q)) agreed)
+        (subst (λ part. ContentsAgree from header count (drop header octets) (scan_contents term (from + header) count stack marks (drop header octets)) (contents_outcome term header count part)) (sym (take_drop_take count header (limit stack - from) octets q)) agreed)
     by_size false header count e p q loose = item_fault from _ _ octets (from + header - 1) (header - 1) why.Size (omega arith)
 
     by_loose : (b : Bool) (header count : ℕ) → (sole_in stack && nat_lt (header + count) (limit stack - from)) ≡ b → 0 < header → header + count ≤ limit stack - from →
         ItemAgree from (limit stack - from) (sole_in stack) octets
-        (when b (λ _. Fault (from + header - 1) why.Loose) (λ _. when (has_size term count) (λ _. contents_seen term (from + header) count stack marks (drop header octets)) (λ _. Fault (from + header - 1) why.Size)))
+        (when b (λ _. Fault (from + header - 1) why.Loose) (λ _. when (has_size term count) (λ _. scan_contents term (from + header) count stack marks (drop header octets)) (λ _. Fault (from + header - 1) why.Size)))
         (if b then Bad (header - 1) why.Loose else if has_size term count then contents_outcome term header count (take count (drop header (take (limit stack - from) octets))) else Bad (header - 1) why.Size)
     by_loose true header count e p q = item_fault from _ _ octets (from + header - 1) (header - 1) why.Loose (omega arith)
     by_loose false header count e p q = by_size (has_size term count) header count refl p q e
 
     by_head : (got : Head) → HeadFits (limit stack - from) got →
-        ItemAgree from (limit stack - from) (sole_in stack) octets (of_head_seen got (contents_seen term) term stack marks from octets) (of_head term got (limit stack - from) (sole_in stack) (take (limit stack - from) octets) (contents_outcome term))
+        ItemAgree from (limit stack - from) (sole_in stack) octets (scan_after_head got (scan_contents term) term stack marks from octets) (of_head term got (limit stack - from) (sole_in stack) (take (limit stack - from) octets) (contents_outcome term))
     by_head Partial h = record { agree = tt {0} }
     by_head (Refused offset reason) h = item_fault from _ _ octets (from + offset) offset reason refl
     by_head (Got header count) h = by_loose (sole_in stack && nat_lt (header + count) (limit stack - from)) header count refl h.fits.0 h.fits.1
 
     by_one : (b : Bool) → (limit stack - from == 1) ≡ b →
-        ItemAgree from (limit stack - from) (sole_in stack) octets (when b (λ _. Fault from why.Overrun) (λ _. head_seen (contents_seen term) term stack marks from octets))
+        ItemAgree from (limit stack - from) (sole_in stack) octets (when b (λ _. Fault from why.Overrun) (λ _. scan_head (scan_contents term) term stack marks from octets))
         (if b then Bad 0 why.Overrun else of_head term (head (limit stack - from) (take (limit stack - from) octets)) (limit stack - from) (sole_in stack) (take (limit stack - from) octets) (contents_outcome term))
     by_one true e = item_fault from _ _ octets from 0 why.Overrun (omega arith)
     by_one false e =
         let not_one : limit stack - from ≡ 1 → ⊥ = eqb-false (limit stack - from) 1 e in
-        subst (λ got. ItemAgree from (limit stack - from) (sole_in stack) octets (head_seen (contents_seen term) term stack marks from octets) (of_head term got (limit stack - from) (sole_in stack) (take (limit stack - from) octets) (contents_outcome term)))
+        subst (λ got. ItemAgree from (limit stack - from) (sole_in stack) octets (scan_head (scan_contents term) term stack marks from octets) (of_head term got (limit stack - from) (sole_in stack) (take (limit stack - from) octets) (contents_outcome term)))
         (sym (head_take (limit stack - from) octets (omega arith))) (by_head (head (limit stack - from) octets) (head_fits (limit stack - from) octets))
 
 -- ---- what follows an item
 
 -- if what follows agrees after the item, it agrees after what came before the item
-shift_agree : (base before count whole room : ℕ) (octets rest : List ℕ) (seen : Seen) (outcome : Outcome) → count + room ≡ whole → rest ≡ drop count octets →
+shift_agree : (base before count whole room : ℕ) (octets rest : List ℕ) (seen : PartScan) (outcome : Outcome) → count + room ≡ whole → rest ≡ drop count octets →
     ContentsAgree base (before + count) room rest seen outcome → ContentsAgree base before whole octets seen outcome
 shift_agree base before count whole room octets rest (Within state) Open e f h = contents_open base before whole octets state
 shift_agree base before count whole room octets rest (Within state) (Bad offset because) e f h = absurd h.agree
@@ -295,8 +295,8 @@ shift_agree base before count whole room octets rest (Past marks place rest') (D
     let size : total ≡ before + count + room = h.agree.1 in
     record { agree = (omega arith, omega arith, h.agree.2 ∙ ap (drop room) f ∙ drop-drop room count octets ∙ ap (λ k. drop k octets) e) }
 
--- what an outcome makes of the room and the octets that an item leaves
-next_agree : (base before count whole finish there : ℕ) (octets rest : List ℕ) (seen : Seen) (f : ℕ → List ℕ → Outcome) → finish - there ≡ whole - count → count ≤ whole → rest ≡ drop count octets →
+-- the room and the octets that an item leaves, by its outcome
+next_agree : (base before count whole finish there : ℕ) (octets rest : List ℕ) (seen : PartScan) (f : ℕ → List ℕ → Outcome) → finish - there ≡ whole - count → count ≤ whole → rest ≡ drop count octets →
     ContentsAgree base (before + count) (finish - there) rest seen (f (finish - there) (take (finish - there) rest)) → ContentsAgree base before whole octets seen (f (whole - count) (drop count (take whole octets)))
 next_agree base before count whole finish there octets rest seen f e le after_it h =
     let left : count + (whole - count) ≡ whole = omega arith in
@@ -316,58 +316,58 @@ NextAgrees base before place room sole octets next next' =
     (marks : List Mark) (there : ℕ) (rest : List ℕ) (count : ℕ) → there ≡ place + count → 0 < count → count ≤ room → (sole ≡ true → count ≡ room) → rest ≡ drop count octets → ContentsAgree base before room octets (next marks there rest) (next' count)
 
 -- the item that an octet begins
-picked_agree : (term : Term) → ContentsRight term → (left : Due) (end : ℕ) (outer : List Frame) (marks : List Mark) (base before place room : ℕ) (octet : ℕ) (octets : List ℕ) (next : Next) (next' : ℕ → Outcome) →
+picked_agree : (term : Term) → ContentsRight term → (left : Expected) (end : ℕ) (outer : List Container) (marks : List Mark) (base before place room : ℕ) (octet : ℕ) (octets : List ℕ) (next : Next) (next' : ℕ → Outcome) →
     place ≡ base + before → end - place ≡ suc room → (octet == tag_of term) ≡ true → NextAgrees base before place (suc room) (is_sole left) (octet ∷ octets) next next' →
-    ContentsAgree base before (suc room) (octet ∷ octets) (then_seen (begun (contents_seen term) term (frame_of end left ∷ outer) marks place (octet ∷ octets)) next)
+    ContentsAgree base before (suc room) (octet ∷ octets) (scan_then (begun (scan_contents term) term (container_of end left ∷ outer) marks place (octet ∷ octets)) next)
     (then_after before (item_with (contents_outcome term) term (suc room) (is_sole left) (octet ∷ take room octets)) next')
 picked_agree term right left end outer marks base before place room octet octets next next' e f tag k =
-    let agreed : ItemAgree place (end - place) (is_sole left) (octet ∷ octets) (begun (contents_seen term) term (frame_of end left ∷ outer) marks place (octet ∷ octets)) (begun_outcome term (end - place) (is_sole left) (take (end - place) (octet ∷ octets)))
-    = item_agree term right (frame_of end left ∷ outer) marks place (octet ∷ octets) (omega arith) in
-    let here : ItemAgree place (suc room) (is_sole left) (octet ∷ octets) (begun (contents_seen term) term (frame_of end left ∷ outer) marks place (octet ∷ octets)) (begun_outcome term (suc room) (is_sole left) (octet ∷ take room octets))
-    = subst (λ r. ItemAgree place r (is_sole left) (octet ∷ octets) (begun (contents_seen term) term (frame_of end left ∷ outer) marks place (octet ∷ octets)) (begun_outcome term r (is_sole left) (take r (octet ∷ octets)))) f agreed in
-    subst (λ outcome. ContentsAgree base before (suc room) (octet ∷ octets) (then_seen (begun (contents_seen term) term (frame_of end left ∷ outer) marks place (octet ∷ octets)) next) (then_after before outcome next'))
+    let agreed : ItemAgree place (end - place) (is_sole left) (octet ∷ octets) (begun (scan_contents term) term (container_of end left ∷ outer) marks place (octet ∷ octets)) (begun_outcome term (end - place) (is_sole left) (take (end - place) (octet ∷ octets)))
+    = item_agree term right (container_of end left ∷ outer) marks place (octet ∷ octets) (omega arith) in
+    let here : ItemAgree place (suc room) (is_sole left) (octet ∷ octets) (begun (scan_contents term) term (container_of end left ∷ outer) marks place (octet ∷ octets)) (begun_outcome term (suc room) (is_sole left) (octet ∷ take room octets))
+    = subst (λ r. ItemAgree place r (is_sole left) (octet ∷ octets) (begun (scan_contents term) term (container_of end left ∷ outer) marks place (octet ∷ octets)) (begun_outcome term r (is_sole left) (take r (octet ∷ octets)))) f agreed in
+    subst (λ outcome. ContentsAgree base before (suc room) (octet ∷ octets) (scan_then (begun (scan_contents term) term (container_of end left ∷ outer) marks place (octet ∷ octets)) next) (then_after before outcome next'))
     (sym (item_with_tag term (suc room) (is_sole left) octet (take room octets) tag))
     (then_agree base before (suc room) place (suc room) (is_sole left) (octet ∷ octets) _ _ next next' e here k)
 
-required_agree : (term : Term) → ContentsRight term → (due left : Due) (end : ℕ) (outer : List Frame) (marks : List Mark) (base before place room : ℕ) (octets : List ℕ) (next : Next) (next' : ℕ → Outcome) →
+required_agree : (term : Term) → ContentsRight term → (expected left : Expected) (end : ℕ) (outer : List Container) (marks : List Mark) (base before place room : ℕ) (octets : List ℕ) (next : Next) (next' : ℕ → Outcome) →
     place ≡ base + before → end - place ≡ suc room → NextAgrees base before place (suc room) (is_sole left) octets next next' →
-    ContentsAgree base before (suc room) octets (required_seen (begun (contents_seen term) term) term due left end outer marks place (suc room) octets next)
+    ContentsAgree base before (suc room) octets (scan_required (begun (scan_contents term) term) term expected left end outer marks place (suc room) octets next)
     (then_after before (item_with (contents_outcome term) term (suc room) (is_sole left) (take (suc room) octets)) next')
-required_agree term right due left end outer marks base before place room [] next next' e f k = contents_open base before (suc room) [] _
-required_agree term right due left end outer marks base before place room (octet ∷ octets) next next' e f k = by_tag (octet == tag_of term) refl
+required_agree term right expected left end outer marks base before place room [] next next' e f k = contents_open base before (suc room) [] _
+required_agree term right expected left end outer marks base before place room (octet ∷ octets) next next' e f k = by_tag (octet == tag_of term) refl
   where
     by_tag : (b : Bool) → (octet == tag_of term) ≡ b →
         ContentsAgree base before (suc room) (octet ∷ octets)
-        (when b (λ _. then_seen (begun (contents_seen term) term (frame_of end left ∷ outer) marks place (octet ∷ octets)) next) (λ _. Fault place why.Tag))
+        (when b (λ _. scan_then (begun (scan_contents term) term (container_of end left ∷ outer) marks place (octet ∷ octets)) next) (λ _. Fault place why.Tag))
         (then_after before (item_with (contents_outcome term) term (suc room) (is_sole left) (octet ∷ take room octets)) next')
     by_tag true tag = picked_agree term right left end outer marks base before place room octet octets next next' e f tag k
     by_tag false tag =
         subst (λ b. ContentsAgree base before (suc room) (octet ∷ octets) (Fault place why.Tag) (then_after before (when b (λ _. begun_outcome term (suc room) (is_sole left) (octet ∷ take room octets)) (λ _. Bad 0 why.Tag)) next')) (sym tag)
         (contents_fault base before (suc room) (octet ∷ octets) place (before + 0) why.Tag (omega arith))
 
-optional_agree : (term : Term) → ContentsRight term → (fields : Fields) (due left : Due) (end : ℕ) (outer : List Frame) (marks : List Mark) (base before place room : ℕ) (octets : List ℕ) (next : Next) (other : Unit {0} → Seen) → (is_sole left) ≡ false →
+optional_agree : (term : Term) → ContentsRight term → (fields : Fields) (expected left : Expected) (end : ℕ) (outer : List Container) (marks : List Mark) (base before place room : ℕ) (octets : List ℕ) (next : Next) (other : Unit {0} → PartScan) → (is_sole left) ≡ false →
     place ≡ base + before → end - place ≡ suc room → NextAgrees base before place (suc room) (is_sole left) octets next (λ count. fields_outcome fields (before + count) (suc room - count) (drop count (take (suc room) octets))) →
     ContentsAgree base before (suc room) octets (other tt) (fields_outcome fields before (suc room) (take (suc room) octets)) →
-    ContentsAgree base before (suc room) octets (optional_seen (begun (contents_seen term) term) term due left end outer marks place (suc room) octets next other)
+    ContentsAgree base before (suc room) octets (scan_optional (begun (scan_contents term) term) term expected left end outer marks place (suc room) octets next other)
     (fields_outcome (Optional term fields) before (suc room) (take (suc room) octets))
-optional_agree term right fields due left end outer marks base before place room [] next other shared e f k m = contents_open base before (suc room) [] _
-optional_agree term right fields due left end outer marks base before place room (octet ∷ octets) next other shared e f k m = by_tag (octet == tag_of term) refl
+optional_agree term right fields expected left end outer marks base before place room [] next other shared e f k m = contents_open base before (suc room) [] _
+optional_agree term right fields expected left end outer marks base before place room (octet ∷ octets) next other shared e f k m = by_tag (octet == tag_of term) refl
   where
     by_tag : (b : Bool) → (octet == tag_of term) ≡ b →
         ContentsAgree base before (suc room) (octet ∷ octets)
-        (when b (λ _. then_seen (begun (contents_seen term) term (frame_of end left ∷ outer) marks place (octet ∷ octets)) next) other)
+        (when b (λ _. scan_then (begun (scan_contents term) term (container_of end left ∷ outer) marks place (octet ∷ octets)) next) other)
         (when b (λ _. then_after before (item_with (contents_outcome term) term (suc room) false (octet ∷ take room octets)) (λ count. fields_outcome fields (before + count) (suc room - count) (drop count (octet ∷ take room octets))))
         (λ _. fields_outcome fields before (suc room) (octet ∷ take room octets)))
     by_tag true tag =
-        subst (λ sole. ContentsAgree base before (suc room) (octet ∷ octets) (then_seen (begun (contents_seen term) term (frame_of end left ∷ outer) marks place (octet ∷ octets)) next)
+        subst (λ sole. ContentsAgree base before (suc room) (octet ∷ octets) (scan_then (begun (scan_contents term) term (container_of end left ∷ outer) marks place (octet ∷ octets)) next)
         (then_after before (item_with (contents_outcome term) term (suc room) sole (octet ∷ take room octets)) (λ count. fields_outcome fields (before + count) (suc room - count) (drop count (octet ∷ take room octets))))) shared
         (picked_agree term right left end outer marks base before place room octet octets next _ e f tag k)
     by_tag false tag = m
 
 -- ---- terms
 
-leaf_agree : (term : Term) (start count base before : ℕ) (stack : List Frame) (marks : List Mark) (octets : List ℕ) → start ≡ base + before →
-    ContentsAgree base before count octets (leaf_seen term start count stack marks octets) (after before (leaf_outcome term count (take count octets)))
+leaf_agree : (term : Term) (start count base before : ℕ) (stack : List Container) (marks : List Mark) (octets : List ℕ) → start ≡ base + before →
+    ContentsAgree base before count octets (scan_leaf term start count stack marks octets) (after before (leaf_outcome term count (take count octets)))
 leaf_agree term start count base before stack marks octets e = by_outcome (leaf_outcome term count (take count octets)) (leaf_done_at term count (take count octets))
   where
     by_outcome : (outcome : Outcome) → IsDoneAt count outcome → ContentsAgree base before count octets (of_leaf outcome term start count stack marks octets) (after before outcome)
@@ -381,37 +381,37 @@ after_then before (Bad offset reason) = refl
 after_then before (Done count) = refl
 
 -- the sole item fills its container, and nothing follows it
-ended : (base before whole there left end : ℕ) (outer : List Frame) (marks : List Mark) (octets rest : List ℕ) (count : ℕ) → there ≡ base + before + count → count ≡ whole → rest ≡ drop count octets → left ≡ 0 →
-    ContentsAgree base before whole octets (ended_seen (OneOf []) end outer marks there left rest) (Done (before + count))
+ended : (base before whole there left end : ℕ) (outer : List Container) (marks : List Mark) (octets rest : List ℕ) (count : ℕ) → there ≡ base + before + count → count ≡ whole → rest ≡ drop count octets → left ≡ 0 →
+    ContentsAgree base before whole octets (scan_end (OneOf []) end outer marks there left rest) (Done (before + count))
 ended base before whole there zero end outer marks octets rest count at full after_it none = record { agree = (omega arith, omega arith, after_it ∙ ap (λ k. drop k octets) full) }
 ended base before whole there (suc left) end outer marks octets rest count at full after_it none = absurd (omega arith)
 
-only_agree : (term : Term) → ContentsRight term → (start count base before : ℕ) (outer : List Frame) (marks : List Mark) (octets : List ℕ) → start ≡ base + before → 0 < before →
-    ContentsAgree base before count octets (only_seen (begun (contents_seen term) term) term (start + count) outer marks start count octets)
+only_agree : (term : Term) → ContentsRight term → (start count base before : ℕ) (outer : List Container) (marks : List Mark) (octets : List ℕ) → start ≡ base + before → 0 < before →
+    ContentsAgree base before count octets (scan_only (begun (scan_contents term) term) term (start + count) outer marks start count octets)
     (only_contents before count (item_with (contents_outcome term) term count true (take count octets)))
 only_agree term right start zero base before outer marks octets e p = contents_fault base before zero octets (start - 1) (before - 1) why.Missing (omega arith)
 only_agree term right start (suc room) base before outer marks octets e p =
-    subst (λ outcome. ContentsAgree base before (suc room) octets (only_seen (begun (contents_seen term) term) term (start + suc room) outer marks start (suc room) octets) outcome)
+    subst (λ outcome. ContentsAgree base before (suc room) octets (scan_only (begun (scan_contents term) term) term (start + suc room) outer marks start (suc room) octets) outcome)
     (sym (after_then before (item_with (contents_outcome term) term (suc room) true (take (suc room) octets))))
     (required_agree term right (OneOf (term ∷ [])) (OneOf []) (start + suc room) outer marks base before start room octets _ _ e (omega arith)
     (λ marks_then there rest count at pos le sole after_it.
     let full : count ≡ suc room = sole refl in
     ended base before (suc room) there (start + suc room - there) (start + suc room) outer marks_then octets rest count (omega arith) full after_it (omega arith)))
 
-each_agree : (term : Term) → ContentsRight term → (bound end base before place room : ℕ) (outer : List Frame) (marks : List Mark) (octets : List ℕ) → place ≡ base + before → room ≡ end - place →
-    ContentsAgree base before room octets (each_seen (begun (contents_seen term) term) term bound end outer marks place room octets)
+each_agree : (term : Term) → ContentsRight term → (bound end base before place room : ℕ) (outer : List Container) (marks : List Mark) (octets : List ℕ) → place ≡ base + before → room ≡ end - place →
+    ContentsAgree base before room octets (scan_each (begun (scan_contents term) term) term bound end outer marks place room octets)
     (items_contents (λ left. item_with (contents_outcome term) term left false) bound before room (take room octets))
 each_agree term right bound end base before place zero outer marks octets e f = record { agree = (omega arith, omega arith, refl) }
 each_agree term right zero end base before place (suc room) outer marks octets e f = contents_open base before (suc room) octets _
 each_agree term right (suc bound) end base before place (suc room) outer marks octets e f =
     required_agree term right (Each term) (Each term) end outer marks base before place room octets _ _ e (sym f)
-    (λ marks_then there rest taken at pos le sole after_it.
-    next_agree base before taken (suc room) end there octets rest _ (λ left part. items_contents (λ all. item_with (contents_outcome term) term all false) bound (before + taken) left part) (omega arith) le after_it
-    (each_agree term right bound end base (before + taken) there (end - there) outer marks_then rest (omega arith) refl))
+    (λ marks_then there rest scanned at pos le sole after_it.
+    next_agree base before scanned (suc room) end there octets rest _ (λ left part. items_contents (λ all. item_with (contents_outcome term) term all false) bound (before + scanned) left part) (omega arith) le after_it
+    (each_agree term right bound end base (before + scanned) there (end - there) outer marks_then rest (omega arith) refl))
 
 mutual
-  pub contents_agree : (term : Term) (start count base before : ℕ) (stack : List Frame) (marks : List Mark) (octets : List ℕ) → start ≡ base + before → 0 < before →
-      ContentsAgree base before count octets (contents_seen term start count stack marks octets) (contents_outcome term before count (take count octets))
+  pub contents_agree : (term : Term) (start count base before : ℕ) (stack : List Container) (marks : List Mark) (octets : List ℕ) → start ≡ base + before → 0 < before →
+      ContentsAgree base before count octets (scan_contents term start count stack marks octets) (contents_outcome term before count (take count octets))
   contents_agree (Integer low high) start count base before stack marks octets e p = leaf_agree (Integer low high) start count base before stack marks octets e
   contents_agree (Text greatest) start count base before stack marks octets e p = leaf_agree (Text greatest) start count base before stack marks octets e
   contents_agree Octets start count base before stack marks octets e p = leaf_agree Octets start count base before stack marks octets e
@@ -426,23 +426,23 @@ mutual
   contents_agree (Application number term) start count base before stack marks octets e p =
       only_agree term (contents_agree term) start count base before stack (with_mark marks (Application number term) start count) octets e p
 
-  fields_agree : (fields : Fields) (end base before place room : ℕ) (outer : List Frame) (marks : List Mark) (octets : List ℕ) → place ≡ base + before → room ≡ end - place → 0 < before →
-      ContentsAgree base before room octets (fields_seen fields end outer marks place room octets) (fields_outcome fields before room (take room octets))
+  fields_agree : (fields : Fields) (end base before place room : ℕ) (outer : List Container) (marks : List Mark) (octets : List ℕ) → place ≡ base + before → room ≡ end - place → 0 < before →
+      ContentsAgree base before room octets (scan_fields fields end outer marks place room octets) (fields_outcome fields before room (take room octets))
   fields_agree End end base before place zero outer marks octets e f p = record { agree = (omega arith, omega arith, refl) }
   fields_agree End end base before place (suc room) outer marks [] e f p = contents_open base before (suc room) [] _
   fields_agree End end base before place (suc room) outer marks (octet ∷ octets) e f p = contents_fault base before (suc room) (octet ∷ octets) place before why.Tag e
   fields_agree (Required term fields) end base before place zero outer marks octets e f p = contents_fault base before zero octets (place - 1) (before - 1) why.Missing (omega arith)
   fields_agree (Required term fields) end base before place (suc room) outer marks octets e f p =
       required_agree term (contents_agree term) (Listed (Required term fields)) (Listed fields) end outer marks base before place room octets _ _ e (sym f)
-      (λ marks_then there rest taken at pos le sole after_it.
-      next_agree base before taken (suc room) end there octets rest _ (λ left part. fields_outcome fields (before + taken) left part) (omega arith) le after_it
-      (fields_agree fields end base (before + taken) there (end - there) outer marks_then rest (omega arith) refl (omega arith)))
+      (λ marks_then there rest scanned at pos le sole after_it.
+      next_agree base before scanned (suc room) end there octets rest _ (λ left part. fields_outcome fields (before + scanned) left part) (omega arith) le after_it
+      (fields_agree fields end base (before + scanned) there (end - there) outer marks_then rest (omega arith) refl (omega arith)))
   fields_agree (Optional term fields) end base before place zero outer marks octets e f p = fields_agree fields end base before place zero outer marks octets e f p
   fields_agree (Optional term fields) end base before place (suc room) outer marks octets e f p =
       optional_agree term (contents_agree term) fields (Listed (Optional term fields)) (Listed fields) end outer marks base before place room octets _ _ refl e (sym f)
-      (λ marks_then there rest taken at pos le sole after_it.
-      next_agree base before taken (suc room) end there octets rest _ (λ left part. fields_outcome fields (before + taken) left part) (omega arith) le after_it
-      (fields_agree fields end base (before + taken) there (end - there) outer marks_then rest (omega arith) refl (omega arith)))
+      (λ marks_then there rest scanned at pos le sole after_it.
+      next_agree base before scanned (suc room) end there octets rest _ (λ left part. fields_outcome fields (before + scanned) left part) (omega arith) le after_it
+      (fields_agree fields end base (before + scanned) there (end - there) outer marks_then rest (omega arith) refl (omega arith)))
       (fields_agree fields end base before place (suc room) outer marks octets e f p)
 
 -- ---- messages
@@ -452,18 +452,18 @@ after_zero Open = refl
 after_zero (Bad offset reason) = let e : 0 + offset ≡ offset = omega arith in ap (λ o. Bad o reason) e
 after_zero (Done count) = let e : 0 + count ≡ count = omega arith in ap Done e
 
-message_agree : (terms : List Term) (due : Due) (room : ℕ) (octets : List ℕ) → length octets ≤ suc room →
-    ContentsAgree 0 0 (suc room) octets (one_of_seen terms due (suc room) [] [] 0 (suc room) octets) (message_outcome terms (suc room) octets)
-message_agree [] due room [] h = contents_open 0 0 (suc room) [] _
-message_agree [] due room (octet ∷ octets) h = contents_fault 0 0 (suc room) (octet ∷ octets) 0 0 why.Tag refl
-message_agree (term ∷ terms) due room [] h = contents_open 0 0 (suc room) [] _
-message_agree (term ∷ terms) due room (octet ∷ octets) h = by_tag (octet == tag_of term) refl (message_agree terms due room (octet ∷ octets) h)
+message_agree : (terms : List Term) (expected : Expected) (room : ℕ) (octets : List ℕ) → length octets ≤ suc room →
+    ContentsAgree 0 0 (suc room) octets (scan_one_of terms expected (suc room) [] [] 0 (suc room) octets) (message_outcome terms (suc room) octets)
+message_agree [] expected room [] h = contents_open 0 0 (suc room) [] _
+message_agree [] expected room (octet ∷ octets) h = contents_fault 0 0 (suc room) (octet ∷ octets) 0 0 why.Tag refl
+message_agree (term ∷ terms) expected room [] h = contents_open 0 0 (suc room) [] _
+message_agree (term ∷ terms) expected room (octet ∷ octets) h = by_tag (octet == tag_of term) refl (message_agree terms expected room (octet ∷ octets) h)
   where
     next : Next
-    next = λ marks_then there rest. ended_seen (OneOf []) (suc room) [] marks_then there (suc room - there) rest
+    next = λ marks_then there rest. scan_end (OneOf []) (suc room) [] marks_then there (suc room - there) rest
 
-    seen : Seen
-    seen = then_seen (begun (contents_seen term) term (frame_of (suc room) (OneOf []) ∷ []) [] 0 (octet ∷ octets)) next
+    seen : PartScan
+    seen = scan_then (begun (scan_contents term) term (container_of (suc room) (OneOf []) ∷ []) [] 0 (octet ∷ octets)) next
 
     agreed : (octet == tag_of term) ≡ true → ContentsAgree 0 0 (suc room) (octet ∷ octets) seen (item_with (contents_outcome term) term (suc room) true (octet ∷ octets))
     agreed tag =
@@ -474,13 +474,13 @@ message_agree (term ∷ terms) due room (octet ∷ octets) h = by_tag (octet == 
         let full : count ≡ suc room = sole refl in
         ended 0 0 (suc room) there (suc room - there) (suc room) [] marks_then (octet ∷ octets) rest count (omega arith) full after_it (omega arith)))
 
-    by_tag : (b : Bool) → (octet == tag_of term) ≡ b → ContentsAgree 0 0 (suc room) (octet ∷ octets) (one_of_seen terms due (suc room) [] [] 0 (suc room) (octet ∷ octets)) (message_outcome terms (suc room) (octet ∷ octets)) →
-        ContentsAgree 0 0 (suc room) (octet ∷ octets) (when b (λ _. seen) (λ _. one_of_seen terms due (suc room) [] [] 0 (suc room) (octet ∷ octets)))
+    by_tag : (b : Bool) → (octet == tag_of term) ≡ b → ContentsAgree 0 0 (suc room) (octet ∷ octets) (scan_one_of terms expected (suc room) [] [] 0 (suc room) (octet ∷ octets)) (message_outcome terms (suc room) (octet ∷ octets)) →
+        ContentsAgree 0 0 (suc room) (octet ∷ octets) (when b (λ _. seen) (λ _. scan_one_of terms expected (suc room) [] [] 0 (suc room) (octet ∷ octets)))
         (when b (λ _. item_with (contents_outcome term) term (suc room) true (octet ∷ octets)) (λ _. message_outcome terms (suc room) (octet ∷ octets)))
     by_tag true tag ih = agreed tag
     by_tag false tag ih = ih
 
-agreed_outcome : (n : ℕ) (octets : List ℕ) (seen : Seen) (outcome : Outcome) → ContentsAgree 0 0 n octets seen outcome → outcome ≡ outcome_of n (answer seen)
+agreed_outcome : (n : ℕ) (octets : List ℕ) (seen : PartScan) (outcome : Outcome) → ContentsAgree 0 0 n octets seen outcome → outcome ≡ outcome_of n (answer seen)
 agreed_outcome n octets (Within state) Open h = refl
 agreed_outcome n octets (Within state) (Bad offset because) h = absurd h.agree
 agreed_outcome n octets (Within state) (Done total) h = absurd h.agree
@@ -497,16 +497,16 @@ agreed_outcome n octets (Past marks place rest) (Done total) h =
     let same : total ≡ n = omega arith in
     ap Done same
 
--- The reading's outcome is the judgement's.
-pub reading_outcome : (terms : List Term) (n : ℕ) (octets : List ℕ) → 0 < n → length octets ≤ n → message_outcome terms n octets ≡ outcome_of n (reading terms n octets)
-reading_outcome terms zero octets some h = absurd (omega arith)
-reading_outcome terms (suc room) octets some h = agreed_outcome (suc room) octets (message_seen terms (suc room) octets) (message_outcome terms (suc room) octets) (message_agree terms (OneOf terms) room octets h)
+-- The outcome of the scan is that of the judgement.
+pub scan_outcome : (terms : List Term) (n : ℕ) (octets : List ℕ) → 0 < n → length octets ≤ n → message_outcome terms n octets ≡ outcome_of n (scan terms n octets)
+scan_outcome terms zero octets some h = absurd (omega arith)
+scan_outcome terms (suc room) octets some h = agreed_outcome (suc room) octets (scan_message terms (suc room) octets) (message_outcome terms (suc room) octets) (message_agree terms (OneOf terms) room octets h)
 
 decided : (n : ℕ) (given : Answer) → verdict_of (outcome_of n given) ≡ decided_by given
 decided n (Ongoing state) = refl
 decided n (Refusing place reason) = refl
 decided n (Whole marks) = refl
 
--- What a reading says of the octets is their judgement.
-pub reading_judges : ReadingJudges
-reading_judges terms n octets some h = ap verdict_of (reading_outcome terms n octets some h) ∙ decided n (reading terms n octets)
+-- The verdict of a scan of octets is their judgement.
+pub scan_judges : ScanJudges
+scan_judges terms n octets some h = ap verdict_of (scan_outcome terms n octets some h) ∙ decided n (scan terms n octets)

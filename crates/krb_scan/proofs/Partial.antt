@@ -6,10 +6,10 @@ use Rattle.krb_der.specs.declared.why.Why.{Why}
 use Rattle.krb_der.specs.declared.why.Why.TheVariants as why
 use Rattle.krb_msg.specs.Term.{Term, Integer, Text, Octets, Time, Bits, Sequence, SequenceOf, Tagged, Application}
 use Rattle.krb_msg.specs.Judgement.{Outcome, Open, Bad, Done, Head, Partial, Refused, Got, head, has_size}
-use Rattle.krb_scan.specs.Reading.{Mark, Listed, Each, OneOf, Frame, Tip, Between, InHead, InLeaf, State, limit, sole_in, frame_of, with_mark, leaf_outcome, Answer, Ongoing, Refusing, Whole, reading}
-use Rattle.krb_scan.specs.inner.Machine.{Pick, pick, lacks, settle, leafed, enter, headed, tagged, picked, step_between, step_at, step, go_on, initial}
+use Rattle.krb_scan.specs.Scan.{Mark, Listed, Each, OneOf, Container, Tip, Between, InHead, InLeaf, State, limit, sole_in, container_of, with_mark, leaf_outcome, Answer, Ongoing, Refusing, Whole, scan}
+use Rattle.krb_scan.specs.inner.Machine.{Pick, pick, requires_item, settle, leafed, enter, headed, tagged, picked, step_between, step_at, step, go_on, initial}
 use Rattle.krb_scan.proofs.Basics.{when_holds}
-use Rattle.krb_scan.proofs.Resume.{run, run_reading}
+use Rattle.krb_scan.proofs.Resume.{run, run_scan}
 
 abbrev pub octets_of : Tip → List ℕ
 octets_of (Between place) = []
@@ -27,48 +27,48 @@ pub record KeepsOctets (given : Answer) : Type 0 where
 refusing_octets : (place : ℕ) (reason : Why) → KeepsOctets (Refusing place reason)
 refusing_octets place reason = record { keeps = tt {0} }
 
-settle_octets : (stack : List Frame) (marks : List Mark) (place : ℕ) → KeepsOctets (settle stack marks place)
+settle_octets : (stack : List Container) (marks : List Mark) (place : ℕ) → KeepsOctets (settle stack marks place)
 settle_octets [] marks place = record { keeps = tt {0} }
-settle_octets (frame ∷ outer) marks place =
-    when_holds KeepsOctets (nat_lt place frame.end) _ _ (record { keeps = tt {0} })
-    (when_holds KeepsOctets (lacks frame.due) _ _ (refusing_octets (place - 1) why.Missing) (settle_octets outer marks place))
+settle_octets (container ∷ outer) marks place =
+    when_holds KeepsOctets (nat_lt place container.end) _ _ (record { keeps = tt {0} })
+    (when_holds KeepsOctets (requires_item container.expected) _ _ (refusing_octets (place - 1) why.Missing) (settle_octets outer marks place))
 
-leafed_octets : (outcome : Outcome) (term : Term) (start count : ℕ) (stack : List Frame) (marks : List Mark) (octets : List ℕ) → AreOctets octets → KeepsOctets (leafed outcome term start count stack marks octets)
+leafed_octets : (outcome : Outcome) (term : Term) (start count : ℕ) (stack : List Container) (marks : List Mark) (octets : List ℕ) → AreOctets octets → KeepsOctets (leafed outcome term start count stack marks octets)
 leafed_octets Open term start count stack marks octets a = record { keeps = a }
 leafed_octets (Bad offset reason) term start count stack marks octets a = refusing_octets (start + offset) reason
 leafed_octets (Done total) term start count stack marks octets a = settle_octets stack _ (start + count)
 
-enter_octets : (term : Term) (start count : ℕ) (stack : List Frame) (marks : List Mark) → KeepsOctets (enter term start count stack marks)
+enter_octets : (term : Term) (start count : ℕ) (stack : List Container) (marks : List Mark) → KeepsOctets (enter term start count stack marks)
 enter_octets (Integer low high) start count stack marks = leafed_octets (leaf_outcome (Integer low high) count []) (Integer low high) start count stack marks [] (tt {0})
 enter_octets (Text greatest) start count stack marks = leafed_octets (leaf_outcome (Text greatest) count []) (Text greatest) start count stack marks [] (tt {0})
 enter_octets Octets start count stack marks = leafed_octets (leaf_outcome Octets count []) Octets start count stack marks [] (tt {0})
 enter_octets Time start count stack marks = leafed_octets (leaf_outcome Time count []) Time start count stack marks [] (tt {0})
 enter_octets (Bits least) start count stack marks = leafed_octets (leaf_outcome (Bits least) count []) (Bits least) start count stack marks [] (tt {0})
-enter_octets (Sequence fields) start count stack marks = settle_octets (frame_of (start + count) (Listed fields) ∷ stack) (with_mark marks (Sequence fields) start count) start
-enter_octets (SequenceOf empty term) start count stack marks = settle_octets (frame_of (start + count) (Each term) ∷ stack) (with_mark marks (SequenceOf empty term) start count) start
-enter_octets (Tagged index term) start count stack marks = settle_octets (frame_of (start + count) (OneOf (term ∷ [])) ∷ stack) (with_mark marks (Tagged index term) start count) start
-enter_octets (Application number term) start count stack marks = settle_octets (frame_of (start + count) (OneOf (term ∷ [])) ∷ stack) (with_mark marks (Application number term) start count) start
+enter_octets (Sequence fields) start count stack marks = settle_octets (container_of (start + count) (Listed fields) ∷ stack) (with_mark marks (Sequence fields) start count) start
+enter_octets (SequenceOf empty term) start count stack marks = settle_octets (container_of (start + count) (Each term) ∷ stack) (with_mark marks (SequenceOf empty term) start count) start
+enter_octets (Tagged index term) start count stack marks = settle_octets (container_of (start + count) (OneOf (term ∷ [])) ∷ stack) (with_mark marks (Tagged index term) start count) start
+enter_octets (Application number term) start count stack marks = settle_octets (container_of (start + count) (OneOf (term ∷ [])) ∷ stack) (with_mark marks (Application number term) start count) start
 
-headed_octets : (got : Head) (term : Term) (stack : List Frame) (marks : List Mark) (from : ℕ) (octets : List ℕ) → AreOctets octets → KeepsOctets (headed got term stack marks from octets)
+headed_octets : (got : Head) (term : Term) (stack : List Container) (marks : List Mark) (from : ℕ) (octets : List ℕ) → AreOctets octets → KeepsOctets (headed got term stack marks from octets)
 headed_octets Partial term stack marks from octets a = record { keeps = a }
 headed_octets (Refused offset reason) term stack marks from octets a = refusing_octets (from + offset) reason
 headed_octets (Got header count) term stack marks from octets a =
     when_holds KeepsOctets (sole_in stack && nat_lt (header + count) (limit stack - from)) _ _ (refusing_octets (from + header - 1) why.Loose)
     (when_holds KeepsOctets (has_size term count) _ _ (enter_octets term (from + header) count stack marks) (refusing_octets (from + header - 1) why.Size))
 
-tagged_octets : (term : Term) (stack : List Frame) (marks : List Mark) (from octet : ℕ) → octet < 256 → KeepsOctets (tagged term stack marks from octet)
+tagged_octets : (term : Term) (stack : List Container) (marks : List Mark) (from octet : ℕ) → octet < 256 → KeepsOctets (tagged term stack marks from octet)
 tagged_octets term stack marks from octet h = when_holds KeepsOctets (limit stack - from == 1) _ _ (refusing_octets from why.Overrun) (record { keeps = (h, tt {0}) })
 
 step_octets : (state : State) (octet : ℕ) → octet < 256 → AreOctets (octets_of state.tip) → KeepsOctets (step state octet)
 step_octets state octet h a = by_tip state.tip a
   where
-    by_choice : (choice : Pick) (end : ℕ) (outer : List Frame) (place : ℕ) → KeepsOctets (picked choice end outer state.marks place octet)
+    by_choice : (choice : Pick) (end : ℕ) (outer : List Container) (place : ℕ) → KeepsOctets (picked choice end outer state.marks place octet)
     by_choice None end outer place = refusing_octets place why.Tag
-    by_choice (Some choice) end outer place = tagged_octets choice.0 (frame_of end choice.1 ∷ outer) state.marks place octet h
+    by_choice (Some choice) end outer place = tagged_octets choice.0 (container_of end choice.1 ∷ outer) state.marks place octet h
 
-    by_stack : (stack : List Frame) (place : ℕ) → KeepsOctets (step_between stack state.marks place octet)
+    by_stack : (stack : List Container) (place : ℕ) → KeepsOctets (step_between stack state.marks place octet)
     by_stack [] place = record { keeps = tt {0} }
-    by_stack (frame ∷ outer) place = by_choice (pick octet frame.due) frame.end outer place
+    by_stack (container ∷ outer) place = by_choice (pick octet container.expected) container.end outer place
 
     push : (octets : List ℕ) → AreOctets octets → AreOctets (octets ++ octet ∷ [])
     push octets k = AreOctets-append octets (octet ∷ []) k (h, tt {0})
@@ -87,5 +87,5 @@ run_octets state (octet ∷ octets) h a = by_answer (step state octet) (step_oct
     by_answer (Refusing place reason) k next = refusing_octets place reason
     by_answer (Whole marks) k next = record { keeps = tt {0} }
 
-pub reading_octets : (terms : List Term) (n : ℕ) (octets : List ℕ) → 0 < n → AreOctets octets → KeepsOctets (reading terms n octets)
-reading_octets terms n octets some h = subst KeepsOctets (sym (run_reading terms n octets some)) (run_octets (initial terms n) octets h (tt {0}))
+pub scan_octets : (terms : List Term) (n : ℕ) (octets : List ℕ) → 0 < n → AreOctets octets → KeepsOctets (scan terms n octets)
+scan_octets terms n octets some h = subst KeepsOctets (sym (run_scan terms n octets some)) (run_octets (initial terms n) octets h (tt {0}))

@@ -8,73 +8,73 @@ use Rattle.krb_der.specs.declared.verdict.Verdict.TheVariants as verdict
 use Rattle.krb_der.specs.declared.why.Why.TheVariants as why
 use Rattle.krb_msg.specs.Term.{Term}
 use Rattle.krb_msg.specs.Judgement.{Head, Partial, Refused, Got}
-use Rattle.krb_scan.specs.Reading as reading
-use Rattle.krb_scan.specs.Reading.{Frame, Due, Mark as Marked, frame_of, state_of, limit, sole_in}
-use Rattle.krb_scan.specs.Places.{IsItemPlace, IsSome, due_at, offered, item_of, item_at}
+use Rattle.krb_scan.specs.Scan as scan
+use Rattle.krb_scan.specs.Scan.{Container, Expected, Mark as Marked, container_of, state_of, limit, sole_in}
+use Rattle.krb_scan.specs.Positions.{IsItemPosition, IsSome, expected_at, offered, item_of, item_at}
 use Rattle.krb_scan.specs.State.{AreMarks, AreOpen}
 use Rattle.krb_scan.specs.inner.Machine.{Pick, pick, picked, step_between, headed, sized}
-use Rattle.krb_scan.specs.inner.Places.{IsPicked, IsPlaceOf, IsOffer, IsItem}
-use Rattle.krb_scan.specs.inner.Stands.{HeadIs, HeadEnds}
-use Rattle.krb_scan.specs.inner.Paths.{IsTaken, IsUnchanged}
+use Rattle.krb_scan.specs.inner.Positions.{IsPicked, IsPositionOf, IsOffer, IsItem}
+use Rattle.krb_scan.specs.inner.Outcomes.{HeadIs, HeadEnds}
+use Rattle.krb_scan.specs.inner.Paths.{IsStep, IsUnchanged}
 use Rattle.krb_scan.specs.declared.head.Head.TheVariants as found
 use Rattle.krb_scan.specs.declared.path.Path.{Path}
-use Rattle.krb_scan.specs.declared.places.Place.{Place}
+use Rattle.krb_scan.specs.declared.positions.Position.{Position}
 use Rattle.krb_scan.specs.declared.tip.Tip.TheVariants as tip
-use Rattle.krb_scan.proofs.Frames.{Innermost, innermost, open_same}
+use Rattle.krb_scan.proofs.Containers.{Innermost, innermost, open_same}
 
--- the row of a place with an item
-pub item_row : (row : Place) (place : ℕ) → IsItemPlace place → IsPlaceOf row (due_at place) → (left : Due) × IsItem row (item_at place) left
-item_row row place h is = by_offer (offered (due_at place)) h.1 is.offer
+-- the row of a position with an item
+pub item_row : (row : Position) (position : ℕ) → IsItemPosition position → IsPositionOf row (expected_at position) → (left : Expected) × IsItem row (item_at position) left
+item_row row position h is = by_offer (offered (expected_at position)) h.1 is.offer
   where
-    by_offer : (offer : Pick) → IsSome offer → IsOffer row offer → (left : Due) × IsItem row (item_of offer) left
+    by_offer : (offer : Pick) → IsSome offer → IsOffer row offer → (left : Expected) × IsItem row (item_of offer) left
     by_offer None k o = absurd k
     by_offer (Some choice) k o = (choice.1, o)
 
-picked_item : (octet place : ℕ) (due : Due) (p : IsPicked octet due place) → IsItemPlace place × (item_at place ≡ p.item)
-picked_item octet place due p = ((p.known, subst IsSome (sym p.offers) (tt {0})), ap item_of p.offers)
+picked_item : (octet position : ℕ) (expected : Expected) (p : IsPicked octet expected position) → IsItemPosition position × (item_at position ≡ p.item)
+picked_item octet position expected p = ((p.known, subst IsSome (sym p.offers) (tt {0})), ap item_of p.offers)
 
-picked_row : (row : Place) (octet place : ℕ) (due : Due) (p : IsPicked octet due place) → IsPlaceOf row (due_at place) → IsItem row p.item p.left
-picked_row row octet place due p is = subst (IsOffer row) p.offers is.offer
+picked_row : (row : Position) (octet position : ℕ) (expected : Expected) (p : IsPicked octet expected position) → IsPositionOf row (expected_at position) → IsItem row p.item p.left
+picked_row row octet position expected p is = subst (IsOffer row) p.offers is.offer
 
--- no item may stand here
-pub none_begins : (old new : Path) (octet : ℕ) (decided : Verdict) (stack : List Frame) (marks : List Marked) → AreOpen old.inner old.outer.items stack → pick octet (due_at old.inner.due) ≡ None → decided ≡ verdict.Refused (record { place = old.looked; why = why.Tag }) → IsUnchanged old new →
-    IsTaken old new (Ok decided) (step_between stack marks old.looked octet)
+-- no item is expected here
+pub none_begins : (old new : Path) (octet : ℕ) (decided : Verdict) (stack : List Container) (marks : List Marked) → AreOpen old.inner old.outer.items stack → pick octet (expected_at old.inner.expected) ≡ None → decided ≡ verdict.Refused (record { place = old.looked; why = why.Tag }) → IsUnchanged old new →
+    IsStep old new (Ok decided) (step_between stack marks old.looked octet)
 none_begins old new octet decided stack marks h none is kept =
     let i : Innermost old.inner old.outer.items stack = innermost old.inner old.outer.items stack h in
-    subst (λ all. IsTaken old new (Ok decided) (step_between all marks old.looked octet)) (sym i.same)
-    (subst (λ given. IsTaken old new (Ok decided) (picked given i.frame.end i.others marks old.looked octet)) (sym none ∙ ap (pick octet) i.is.due)
-    (subst (λ v. IsTaken old new (Ok v) (reading.Refusing old.looked why.Tag)) (sym is) (record { takes = (refl, refl, kept) })))
+    subst (λ all. IsStep old new (Ok decided) (step_between all marks old.looked octet)) (sym i.same)
+    (subst (λ given. IsStep old new (Ok decided) (picked given i.container.end i.others marks old.looked octet)) (sym none ∙ ap (pick octet) i.is.expected)
+    (subst (λ v. IsStep old new (Ok v) (scan.Refusing old.looked why.Tag)) (sym is) (record { steps = (refl, refl, kept) })))
 
 -- an item without room for its length
-pub overrun_begins : (old new : Path) (octet place : ℕ) (decided : Verdict) (stack : List Frame) (marks : List Marked) → AreOpen old.inner old.outer.items stack → IsPicked octet (due_at old.inner.due) place → old.looked + 1 ≡ old.inner.end → decided ≡ verdict.Refused (record { place = old.looked; why = why.Overrun }) → IsUnchanged old new →
-    IsTaken old new (Ok decided) (step_between stack marks old.looked octet)
-overrun_begins old new octet place decided stack marks h p room is kept =
+pub overrun_begins : (old new : Path) (octet position : ℕ) (decided : Verdict) (stack : List Container) (marks : List Marked) → AreOpen old.inner old.outer.items stack → IsPicked octet (expected_at old.inner.expected) position → old.looked + 1 ≡ old.inner.end → decided ≡ verdict.Refused (record { place = old.looked; why = why.Overrun }) → IsUnchanged old new →
+    IsStep old new (Ok decided) (step_between stack marks old.looked octet)
+overrun_begins old new octet position decided stack marks h p room is kept =
     let i : Innermost old.inner old.outer.items stack = innermost old.inner old.outer.items stack h in
-    let test : (i.frame.end - old.looked == 1) ≡ true = eq-eqb (i.frame.end - old.looked) 1 (omega (arith, i.is.end)) in
-    subst (λ all. IsTaken old new (Ok decided) (step_between all marks old.looked octet)) (sym i.same)
-    (subst (λ given. IsTaken old new (Ok decided) (picked given i.frame.end i.others marks old.looked octet)) (sym p.picks ∙ ap (pick octet) i.is.due)
-    (subst (λ b. IsTaken old new (Ok decided) (when b (λ _. reading.Refusing old.looked why.Overrun) (λ _. reading.Ongoing (state_of marks (frame_of i.frame.end p.left ∷ i.others) (reading.InHead p.item old.looked (octet ∷ [])))))) (sym test)
-    (subst (λ v. IsTaken old new (Ok v) (reading.Refusing old.looked why.Overrun)) (sym is) (record { takes = (refl, refl, kept) }))))
+    let test : (i.container.end - old.looked == 1) ≡ true = eq-eqb (i.container.end - old.looked) 1 (omega (arith, i.is.end)) in
+    subst (λ all. IsStep old new (Ok decided) (step_between all marks old.looked octet)) (sym i.same)
+    (subst (λ given. IsStep old new (Ok decided) (picked given i.container.end i.others marks old.looked octet)) (sym p.picks ∙ ap (pick octet) i.is.expected)
+    (subst (λ b. IsStep old new (Ok decided) (when b (λ _. scan.Refusing old.looked why.Overrun) (λ _. scan.Ongoing (state_of marks (container_of i.container.end p.left ∷ i.others) (scan.InHead p.item old.looked (octet ∷ [])))))) (sym test)
+    (subst (λ v. IsStep old new (Ok v) (scan.Refusing old.looked why.Overrun)) (sym is) (record { steps = (refl, refl, kept) }))))
 
 -- an item begins
-pub some_begins : (old new : Path) (octet place : ℕ) (row : Place) (stack : List Frame) (marks : List Marked) → AreOpen old.inner old.outer.items stack → AreMarks old.marks.items marks → IsPicked octet (due_at old.inner.due) place → IsPlaceOf row (due_at place) → (old.looked + 1 ≡ old.inner.end → ⊥) →
-    new.tip ≡ tip.Tagged place → new.marks.items ≡ old.marks.items → new.inner ≡ record { end = old.inner.end; due = row.next } → new.outer.items ≡ old.outer.items →
-    IsTaken old new (Ok verdict.Open) (step_between stack marks old.looked octet)
-some_begins old new octet place row stack marks h m p of_row room at_tip at_marks at_inner at_outer =
+pub some_begins : (old new : Path) (octet position : ℕ) (row : Position) (stack : List Container) (marks : List Marked) → AreOpen old.inner old.outer.items stack → AreMarks old.marks.items marks → IsPicked octet (expected_at old.inner.expected) position → IsPositionOf row (expected_at position) → (old.looked + 1 ≡ old.inner.end → ⊥) →
+    new.tip ≡ tip.Tagged position → new.marks.items ≡ old.marks.items → new.inner ≡ record { end = old.inner.end; expected = row.next } → new.outer.items ≡ old.outer.items →
+    IsStep old new (Ok verdict.Open) (step_between stack marks old.looked octet)
+some_begins old new octet position row stack marks h m p of_row room at_tip at_marks at_inner at_outer =
     let i : Innermost old.inner old.outer.items stack = innermost old.inner old.outer.items stack h in
-    let apart : i.frame.end - old.looked ≡ 1 → ⊥ = λ one. room (omega (arith, one, i.is.end)) in
-    let test : (i.frame.end - old.looked == 1) ≡ false = ne_eqb (i.frame.end - old.looked) 1 apart in
-    let item : IsItem row p.item p.left = picked_row row octet place (due_at old.inner.due) p of_row in
-    let next : Frame = frame_of i.frame.end p.left in
-    let at : IsItemPlace place × (item_at place ≡ p.item) = picked_item octet place (due_at old.inner.due) p in
-    subst (λ all. IsTaken old new (Ok verdict.Open) (step_between all marks old.looked octet)) (sym i.same)
-    (subst (λ given. IsTaken old new (Ok verdict.Open) (picked given i.frame.end i.others marks old.looked octet)) (sym p.picks ∙ ap (pick octet) i.is.due)
-    (subst (λ b. IsTaken old new (Ok verdict.Open) (when b (λ _. reading.Refusing old.looked why.Overrun) (λ _. reading.Ongoing (state_of marks (next ∷ i.others) (reading.InHead p.item old.looked (octet ∷ [])))))) (sym test)
+    let apart : i.container.end - old.looked ≡ 1 → ⊥ = λ one. room (omega (arith, one, i.is.end)) in
+    let test : (i.container.end - old.looked == 1) ≡ false = ne_eqb (i.container.end - old.looked) 1 apart in
+    let item : IsItem row p.item p.left = picked_row row octet position (expected_at old.inner.expected) p of_row in
+    let next : Container = container_of i.container.end p.left in
+    let at : IsItemPosition position × (item_at position ≡ p.item) = picked_item octet position (expected_at old.inner.expected) p in
+    subst (λ all. IsStep old new (Ok verdict.Open) (step_between all marks old.looked octet)) (sym i.same)
+    (subst (λ given. IsStep old new (Ok verdict.Open) (picked given i.container.end i.others marks old.looked octet)) (sym p.picks ∙ ap (pick octet) i.is.expected)
+    (subst (λ b. IsStep old new (Ok verdict.Open) (when b (λ _. scan.Refusing old.looked why.Overrun) (λ _. scan.Ongoing (state_of marks (next ∷ i.others) (scan.InHead p.item old.looked (octet ∷ [])))))) (sym test)
     (record {
-      takes = record {
+      steps = record {
         tip = rw at_tip (at.0, at.1, refl);
         containers = subst (λ all. AreOpen new.inner all (next ∷ i.others)) (sym at_outer) (subst (λ top. AreOpen top old.outer.items (next ∷ i.others)) (sym at_inner)
-            (open_same old.inner (record { end = old.inner.end; due = row.next }) old.outer.items stack next h (record { end = i.is.end; known = item.leads; due = item.next })));
+            (open_same old.inner (record { end = old.inner.end; expected = row.next }) old.outer.items stack next h (record { end = i.is.end; known = item.leads; expected = item.next })));
         marks = subst (λ all. AreMarks all marks) (sym at_marks) m;
       };
     })))
@@ -82,28 +82,28 @@ some_begins old new octet place row stack marks h m p of_row room at_tip at_mark
 -- ---- length octets that are whole
 
 -- the item fills its room if it must
-not_loose : (sole : Bool) (from header count taken limit : ℕ) → from + header ≡ taken → taken + count ≤ limit → (sole ≡ true → limit ≤ taken + count) → (sole && nat_lt (header + count) (limit - from)) ≡ false
-not_loose false from header count taken limit e le full = refl
-not_loose true from header count taken limit e le full = let h : limit ≤ taken + count = full refl in le-ltb (header + count) (limit - from) (omega arith)
+not_loose : (sole : Bool) (from header count scanned limit : ℕ) → from + header ≡ scanned → scanned + count ≤ limit → (sole ≡ true → limit ≤ scanned + count) → (sole && nat_lt (header + count) (limit - from)) ≡ false
+not_loose false from header count scanned limit e le full = refl
+not_loose true from header count scanned limit e le full = let h : limit ≤ scanned + count = full refl in le-ltb (header + count) (limit - from) (omega arith)
 
-pub headed_whole : (old new : Path) (result : Result Verdict Memory) (size : ℕ) (term : Term) (stack : List Frame) (marks : List Marked) (got : Head) (from : ℕ) (octets : List ℕ) → HeadIs (found.Got size) got → HeadEnds from (old.looked + 1) (limit stack) got → (sole_in stack ≡ true → limit stack ≤ old.looked + 1 + size) →
-    IsTaken old new result (sized term (old.looked + 1) size stack marks) → IsTaken old new result (headed got term stack marks from octets)
+pub headed_whole : (old new : Path) (result : Result Verdict Memory) (size : ℕ) (term : Term) (stack : List Container) (marks : List Marked) (got : Head) (from : ℕ) (octets : List ℕ) → HeadIs (found.Got size) got → HeadEnds from (old.looked + 1) (limit stack) got → (sole_in stack ≡ true → limit stack ≤ old.looked + 1 + size) →
+    IsStep old new result (sized term (old.looked + 1) size stack marks) → IsStep old new result (headed got term stack marks from octets)
 headed_whole old new result size term stack marks Partial from octets is ends full h = absurd is
 headed_whole old new result size term stack marks (Refused offset reason) from octets is ends full h = absurd is
 headed_whole old new result size term stack marks (Got header count) from octets is ends full h =
     let same : size ≡ count = is in
     let at : from + header ≡ old.looked + 1 = ends.0 in
     let test : (sole_in stack && nat_lt (header + count) (limit stack - from)) ≡ false = not_loose (sole_in stack) from header count (old.looked + 1) (limit stack) at ends.1 (λ sole. let le : limit stack ≤ old.looked + 1 + size = full sole in omega arith) in
-    subst (λ b. IsTaken old new result (when b (λ _. reading.Refusing (from + header - 1) why.Loose) (λ _. sized term (from + header) count stack marks))) (sym test)
-    (subst (λ start. IsTaken old new result (sized term start count stack marks)) (sym at) (subst (λ n. IsTaken old new result (sized term (old.looked + 1) n stack marks)) same h))
+    subst (λ b. IsStep old new result (when b (λ _. scan.Refusing (from + header - 1) why.Loose) (λ _. sized term (from + header) count stack marks))) (sym test)
+    (subst (λ start. IsStep old new result (sized term start count stack marks)) (sym at) (subst (λ n. IsStep old new result (sized term (old.looked + 1) n stack marks)) same h))
 
-pub headed_loose : (old new : Path) (decided : Verdict) (size : ℕ) (term : Term) (stack : List Frame) (marks : List Marked) (got : Head) (from : ℕ) (octets : List ℕ) → HeadIs (found.Got size) got → HeadEnds from (old.looked + 1) (limit stack) got → sole_in stack ≡ true → old.looked + 1 + size < limit stack →
-    decided ≡ verdict.Refused (record { place = old.looked; why = why.Loose }) → IsUnchanged old new → IsTaken old new (Ok decided) (headed got term stack marks from octets)
+pub headed_loose : (old new : Path) (decided : Verdict) (size : ℕ) (term : Term) (stack : List Container) (marks : List Marked) (got : Head) (from : ℕ) (octets : List ℕ) → HeadIs (found.Got size) got → HeadEnds from (old.looked + 1) (limit stack) got → sole_in stack ≡ true → old.looked + 1 + size < limit stack →
+    decided ≡ verdict.Refused (record { place = old.looked; why = why.Loose }) → IsUnchanged old new → IsStep old new (Ok decided) (headed got term stack marks from octets)
 headed_loose old new decided size term stack marks Partial from octets is ends sole lt refused kept = absurd is
 headed_loose old new decided size term stack marks (Refused offset reason) from octets is ends sole lt refused kept = absurd is
 headed_loose old new decided size term stack marks (Got header count) from octets is ends sole lt refused kept =
     let same : size ≡ count = is in
     let at : from + header ≡ old.looked + 1 = ends.0 in
     let test : (sole_in stack && nat_lt (header + count) (limit stack - from)) ≡ true = ap (λ b. b && nat_lt (header + count) (limit stack - from)) sole ∙ lt-ltb (header + count) (limit stack - from) (omega arith) in
-    subst (λ b. IsTaken old new (Ok decided) (when b (λ _. reading.Refusing (from + header - 1) why.Loose) (λ _. sized term (from + header) count stack marks))) (sym test)
-    (subst (λ v. IsTaken old new (Ok v) (reading.Refusing (from + header - 1) why.Loose)) (sym refused) (record { takes = (omega arith, refl, kept) }))
+    subst (λ b. IsStep old new (Ok decided) (when b (λ _. scan.Refusing (from + header - 1) why.Loose) (λ _. sized term (from + header) count stack marks))) (sym test)
+    (subst (λ v. IsStep old new (Ok v) (scan.Refusing (from + header - 1) why.Loose)) (sym refused) (record { steps = (omega arith, refl, kept) }))

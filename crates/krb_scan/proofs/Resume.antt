@@ -1,4 +1,4 @@
--- The machine goes on as the reading of the whole list does.
+-- The machine goes on as the scan of the whole list does.
 use Rattle.std.proofs.Common.{◌≡◌, ℕ, zero, suc, ◌+◌, ◌-◌, ◌<◌, ◌≤◌, Bool, true, false, ◌&&◌, ◌==◌, nat_lt, List, [], ◌∷◌, ◌++◌, length, take, drop, Some, None, refl, sym, ap, ◌∙◌, arith, append_assoc, append-nil, subst}
 use Rattle.std.proofs.lemmas.List.{length-append, length-take}
 use Rattle.std.proofs.Math.Seq.{take-append_seam, drop-append_seam, take-append-add}
@@ -8,182 +8,182 @@ use Rattle.krb_der.specs.declared.why.Why.{Why}
 use Rattle.krb_der.specs.declared.why.Why.TheVariants as why
 use Rattle.krb_msg.specs.Term.{Term, Fields, Integer, Text, Octets, Time, Bits, Sequence, SequenceOf, Tagged, Application, End, Required, Optional, tag_of}
 use Rattle.krb_msg.specs.Judgement.{Outcome, Open, Bad, Done, Head, Partial, Refused, Got, head, has_size}
-use Rattle.krb_scan.specs.Reading.{Mark, Due, Listed, Each, OneOf, Frame, Tip, Between, InHead, InLeaf, State, Seen, Within, Fault, Past, then_seen, limit, sole_in, frame_of, mark_of, state_of, with_mark, leaf_outcome, leaf_value, of_leaf, leaf_seen, of_head_seen, head_seen, begun, between, only_seen, each_seen, contents_seen, fields_seen, one_of_seen, message_seen, Answer, Ongoing, Refusing, Whole, answer, reading}
-use Rattle.krb_scan.specs.inner.Machine.{Pick, pick_field, pick_one_of, pick, lacks_field, lacks, settle, leafed, in_leaf, opened, enter, headed, tagged, picked, step_between, step_at, step, go_on, initial}
+use Rattle.krb_scan.specs.Scan.{Mark, Expected, Listed, Each, OneOf, Container, Tip, Between, InHead, InLeaf, State, PartScan, Within, Fault, Past, scan_then, limit, sole_in, container_of, mark_of, state_of, with_mark, leaf_outcome, leaf_value, of_leaf, scan_leaf, scan_after_head, scan_head, begun, between, scan_only, scan_each, scan_contents, scan_fields, scan_one_of, scan_message, Answer, Ongoing, Refusing, Whole, answer, scan}
+use Rattle.krb_scan.specs.inner.Machine.{Pick, pick_field, pick_one_of, pick, requires_field, requires_item, settle, leafed, in_leaf, opened, enter, headed, tagged, picked, step_between, step_at, step, go_on, initial}
 use Rattle.krb_scan.proofs.Basics.{when_holds, when_knows, when_same, then_same, then_assoc}
 use Rattle.krb_scan.proofs.Progress.{ItemReader, ItemAdvances, begun_advances, contents_advance}
 use Rattle.krb_scan.proofs.Stable.{SameOnce, head_stays, EndsAt, IsPartial, head_ends, Counts, leaf_counts, SameFault, leaf_fault}
 
 -- the rest of a container's contents
-abbrev pub due_seen : Due → ℕ → List Frame → List Mark → ℕ → List ℕ → Seen
-due_seen (Listed fields) end outer marks place octets = fields_seen fields end outer marks place (end - place) octets
-due_seen (Each term) end outer marks place octets = each_seen (begun (contents_seen term) term) term (end - place) end outer marks place (end - place) octets
-due_seen (OneOf terms) end outer marks place octets = one_of_seen terms (OneOf terms) end outer marks place (end - place) octets
+abbrev pub scan_expected : Expected → ℕ → List Container → List Mark → ℕ → List ℕ → PartScan
+scan_expected (Listed fields) end outer marks place octets = scan_fields fields end outer marks place (end - place) octets
+scan_expected (Each term) end outer marks place octets = scan_each (begun (scan_contents term) term) term (end - place) end outer marks place (end - place) octets
+scan_expected (OneOf terms) end outer marks place octets = scan_one_of terms (OneOf terms) end outer marks place (end - place) octets
 
 -- the rest of the open containers' contents, from the inner to the outer
-abbrev pub rest_seen : List Frame → List Mark → ℕ → List ℕ → Seen
-rest_seen [] marks place octets = Past marks place octets
-rest_seen (frame ∷ outer) marks place octets = then_seen (due_seen frame.due frame.end outer marks place octets) (rest_seen outer)
+abbrev pub scan_rest : List Container → List Mark → ℕ → List ℕ → PartScan
+scan_rest [] marks place octets = Past marks place octets
+scan_rest (container ∷ outer) marks place octets = scan_then (scan_expected container.expected container.end outer marks place octets) (scan_rest outer)
 
-abbrev pub resume_at : Tip → List Frame → List Mark → List ℕ → Seen
-resume_at (Between place) stack marks octets = rest_seen stack marks place octets
-resume_at (InHead term from present) stack marks octets = then_seen (head_seen (contents_seen term) term stack marks from (present ++ octets)) (rest_seen stack)
-resume_at (InLeaf term start count present) stack marks octets = then_seen (leaf_seen term start count stack marks (present ++ octets)) (rest_seen stack)
+abbrev pub resume_at : Tip → List Container → List Mark → List ℕ → PartScan
+resume_at (Between place) stack marks octets = scan_rest stack marks place octets
+resume_at (InHead term from present) stack marks octets = scan_then (scan_head (scan_contents term) term stack marks from (present ++ octets)) (scan_rest stack)
+resume_at (InLeaf term start count present) stack marks octets = scan_then (scan_leaf term start count stack marks (present ++ octets)) (scan_rest stack)
 
--- what a message's further octets decide, from a state
+-- the answer to further octets of a message, from a state
 abbrev pub resume : State → List ℕ → Answer
 resume state octets = answer (resume_at state.tip state.stack state.marks octets)
 
 -- ---- the item that an octet begins
 
-abbrev pub pick_seen : Pick → ℕ → List Frame → List Mark → ℕ → List ℕ → Seen
-pick_seen None end outer marks place octets = Fault place why.Tag
-pick_seen (Some choice) end outer marks place octets = then_seen (begun (contents_seen choice.0) choice.0 (frame_of end choice.1 ∷ outer) marks place octets) (due_seen choice.1 end outer)
+abbrev pub scan_pick : Pick → ℕ → List Container → List Mark → ℕ → List ℕ → PartScan
+scan_pick None end outer marks place octets = Fault place why.Tag
+scan_pick (Some choice) end outer marks place octets = scan_then (begun (scan_contents choice.0) choice.0 (container_of end choice.1 ∷ outer) marks place octets) (scan_expected choice.1 end outer)
 
-pick_when : (b : Bool) (x y : Unit {0} → Seen) (chosen other : Unit {0} → Pick) (end : ℕ) (outer : List Frame) (marks : List Mark) (place : ℕ) (octets : List ℕ) →
-    x tt ≡ pick_seen (chosen tt) end outer marks place octets → y tt ≡ pick_seen (other tt) end outer marks place octets → when b x y ≡ pick_seen (when b chosen other) end outer marks place octets
+pick_when : (b : Bool) (x y : Unit {0} → PartScan) (chosen other : Unit {0} → Pick) (end : ℕ) (outer : List Container) (marks : List Mark) (place : ℕ) (octets : List ℕ) →
+    x tt ≡ scan_pick (chosen tt) end outer marks place octets → y tt ≡ scan_pick (other tt) end outer marks place octets → when b x y ≡ scan_pick (when b chosen other) end outer marks place octets
 pick_when true x y chosen other end outer marks place octets e f = e
 pick_when false x y chosen other end outer marks place octets e f = f
 
-fields_pick : (fields : Fields) (end : ℕ) (outer : List Frame) (marks : List Mark) (place room octet : ℕ) (octets : List ℕ) →
-    fields_seen fields end outer marks place (suc room) (octet ∷ octets) ≡ pick_seen (pick_field octet fields) end outer marks place (octet ∷ octets)
+fields_pick : (fields : Fields) (end : ℕ) (outer : List Container) (marks : List Mark) (place room octet : ℕ) (octets : List ℕ) →
+    scan_fields fields end outer marks place (suc room) (octet ∷ octets) ≡ scan_pick (pick_field octet fields) end outer marks place (octet ∷ octets)
 fields_pick End end outer marks place room octet octets = refl
 fields_pick (Required term fields) end outer marks place room octet octets =
     pick_when (octet == tag_of term) _ _ _ _ end outer marks place (octet ∷ octets) refl refl
 fields_pick (Optional term fields) end outer marks place room octet octets =
     pick_when (octet == tag_of term) _ _ _ _ end outer marks place (octet ∷ octets) refl (fields_pick fields end outer marks place room octet octets)
 
-one_of_pick : (terms : List Term) (due : Due) (end : ℕ) (outer : List Frame) (marks : List Mark) (place room octet : ℕ) (octets : List ℕ) →
-    one_of_seen terms due end outer marks place (suc room) (octet ∷ octets) ≡ pick_seen (pick_one_of octet terms) end outer marks place (octet ∷ octets)
-one_of_pick [] due end outer marks place room octet octets = refl
-one_of_pick (term ∷ terms) due end outer marks place room octet octets =
-    pick_when (octet == tag_of term) _ _ _ _ end outer marks place (octet ∷ octets) refl (one_of_pick terms due end outer marks place room octet octets)
+one_of_pick : (terms : List Term) (expected : Expected) (end : ℕ) (outer : List Container) (marks : List Mark) (place room octet : ℕ) (octets : List ℕ) →
+    scan_one_of terms expected end outer marks place (suc room) (octet ∷ octets) ≡ scan_pick (pick_one_of octet terms) end outer marks place (octet ∷ octets)
+one_of_pick [] expected end outer marks place room octet octets = refl
+one_of_pick (term ∷ terms) expected end outer marks place room octet octets =
+    pick_when (octet == tag_of term) _ _ _ _ end outer marks place (octet ∷ octets) refl (one_of_pick terms expected end outer marks place room octet octets)
 
 -- the item of a tag is one of one term
-only_right : (term : Term) (end : ℕ) (outer : List Frame) (marks : List Mark) (place room : ℕ) (octets : List ℕ) →
-    only_seen (begun (contents_seen term) term) term end outer marks place room octets ≡ one_of_seen (term ∷ []) (OneOf (term ∷ [])) end outer marks place room octets
+only_right : (term : Term) (end : ℕ) (outer : List Container) (marks : List Mark) (place room : ℕ) (octets : List ℕ) →
+    scan_only (begun (scan_contents term) term) term end outer marks place room octets ≡ scan_one_of (term ∷ []) (OneOf (term ∷ [])) end outer marks place room octets
 only_right term end outer marks place zero octets = refl
 only_right term end outer marks place (suc room) [] = refl
 only_right term end outer marks place (suc room) (octet ∷ octets) = refl
 
 -- the bound on how many items there are does not matter
-each_bound : (one : ItemReader) → ItemAdvances one → (term : Term) (b c : ℕ) (end : ℕ) (outer : List Frame) (marks : List Mark) (place room : ℕ) (octets : List ℕ) →
-    room ≡ end - place → room ≤ b → room ≤ c → each_seen one term b end outer marks place room octets ≡ each_seen one term c end outer marks place room octets
+each_bound : (one : ItemReader) → ItemAdvances one → (term : Term) (b c : ℕ) (end : ℕ) (outer : List Container) (marks : List Mark) (place room : ℕ) (octets : List ℕ) →
+    room ≡ end - place → room ≤ b → room ≤ c → scan_each one term b end outer marks place room octets ≡ scan_each one term c end outer marks place room octets
 each_bound one h term b c end outer marks place zero octets e p q = refl
 each_bound one h term zero c end outer marks place (suc room) octets e p q = absurd (omega arith)
 each_bound one h term (suc b) zero end outer marks place (suc room) octets e p q = absurd (omega arith)
 each_bound one h term (suc b) (suc c) end outer marks place (suc room) [] e p q = refl
 each_bound one h term (suc b) (suc c) end outer marks place (suc room) (octet ∷ octets) e p q =
     when_same (octet == tag_of term) _ _ _ _
-    (then_same (suc place) (one (frame_of end (Each term) ∷ outer) marks place (octet ∷ octets)) _ _ (h (frame_of end (Each term) ∷ outer) marks place (octet ∷ octets))
+    (then_same (suc place) (one (container_of end (Each term) ∷ outer) marks place (octet ∷ octets)) _ _ (h (container_of end (Each term) ∷ outer) marks place (octet ∷ octets))
     (λ marks_then there rest le. each_bound one h term b c end outer marks_then there (end - there) rest refl (omega arith) (omega arith)))
     refl
 
-each_pick : (term : Term) (bound : ℕ) (end : ℕ) (outer : List Frame) (marks : List Mark) (place room octet : ℕ) (octets : List ℕ) →
+each_pick : (term : Term) (bound : ℕ) (end : ℕ) (outer : List Container) (marks : List Mark) (place room octet : ℕ) (octets : List ℕ) →
     room ≡ end - place → 0 < room → room ≤ bound →
-    each_seen (begun (contents_seen term) term) term bound end outer marks place room (octet ∷ octets) ≡ pick_seen (pick octet (Each term)) end outer marks place (octet ∷ octets)
+    scan_each (begun (scan_contents term) term) term bound end outer marks place room (octet ∷ octets) ≡ scan_pick (pick octet (Each term)) end outer marks place (octet ∷ octets)
 each_pick term bound end outer marks place zero octet octets e h p = absurd (omega arith)
 each_pick term zero end outer marks place (suc room) octet octets e h p = absurd (omega arith)
 each_pick term (suc bound) end outer marks place (suc room) octet octets e h p =
-    let advances : ItemAdvances (begun (contents_seen term) term) = begun_advances (contents_seen term) (contents_advance term) term in
+    let advances : ItemAdvances (begun (scan_contents term) term) = begun_advances (scan_contents term) (contents_advance term) term in
     pick_when (octet == tag_of term) _ _ _ _ end outer marks place (octet ∷ octets)
-    (then_same (suc place) (begun (contents_seen term) term (frame_of end (Each term) ∷ outer) marks place (octet ∷ octets)) _ _ (advances (frame_of end (Each term) ∷ outer) marks place (octet ∷ octets))
-    (λ marks_then there rest le. each_bound (begun (contents_seen term) term) advances term bound (end - there) end outer marks_then there (end - there) rest refl (omega arith) (omega arith)))
+    (then_same (suc place) (begun (scan_contents term) term (container_of end (Each term) ∷ outer) marks place (octet ∷ octets)) _ _ (advances (container_of end (Each term) ∷ outer) marks place (octet ∷ octets))
+    (λ marks_then there rest le. each_bound (begun (scan_contents term) term) advances term bound (end - there) end outer marks_then there (end - there) rest refl (omega arith) (omega arith)))
     refl
 
-pub due_pick : (due : Due) (end : ℕ) (outer : List Frame) (marks : List Mark) (place octet : ℕ) (octets : List ℕ) → place < end →
-    due_seen due end outer marks place (octet ∷ octets) ≡ pick_seen (pick octet due) end outer marks place (octet ∷ octets)
-due_pick (Listed fields) end outer marks place octet octets h = by_room (end - place) (omega arith)
+pub expected_pick : (expected : Expected) (end : ℕ) (outer : List Container) (marks : List Mark) (place octet : ℕ) (octets : List ℕ) → place < end →
+    scan_expected expected end outer marks place (octet ∷ octets) ≡ scan_pick (pick octet expected) end outer marks place (octet ∷ octets)
+expected_pick (Listed fields) end outer marks place octet octets h = by_room (end - place) (omega arith)
   where
-    by_room : (room : ℕ) → 0 < room → fields_seen fields end outer marks place room (octet ∷ octets) ≡ pick_seen (pick_field octet fields) end outer marks place (octet ∷ octets)
+    by_room : (room : ℕ) → 0 < room → scan_fields fields end outer marks place room (octet ∷ octets) ≡ scan_pick (pick_field octet fields) end outer marks place (octet ∷ octets)
     by_room zero p = absurd (omega arith)
     by_room (suc room) p = fields_pick fields end outer marks place room octet octets
-due_pick (Each term) end outer marks place octet octets h =
+expected_pick (Each term) end outer marks place octet octets h =
     each_pick term (end - place) end outer marks place (end - place) octet octets refl (omega arith) (omega arith)
-due_pick (OneOf terms) end outer marks place octet octets h = by_room (end - place) (omega arith)
+expected_pick (OneOf terms) end outer marks place octet octets h = by_room (end - place) (omega arith)
   where
-    by_room : (room : ℕ) → 0 < room → one_of_seen terms (OneOf terms) end outer marks place room (octet ∷ octets) ≡ pick_seen (pick_one_of octet terms) end outer marks place (octet ∷ octets)
+    by_room : (room : ℕ) → 0 < room → scan_one_of terms (OneOf terms) end outer marks place room (octet ∷ octets) ≡ scan_pick (pick_one_of octet terms) end outer marks place (octet ∷ octets)
     by_room zero p = absurd (omega arith)
     by_room (suc room) p = one_of_pick terms (OneOf terms) end outer marks place room octet octets
 
 -- ---- containers that are full
 
-fields_full : (fields : Fields) (end : ℕ) (outer : List Frame) (marks : List Mark) (place : ℕ) (octets : List ℕ) →
-    fields_seen fields end outer marks place zero octets ≡ when (lacks_field fields) (λ _. Fault (place - 1) why.Missing) (λ _. Past marks place octets)
+fields_full : (fields : Fields) (end : ℕ) (outer : List Container) (marks : List Mark) (place : ℕ) (octets : List ℕ) →
+    scan_fields fields end outer marks place zero octets ≡ when (requires_field fields) (λ _. Fault (place - 1) why.Missing) (λ _. Past marks place octets)
 fields_full End end outer marks place octets = refl
 fields_full (Required term fields) end outer marks place octets = refl
 fields_full (Optional term fields) end outer marks place octets = fields_full fields end outer marks place octets
 
-one_of_full : (terms : List Term) (due : Due) (end : ℕ) (outer : List Frame) (marks : List Mark) (place : ℕ) (octets : List ℕ) →
-    one_of_seen terms due end outer marks place zero octets ≡ when (lacks (OneOf terms)) (λ _. Fault (place - 1) why.Missing) (λ _. Past marks place octets)
-one_of_full [] due end outer marks place octets = refl
-one_of_full (term ∷ terms) due end outer marks place octets = refl
+one_of_full : (terms : List Term) (expected : Expected) (end : ℕ) (outer : List Container) (marks : List Mark) (place : ℕ) (octets : List ℕ) →
+    scan_one_of terms expected end outer marks place zero octets ≡ when (requires_item (OneOf terms)) (λ _. Fault (place - 1) why.Missing) (λ _. Past marks place octets)
+one_of_full [] expected end outer marks place octets = refl
+one_of_full (term ∷ terms) expected end outer marks place octets = refl
 
-due_full : (due : Due) (end : ℕ) (outer : List Frame) (marks : List Mark) (place : ℕ) (octets : List ℕ) → end ≤ place →
-    due_seen due end outer marks place octets ≡ when (lacks due) (λ _. Fault (place - 1) why.Missing) (λ _. Past marks place octets)
-due_full (Listed fields) end outer marks place octets h = by_room (end - place) (omega arith)
+expected_full : (expected : Expected) (end : ℕ) (outer : List Container) (marks : List Mark) (place : ℕ) (octets : List ℕ) → end ≤ place →
+    scan_expected expected end outer marks place octets ≡ when (requires_item expected) (λ _. Fault (place - 1) why.Missing) (λ _. Past marks place octets)
+expected_full (Listed fields) end outer marks place octets h = by_room (end - place) (omega arith)
   where
-    by_room : (room : ℕ) → room ≡ 0 → fields_seen fields end outer marks place room octets ≡ when (lacks_field fields) (λ _. Fault (place - 1) why.Missing) (λ _. Past marks place octets)
+    by_room : (room : ℕ) → room ≡ 0 → scan_fields fields end outer marks place room octets ≡ when (requires_field fields) (λ _. Fault (place - 1) why.Missing) (λ _. Past marks place octets)
     by_room zero e = fields_full fields end outer marks place octets
     by_room (suc room) e = absurd (omega arith)
-due_full (Each term) end outer marks place octets h = by_room (end - place) (end - place) (omega arith)
+expected_full (Each term) end outer marks place octets h = by_room (end - place) (end - place) (omega arith)
   where
-    by_room : (bound room : ℕ) → room ≡ 0 → each_seen (begun (contents_seen term) term) term bound end outer marks place room octets ≡ Past marks place octets
+    by_room : (bound room : ℕ) → room ≡ 0 → scan_each (begun (scan_contents term) term) term bound end outer marks place room octets ≡ Past marks place octets
     by_room bound zero e = refl
     by_room bound (suc room) e = absurd (omega arith)
-due_full (OneOf terms) end outer marks place octets h = by_room (end - place) (omega arith)
+expected_full (OneOf terms) end outer marks place octets h = by_room (end - place) (omega arith)
   where
-    by_room : (room : ℕ) → room ≡ 0 → one_of_seen terms (OneOf terms) end outer marks place room octets ≡ when (lacks (OneOf terms)) (λ _. Fault (place - 1) why.Missing) (λ _. Past marks place octets)
+    by_room : (room : ℕ) → room ≡ 0 → scan_one_of terms (OneOf terms) end outer marks place room octets ≡ when (requires_item (OneOf terms)) (λ _. Fault (place - 1) why.Missing) (λ _. Past marks place octets)
     by_room zero e = one_of_full terms (OneOf terms) end outer marks place octets
     by_room (suc room) e = absurd (omega arith)
 
--- closing the full containers answers as the rest of the open ones does
-pub settle_right : (stack : List Frame) (marks : List Mark) (place : ℕ) (octets : List ℕ) →
-    answer (rest_seen stack marks place octets) ≡ go_on (settle stack marks place) (λ state. resume state octets)
+-- completing the full containers has the answer of the rest of those that are not complete
+pub settle_right : (stack : List Container) (marks : List Mark) (place : ℕ) (octets : List ℕ) →
+    answer (scan_rest stack marks place octets) ≡ go_on (settle stack marks place) (λ state. resume state octets)
 settle_right [] marks place octets = refl
-settle_right (frame ∷ outer) marks place octets = by_room (nat_lt place (frame.end)) refl (settle_right outer marks place octets)
+settle_right (container ∷ outer) marks place octets = by_room (nat_lt place (container.end)) refl (settle_right outer marks place octets)
   where
-    by_lack : (b : Bool) → answer (rest_seen outer marks place octets) ≡ go_on (settle outer marks place) (λ state. resume state octets) →
-        answer (then_seen (when b (λ _. Fault (place - 1) why.Missing) (λ _. Past marks place octets)) (rest_seen outer))
+    by_requires : (b : Bool) → answer (scan_rest outer marks place octets) ≡ go_on (settle outer marks place) (λ state. resume state octets) →
+        answer (scan_then (when b (λ _. Fault (place - 1) why.Missing) (λ _. Past marks place octets)) (scan_rest outer))
         ≡ go_on (when b (λ _. Refusing (place - 1) why.Missing) (λ _. settle outer marks place)) (λ state. resume state octets)
-    by_lack true ih = refl
-    by_lack false ih = ih
+    by_requires true ih = refl
+    by_requires false ih = ih
 
-    by_room : (b : Bool) → nat_lt place (frame.end) ≡ b → answer (rest_seen outer marks place octets) ≡ go_on (settle outer marks place) (λ state. resume state octets) →
-        answer (then_seen (due_seen frame.due frame.end outer marks place octets) (rest_seen outer))
-        ≡ go_on (when b (λ _. Ongoing (state_of marks (frame ∷ outer) (Between place))) (λ _. when (lacks frame.due) (λ _. Refusing (place - 1) why.Missing) (λ _. settle outer marks place))) (λ state. resume state octets)
+    by_room : (b : Bool) → nat_lt place (container.end) ≡ b → answer (scan_rest outer marks place octets) ≡ go_on (settle outer marks place) (λ state. resume state octets) →
+        answer (scan_then (scan_expected container.expected container.end outer marks place octets) (scan_rest outer))
+        ≡ go_on (when b (λ _. Ongoing (state_of marks (container ∷ outer) (Between place))) (λ _. when (requires_item container.expected) (λ _. Refusing (place - 1) why.Missing) (λ _. settle outer marks place))) (λ state. resume state octets)
     by_room true e ih = refl
     by_room false e ih =
-        ap (λ seen. answer (then_seen seen (rest_seen outer))) (due_full frame.due frame.end outer marks place octets (ltb-false place (frame.end) e)) ∙ by_lack (lacks frame.due) ih
+        ap (λ seen. answer (scan_then seen (scan_rest outer))) (expected_full container.expected container.end outer marks place octets (ltb-false place (container.end) e)) ∙ by_requires (requires_item container.expected) ih
 
 -- ---- an item's tag
 
-tagged_right : (term : Term) (stack : List Frame) (marks : List Mark) (from octet : ℕ) (octets : List ℕ) →
-    answer (then_seen (begun (contents_seen term) term stack marks from (octet ∷ octets)) (rest_seen stack)) ≡ go_on (tagged term stack marks from octet) (λ state. resume state octets)
+tagged_right : (term : Term) (stack : List Container) (marks : List Mark) (from octet : ℕ) (octets : List ℕ) →
+    answer (scan_then (begun (scan_contents term) term stack marks from (octet ∷ octets)) (scan_rest stack)) ≡ go_on (tagged term stack marks from octet) (λ state. resume state octets)
 tagged_right term stack marks from octet octets = by_room (limit stack - from == 1)
   where
-    by_room : (b : Bool) → answer (then_seen (when b (λ _. Fault from why.Overrun) (λ _. head_seen (contents_seen term) term stack marks from (octet ∷ octets))) (rest_seen stack))
+    by_room : (b : Bool) → answer (scan_then (when b (λ _. Fault from why.Overrun) (λ _. scan_head (scan_contents term) term stack marks from (octet ∷ octets))) (scan_rest stack))
         ≡ go_on (when b (λ _. Refusing from why.Overrun) (λ _. Ongoing (state_of marks stack (InHead term from (octet ∷ []))))) (λ state. resume state octets)
     by_room true = refl
     by_room false = refl
 
-picked_right : (choice : Pick) (end : ℕ) (outer : List Frame) (marks : List Mark) (place octet : ℕ) (octets : List ℕ) →
-    answer (then_seen (pick_seen choice end outer marks place (octet ∷ octets)) (rest_seen outer)) ≡ go_on (picked choice end outer marks place octet) (λ state. resume state octets)
+picked_right : (choice : Pick) (end : ℕ) (outer : List Container) (marks : List Mark) (place octet : ℕ) (octets : List ℕ) →
+    answer (scan_then (scan_pick choice end outer marks place (octet ∷ octets)) (scan_rest outer)) ≡ go_on (picked choice end outer marks place octet) (λ state. resume state octets)
 picked_right None end outer marks place octet octets = refl
 picked_right (Some choice) end outer marks place octet octets =
-    ap answer (then_assoc (begun (contents_seen choice.0) choice.0 (frame_of end choice.1 ∷ outer) marks place (octet ∷ octets)) (due_seen choice.1 end outer) (rest_seen outer))
-    ∙ tagged_right choice.0 (frame_of end choice.1 ∷ outer) marks place octet octets
+    ap answer (then_assoc (begun (scan_contents choice.0) choice.0 (container_of end choice.1 ∷ outer) marks place (octet ∷ octets)) (scan_expected choice.1 end outer) (scan_rest outer))
+    ∙ tagged_right choice.0 (container_of end choice.1 ∷ outer) marks place octet octets
 
-then_past : (seen : Seen) → answer (then_seen seen (rest_seen [])) ≡ answer seen
+then_past : (seen : PartScan) → answer (scan_then seen (scan_rest [])) ≡ answer seen
 then_past (Within state) = refl
 then_past (Fault place reason) = refl
 then_past (Past marks place rest) = refl
 
 -- ---- a leaf's contents
 
-leaf_done : (term : Term) (start count present : ℕ) (stack : List Frame) (marks : List Mark) (all octets rest : List ℕ) →
+leaf_done : (term : Term) (start count present : ℕ) (stack : List Container) (marks : List Mark) (all octets rest : List ℕ) →
     leaf_outcome term count (take count all) ≡ Done present → take count all ≡ octets → drop count all ≡ rest →
-    leaf_seen term start count stack marks all ≡ Past (marks ++ mark_of term start count (leaf_value term octets) ∷ []) (start + count) rest
+    scan_leaf term start count stack marks all ≡ Past (marks ++ mark_of term start count (leaf_value term octets) ∷ []) (start + count) rest
 leaf_done term start count present stack marks all octets rest e f g =
     ap (λ outcome. of_leaf outcome term start count stack marks all) e
     ∙ ap (λ known. Past (marks ++ mark_of term start count (leaf_value term known) ∷ []) (start + count) (drop count all)) f
@@ -195,13 +195,13 @@ take_within count octets more h =
     let k : take (length octets + (count - length octets)) (octets ++ more) ≡ octets ++ take (count - length octets) more = take-append-add octets more (count - length octets) in
     rw e at k
 
-leaf_right : (term : Term) (start count : ℕ) (stack : List Frame) (marks : List Mark) (present octets : List ℕ) →
+leaf_right : (term : Term) (start count : ℕ) (stack : List Container) (marks : List Mark) (present octets : List ℕ) →
     has_size term count ≡ true → length present ≤ count →
-    answer (then_seen (leaf_seen term start count stack marks (present ++ octets)) (rest_seen stack)) ≡ go_on (in_leaf term start count stack marks present) (λ state. resume state octets)
+    answer (scan_then (scan_leaf term start count stack marks (present ++ octets)) (scan_rest stack)) ≡ go_on (in_leaf term start count stack marks present) (λ state. resume state octets)
 leaf_right term start count stack marks present octets size fits = by_outcome (leaf_outcome term count present) refl
   where
     by_outcome : (now : Outcome) → leaf_outcome term count present ≡ now →
-        answer (then_seen (leaf_seen term start count stack marks (present ++ octets)) (rest_seen stack)) ≡ go_on (leafed now term start count stack marks present) (λ state. resume state octets)
+        answer (scan_then (scan_leaf term start count stack marks (present ++ octets)) (scan_rest stack)) ≡ go_on (leafed now term start count stack marks present) (λ state. resume state octets)
     by_outcome Open e = refl
     by_outcome (Bad offset reason) e =
         let part : List ℕ = take (count - length present) octets in
@@ -209,16 +209,16 @@ leaf_right term start count stack marks present octets size fits = by_outcome (l
         let short : length (present ++ part) ≤ count = omega (arith, length-append present part, length-take (count - length present) octets) in
         let same : SameFault (leaf_outcome term count present) (leaf_outcome term count (present ++ part)) = leaf_fault term count present part short in
         let there : leaf_outcome term count (present ++ part) ≡ Bad offset reason = rw e at same in
-        ap (λ outcome. answer (then_seen (of_leaf outcome term start count stack marks (present ++ octets)) (rest_seen stack))) (ap (leaf_outcome term count) here ∙ there)
+        ap (λ outcome. answer (scan_then (of_leaf outcome term start count stack marks (present ++ octets)) (scan_rest stack))) (ap (leaf_outcome term count) here ∙ there)
     by_outcome (Done total) e =
         let counts : Counts count (length present) (leaf_outcome term count present) = leaf_counts term count present size in
         let enough : count ≤ length present = rw e at counts in
         let exact : length present ≡ count = omega arith in
-        let front : take (length present) (present ++ octets) ≡ present = take-append_seam present octets in
-        let front_at : take count (present ++ octets) ≡ present = rw exact at front in
+        let prefix : take (length present) (present ++ octets) ≡ present = take-append_seam present octets in
+        let prefix_at : take count (present ++ octets) ≡ present = rw exact at prefix in
         let back : drop (length present) (present ++ octets) ≡ octets = drop-append_seam present octets in
         let back_at : drop count (present ++ octets) ≡ octets = rw exact at back in
-        ap (λ seen. answer (then_seen seen (rest_seen stack))) (leaf_done term start count total stack marks (present ++ octets) present octets (ap (leaf_outcome term count) front_at ∙ e) front_at back_at)
+        ap (λ seen. answer (scan_then seen (scan_rest stack))) (leaf_done term start count total stack marks (present ++ octets) present octets (ap (leaf_outcome term count) prefix_at ∙ e) prefix_at back_at)
         ∙ settle_right stack (marks ++ mark_of term start count (leaf_value term present) ∷ []) (start + count) octets
 
 -- ---- an item's contents
@@ -227,60 +227,60 @@ add_back : (start count : ℕ) → start + count - start ≡ count
 add_back start count = omega arith
 
 -- the contents of a tag
-tag_right : (tag term : Term) (start count : ℕ) (stack : List Frame) (marks : List Mark) (octets : List ℕ) →
-    answer (then_seen (only_seen (begun (contents_seen term) term) term (start + count) stack (with_mark marks tag start count) start count octets) (rest_seen stack))
+tag_right : (tag term : Term) (start count : ℕ) (stack : List Container) (marks : List Mark) (octets : List ℕ) →
+    answer (scan_then (scan_only (begun (scan_contents term) term) term (start + count) stack (with_mark marks tag start count) start count octets) (scan_rest stack))
     ≡ go_on (opened tag (OneOf (term ∷ [])) start count stack marks) (λ state. resume state octets)
 tag_right tag term start count stack marks octets =
-    ap (λ seen. answer (then_seen seen (rest_seen stack))) (only_right term (start + count) stack (with_mark marks tag start count) start count octets)
-    ∙ subst (λ room. answer (then_seen (one_of_seen (term ∷ []) (OneOf (term ∷ [])) (start + count) stack (with_mark marks tag start count) start room octets) (rest_seen stack)) ≡ go_on (opened tag (OneOf (term ∷ [])) start count stack marks) (λ state. resume state octets))
-    (add_back start count) (settle_right (frame_of (start + count) (OneOf (term ∷ [])) ∷ stack) (with_mark marks tag start count) start octets)
+    ap (λ seen. answer (scan_then seen (scan_rest stack))) (only_right term (start + count) stack (with_mark marks tag start count) start count octets)
+    ∙ subst (λ room. answer (scan_then (scan_one_of (term ∷ []) (OneOf (term ∷ [])) (start + count) stack (with_mark marks tag start count) start room octets) (scan_rest stack)) ≡ go_on (opened tag (OneOf (term ∷ [])) start count stack marks) (λ state. resume state octets))
+    (add_back start count) (settle_right (container_of (start + count) (OneOf (term ∷ [])) ∷ stack) (with_mark marks tag start count) start octets)
 
-pub enter_right : (term : Term) (start count : ℕ) (stack : List Frame) (marks : List Mark) (octets : List ℕ) → has_size term count ≡ true →
-    answer (then_seen (contents_seen term start count stack marks octets) (rest_seen stack)) ≡ go_on (enter term start count stack marks) (λ state. resume state octets)
+pub enter_right : (term : Term) (start count : ℕ) (stack : List Container) (marks : List Mark) (octets : List ℕ) → has_size term count ≡ true →
+    answer (scan_then (scan_contents term start count stack marks octets) (scan_rest stack)) ≡ go_on (enter term start count stack marks) (λ state. resume state octets)
 enter_right (Integer low high) start count stack marks octets size = leaf_right (Integer low high) start count stack marks [] octets size (omega arith)
 enter_right (Text greatest) start count stack marks octets size = leaf_right (Text greatest) start count stack marks [] octets size (omega arith)
 enter_right Octets start count stack marks octets size = leaf_right Octets start count stack marks [] octets size (omega arith)
 enter_right Time start count stack marks octets size = leaf_right Time start count stack marks [] octets size (omega arith)
 enter_right (Bits least) start count stack marks octets size = leaf_right (Bits least) start count stack marks [] octets size (omega arith)
 enter_right (Sequence fields) start count stack marks octets size =
-    subst (λ room. answer (then_seen (fields_seen fields (start + count) stack (with_mark marks (Sequence fields) start count) start room octets) (rest_seen stack)) ≡ go_on (enter (Sequence fields) start count stack marks) (λ state. resume state octets))
-    (add_back start count) (settle_right (frame_of (start + count) (Listed fields) ∷ stack) (with_mark marks (Sequence fields) start count) start octets)
+    subst (λ room. answer (scan_then (scan_fields fields (start + count) stack (with_mark marks (Sequence fields) start count) start room octets) (scan_rest stack)) ≡ go_on (enter (Sequence fields) start count stack marks) (λ state. resume state octets))
+    (add_back start count) (settle_right (container_of (start + count) (Listed fields) ∷ stack) (with_mark marks (Sequence fields) start count) start octets)
 enter_right (SequenceOf empty term) start count stack marks octets size =
-    subst (λ room. answer (then_seen (each_seen (begun (contents_seen term) term) term room (start + count) stack (with_mark marks (SequenceOf empty term) start count) start room octets) (rest_seen stack)) ≡ go_on (enter (SequenceOf empty term) start count stack marks) (λ state. resume state octets))
-    (add_back start count) (settle_right (frame_of (start + count) (Each term) ∷ stack) (with_mark marks (SequenceOf empty term) start count) start octets)
+    subst (λ room. answer (scan_then (scan_each (begun (scan_contents term) term) term room (start + count) stack (with_mark marks (SequenceOf empty term) start count) start room octets) (scan_rest stack)) ≡ go_on (enter (SequenceOf empty term) start count stack marks) (λ state. resume state octets))
+    (add_back start count) (settle_right (container_of (start + count) (Each term) ∷ stack) (with_mark marks (SequenceOf empty term) start count) start octets)
 enter_right (Tagged index term) start count stack marks octets size = tag_right (Tagged index term) term start count stack marks octets
 enter_right (Application number term) start count stack marks octets size = tag_right (Application number term) term start count stack marks octets
 
 -- an item's header that is longer by an octet
-headed_right : (term : Term) (stack : List Frame) (marks : List Mark) (from : ℕ) (present octets : List ℕ) →
+headed_right : (term : Term) (stack : List Container) (marks : List Mark) (from : ℕ) (present octets : List ℕ) →
     EndsAt (length present) (head (limit stack - from) present) →
-    answer (then_seen (head_seen (contents_seen term) term stack marks from (present ++ octets)) (rest_seen stack))
+    answer (scan_then (scan_head (scan_contents term) term stack marks from (present ++ octets)) (scan_rest stack))
     ≡ go_on (headed (head (limit stack - from) present) term stack marks from present) (λ state. resume state octets)
 headed_right term stack marks from present octets ends =
     by_head (head (limit stack - from) present) (head_stays (limit stack - from) present octets) ends
   where
     by_size : (b : Bool) (header count : ℕ) → has_size term count ≡ b → header ≡ length present →
-        answer (then_seen (when b (λ _. contents_seen term (from + header) count stack marks (drop header (present ++ octets))) (λ _. Fault (from + header - 1) why.Size)) (rest_seen stack))
+        answer (scan_then (when b (λ _. scan_contents term (from + header) count stack marks (drop header (present ++ octets))) (λ _. Fault (from + header - 1) why.Size)) (scan_rest stack))
         ≡ go_on (when b (λ _. enter term (from + header) count stack marks) (λ _. Refusing (from + header - 1) why.Size)) (λ state. resume state octets)
     by_size true header count e f =
         let back : drop (length present) (present ++ octets) ≡ octets = drop-append_seam present octets in
         let back_at : drop header (present ++ octets) ≡ octets = rw f back in
-        ap (λ left. answer (then_seen (contents_seen term (from + header) count stack marks left) (rest_seen stack))) back_at ∙ enter_right term (from + header) count stack marks octets e
+        ap (λ left. answer (scan_then (scan_contents term (from + header) count stack marks left) (scan_rest stack))) back_at ∙ enter_right term (from + header) count stack marks octets e
     by_size false header count e f = refl
 
     by_loose : (b : Bool) (header count : ℕ) → header ≡ length present →
-        answer (then_seen (when b (λ _. Fault (from + header - 1) why.Loose) (λ _. when (has_size term count) (λ _. contents_seen term (from + header) count stack marks (drop header (present ++ octets))) (λ _. Fault (from + header - 1) why.Size))) (rest_seen stack))
+        answer (scan_then (when b (λ _. Fault (from + header - 1) why.Loose) (λ _. when (has_size term count) (λ _. scan_contents term (from + header) count stack marks (drop header (present ++ octets))) (λ _. Fault (from + header - 1) why.Size))) (scan_rest stack))
         ≡ go_on (when b (λ _. Refusing (from + header - 1) why.Loose) (λ _. when (has_size term count) (λ _. enter term (from + header) count stack marks) (λ _. Refusing (from + header - 1) why.Size))) (λ state. resume state octets)
     by_loose true header count f = refl
     by_loose false header count f = by_size (has_size term count) header count refl f
 
     along : (later now : Head) → later ≡ now → (given : Answer) →
-        answer (then_seen (of_head_seen now (contents_seen term) term stack marks from (present ++ octets)) (rest_seen stack)) ≡ given →
-        answer (then_seen (of_head_seen later (contents_seen term) term stack marks from (present ++ octets)) (rest_seen stack)) ≡ given
-    along later now e given h = ap (λ got. answer (then_seen (of_head_seen got (contents_seen term) term stack marks from (present ++ octets)) (rest_seen stack))) e ∙ h
+        answer (scan_then (scan_after_head now (scan_contents term) term stack marks from (present ++ octets)) (scan_rest stack)) ≡ given →
+        answer (scan_then (scan_after_head later (scan_contents term) term stack marks from (present ++ octets)) (scan_rest stack)) ≡ given
+    along later now e given h = ap (λ got. answer (scan_then (scan_after_head got (scan_contents term) term stack marks from (present ++ octets)) (scan_rest stack))) e ∙ h
 
     by_head : (now : Head) → SameOnce now (head (limit stack - from) (present ++ octets)) → EndsAt (length present) now →
-        answer (then_seen (of_head_seen (head (limit stack - from) (present ++ octets)) (contents_seen term) term stack marks from (present ++ octets)) (rest_seen stack))
+        answer (scan_then (scan_after_head (head (limit stack - from) (present ++ octets)) (scan_contents term) term stack marks from (present ++ octets)) (scan_rest stack))
         ≡ go_on (headed now term stack marks from present) (λ state. resume state octets)
     by_head Partial same f = refl
     by_head (Refused offset reason) same f = along _ (Refused offset reason) same _ refl
@@ -288,16 +288,16 @@ headed_right term stack marks from present octets ends =
 
 -- ---- states that the machine reaches
 
-abbrev pub HasRoom : ℕ → List Frame → Type 0
+abbrev pub HasRoom : ℕ → List Container → Type 0
 HasRoom place [] = ⊥
-HasRoom place (frame ∷ outer) = place < frame.end
+HasRoom place (container ∷ outer) = place < container.end
 
-abbrev pub IsReached : Tip → List Frame → List Mark → Type 0
+abbrev pub IsReached : Tip → List Container → List Mark → Type 0
 IsReached (Between place) stack marks = HasRoom place stack
 IsReached (InHead term from octets) stack marks = head (limit stack - from) octets ≡ Partial
 IsReached (InLeaf term start count octets) stack marks = (has_size term count ≡ true) × (leaf_outcome term count octets ≡ Open)
 
--- a state in which an octet is due
+-- a state in which an octet is expected
 pub record Reached (state : State) : Type 0 where
   pub at : IsReached state.tip state.stack state.marks
 
@@ -315,14 +315,14 @@ ongoing_reached state h = record { reached = h }
 refusing_reached : (place : ℕ) (reason : Why) → ReachedAnswer (Refusing place reason)
 refusing_reached place reason = record { reached = tt {0} }
 
-pub settle_reached : (stack : List Frame) (marks : List Mark) (place : ℕ) → ReachedAnswer (settle stack marks place)
+pub settle_reached : (stack : List Container) (marks : List Mark) (place : ℕ) → ReachedAnswer (settle stack marks place)
 settle_reached [] marks place = record { reached = tt {0} }
-settle_reached (frame ∷ outer) marks place =
-    when_knows ReachedAnswer (nat_lt place (frame.end)) _ _
-    (λ e. ongoing_reached (state_of marks (frame ∷ outer) (Between place)) (record { at = ltb-true place (frame.end) e }))
-    (λ e. when_holds ReachedAnswer (lacks frame.due) _ _ (refusing_reached (place - 1) why.Missing) (settle_reached outer marks place))
+settle_reached (container ∷ outer) marks place =
+    when_knows ReachedAnswer (nat_lt place (container.end)) _ _
+    (λ e. ongoing_reached (state_of marks (container ∷ outer) (Between place)) (record { at = ltb-true place (container.end) e }))
+    (λ e. when_holds ReachedAnswer (requires_item container.expected) _ _ (refusing_reached (place - 1) why.Missing) (settle_reached outer marks place))
 
-in_leaf_reached : (term : Term) (start count : ℕ) (stack : List Frame) (marks : List Mark) (octets : List ℕ) → has_size term count ≡ true → ReachedAnswer (in_leaf term start count stack marks octets)
+in_leaf_reached : (term : Term) (start count : ℕ) (stack : List Container) (marks : List Mark) (octets : List ℕ) → has_size term count ≡ true → ReachedAnswer (in_leaf term start count stack marks octets)
 in_leaf_reached term start count stack marks octets size = by_outcome (leaf_outcome term count octets) refl
   where
     by_outcome : (now : Outcome) → leaf_outcome term count octets ≡ now → ReachedAnswer (leafed now term start count stack marks octets)
@@ -330,18 +330,18 @@ in_leaf_reached term start count stack marks octets size = by_outcome (leaf_outc
     by_outcome (Bad offset reason) e = refusing_reached (start + offset) reason
     by_outcome (Done total) e = settle_reached stack _ (start + count)
 
-enter_reached : (term : Term) (start count : ℕ) (stack : List Frame) (marks : List Mark) → has_size term count ≡ true → ReachedAnswer (enter term start count stack marks)
+enter_reached : (term : Term) (start count : ℕ) (stack : List Container) (marks : List Mark) → has_size term count ≡ true → ReachedAnswer (enter term start count stack marks)
 enter_reached (Integer low high) start count stack marks size = in_leaf_reached (Integer low high) start count stack marks [] size
 enter_reached (Text greatest) start count stack marks size = in_leaf_reached (Text greatest) start count stack marks [] size
 enter_reached Octets start count stack marks size = in_leaf_reached Octets start count stack marks [] size
 enter_reached Time start count stack marks size = in_leaf_reached Time start count stack marks [] size
 enter_reached (Bits least) start count stack marks size = in_leaf_reached (Bits least) start count stack marks [] size
-enter_reached (Sequence fields) start count stack marks size = settle_reached (frame_of (start + count) (Listed fields) ∷ stack) (with_mark marks (Sequence fields) start count) start
-enter_reached (SequenceOf empty term) start count stack marks size = settle_reached (frame_of (start + count) (Each term) ∷ stack) (with_mark marks (SequenceOf empty term) start count) start
-enter_reached (Tagged index term) start count stack marks size = settle_reached (frame_of (start + count) (OneOf (term ∷ [])) ∷ stack) (with_mark marks (Tagged index term) start count) start
-enter_reached (Application number term) start count stack marks size = settle_reached (frame_of (start + count) (OneOf (term ∷ [])) ∷ stack) (with_mark marks (Application number term) start count) start
+enter_reached (Sequence fields) start count stack marks size = settle_reached (container_of (start + count) (Listed fields) ∷ stack) (with_mark marks (Sequence fields) start count) start
+enter_reached (SequenceOf empty term) start count stack marks size = settle_reached (container_of (start + count) (Each term) ∷ stack) (with_mark marks (SequenceOf empty term) start count) start
+enter_reached (Tagged index term) start count stack marks size = settle_reached (container_of (start + count) (OneOf (term ∷ [])) ∷ stack) (with_mark marks (Tagged index term) start count) start
+enter_reached (Application number term) start count stack marks size = settle_reached (container_of (start + count) (OneOf (term ∷ [])) ∷ stack) (with_mark marks (Application number term) start count) start
 
-headed_reached : (term : Term) (stack : List Frame) (marks : List Mark) (from : ℕ) (octets : List ℕ) → ReachedAnswer (headed (head (limit stack - from) octets) term stack marks from octets)
+headed_reached : (term : Term) (stack : List Container) (marks : List Mark) (from : ℕ) (octets : List ℕ) → ReachedAnswer (headed (head (limit stack - from) octets) term stack marks from octets)
 headed_reached term stack marks from octets = by_head (head (limit stack - from) octets) refl
   where
     by_head : (now : Head) → head (limit stack - from) octets ≡ now → ReachedAnswer (headed now term stack marks from octets)
@@ -351,29 +351,29 @@ headed_reached term stack marks from octets = by_head (head (limit stack - from)
         when_holds ReachedAnswer (sole_in stack && nat_lt (header + count) (limit stack - from)) _ _ (refusing_reached (from + header - 1) why.Loose)
         (when_knows ReachedAnswer (has_size term count) _ _ (λ size. enter_reached term (from + header) count stack marks size) (λ size. refusing_reached (from + header - 1) why.Size))
 
-tagged_reached : (term : Term) (stack : List Frame) (marks : List Mark) (from octet : ℕ) → ReachedAnswer (tagged term stack marks from octet)
+tagged_reached : (term : Term) (stack : List Container) (marks : List Mark) (from octet : ℕ) → ReachedAnswer (tagged term stack marks from octet)
 tagged_reached term stack marks from octet =
     when_holds ReachedAnswer (limit stack - from == 1) _ _ (refusing_reached from why.Overrun) (ongoing_reached (state_of marks stack (InHead term from (octet ∷ []))) (record { at = refl }))
 
 pub step_reached : (state : State) (octet : ℕ) → Reached state → ReachedAnswer (step state octet)
 step_reached state octet h = by_tip state.tip h.at
   where
-    by_choice : (choice : Pick) (frame : Frame) (outer : List Frame) (place : ℕ) → ReachedAnswer (picked choice frame.end outer state.marks place octet)
-    by_choice None frame outer place = refusing_reached place why.Tag
-    by_choice (Some choice) frame outer place = tagged_reached choice.0 (frame_of frame.end choice.1 ∷ outer) state.marks place octet
+    by_choice : (choice : Pick) (container : Container) (outer : List Container) (place : ℕ) → ReachedAnswer (picked choice container.end outer state.marks place octet)
+    by_choice None container outer place = refusing_reached place why.Tag
+    by_choice (Some choice) container outer place = tagged_reached choice.0 (container_of container.end choice.1 ∷ outer) state.marks place octet
 
-    by_stack : (stack : List Frame) (place : ℕ) → ReachedAnswer (step_between stack state.marks place octet)
+    by_stack : (stack : List Container) (place : ℕ) → ReachedAnswer (step_between stack state.marks place octet)
     by_stack [] place = record { reached = tt {0} }
-    by_stack (frame ∷ outer) place = by_choice (pick octet frame.due) frame outer place
+    by_stack (container ∷ outer) place = by_choice (pick octet container.expected) container outer place
 
     by_tip : (tip : Tip) → IsReached tip state.stack state.marks → ReachedAnswer (step_at tip state.stack state.marks octet)
     by_tip (Between place) k = by_stack state.stack place
     by_tip (InHead term from octets) k = headed_reached term state.stack state.marks from (octets ++ octet ∷ [])
     by_tip (InLeaf term start count octets) k = in_leaf_reached term start count state.stack state.marks (octets ++ octet ∷ []) k.0
 
--- ---- the machine and the reading
+-- ---- the machine and the scan
 
--- an octet taken
+-- a step by an octet
 step_right : (state : State) (octet : ℕ) (octets : List ℕ) → Reached state →
     resume state (octet ∷ octets) ≡ go_on (step state octet) (λ then_state. resume then_state octets)
 step_right state octet octets h = by_tip state.tip h.at
@@ -381,49 +381,49 @@ step_right state octet octets h = by_tip state.tip h.at
     shift : (present : List ℕ) → present ++ octet ∷ octets ≡ (present ++ octet ∷ []) ++ octets
     shift present = sym (append_assoc present (octet ∷ []) octets)
 
-    by_stack : (stack : List Frame) (place : ℕ) → HasRoom place stack →
-        answer (rest_seen stack state.marks place (octet ∷ octets)) ≡ go_on (step_between stack state.marks place octet) (λ then_state. resume then_state octets)
+    by_stack : (stack : List Container) (place : ℕ) → HasRoom place stack →
+        answer (scan_rest stack state.marks place (octet ∷ octets)) ≡ go_on (step_between stack state.marks place octet) (λ then_state. resume then_state octets)
     by_stack [] place k = absurd k
-    by_stack (frame ∷ outer) place k =
-        ap (λ seen. answer (then_seen seen (rest_seen outer))) (due_pick frame.due frame.end outer state.marks place octet octets k)
-        ∙ picked_right (pick octet frame.due) frame.end outer state.marks place octet octets
+    by_stack (container ∷ outer) place k =
+        ap (λ seen. answer (scan_then seen (scan_rest outer))) (expected_pick container.expected container.end outer state.marks place octet octets k)
+        ∙ picked_right (pick octet container.expected) container.end outer state.marks place octet octets
 
     by_tip : (tip : Tip) → IsReached tip state.stack state.marks →
         answer (resume_at tip state.stack state.marks (octet ∷ octets)) ≡ go_on (step_at tip state.stack state.marks octet) (λ then_state. resume then_state octets)
     by_tip (Between place) k = by_stack state.stack place k
     by_tip (InHead term from present) k =
         let partial : IsPartial (head (limit state.stack - from) present) = rw k (tt {0}) in
-        ap (λ all. answer (then_seen (head_seen (contents_seen term) term state.stack state.marks from all) (rest_seen state.stack))) (shift present)
+        ap (λ all. answer (scan_then (scan_head (scan_contents term) term state.stack state.marks from all) (scan_rest state.stack))) (shift present)
         ∙ headed_right term state.stack state.marks from (present ++ octet ∷ []) octets (head_ends (limit state.stack - from) present octet partial)
     by_tip (InLeaf term start count present) k =
         let counts : Counts count (length present) (leaf_outcome term count present) = leaf_counts term count present k.0 in
         let open_counts : length present < count = rw k.1 at counts in
-        ap (λ all. answer (then_seen (leaf_seen term start count state.stack state.marks all) (rest_seen state.stack))) (shift present)
+        ap (λ all. answer (scan_then (scan_leaf term start count state.stack state.marks all) (scan_rest state.stack))) (shift present)
         ∙ leaf_right term start count state.stack state.marks (present ++ octet ∷ []) octets k.0 (omega (arith, length-append present (octet ∷ [])))
 
-fields_none : (fields : Fields) (end : ℕ) (outer : List Frame) (marks : List Mark) (place room : ℕ) → fields_seen fields end outer marks place (suc room) [] ≡ between (Listed fields) end outer marks place
+fields_none : (fields : Fields) (end : ℕ) (outer : List Container) (marks : List Mark) (place room : ℕ) → scan_fields fields end outer marks place (suc room) [] ≡ between (Listed fields) end outer marks place
 fields_none End end outer marks place room = refl
 fields_none (Required term fields) end outer marks place room = refl
 fields_none (Optional term fields) end outer marks place room = refl
 
-one_of_none : (terms : List Term) (due : Due) (end : ℕ) (outer : List Frame) (marks : List Mark) (place room : ℕ) → one_of_seen terms due end outer marks place (suc room) [] ≡ between due end outer marks place
-one_of_none [] due end outer marks place room = refl
-one_of_none (term ∷ terms) due end outer marks place room = refl
+one_of_none : (terms : List Term) (expected : Expected) (end : ℕ) (outer : List Container) (marks : List Mark) (place room : ℕ) → scan_one_of terms expected end outer marks place (suc room) [] ≡ between expected end outer marks place
+one_of_none [] expected end outer marks place room = refl
+one_of_none (term ∷ terms) expected end outer marks place room = refl
 
-due_none : (due : Due) (end : ℕ) (outer : List Frame) (marks : List Mark) (place : ℕ) → place < end → due_seen due end outer marks place [] ≡ between due end outer marks place
-due_none (Listed fields) end outer marks place h = by_room (end - place) (omega arith)
+expected_none : (expected : Expected) (end : ℕ) (outer : List Container) (marks : List Mark) (place : ℕ) → place < end → scan_expected expected end outer marks place [] ≡ between expected end outer marks place
+expected_none (Listed fields) end outer marks place h = by_room (end - place) (omega arith)
   where
-    by_room : (room : ℕ) → 0 < room → fields_seen fields end outer marks place room [] ≡ between (Listed fields) end outer marks place
+    by_room : (room : ℕ) → 0 < room → scan_fields fields end outer marks place room [] ≡ between (Listed fields) end outer marks place
     by_room zero p = absurd (omega arith)
     by_room (suc room) p = fields_none fields end outer marks place room
-due_none (Each term) end outer marks place h = by_room (end - place) (omega arith)
+expected_none (Each term) end outer marks place h = by_room (end - place) (omega arith)
   where
-    by_room : (room : ℕ) → 0 < room → each_seen (begun (contents_seen term) term) term room end outer marks place room [] ≡ between (Each term) end outer marks place
+    by_room : (room : ℕ) → 0 < room → scan_each (begun (scan_contents term) term) term room end outer marks place room [] ≡ between (Each term) end outer marks place
     by_room zero p = absurd (omega arith)
     by_room (suc room) p = refl
-due_none (OneOf terms) end outer marks place h = by_room (end - place) (omega arith)
+expected_none (OneOf terms) end outer marks place h = by_room (end - place) (omega arith)
   where
-    by_room : (room : ℕ) → 0 < room → one_of_seen terms (OneOf terms) end outer marks place room [] ≡ between (OneOf terms) end outer marks place
+    by_room : (room : ℕ) → 0 < room → scan_one_of terms (OneOf terms) end outer marks place room [] ≡ between (OneOf terms) end outer marks place
     by_room zero p = absurd (omega arith)
     by_room (suc room) p = one_of_none terms (OneOf terms) end outer marks place room
 
@@ -433,23 +433,23 @@ take_past zero (octet ∷ octets) le = absurd (omega arith)
 take_past (suc count) [] le = refl
 take_past (suc count) (octet ∷ octets) le = ap (λ rest. octet ∷ rest) (take_past count octets (omega arith))
 
--- no octet taken
+-- no octet
 pub resume_none : (state : State) → Reached state → resume state [] ≡ Ongoing state
 resume_none state h = by_tip state.tip state.stack state.marks h.at
   where
-    by_tip : (tip : Tip) (stack : List Frame) (marks : List Mark) → IsReached tip stack marks → answer (resume_at tip stack marks []) ≡ Ongoing (state_of marks stack tip)
+    by_tip : (tip : Tip) (stack : List Container) (marks : List Mark) → IsReached tip stack marks → answer (resume_at tip stack marks []) ≡ Ongoing (state_of marks stack tip)
     by_tip (Between place) [] marks k = absurd k
-    by_tip (Between place) (frame ∷ outer) marks k = ap (λ seen. answer (then_seen seen (rest_seen outer))) (due_none frame.due frame.end outer marks place k)
+    by_tip (Between place) (container ∷ outer) marks k = ap (λ seen. answer (scan_then seen (scan_rest outer))) (expected_none container.expected container.end outer marks place k)
     by_tip (InHead term from present) stack marks k =
-        ap (λ all. answer (then_seen (head_seen (contents_seen term) term stack marks from all) (rest_seen stack))) (append-nil present)
-        ∙ ap (λ got. answer (then_seen (of_head_seen got (contents_seen term) term stack marks from present) (rest_seen stack))) k
+        ap (λ all. answer (scan_then (scan_head (scan_contents term) term stack marks from all) (scan_rest stack))) (append-nil present)
+        ∙ ap (λ got. answer (scan_then (scan_after_head got (scan_contents term) term stack marks from present) (scan_rest stack))) k
     by_tip (InLeaf term start count present) stack marks k =
         let counts : Counts count (length present) (leaf_outcome term count present) = leaf_counts term count present k.0 in
         let open_counts : length present < count = rw k.1 at counts in
-        ap (λ all. answer (then_seen (leaf_seen term start count stack marks all) (rest_seen stack))) (append-nil present)
-        ∙ ap (λ outcome. answer (then_seen (of_leaf outcome term start count stack marks present) (rest_seen stack))) (ap (leaf_outcome term count) (take_past count present (omega arith)) ∙ k.1)
+        ap (λ all. answer (scan_then (scan_leaf term start count stack marks all) (scan_rest stack))) (append-nil present)
+        ∙ ap (λ outcome. answer (scan_then (of_leaf outcome term start count stack marks present) (scan_rest stack))) (ap (leaf_outcome term count) (take_past count present (omega arith)) ∙ k.1)
 
--- the machine's answer to a list of octets
+-- the machine's answer after a list of octets
 abbrev pub run : State → List ℕ → Answer
 run state [] = Ongoing state
 run state (octet ∷ octets) = go_on (step state octet) (λ then_state. run then_state octets)
@@ -489,18 +489,18 @@ run_more state (first ∷ octets) octet =
 pub initial_reached : (terms : List Term) (n : ℕ) → 0 < n → Reached (initial terms n)
 initial_reached terms n h = record { at = h }
 
-pub run_reading : (terms : List Term) (n : ℕ) (octets : List ℕ) → 0 < n → reading terms n octets ≡ run (initial terms n) octets
-run_reading terms n octets h =
-    sym (then_past (message_seen terms n octets))
-    ∙ ap (λ room. answer (then_seen (one_of_seen terms (OneOf terms) n [] [] 0 room octets) (rest_seen []))) room
+pub run_scan : (terms : List Term) (n : ℕ) (octets : List ℕ) → 0 < n → scan terms n octets ≡ run (initial terms n) octets
+run_scan terms n octets h =
+    sym (then_past (scan_message terms n octets))
+    ∙ ap (λ room. answer (scan_then (scan_one_of terms (OneOf terms) n [] [] 0 room octets) (scan_rest []))) room
     ∙ run_right (initial terms n) octets (initial_reached terms n h)
   where
     room : n ≡ n - 0
     room = omega arith
 
--- A reading of one octet more is a step of the machine from what the reading gave.
-pub reading_step : (terms : List Term) (n : ℕ) (octets : List ℕ) (octet : ℕ) → 0 < n → reading terms n (octets ++ octet ∷ []) ≡ go_on (reading terms n octets) (λ state. step state octet)
-reading_step terms n octets octet h =
-    run_reading terms n (octets ++ octet ∷ []) h
+-- The scan of one octet more is a step of the machine from the scan without it.
+pub scan_step : (terms : List Term) (n : ℕ) (octets : List ℕ) (octet : ℕ) → 0 < n → scan terms n (octets ++ octet ∷ []) ≡ go_on (scan terms n octets) (λ state. step state octet)
+scan_step terms n octets octet h =
+    run_scan terms n (octets ++ octet ∷ []) h
     ∙ run_more (initial terms n) octets octet
-    ∙ ap (λ given. go_on given (λ state. step state octet)) (sym (run_reading terms n octets h))
+    ∙ ap (λ given. go_on given (λ state. step state octet)) (sym (run_scan terms n octets h))

@@ -1,4 +1,4 @@
--- Octets of an open string, taken at once.
+-- Octets of an open string, scanned at once.
 use Rattle.std.proofs.Common.{◌≡◌, ℕ, ℤ, ◌+◌, ◌-◌, ◌<◌, if◌then◌else◌, min, true, List, ◌++◌, length, take, refl, sym, ap, ◌∙◌, subst, arith}
 use Rattle.std.proofs.lemmas.List.{length-append, length-take}
 use Rattle.std.proofs.Math.Logic.{∥∥₁_map}
@@ -10,22 +10,22 @@ use Rattle.krb_der.specs.declared.verdict.Verdict.TheVariants as verdict
 use Rattle.krb_msg.specs.Grammar.{messages}
 use Rattle.krb_msg.specs.Judgement.{verdict_of}
 use Rattle.krb_msg.specs.Term.{Term, Integer, Text, Octets, Time, Bits, Sequence, SequenceOf, Tagged, Application}
-use Rattle.krb_scan.specs.Reading as reading
-use Rattle.krb_scan.specs.Reading.{InLeaf, Answer, Ongoing, state_of}
+use Rattle.krb_scan.specs.Scan as scan
+use Rattle.krb_scan.specs.Scan.{InLeaf, Answer, Ongoing, state_of}
 use Rattle.krb_scan.specs.inner.Machine.{outcome_of}
 use Rattle.krb_scan.specs.Runs.{is_string, left_at, left_of, string_left}
-use Rattle.krb_scan.specs.Places.{item_at}
+use Rattle.krb_scan.specs.Positions.{item_at}
 use Rattle.krb_scan.specs.State.{TipIs, KeepsOf, AreMarks}
-use Rattle.krb_scan.specs.inner.Paths.{StandsFor}
-use Rattle.krb_scan.specs.At.{IsAt, Keeps, marks_from, lengths_from}
+use Rattle.krb_scan.specs.inner.Paths.{IsPathOf}
+use Rattle.krb_scan.specs.Scanned.{IsScanOf, Keeps, marks_from, lengths_from}
 use Rattle.krb_scan.specs.declared.path.Path.{Path}
 use Rattle.krb_scan.specs.declared.tip.Tip.{Tip as Kept}
 use Rattle.krb_scan.specs.declared.tip.Tip.TheVariants as tip
 use Rattle.krb_scan.proofs.Chunk.{chunk_right}
-use Rattle.krb_scan.proofs.Outcome.{reading_outcome}
-use Rattle.krb_scan.proofs.Reaching.{SomeAt, same_lengths, stands_for}
+use Rattle.krb_scan.proofs.Outcome.{scan_outcome}
+use Rattle.krb_scan.proofs.ScannerSteps.{SomeAt, same_lengths, is_path_of}
 use Rattle.krb_scan.proofs.Room.{open_short}
-use Rattle.krb_scan.proofs.Standing.{LeafAt, leaf_at}
+use Rattle.krb_scan.proofs.PathFacts.{LeafAt, leaf_at}
 
 keeps_still : (term : Term) (value : ℤ) (unused : ℕ) (octets more : List ℕ) → is_string term ≡ true → KeepsOf term value unused octets → KeepsOf term value unused more
 keeps_still (Text greatest) value unused octets more s h = h
@@ -42,10 +42,10 @@ keeps_still (Application number term) value unused octets more s h = absurd (cc 
 abbrev pub passed : Path → ℕ → Path
 passed path count = record path { looked = path.looked + count }
 
-pub run_goes : {profile : Profile} (path : Path) (octets : List ℕ) (place start end : ℕ) (value : ℤ) (unused count : ℕ) (given : List ℕ) → StandsFor profile path octets → path.tip ≡ tip.Leaf place start end value unused → is_string (item_at place) ≡ true →
-    count ≡ min (length given) (end - 1 - path.looked) → AreOctets (take count given) → StandsFor profile (passed path count) (octets ++ take count given)
-run_goes {profile = profile} path octets place start end value unused count given s e string is are =
-    let leaf : LeafAt profile path octets place start end value unused = leaf_at path octets place start end value unused s e in
+pub run_goes : {profile : Profile} (path : Path) (octets : List ℕ) (position start end : ℕ) (value : ℤ) (unused count : ℕ) (given : List ℕ) → IsPathOf profile path octets → path.tip ≡ tip.Leaf position start end value unused → is_string (item_at position) ≡ true →
+    count ≡ min (length given) (end - 1 - path.looked) → AreOctets (take count given) → IsPathOf profile (passed path count) (octets ++ take count given)
+run_goes {profile = profile} path octets position start end value unused count given s e string is are =
+    let leaf : LeafAt profile path octets position start end value unused = leaf_at path octets position start end value unused s e in
     let chunk : List ℕ = take count given in
     let size : length (take count given) ≡ count = omega (arith, length-take count given) in
     let lt : length leaf.present < leaf.count = leaf.at.roomy.1 in
@@ -55,19 +55,19 @@ run_goes {profile = profile} path octets place start end value unused count give
       some = s.some;
       short = s.short;
       looked = omega (arith, s.looked, length-append octets (take count given));
-      state = state_of leaf.at.marks leaf.at.stack (InLeaf (item_at place) start leaf.count (leaf.present ++ take count given));
-      reads = chunk_right (messages profile) path.size octets (take count given) (item_at place) start leaf.count leaf.present leaf.at.stack leaf.at.marks s.some string (AreOctets-append leaf.present (take count given) leaf.at.are_octets are) short leaf.at.reads;
+      state = state_of leaf.at.marks leaf.at.stack (InLeaf (item_at position) start leaf.count (leaf.present ++ take count given));
+      reads = chunk_right (messages profile) path.size octets (take count given) (item_at position) start leaf.count leaf.present leaf.at.stack leaf.at.marks s.some string (AreOctets-append leaf.present (take count given) leaf.at.are_octets are) short leaf.at.reads;
       holds = record {
-        tip = subst (λ t. TipIs (path.looked + count) t (InLeaf (item_at place) start leaf.count (leaf.present ++ take count given))) (sym e)
-            (leaf.known, refl, refl, leaf.ends, keeps_still (item_at place) value unused leaf.present (leaf.present ++ take count given) string leaf.keeps, omega (arith, leaf.looked, length-append leaf.present (take count given)));
-        containers = leaf.at.frames;
+        tip = subst (λ t. TipIs (path.looked + count) t (InLeaf (item_at position) start leaf.count (leaf.present ++ take count given))) (sym e)
+            (leaf.known, refl, refl, leaf.ends, keeps_still (item_at position) value unused leaf.present (leaf.present ++ take count given) string leaf.keeps, omega (arith, leaf.looked, length-append leaf.present (take count given)));
+        containers = leaf.at.containers;
         marks = leaf.at.all_marks;
       };
     }
 
--- a path that stands for octets is at them
-pub standing_at : {profile : Profile} (path : Path) (octets : List ℕ) → StandsFor profile path octets → IsAt profile path verdict.Open path.size octets
-standing_at {profile = profile} path octets s =
+-- a path that has scanned octets, with the verdict on them
+pub path_at : {profile : Profile} (path : Path) (octets : List ℕ) → IsPathOf profile path octets → IsScanOf profile path verdict.Open path.size octets
+path_at {profile = profile} path octets s =
     let short : length octets < path.size = open_short (messages profile) path.size octets s.state s.some s.reads in
     record {
       are_octets = s.are_octets;
@@ -75,52 +75,52 @@ standing_at {profile = profile} path octets s =
       short = s.short;
       fits = omega arith;
       size = refl;
-      decides = sym (ap verdict_of (reading_outcome (messages profile) path.size octets s.some (omega arith) ∙ ap (outcome_of path.size) s.reads));
+      decides = sym (ap verdict_of (scan_outcome (messages profile) path.size octets s.some (omega arith) ∙ ap (outcome_of path.size) s.reads));
       looked = s.looked;
-      marks = subst (λ given. AreMarks path.marks.items (marks_from given (λ place. reading.reading (messages profile) path.size (take place octets)))) (sym s.reads) s.holds.marks;
-      lengths = same_lengths path path.looked s.state s.holds ∙ ap (λ given. lengths_from given (λ place. reading.reading (messages profile) path.size (take place octets))) (sym s.reads);
+      marks = subst (λ given. AreMarks path.marks.items (marks_from given (λ place. scan.scan (messages profile) path.size (take place octets)))) (sym s.reads) s.holds.marks;
+      lengths = same_lengths path path.looked s.state s.holds ∙ ap (λ given. lengths_from given (λ place. scan.scan (messages profile) path.size (take place octets))) (sym s.reads);
       keeps = subst (Keeps path) (sym s.reads) (s.holds.containers, s.holds.tip);
     }
 
 -- if something is decided, no string is open
-pub none_left : {profile : Profile} (path : Path) (decided : Verdict) (n : ℕ) (octets : List ℕ) → IsAt profile path decided n octets → (decided ≡ verdict.Open → ⊥) → string_left (messages profile) n octets ≡ 0
-none_left {profile = profile} path decided n octets at not = by_answer (reading.reading (messages profile) n octets) refl
+pub none_left : {profile : Profile} (path : Path) (decided : Verdict) (n : ℕ) (octets : List ℕ) → IsScanOf profile path decided n octets → (decided ≡ verdict.Open → ⊥) → string_left (messages profile) n octets ≡ 0
+none_left {profile = profile} path decided n octets at not = by_answer (scan.scan (messages profile) n octets) refl
   where
-    by_answer : (given : Answer) → reading.reading (messages profile) n octets ≡ given → left_of (reading.reading (messages profile) n octets) ≡ 0
-    by_answer (Ongoing state) e = absurd (not (at.decides ∙ ap verdict_of (reading_outcome (messages profile) n octets at.some at.fits ∙ ap (outcome_of n) e)))
-    by_answer (reading.Refusing place reason) e = ap left_of e
-    by_answer (reading.Whole marks) e = ap left_of e
+    by_answer : (given : Answer) → scan.scan (messages profile) n octets ≡ given → left_of (scan.scan (messages profile) n octets) ≡ 0
+    by_answer (Ongoing state) e = absurd (not (at.decides ∙ ap verdict_of (scan_outcome (messages profile) n octets at.some at.fits ∙ ap (outcome_of n) e)))
+    by_answer (scan.Refusing place reason) e = ap left_of e
+    by_answer (scan.Whole marks) e = ap left_of e
 
-pub run_at : {profile : Profile} (old new : Path) (decided : Verdict) (n count : ℕ) (before given : List ℕ) → IsAt profile old decided n before → decided ≡ verdict.Open → new.size ≡ old.size → ((octets : List ℕ) → StandsFor profile old octets → StandsFor profile new (octets ++ take count given)) → IsAt profile new decided n (before ++ take count given)
+pub run_at : {profile : Profile} (old new : Path) (decided : Verdict) (n count : ℕ) (before given : List ℕ) → IsScanOf profile old decided n before → decided ≡ verdict.Open → new.size ≡ old.size → ((octets : List ℕ) → IsPathOf profile old octets → IsPathOf profile new (octets ++ take count given)) → IsScanOf profile new decided n (before ++ take count given)
 run_at {profile = profile} old new decided n count before given at still size goes =
-    subst (λ k. IsAt profile new decided k (before ++ take count given)) (size ∙ at.size)
-    (subst (λ v. IsAt profile new v new.size (before ++ take count given)) (sym still) (standing_at new (before ++ take count given) (goes before (stands_for old decided n before at still))))
+    subst (λ k. IsScanOf profile new decided k (before ++ take count given)) (size ∙ at.size)
+    (subst (λ v. IsScanOf profile new v new.size (before ++ take count given)) (sym still) (path_at new (before ++ take count given) (goes before (is_path_of old decided n before at still))))
 
-pub some_run : (old new : Path) (decided : Verdict) (count : ℕ) (given : List ℕ) → SomeAt old decided → decided ≡ verdict.Open → new.size ≡ old.size → ((profile : Profile) (octets : List ℕ) → StandsFor profile old octets → StandsFor profile new (octets ++ take count given)) → SomeAt new decided
+pub some_run : (old new : Path) (decided : Verdict) (count : ℕ) (given : List ℕ) → SomeAt old decided → decided ≡ verdict.Open → new.size ≡ old.size → ((profile : Profile) (octets : List ℕ) → IsPathOf profile old octets → IsPathOf profile new (octets ++ take count given)) → SomeAt new decided
 some_run old new decided count given r still size goes =
-    ∥∥₁_map r (λ (k : (octets : List ℕ) × (profile : Profile) × IsAt profile old decided old.size octets). (k.0 ++ take count given, k.1, subst (λ n. IsAt k.1 new decided n (k.0 ++ take count given)) (sym size) (run_at old new decided old.size count k.0 given k.2 still size (goes k.1))))
+    ∥∥₁_map r (λ (k : (octets : List ℕ) × (profile : Profile) × IsScanOf profile old decided old.size octets). (k.0 ++ take count given, k.1, subst (λ n. IsScanOf k.1 new decided n (k.0 ++ take count given)) (sym size) (run_at old new decided old.size count k.0 given k.2 still size (goes k.1))))
 
 -- how far an open string reaches
-pub leaf_left : {profile : Profile} (path : Path) (octets : List ℕ) (place start end : ℕ) (value : ℤ) (unused : ℕ) → StandsFor profile path octets → path.tip ≡ tip.Leaf place start end value unused → string_left (messages profile) path.size octets ≡ (if is_string (item_at place) then end - 1 - path.looked else 0)
-leaf_left {profile = profile} path octets place start end value unused s e =
-    let leaf : LeafAt profile path octets place start end value unused = leaf_at path octets place start end value unused s e in
+pub leaf_left : {profile : Profile} (path : Path) (octets : List ℕ) (position start end : ℕ) (value : ℤ) (unused : ℕ) → IsPathOf profile path octets → path.tip ≡ tip.Leaf position start end value unused → string_left (messages profile) path.size octets ≡ (if is_string (item_at position) then end - 1 - path.looked else 0)
+leaf_left {profile = profile} path octets position start end value unused s e =
+    let leaf : LeafAt profile path octets position start end value unused = leaf_at path octets position start end value unused s e in
     let same : leaf.count - 1 - length leaf.present ≡ end - 1 - path.looked = omega (arith, leaf.ends, leaf.looked) in
-    ap left_of leaf.at.reads ∙ ap (λ k. if is_string (item_at place) then k else 0) same
+    ap left_of leaf.at.reads ∙ ap (λ k. if is_string (item_at position) then k else 0) same
 
-pub leaf_some : {profile : Profile} (path : Path) (octets : List ℕ) (place start end : ℕ) (value : ℤ) (unused : ℕ) → StandsFor profile path octets → path.tip ≡ tip.Leaf place start end value unused → path.looked < end
-leaf_some {profile = profile} path octets place start end value unused s e =
-    let leaf : LeafAt profile path octets place start end value unused = leaf_at path octets place start end value unused s e in
+pub leaf_some : {profile : Profile} (path : Path) (octets : List ℕ) (position start end : ℕ) (value : ℤ) (unused : ℕ) → IsPathOf profile path octets → path.tip ≡ tip.Leaf position start end value unused → path.looked < end
+leaf_some {profile = profile} path octets position start end value unused s e =
+    let leaf : LeafAt profile path octets position start end value unused = leaf_at path octets position start end value unused s e in
     let lt : length leaf.present < leaf.count = leaf.at.roomy.1 in
     omega (arith, leaf.looked, leaf.ends)
 
 -- no string is open if no leaf is
-pub none_open : {profile : Profile} (path : Path) (octets : List ℕ) → StandsFor profile path octets → ((place start end : ℕ) (value : ℤ) (unused : ℕ) → path.tip ≡ tip.Leaf place start end value unused → ⊥) → string_left (messages profile) path.size octets ≡ 0
+pub none_open : {profile : Profile} (path : Path) (octets : List ℕ) → IsPathOf profile path octets → ((position start end : ℕ) (value : ℤ) (unused : ℕ) → path.tip ≡ tip.Leaf position start end value unused → ⊥) → string_left (messages profile) path.size octets ≡ 0
 none_open path octets s not = ap left_of s.reads ∙ by_tips path.tip s.state.tip refl s.holds.tip
   where
-    by_tips : (a : Kept) (b : reading.Tip) → path.tip ≡ a → TipIs path.looked a b → left_at b ≡ 0
-    by_tips a (reading.Between place) e h = refl
-    by_tips a (reading.InHead term from octets) e h = refl
-    by_tips tip.Between (reading.InLeaf term start count octets) e h = absurd h
-    by_tips (tip.Tagged place) (reading.InLeaf term start count octets) e h = absurd h
-    by_tips (tip.Long place digits seen value) (reading.InLeaf term start count octets) e h = absurd h
-    by_tips (tip.Leaf place start end value unused) (reading.InLeaf term begin count octets) e h = absurd (not place start end value unused e)
+    by_tips : (a : Kept) (b : scan.Tip) → path.tip ≡ a → TipIs path.looked a b → left_at b ≡ 0
+    by_tips a (scan.Between place) e h = refl
+    by_tips a (scan.InHead term from octets) e h = refl
+    by_tips tip.Between (scan.InLeaf term start count octets) e h = absurd h
+    by_tips (tip.Tagged position) (scan.InLeaf term start count octets) e h = absurd h
+    by_tips (tip.Long position digits seen value) (scan.InLeaf term start count octets) e h = absurd h
+    by_tips (tip.Leaf position start end value unused) (scan.InLeaf term begin count octets) e h = absurd (not position start end value unused e)

@@ -1,4 +1,4 @@
--- What a header and a leaf decide on a prefix, they decide on what is longer.
+-- The outcome of a header and of a leaf that a prefix decides is that of all longer lists.
 use Rattle.std.proofs.Common.{◌≡◌, ℕ, ℤ, ◌+◌, ◌-◌, ◌%◌, ◌*◌, ◌^◌, ◌<◌, ◌≤◌, Bool, true, false, ◌&&◌, ◌||◌, ◌==◌, nat_lt, if◌then◌else◌, List, [], ◌∷◌, ◌++◌, length, take, refl, arith, append-nil}
 use Rattle.std.proofs.lemmas.List.{take-append-le, length-append}
 use Rattle.std.proofs.lemmas.Bool.{ltb-true, ltb-false, eqb-false, lt-ltb, le-ltb}
@@ -8,7 +8,7 @@ use Rattle.krb_der.specs.declared.why.Why.TheVariants as why
 use Rattle.krb_msg.specs.Term.{Term, Integer, Text, Octets, Time, Bits, Sequence, SequenceOf, Tagged, Application}
 use Rattle.krb_msg.specs.Judgement.{Outcome, Open, Bad, Done, Head, Partial, Refused, Got, head, long_head, fitting, has_size, int_le, is_padded, integer_contents, each_contents, text_octet, time_octet, bits_contents, any_contents}
 use Rattle.krb_msg.proofs.TermsStable.{positive_from_size_bits}
-use Rattle.krb_scan.specs.Reading.{leaf_outcome}
+use Rattle.krb_scan.specs.Scan.{leaf_outcome}
 
 abbrev pub IsDecided : Head → Type 0
 IsDecided Partial = ⊥

@@ -1,4 +1,4 @@
--- The reading of the DER of a value is whole, and its marks are those of the value.
+-- The scan of the DER of a value is whole, and its marks are those of the value.
 use Rattle.std.proofs.Common.{◌≡◌, ℕ, zero, suc, ℤ, pos, ◌+◌, ◌-◌, ◌^◌, ◌<◌, ◌≤◌, inl, inr, Bool, true, false, not, ◌&&◌, eqb, nat_lt, List, [], ◌∷◌, ◌++◌, length, take, drop, Option, Some, None, refl, sym, ◌∙◌, ap, arith, append-nil, append_assoc, length-append, eq-eqb, ne_eqb, le-ltb, drop_at, one-add, subst}
 use Rattle.std.proofs.lemmas.Bool.{and_parts, not-true, true≢false, false_from_ne_true, eqb-true}
 use Rattle.std.proofs.lemmas.List.{take_at}
@@ -20,9 +20,9 @@ use Rattle.krb_msg.proofs.Judged.{messages_are_grammar, kind_is_one_of, message_
 use Rattle.krb_msg.proofs.Messages.{IsChosen, chosen_one_of}
 use Rattle.krb_msg.specs.Grammar.{messages}
 use Rattle.krb_msg.specs.Views.{kind_of, kind_term_in, message_value_in, message_der}
-use Rattle.krb_scan.specs.Reading.{Mark, Due, Listed, Each, OneOf, Frame, Seen, Fault, Past, Whole, then_seen, limit, sole_in, frame_of, mark_of, with_mark, leaf_outcome, leaf_value, of_leaf, leaf_seen, of_head_seen, head_seen, begun, required_seen, optional_seen, ended_seen, only_seen, each_seen, contents_seen, fields_seen, one_of_seen, message_seen, answer, reading}
+use Rattle.krb_scan.specs.Scan.{Mark, Expected, Listed, Each, OneOf, Container, PartScan, Fault, Past, Whole, scan_then, limit, sole_in, container_of, mark_of, with_mark, leaf_outcome, leaf_value, of_leaf, scan_leaf, scan_after_head, scan_head, begun, scan_required, scan_optional, scan_end, scan_only, scan_each, scan_contents, scan_fields, scan_one_of, scan_message, answer, scan}
 use Rattle.krb_scan.specs.ValueMarks.{start_of, list_marks, option_marks, value_marks, fields_marks, message_marks}
-use Rattle.krb_scan.specs.At as at
+use Rattle.krb_scan.specs.Scanned as at
 use Rattle.krb_scan.specs.Laws.{WholeHasMarksOfValue, WholeHasMarksOfMessage}
 use Rattle.krb_scan.proofs.Progress.{Next}
 
@@ -67,40 +67,40 @@ value_marks_is (Application number term) place value = refl
 -- ---- contents, and items
 abbrev pub ReadsContents : Term → Type 0
 ReadsContents term =
-    (value : Value term) → Fits term value → length (contents term value) < 2 ^ 32 → (start : ℕ) (stack : List Frame) (marks : List Mark) (rest : List ℕ) →
-    contents_seen term start (length (contents term value)) stack marks (contents term value ++ rest) ≡ Past (marks ++ marks_from term start value) (start + length (contents term value)) rest
+    (value : Value term) → Fits term value → length (contents term value) < 2 ^ 32 → (start : ℕ) (stack : List Container) (marks : List Mark) (rest : List ℕ) →
+    scan_contents term start (length (contents term value)) stack marks (contents term value ++ rest) ≡ Past (marks ++ marks_from term start value) (start + length (contents term value)) rest
 
-leaf_past : (term : Term) (octets : List ℕ) (count : ℕ) → leaf_outcome term (length octets) octets ≡ Done count → (start : ℕ) (stack : List Frame) (marks : List Mark) (rest : List ℕ) →
-    leaf_seen term start (length octets) stack marks (octets ++ rest) ≡ Past (marks ++ mark_of term start (length octets) (leaf_value term octets) ∷ []) (start + length octets) rest
+leaf_past : (term : Term) (octets : List ℕ) (count : ℕ) → leaf_outcome term (length octets) octets ≡ Done count → (start : ℕ) (stack : List Container) (marks : List Mark) (rest : List ℕ) →
+    scan_leaf term start (length octets) stack marks (octets ++ rest) ≡ Past (marks ++ mark_of term start (length octets) (leaf_value term octets) ∷ []) (start + length octets) rest
 leaf_past term octets count done start stack marks rest =
-    ap (λ part. of_leaf (leaf_outcome term (length octets) part) term start (length octets) stack marks (octets ++ rest)) front
+    ap (λ part. of_leaf (leaf_outcome term (length octets) part) term start (length octets) stack marks (octets ++ rest)) prefix
     ∙ ap (λ outcome. of_leaf outcome term start (length octets) stack marks (octets ++ rest)) done
-    ∙ ap (λ part. Past (marks ++ mark_of term start (length octets) (leaf_value term part) ∷ []) (start + length octets) (drop (length octets) (octets ++ rest))) front
+    ∙ ap (λ part. Past (marks ++ mark_of term start (length octets) (leaf_value term part) ∷ []) (start + length octets) (drop (length octets) (octets ++ rest))) prefix
     ∙ ap (Past (marks ++ mark_of term start (length octets) (leaf_value term octets) ∷ []) (start + length octets)) (drop_at octets rest (length octets) refl)
   where
-    front : take (length octets) (octets ++ rest) ≡ octets
-    front = take_at octets rest (length octets) refl
+    prefix : take (length octets) (octets ++ rest) ≡ octets
+    prefix = take_at octets rest (length octets) refl
 
 -- an item in the room that is left
 abbrev pub ReadsItem : Term → Type 0
 ReadsItem term =
-    (value : Value term) → Fits term value → length (der term value) < 2 ^ 32 → (stack : List Frame) (marks : List Mark) (place : ℕ) (rest : List ℕ) →
+    (value : Value term) → Fits term value → length (der term value) < 2 ^ 32 → (stack : List Container) (marks : List Mark) (place : ℕ) (rest : List ℕ) →
     length (der term value) ≤ limit stack - place → (sole_in stack ≡ true → length (der term value) ≡ limit stack - place) →
-    begun (contents_seen term) term stack marks place (der term value ++ rest) ≡ Past (marks ++ value_marks term place value) (place + length (der term value)) rest
+    begun (scan_contents term) term stack marks place (der term value ++ rest) ≡ Past (marks ++ value_marks term place value) (place + length (der term value)) rest
 
 tight : (sole : Bool) (count room : ℕ) → (sole ≡ true → count ≡ room) → (sole && nat_lt count room) ≡ false
 tight false count room f = refl
 tight true count room f = le-ltb count room (omega (arith, f refl))
 
-headed : (term : Term) (inner : List ℕ) (stack : List Frame) (marks : List Mark) (place : ℕ) (rest : List ℕ) → length inner < 2 ^ 32 → 1 + length (length_octets (length inner)) + length inner ≤ limit stack - place →
+headed : (term : Term) (inner : List ℕ) (stack : List Container) (marks : List Mark) (place : ℕ) (rest : List ℕ) → length inner < 2 ^ 32 → 1 + length (length_octets (length inner)) + length inner ≤ limit stack - place →
     (sole_in stack ≡ true → 1 + length (length_octets (length inner)) + length inner ≡ limit stack - place) → has_size term (length inner) ≡ true →
-    begun (contents_seen term) term stack marks place (tag_of term ∷ (length_octets (length inner) ++ (inner ++ rest))) ≡ contents_seen term (start_of place (length inner)) (length inner) stack marks (inner ++ rest)
+    begun (scan_contents term) term stack marks place (tag_of term ∷ (length_octets (length inner) ++ (inner ++ rest))) ≡ scan_contents term (start_of place (length inner)) (length inner) stack marks (inner ++ rest)
 headed term inner stack marks place rest small fits fills sized =
-    ap (λ c. when c (λ _. Fault place why.Overrun) (λ _. head_seen (contents_seen term) term stack marks place octets)) (ne_eqb room 1 (λ e. omega (arith, fits, length-length_octets n small)))
-    ∙ ap (λ got. of_head_seen got (contents_seen term) term stack marks place octets) (head-length_octets room (tag_of term) n (inner ++ rest) small fits)
-    ∙ ap (λ c. when c (λ _. Fault (place + header - 1) why.Loose) (λ _. when (has_size term n) (λ _. contents_seen term (place + header) n stack marks (drop header octets)) (λ _. Fault (place + header - 1) why.Size))) (tight (sole_in stack) (header + n) room fills)
-    ∙ ap (λ c. when c (λ _. contents_seen term (place + header) n stack marks (drop header octets)) (λ _. Fault (place + header - 1) why.Size)) sized
-    ∙ ap (contents_seen term (place + header) n stack marks) dropped
+    ap (λ c. when c (λ _. Fault place why.Overrun) (λ _. scan_head (scan_contents term) term stack marks place octets)) (ne_eqb room 1 (λ e. omega (arith, fits, length-length_octets n small)))
+    ∙ ap (λ got. scan_after_head got (scan_contents term) term stack marks place octets) (head-length_octets room (tag_of term) n (inner ++ rest) small fits)
+    ∙ ap (λ c. when c (λ _. Fault (place + header - 1) why.Loose) (λ _. when (has_size term n) (λ _. scan_contents term (place + header) n stack marks (drop header octets)) (λ _. Fault (place + header - 1) why.Size))) (tight (sole_in stack) (header + n) room fills)
+    ∙ ap (λ c. when c (λ _. scan_contents term (place + header) n stack marks (drop header octets)) (λ _. Fault (place + header - 1) why.Size)) sized
+    ∙ ap (scan_contents term (place + header) n stack marks) dropped
   where
     n : ℕ
     n = length inner
@@ -138,7 +138,7 @@ sized_contents term u value f small =
 
 reads_item : (term : Term) → is_unambiguous term ≡ true → ReadsContents term → ReadsItem term
 reads_item term u reads value f small stack marks place rest fits fills =
-    ap (begun (contents_seen term) term stack marks place) (ap (λ octets. octets ++ rest) (der_is term value) ∙ item-append (tag_of term) inner rest)
+    ap (begun (scan_contents term) term stack marks place) (ap (λ octets. octets ++ rest) (der_is term value) ∙ item-append (tag_of term) inner rest)
     ∙ headed term inner stack marks place rest (omega (arith, l)) (omega (arith, l, fits)) (λ s. sym l ∙ fills s) (sized_contents term u value f small)
     ∙ reads value f (omega (arith, l)) (start_of place (length inner)) stack marks rest
     ∙ ap (λ end. Past (marks ++ marks_from term (start_of place (length inner)) value) end rest) (omega (arith, l))
@@ -151,66 +151,66 @@ reads_item term u reads value f small stack marks place rest fits fills =
     l = length-der term value
 
 -- ---- what may come next
-required_picks : (one : List Frame → List Mark → ℕ → List ℕ → Seen) (term : Term) (due left : Due) (end : ℕ) (outer : List Frame) (marks : List Mark) (place room : ℕ) (octets tail : List ℕ) (next : Next) → 0 < room → octets ≡ tag_of term ∷ tail →
-    required_seen one term due left end outer marks place room octets next ≡ then_seen (one (frame_of end left ∷ outer) marks place octets) next
-required_picks one term due left end outer marks place zero octets tail next p e = absurd (omega arith)
-required_picks one term due left end outer marks place (suc room) octets tail next p e =
-    rw e (ap (λ c. when c (λ _. then_seen (one (frame_of end left ∷ outer) marks place (tag_of term ∷ tail)) next) (λ _. Fault place why.Tag)) (eq-eqb (tag_of term) (tag_of term) refl))
+required_picks : (one : List Container → List Mark → ℕ → List ℕ → PartScan) (term : Term) (expected left : Expected) (end : ℕ) (outer : List Container) (marks : List Mark) (place room : ℕ) (octets tail : List ℕ) (next : Next) → 0 < room → octets ≡ tag_of term ∷ tail →
+    scan_required one term expected left end outer marks place room octets next ≡ scan_then (one (container_of end left ∷ outer) marks place octets) next
+required_picks one term expected left end outer marks place zero octets tail next p e = absurd (omega arith)
+required_picks one term expected left end outer marks place (suc room) octets tail next p e =
+    rw e (ap (λ c. when c (λ _. scan_then (one (container_of end left ∷ outer) marks place (tag_of term ∷ tail)) next) (λ _. Fault place why.Tag)) (eq-eqb (tag_of term) (tag_of term) refl))
 
-optional_picks : (one : List Frame → List Mark → ℕ → List ℕ → Seen) (term : Term) (due left : Due) (end : ℕ) (outer : List Frame) (marks : List Mark) (place room : ℕ) (octets tail : List ℕ) (next : Next) (other : Unit {0} → Seen) → 0 < room → octets ≡ tag_of term ∷ tail →
-    optional_seen one term due left end outer marks place room octets next other ≡ then_seen (one (frame_of end left ∷ outer) marks place octets) next
-optional_picks one term due left end outer marks place zero octets tail next other p e = absurd (omega arith)
-optional_picks one term due left end outer marks place (suc room) octets tail next other p e =
-    rw e (ap (λ c. when c (λ _. then_seen (one (frame_of end left ∷ outer) marks place (tag_of term ∷ tail)) next) other) (eq-eqb (tag_of term) (tag_of term) refl))
+optional_picks : (one : List Container → List Mark → ℕ → List ℕ → PartScan) (term : Term) (expected left : Expected) (end : ℕ) (outer : List Container) (marks : List Mark) (place room : ℕ) (octets tail : List ℕ) (next : Next) (other : Unit {0} → PartScan) → 0 < room → octets ≡ tag_of term ∷ tail →
+    scan_optional one term expected left end outer marks place room octets next other ≡ scan_then (one (container_of end left ∷ outer) marks place octets) next
+optional_picks one term expected left end outer marks place zero octets tail next other p e = absurd (omega arith)
+optional_picks one term expected left end outer marks place (suc room) octets tail next other p e =
+    rw e (ap (λ c. when c (λ _. scan_then (one (container_of end left ∷ outer) marks place (tag_of term ∷ tail)) next) other) (eq-eqb (tag_of term) (tag_of term) refl))
 
-optional_skips : (one : List Frame → List Mark → ℕ → List ℕ → Seen) (term : Term) (due left : Due) (end : ℕ) (outer : List Frame) (marks : List Mark) (place room : ℕ) (front rest : List ℕ) (next : Next) (other : Unit {0} → Seen) → room ≡ length front →
-    ((octet : ℕ) (tail : List ℕ) → front ≡ octet ∷ tail → octet ≡ tag_of term → ⊥) → optional_seen one term due left end outer marks place room (front ++ rest) next other ≡ other tt
-optional_skips one term due left end outer marks place zero front rest next other l apart = refl
-optional_skips one term due left end outer marks place (suc room) [] rest next other l apart = absurd (omega arith)
-optional_skips one term due left end outer marks place (suc room) (octet ∷ front) rest next other l apart =
-    ap (λ c. when c (λ _. then_seen (one (frame_of end left ∷ outer) marks place (octet ∷ (front ++ rest))) next) other)
-    (false_from_ne_true (eqb octet (tag_of term)) (λ t. apart octet front refl (eqb-true octet (tag_of term) t)))
+optional_skips : (one : List Container → List Mark → ℕ → List ℕ → PartScan) (term : Term) (expected left : Expected) (end : ℕ) (outer : List Container) (marks : List Mark) (place room : ℕ) (prefix rest : List ℕ) (next : Next) (other : Unit {0} → PartScan) → room ≡ length prefix →
+    ((octet : ℕ) (tail : List ℕ) → prefix ≡ octet ∷ tail → octet ≡ tag_of term → ⊥) → scan_optional one term expected left end outer marks place room (prefix ++ rest) next other ≡ other tt
+optional_skips one term expected left end outer marks place zero prefix rest next other l apart = refl
+optional_skips one term expected left end outer marks place (suc room) [] rest next other l apart = absurd (omega arith)
+optional_skips one term expected left end outer marks place (suc room) (octet ∷ prefix) rest next other l apart =
+    ap (λ c. when c (λ _. scan_then (one (container_of end left ∷ outer) marks place (octet ∷ (prefix ++ rest))) next) other)
+    (false_from_ne_true (eqb octet (tag_of term)) (λ t. apart octet prefix refl (eqb-true octet (tag_of term) t)))
 
-ended_past : (due : Due) (end : ℕ) (outer : List Frame) (marks : List Mark) (place room : ℕ) (rest : List ℕ) → room ≡ 0 → ended_seen due end outer marks place room rest ≡ Past marks place rest
-ended_past due end outer marks place zero rest e = refl
-ended_past due end outer marks place (suc room) rest e = absurd (omega arith)
+ended_past : (expected : Expected) (end : ℕ) (outer : List Container) (marks : List Mark) (place room : ℕ) (rest : List ℕ) → room ≡ 0 → scan_end expected end outer marks place room rest ≡ Past marks place rest
+ended_past expected end outer marks place zero rest e = refl
+ended_past expected end outer marks place (suc room) rest e = absurd (omega arith)
 
--- what the octets of an item begin with
+-- the first octets of an item
 begins_with_tag : (term : Term) (value : Value term) (rest : List ℕ) → der term value ++ rest ≡ tag_of term ∷ (length_octets (length (contents term value)) ++ contents term value ++ rest)
 begins_with_tag term value rest = der-append term value rest
 
 -- ---- a sole item
-only_past : (term : Term) → ReadsItem term → (value : Value term) → Fits term value → length (der term value) < 2 ^ 32 → (start : ℕ) (outer : List Frame) (marks : List Mark) (rest : List ℕ) →
-    only_seen (begun (contents_seen term) term) term (start + length (der term value)) outer marks start (length (der term value)) (der term value ++ rest) ≡ Past (marks ++ value_marks term start value) (start + length (der term value)) rest
+only_past : (term : Term) → ReadsItem term → (value : Value term) → Fits term value → length (der term value) < 2 ^ 32 → (start : ℕ) (outer : List Container) (marks : List Mark) (rest : List ℕ) →
+    scan_only (begun (scan_contents term) term) term (start + length (der term value)) outer marks start (length (der term value)) (der term value ++ rest) ≡ Past (marks ++ value_marks term start value) (start + length (der term value)) rest
 only_past term reads value f small start outer marks rest =
-    required_picks (begun (contents_seen term) term) term (OneOf (term ∷ [])) (OneOf []) end outer marks start (length (der term value)) (der term value ++ rest) _ next (der_begins term value) (begins_with_tag term value rest)
-    ∙ ap (λ seen. then_seen seen next) (reads value f small (frame_of end (OneOf []) ∷ outer) marks start rest (omega arith) (λ s. omega arith))
+    required_picks (begun (scan_contents term) term) term (OneOf (term ∷ [])) (OneOf []) end outer marks start (length (der term value)) (der term value ++ rest) _ next (der_begins term value) (begins_with_tag term value rest)
+    ∙ ap (λ seen. scan_then seen next) (reads value f small (container_of end (OneOf []) ∷ outer) marks start rest (omega arith) (λ s. omega arith))
     ∙ ended_past (OneOf []) end outer (marks ++ value_marks term start value) end (end - end) rest (omega arith)
   where
     end : ℕ
     end = start + length (der term value)
 
     next : Next
-    next = λ marks_then there rest. ended_seen (OneOf []) end outer marks_then there (end - there) rest
+    next = λ marks_then there rest. scan_end (OneOf []) end outer marks_then there (end - there) rest
 
 -- ---- items one after another
-each_step : (one : List Frame → List Mark → ℕ → List ℕ → Seen) (term : Term) (bound end : ℕ) (outer : List Frame) (marks : List Mark) (place room : ℕ) (octets : List ℕ) → 0 < room →
-    each_seen one term (suc bound) end outer marks place room octets ≡ required_seen one term (Each term) (Each term) end outer marks place room octets (λ marks_then there rest. each_seen one term bound end outer marks_then there (end - there) rest)
+each_step : (one : List Container → List Mark → ℕ → List ℕ → PartScan) (term : Term) (bound end : ℕ) (outer : List Container) (marks : List Mark) (place room : ℕ) (octets : List ℕ) → 0 < room →
+    scan_each one term (suc bound) end outer marks place room octets ≡ scan_required one term (Each term) (Each term) end outer marks place room octets (λ marks_then there rest. scan_each one term bound end outer marks_then there (end - there) rest)
 each_step one term bound end outer marks place zero octets p = absurd (omega arith)
 each_step one term bound end outer marks place (suc room) octets p = refl
 
 each_past : (term : Term) → ReadsItem term → (values : List (Value term)) → AllByRecursion (Fits term) values → length (flat_map (der term) values) < 2 ^ 32 →
-    (bound end : ℕ) (outer : List Frame) (marks : List Mark) (place room : ℕ) (rest : List ℕ) → room ≡ length (flat_map (der term) values) → end ≡ place + room → room ≤ bound →
-    each_seen (begun (contents_seen term) term) term bound end outer marks place room (flat_map (der term) values ++ rest) ≡ Past (marks ++ list_marks (der term) (value_marks term) place values) end rest
+    (bound end : ℕ) (outer : List Container) (marks : List Mark) (place room : ℕ) (rest : List ℕ) → room ≡ length (flat_map (der term) values) → end ≡ place + room → room ≤ bound →
+    scan_each (begun (scan_contents term) term) term bound end outer marks place room (flat_map (der term) values ++ rest) ≡ Past (marks ++ list_marks (der term) (value_marks term) place values) end rest
 each_past term reads [] f small zero end outer marks place zero rest r e b = ap (λ all. Past all place rest) (sym (append-nil marks)) ∙ ap (λ there. Past (marks ++ []) there rest) (omega arith)
 each_past term reads [] f small (suc bound) end outer marks place zero rest r e b = ap (λ all. Past all place rest) (sym (append-nil marks)) ∙ ap (λ there. Past (marks ++ []) there rest) (omega arith)
 each_past term reads [] f small bound end outer marks place (suc room) rest r e b = absurd (omega arith)
 each_past term reads (value ∷ values) f small zero end outer marks place room rest r e b = absurd (omega (arith, der_begins term value, length-append (der term value) (flat_map (der term) values)))
 each_past term reads (value ∷ values) f small (suc bound) end outer marks place room rest r e b =
-    each_step (begun (contents_seen term) term) term bound end outer marks place room _ (omega (arith, p, l))
-    ∙ ap (λ octets. required_seen (begun (contents_seen term) term) term (Each term) (Each term) end outer marks place room octets next) (append_assoc (der term value) after rest)
-    ∙ required_picks (begun (contents_seen term) term) term (Each term) (Each term) end outer marks place room (der term value ++ (after ++ rest)) _ next (omega (arith, p, l)) (begins_with_tag term value (after ++ rest))
-    ∙ ap (λ seen. then_seen seen next) (reads value f.0 (omega (arith, l)) (frame_of end (Each term) ∷ outer) marks place (after ++ rest) (omega (arith, l)) (λ s. absurd cc))
+    each_step (begun (scan_contents term) term) term bound end outer marks place room _ (omega (arith, p, l))
+    ∙ ap (λ octets. scan_required (begun (scan_contents term) term) term (Each term) (Each term) end outer marks place room octets next) (append_assoc (der term value) after rest)
+    ∙ required_picks (begun (scan_contents term) term) term (Each term) (Each term) end outer marks place room (der term value ++ (after ++ rest)) _ next (omega (arith, p, l)) (begins_with_tag term value (after ++ rest))
+    ∙ ap (λ seen. scan_then seen next) (reads value f.0 (omega (arith, l)) (container_of end (Each term) ∷ outer) marks place (after ++ rest) (omega (arith, l)) (λ s. absurd cc))
     ∙ each_past term reads values f.1 (omega (arith, l)) bound end outer (marks ++ value_marks term place value) there (end - there) rest (omega (arith, l)) (omega (arith, l)) (omega (arith, p, l))
     ∙ ap (λ all. Past all end rest) (append_assoc marks (value_marks term place value) (list_marks (der term) (value_marks term) there values))
   where
@@ -221,7 +221,7 @@ each_past term reads (value ∷ values) f small (suc bound) end outer marks plac
     there = place + length (der term value)
 
     next : Next
-    next = λ marks_then there rest. each_seen (begun (contents_seen term) term) term bound end outer marks_then there (end - there) rest
+    next = λ marks_then there rest. scan_each (begun (scan_contents term) term) term bound end outer marks_then there (end - there) rest
 
     l : length (der term value ++ after) ≡ length (der term value) + length after
     l = length-append (der term value) after
@@ -232,16 +232,16 @@ each_past term reads (value ∷ values) f small (suc bound) end outer marks plac
 -- ---- fields
 abbrev pub ReadsFields : Fields → Type 0
 ReadsFields fields =
-    (values : Values fields) → AllFit fields values → length (der_of_fields fields values) < 2 ^ 32 → (end : ℕ) (outer : List Frame) (marks : List Mark) (place room : ℕ) (rest : List ℕ) → room ≡ length (der_of_fields fields values) → end ≡ place + room →
-    fields_seen fields end outer marks place room (der_of_fields fields values ++ rest) ≡ Past (marks ++ fields_marks fields place values) end rest
+    (values : Values fields) → AllFit fields values → length (der_of_fields fields values) < 2 ^ 32 → (end : ℕ) (outer : List Container) (marks : List Mark) (place room : ℕ) (rest : List ℕ) → room ≡ length (der_of_fields fields values) → end ≡ place + room →
+    scan_fields fields end outer marks place room (der_of_fields fields values ++ rest) ≡ Past (marks ++ fields_marks fields place values) end rest
 
--- a field that is there, and the fields after it
+-- a field that is present, and the fields after it
 field_past : (term : Term) (fields : Fields) → ReadsItem term → ReadsFields fields → (value : Value term) (values : Values fields) → Fits term value → AllFit fields values → length (der term value ++ der_of_fields fields values) < 2 ^ 32 →
-    (end : ℕ) (outer : List Frame) (marks : List Mark) (place : ℕ) (rest : List ℕ) → end ≡ place + length (der term value ++ der_of_fields fields values) →
-    then_seen (begun (contents_seen term) term (frame_of end (Listed fields) ∷ outer) marks place (der term value ++ (der_of_fields fields values ++ rest))) (λ marks_then there rest. fields_seen fields end outer marks_then there (end - there) rest)
+    (end : ℕ) (outer : List Container) (marks : List Mark) (place : ℕ) (rest : List ℕ) → end ≡ place + length (der term value ++ der_of_fields fields values) →
+    scan_then (begun (scan_contents term) term (container_of end (Listed fields) ∷ outer) marks place (der term value ++ (der_of_fields fields values ++ rest))) (λ marks_then there rest. scan_fields fields end outer marks_then there (end - there) rest)
     ≡ Past (marks ++ (value_marks term place value ++ fields_marks fields (place + length (der term value)) values)) end rest
 field_past term fields reads reads_fields value values f fs small end outer marks place rest e =
-    ap (λ seen. then_seen seen next) (reads value f (omega (arith, l)) (frame_of end (Listed fields) ∷ outer) marks place (der_of_fields fields values ++ rest) (omega (arith, l)) (λ s. absurd cc))
+    ap (λ seen. scan_then seen next) (reads value f (omega (arith, l)) (container_of end (Listed fields) ∷ outer) marks place (der_of_fields fields values ++ rest) (omega (arith, l)) (λ s. absurd cc))
     ∙ reads_fields values fs (omega (arith, l)) end outer (marks ++ value_marks term place value) there (end - there) rest (omega (arith, l)) (omega (arith, l))
     ∙ ap (λ all. Past all end rest) (append_assoc marks (value_marks term place value) (fields_marks fields there values))
   where
@@ -249,41 +249,41 @@ field_past term fields reads reads_fields value values f fs small end outer mark
     there = place + length (der term value)
 
     next : Next
-    next = λ marks_then there rest. fields_seen fields end outer marks_then there (end - there) rest
+    next = λ marks_then there rest. scan_fields fields end outer marks_then there (end - there) rest
 
     l : length (der term value ++ der_of_fields fields values) ≡ length (der term value) + length (der_of_fields fields values)
     l = length-append (der term value) (der_of_fields fields values)
 
 required_past : (term : Term) (fields : Fields) → ReadsItem term → ReadsFields fields → ReadsFields (Required term fields)
 required_past term fields reads reads_fields values f small end outer marks place room rest r e =
-    ap (λ octets. fields_seen (Required term fields) end outer marks place room octets) (append_assoc (der term values.0) (der_of_fields fields values.1) rest)
-    ∙ required_picks (begun (contents_seen term) term) term (Listed (Required term fields)) (Listed fields) end outer marks place room _ _ _ (omega (arith, der_begins term values.0, length-append (der term values.0) (der_of_fields fields values.1))) (begins_with_tag term values.0 (der_of_fields fields values.1 ++ rest))
+    ap (λ octets. scan_fields (Required term fields) end outer marks place room octets) (append_assoc (der term values.0) (der_of_fields fields values.1) rest)
+    ∙ required_picks (begun (scan_contents term) term) term (Listed (Required term fields)) (Listed fields) end outer marks place room _ _ _ (omega (arith, der_begins term values.0, length-append (der term values.0) (der_of_fields fields values.1))) (begins_with_tag term values.0 (der_of_fields fields values.1 ++ rest))
     ∙ field_past term fields reads reads_fields values.0 values.1 f.0 f.1 small end outer marks place rest (omega arith)
 
 option_past : (term : Term) (fields : Fields) → ReadsItem term → ReadsFields fields → not (may_begin (tag_of term) fields) ≡ true → (value : Option (Value term)) (values : Values fields) → IfPresent (Fits term) value → AllFit fields values →
-    length (octets_of_option (der term) value ++ der_of_fields fields values) < 2 ^ 32 → (end : ℕ) (outer : List Frame) (marks : List Mark) (place room : ℕ) (rest : List ℕ) → room ≡ length (octets_of_option (der term) value ++ der_of_fields fields values) → end ≡ place + room →
-    fields_seen (Optional term fields) end outer marks place room ((octets_of_option (der term) value ++ der_of_fields fields values) ++ rest)
+    length (octets_of_option (der term) value ++ der_of_fields fields values) < 2 ^ 32 → (end : ℕ) (outer : List Container) (marks : List Mark) (place room : ℕ) (rest : List ℕ) → room ≡ length (octets_of_option (der term) value ++ der_of_fields fields values) → end ≡ place + room →
+    scan_fields (Optional term fields) end outer marks place room ((octets_of_option (der term) value ++ der_of_fields fields values) ++ rest)
     ≡ Past (marks ++ (option_marks (value_marks term) place value ++ fields_marks fields (place + length (octets_of_option (der term) value)) values)) end rest
 option_past term fields reads reads_fields u None values f fs small end outer marks place room rest r e =
-    optional_skips (begun (contents_seen term) term) term (Listed (Optional term fields)) (Listed fields) end outer marks place room (der_of_fields fields values) rest _ _ r
+    optional_skips (begun (scan_contents term) term) term (Listed (Optional term fields)) (Listed fields) end outer marks place room (der_of_fields fields values) rest _ _ r
     (λ octet tail begins t. true≢false (sym (may_begin_from_der fields values (tag_of term) tail (begins ∙ ap (λ o. o ∷ tail) t)) ∙ not-true _ u))
     ∙ reads_fields values fs small end outer marks place room rest r e
     ∙ ap (λ here. Past (marks ++ fields_marks fields here values) end rest) (omega arith)
 option_past term fields reads reads_fields u (Some value) values f fs small end outer marks place room rest r e =
-    ap (λ octets. fields_seen (Optional term fields) end outer marks place room octets) (append_assoc (der term value) (der_of_fields fields values) rest)
-    ∙ optional_picks (begun (contents_seen term) term) term (Listed (Optional term fields)) (Listed fields) end outer marks place room _ _ _ _ (omega (arith, der_begins term value, length-append (der term value) (der_of_fields fields values))) (begins_with_tag term value (der_of_fields fields values ++ rest))
+    ap (λ octets. scan_fields (Optional term fields) end outer marks place room octets) (append_assoc (der term value) (der_of_fields fields values) rest)
+    ∙ optional_picks (begun (scan_contents term) term) term (Listed (Optional term fields)) (Listed fields) end outer marks place room _ _ _ _ (omega (arith, der_begins term value, length-append (der term value) (der_of_fields fields values))) (begins_with_tag term value (der_of_fields fields values ++ rest))
     ∙ field_past term fields reads reads_fields value values f fs small end outer marks place rest (omega arith)
 
-end_past : (end : ℕ) (outer : List Frame) (marks : List Mark) (place room : ℕ) (rest : List ℕ) → room ≡ 0 → end ≡ place + room → fields_seen End end outer marks place room ([] ++ rest) ≡ Past (marks ++ []) end rest
+end_past : (end : ℕ) (outer : List Container) (marks : List Mark) (place room : ℕ) (rest : List ℕ) → room ≡ 0 → end ≡ place + room → scan_fields End end outer marks place room ([] ++ rest) ≡ Past (marks ++ []) end rest
 end_past end outer marks place room rest r e =
     ended_past (Listed End) end outer marks place room rest r
     ∙ ap (λ all. Past all place rest) (sym (append-nil marks))
     ∙ ap (λ there. Past (marks ++ []) there rest) (omega arith)
 
 -- ---- every term
--- what a leaf's contents decide
-leaf_read : (term : Term) (octets : List ℕ) (count : ℕ) → leaf_outcome term (length octets) octets ≡ Done count → leaf_value term octets ≡ pos 0 → (start : ℕ) (stack : List Frame) (marks : List Mark) (rest : List ℕ) →
-    leaf_seen term start (length octets) stack marks (octets ++ rest) ≡ Past (marks ++ mark_of term start (length octets) (pos 0) ∷ []) (start + length octets) rest
+-- the outcome of the contents of a leaf
+leaf_read : (term : Term) (octets : List ℕ) (count : ℕ) → leaf_outcome term (length octets) octets ≡ Done count → leaf_value term octets ≡ pos 0 → (start : ℕ) (stack : List Container) (marks : List Mark) (rest : List ℕ) →
+    scan_leaf term start (length octets) stack marks (octets ++ rest) ≡ Past (marks ++ mark_of term start (length octets) (pos 0) ∷ []) (start + length octets) rest
 leaf_read term octets count done none start stack marks rest =
     leaf_past term octets count done start stack marks rest ∙ ap (λ number. Past (marks ++ mark_of term start (length octets) number ∷ []) (start + length octets) rest) none
 
@@ -336,28 +336,28 @@ mutual
       let t : (is_unambiguous term ≡ true) × (are_unambiguous fields ≡ true) = and_parts _ _ s.1 in
       option_past term fields (reads_item term t.0 (reads_contents term t.0)) (reads_fields fields t.1) s.0 values.0 values.1 f.0 f.1 small end outer marks place room rest r e
 
--- The reading of a value's DER, wherever it stands, and whatever follows it.
+-- The scan of a value's DER, at any place, and whatever follows it.
 pub item_read : (term : Term) → is_unambiguous term ≡ true → ReadsItem term
 item_read term u = reads_item term u (reads_contents term u)
 
 -- ---- messages
--- the one that the first octet tells
-chosen_picks : (terms : List Term) (term : Term) → IsChosen term terms → (due : Due) (room : ℕ) (octets tail : List ℕ) → 0 < room → octets ≡ tag_of term ∷ tail →
-    one_of_seen terms due room [] [] 0 room octets ≡ then_seen (begun (contents_seen term) term (frame_of room (OneOf []) ∷ []) [] 0 octets) (λ marks_then there rest. ended_seen (OneOf []) room [] marks_then there (room - there) rest)
-chosen_picks [] term c due room octets tail p e = absurd c
-chosen_picks (first ∷ terms) term c due zero octets tail p e = absurd (omega arith)
-chosen_picks (first ∷ terms) term (inl same) due (suc room) octets tail p e =
-    optional_picks (begun (contents_seen first) first) first due (OneOf []) (suc room) [] [] 0 (suc room) octets tail _ _ p (e ∙ ap (λ t. tag_of t ∷ tail) same)
-    ∙ ap (λ t. then_seen (begun (contents_seen t) t (frame_of (suc room) (OneOf []) ∷ []) [] 0 octets) (λ marks_then there rest. ended_seen (OneOf []) (suc room) [] marks_then there (suc room - there) rest)) (sym same)
-chosen_picks (first ∷ terms) term (inr c) due (suc room) octets tail p e =
-    rw e (ap (λ b. when b (λ _. then_seen (begun (contents_seen first) first (frame_of (suc room) (OneOf []) ∷ []) [] 0 (tag_of term ∷ tail)) (λ marks_then there rest. ended_seen (OneOf []) (suc room) [] marks_then there (suc room - there) rest)) (λ _. one_of_seen terms due (suc room) [] [] 0 (suc room) (tag_of term ∷ tail))) c.0
-    ∙ chosen_picks terms term c.1 due (suc room) (tag_of term ∷ tail) tail p refl)
+-- the one with the tag of the first octet
+chosen_picks : (terms : List Term) (term : Term) → IsChosen term terms → (expected : Expected) (room : ℕ) (octets tail : List ℕ) → 0 < room → octets ≡ tag_of term ∷ tail →
+    scan_one_of terms expected room [] [] 0 room octets ≡ scan_then (begun (scan_contents term) term (container_of room (OneOf []) ∷ []) [] 0 octets) (λ marks_then there rest. scan_end (OneOf []) room [] marks_then there (room - there) rest)
+chosen_picks [] term c expected room octets tail p e = absurd c
+chosen_picks (first ∷ terms) term c expected zero octets tail p e = absurd (omega arith)
+chosen_picks (first ∷ terms) term (inl same) expected (suc room) octets tail p e =
+    optional_picks (begun (scan_contents first) first) first expected (OneOf []) (suc room) [] [] 0 (suc room) octets tail _ _ p (e ∙ ap (λ t. tag_of t ∷ tail) same)
+    ∙ ap (λ t. scan_then (begun (scan_contents t) t (container_of (suc room) (OneOf []) ∷ []) [] 0 octets) (λ marks_then there rest. scan_end (OneOf []) (suc room) [] marks_then there (suc room - there) rest)) (sym same)
+chosen_picks (first ∷ terms) term (inr c) expected (suc room) octets tail p e =
+    rw e (ap (λ b. when b (λ _. scan_then (begun (scan_contents first) first (container_of (suc room) (OneOf []) ∷ []) [] 0 (tag_of term ∷ tail)) (λ marks_then there rest. scan_end (OneOf []) (suc room) [] marks_then there (suc room - there) rest)) (λ _. scan_one_of terms expected (suc room) [] [] 0 (suc room) (tag_of term ∷ tail))) c.0
+    ∙ chosen_picks terms term c.1 expected (suc room) (tag_of term ∷ tail) tail p refl)
 
 chosen_past : (terms : List Term) (term : Term) → IsChosen term terms → is_unambiguous term ≡ true → (value : Value term) → Fits term value → length (der term value) < 2 ^ 32 → (rest : List ℕ) →
-    message_seen terms (length (der term value)) (der term value ++ rest) ≡ Past (value_marks term 0 value) (length (der term value)) rest
+    scan_message terms (length (der term value)) (der term value ++ rest) ≡ Past (value_marks term 0 value) (length (der term value)) rest
 chosen_past terms term c u value f small rest =
     chosen_picks terms term c (OneOf terms) n (der term value ++ rest) _ (der_begins term value) (begins_with_tag term value rest)
-    ∙ ap (λ seen. then_seen seen next) (item_read term u value f small (frame_of n (OneOf []) ∷ []) [] 0 rest (omega arith) (λ s. omega arith))
+    ∙ ap (λ seen. scan_then seen next) (item_read term u value f small (container_of n (OneOf []) ∷ []) [] 0 rest (omega arith) (λ s. omega arith))
     ∙ ended_past (OneOf []) n [] (value_marks term 0 value) (0 + n) (n - (0 + n)) rest (omega arith)
     ∙ ap (λ there. Past (value_marks term 0 value) there rest) (omega arith)
   where
@@ -365,17 +365,17 @@ chosen_past terms term c u value f small rest =
     n = length (der term value)
 
     next : Next
-    next = λ marks_then there rest. ended_seen (OneOf []) n [] marks_then there (n - there) rest
+    next = λ marks_then there rest. scan_end (OneOf []) n [] marks_then there (n - there) rest
 
 pub whole_has_marks_of_value : WholeHasMarksOfValue
 whole_has_marks_of_value messages grammar term o value f small =
-    ap (reading messages (length (der term value))) (sym (append-nil (der term value)))
+    ap (scan messages (length (der term value))) (sym (append-nil (der term value)))
     ∙ ap answer (chosen_past messages term (chosen_one_of messages term grammar.own_tags o) (unambiguous_message messages grammar term o) value f (omega arith) [])
 
 pub whole_has_marks_of_message : WholeHasMarksOfMessage
 whole_has_marks_of_message profile m p =
-    ap (λ given. at.marks_from given (λ place. reading (messages profile) (length (message_der m)) (take place (message_der m))))
-    (subst (λ octets. reading (messages profile) (length octets) octets ≡ Whole (message_marks profile m)) form
+    ap (λ given. at.marks_from given (λ place. scan (messages profile) (length (message_der m)) (take place (message_der m))))
+    (subst (λ octets. scan (messages profile) (length octets) octets ≡ Whole (message_marks profile m)) form
     (whole_has_marks_of_value (messages profile) (messages_are_grammar profile) (kind_term_in profile (kind_of m)) (kind_is_one_of profile (kind_of m)) (message_value_in profile m) p.fits (omega (arith, p.short, ap length form))))
   where
     form : der (kind_term_in profile (kind_of m)) (message_value_in profile m) ≡ message_der m

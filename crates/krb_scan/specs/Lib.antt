@@ -1,8 +1,8 @@
-pub mod Reading
+pub mod Scan
 pub mod ValueMarks
-pub mod Places
+pub mod Positions
 pub mod State
-pub mod At
+pub mod Scanned
 pub mod Laws
 pub mod Runs
 pub mod Scanner

@@ -1,7 +1,7 @@
--- How far a string reaches.
+-- How many octets of an open string are to come.
 use Rattle.std.specs.Prelude.{ℕ, ◌-◌, Bool, true, false, nat_le, if◌then◌else◌, List, length}
 use Rattle.krb_msg.specs.Term.{Term, Text, Octets}
-use Rattle.krb_scan.specs.Reading.{Tip, InLeaf, Answer, Ongoing, reading}
+use Rattle.krb_scan.specs.Scan.{Tip, InLeaf, Answer, Ongoing, scan}
 
 -- an OCTET STRING, or a GeneralString that may have any octets
 abbrev pub is_string : Term → Bool
@@ -17,6 +17,6 @@ abbrev pub left_of : Answer → ℕ
 left_of (Ongoing state) = left_at state.tip
 left_of other = 0
 
--- of an open string, the octets that are to come but for its last one
+-- how many octets of an open string are to come, but for its last one
 abbrev pub string_left : List Term → ℕ → List ℕ → ℕ
-string_left terms n octets = left_of (reading terms n octets)
+string_left terms n octets = left_of (scan terms n octets)

@@ -1,4 +1,4 @@
--- The marks of a value: those of its DER, told from the value alone.
+-- The marks of the DER of a value, from the value alone.
 use Rattle.std.specs.Prelude.{ℕ, ℤ, pos, ◌+◌, List, [], ◌∷◌, ◌++◌, length, Option, Some, None}
 use Rattle.std.specs.List.{flat_map}
 use Rattle.krb_der.specs.Octets.{integer_octets, length_octets}
@@ -6,13 +6,13 @@ use Rattle.krb_msg.specs.Term.{Term, Fields, Integer, Text, Octets, Time, Bits, 
 use Rattle.krb_msg.specs.Views.{kind_of, kind_term_in, message_value_in}
 use Rattle.krb_der.specs.declared.profile.Profile.{Profile}
 use Rattle.krb_msg.specs.declared.message.Message.{Message}
-use Rattle.krb_scan.specs.Reading.{Mark, mark_of}
+use Rattle.krb_scan.specs.Scan.{Mark, mark_of}
 
--- where the contents of an item at a place begin, if they are n octets: after its tag and length octets
+-- the place of the first contents octet of an item at a place, if there are n: after its identifier and length octets
 abbrev pub start_of : ℕ → ℕ → ℕ
 start_of place n = place + (1 + length (length_octets n))
 
--- the mark of an item at a place, by its term, the number of its contents octets and its number, and then those of the items in it, by where they begin
+-- the mark of an item at a place, by its term, the number of its contents octets and its value if it is an INTEGER, and then those of the items in it, by the place where they begin
 abbrev pub item_marks : Term → ℕ → ℕ → ℤ → (ℕ → List Mark) → List Mark
 item_marks term place count number inner = mark_of term (start_of place count) count number ∷ inner (start_of place count)
 
@@ -24,7 +24,7 @@ abbrev pub list_marks : {A : Type 0} → (A → List ℕ) → (ℕ → A → Lis
 list_marks octets_of marks_at place [] = []
 list_marks octets_of marks_at place (value ∷ values) = marks_at place value ++ list_marks octets_of marks_at (place + length (octets_of value)) values
 
--- those of a value that may be absent, which then has none
+-- those of an optional value, which has none if it is absent
 abbrev pub option_marks : {A : Type 0} → (ℕ → A → List Mark) → ℕ → Option A → List Mark
 option_marks marks_at place None = []
 option_marks marks_at place (Some value) = marks_at place value

@@ -1,5 +1,5 @@
 pub mod Machine
-pub mod Places
+pub mod Positions
 pub mod Numbers
-pub mod Stands
+pub mod Outcomes
 pub mod Paths

@@ -2,7 +2,7 @@
 
 ghost use Rattle.std.specs.Prelude.{◌≡◌, ◌<◌, ◌^◌, length, IfOk};
 ghost use Rattle.krb_msg.specs.Views.{message_der};
-ghost use Rattle.krb_scan.specs.At.{AreWhole};
+ghost use Rattle.krb_scan.specs.Scanned.{AreWhole};
 
 use crate::mark::Mark;
 use krb_der::Memory;

@@ -3,11 +3,11 @@
 ghost use Rattle.std.specs.Prelude.{◌<◌, ◌≤◌, ◌^◌};
 ghost use Rattle.krb_msg.specs.Judgement.{fitting as fits};
 ghost use Rattle.krb_scan.specs.inner.Numbers.{first_head as first_decides, next_head as next_decides};
-ghost use Rattle.krb_scan.specs.inner.Stands.{HeadIs};
+ghost use Rattle.krb_scan.specs.inner.Outcomes.{HeadIs};
 
 use krb_der::Why;
 
-/// What an octet makes of an item's tag and length octets.
+/// What an octet makes of an item's identifier and length octets.
 #[derive(Clone, Copy)]
 pub(crate) enum Head {
     /// More octets are needed.
@@ -18,7 +18,7 @@ pub(crate) enum Head {
     Got { size: u32 },
 }
 
-/// Returns an item with octets of header and of contents, in a room.
+/// Returns the head of an item with these numbers of header and contents octets, in a room.
 fn fitting(room: u32, header: u32, size: u32) -> Head
     ensures { HeadIs result (fits room header size) }
 {
@@ -29,7 +29,8 @@ fn fitting(room: u32, header: u32, size: u32) -> Head
     }
 }
 
-/// Judges the first length octet of an item in a room.
+/// Judges the first length octet of an item in a room, the number of octets that its container has
+/// left.
 pub(crate) fn first_head(room: u32, octet: u8) -> Head
     ensures { HeadIs result (first_decides room octet) }
 {

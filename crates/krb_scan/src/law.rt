@@ -1,9 +1,9 @@
-//! Laws of the reading of a message's octets. Each is the contract of a function that does nothing.
-ghost use Rattle.krb_scan.specs.Laws.{MarksAreFew, ReadingJudges, WholeHasMarksOfMessage, WholeHasMarksOfValue};
+//! Laws of the scan of a message's octets. Each is the contract of a function that does nothing.
+ghost use Rattle.krb_scan.specs.Laws.{MarksAreFew, ScanJudges, WholeHasMarksOfMessage, WholeHasMarksOfValue};
 
-/// By any messages, what a reading says of the octets is their judgement.
-pub fn reading_judges()
-    ensures { ReadingJudges }
+/// By any messages, the verdict of a scan of octets is their judgement.
+pub fn scan_judges()
+    ensures { ScanJudges }
 {}
 
 /// By any grammar, the DER of a value of one of its messages is read as whole, with the marks of

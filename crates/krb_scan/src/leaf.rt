@@ -4,9 +4,9 @@ ghost use Rattle.std.specs.Prelude.{◌≡◌, ◌<◌, ◌≤ℤ◌, ◌<ℤ◌
 ghost use Rattle.krb_scan.specs.inner.Numbers.{extended, pads, in_range, integer_with, each_next, bits_next as bits_decides, any_next as any_decides};
 ghost use Rattle.krb_der.specs.declared.why.Why.TheVariants as why;
 ghost use Rattle.krb_msg.specs.Judgement.{text_octet, time_octet};
-ghost use Rattle.krb_scan.specs.inner.Stands.{LeafIs};
+ghost use Rattle.krb_scan.specs.inner.Outcomes.{LeafIs};
 
-use crate::places::Contents;
+use crate::positions::Contents;
 use krb_der::Why;
 
 /// What an octet makes of the contents.

@@ -5,8 +5,8 @@ ghost use Rattle.std.specs.Borrow.{ftrue};
 
 use std::marker::Model;
 
-/// A number that takes no memory and that no code reads. Of the number of a new ledger nothing is
-/// said, so a new one does not stand in for an old one.
+/// A number that is not in memory and that no code reads. Of the number of a new ledger nothing is
+/// said, so a new one cannot replace an old one.
 #[derive(Drop)]
 pub(crate) struct Ledger {
     pub(crate) ghost looks: { ℕ },

@@ -12,12 +12,12 @@
 //! A scanner does not keep the octets, knows the length of its message beforehand, and finds no frames:
 //! `krb_frame` does. It allocates for the marks alone.
 //!
-//! `specs/`, to be read in this order: `Reading` (what octets present have shown), `ValueMarks`
-//! (the marks of a value), `Places` and `State` (what a scanner keeps, as what was read), `At`
-//! (what it is for a scanner to stand for octets), `Laws` (that the reading's outcome is the
-//! judgement, and that the marks of a whole message are those of its value), `Runs` (how far a
-//! string reaches) and `Scanner` (what contracts see of one). `specs/inner` has the machine that
-//! scans one octet at a time, and what the parts of the code promise each other.
+//! `specs/`, to be read in this order: `Scan` (the scan of the octets present), `ValueMarks`
+//! (the marks of a value), `Positions` and `State` (the fields of a scanner, as a state of the scan),
+//! `Scanned` (a scanner that has scanned octets), `Laws` (that the verdict of a scan is the
+//! judgement, and that the marks of a whole message are those of its value), `Runs` (how many octets
+//! of an open string are to come) and `Scanner` (what contracts see of one). `specs/inner` has the machine that
+//! scans one octet at a time, and the contracts of the parts of the code.
 #![tactic(auto)]
 
 mod building;
@@ -29,13 +29,13 @@ mod ledger;
 mod mark;
 mod open;
 mod path;
-mod places;
+mod positions;
+mod scanned;
 mod scanner;
-mod taken;
 mod tip;
 
 pub use building::build;
 pub use krb_der::{Memory, Refusal, Verdict, Why};
 pub use mark::Mark;
+pub use scanned::Scanned;
 pub use scanner::Scanner;
-pub use taken::Taken;

@@ -1,4 +1,4 @@
-//! Where the items of a message stand in it.
+//! Marks: where the items of a message are in it.
 
 /// An item whose length is whole.
 #[derive(Clone, Copy)]

@@ -2,18 +2,18 @@
 
 ghost use Rattle.std.specs.Prelude.{ℕ, List};
 ghost use Rattle.krb_der.specs.declared.profile.Profile.{Profile};
-ghost use Rattle.krb_scan.specs.At.{IsAt};
+ghost use Rattle.krb_scan.specs.Scanned.{IsScanOf};
 
 use crate::ledger::Ledger;
 use crate::mark::Mark;
 use crate::path::{Path, message};
-use crate::taken::Taken;
+use crate::scanned::Scanned;
 use crate::tip::Tip;
 use arrayvec::ArrayVec;
 use krb_der::{Memory, Profile, Verdict};
 use std::alloc::Global;
 
-/// It takes the octets of one message, one after another, and looks at each once. It holds none of
+/// It scans the octets of one message, one after another, and looks at each once. It holds none of
 /// them: only which containers are open, what is partly read, and a mark for each item.
 #[derive(Drop)]
 pub struct Scanner {
@@ -21,34 +21,34 @@ pub struct Scanner {
     path: Path,
     verdict: Verdict,
     ledger: Ledger,
-    ghost reached: { ∥ ((octets : List ℕ) × (profile : Profile) × IsAt profile path verdict path.size octets) ∥₁ },
+    ghost reached: { ∥ ((octets : List ℕ) × (profile : Profile) × IsScanOf profile path verdict path.size octets) ∥₁ },
 }
 
 impl Scanner {
     ghost use Rattle.std.specs.Prelude.{◌≡◌, ◌<◌, ◌≤◌, ◌*◌, ◌+◌, ◌/◌, ◌^◌, [], ◌∷◌, ◌++◌, length, min, take, Ok, None, IsOk, OnOk, OnErr, IfOk, IfSome};
     ghost use Rattle.krb_msg.specs.Grammar.{messages};
     ghost use Rattle.krb_msg.specs.Judgement.{judgement};
-    ghost use Rattle.krb_scan.specs.At.{Marks, open_count};
+    ghost use Rattle.krb_scan.specs.Scanned.{Marks, open_count};
     ghost use Rattle.krb_scan.specs.Runs.{string_left};
-    ghost use Rattle.krb_scan.specs.Scanner.{At, profile_of, verdict_of, ledger_of, looked_of, marks_of, room_of};
+    ghost use Rattle.krb_scan.specs.Scanner.{HasScanned, profile_of, verdict_of, ledger_of, looked_of, marks_of, capacity_of};
 
-    /// Creates a scanner of a message of `n` octets, of which none is taken, by the lenient
+    /// Creates a scanner of a message of `n` octets, of which none is scanned, by the lenient
     /// profile.
     pub fn new(alloc: Global, n: u32) -> Scanner
         requires some { 0 < n }
         requires short { n < 2 ^ 31 }
-        ensures at { At Profile.Lenient result n [] }
+        ensures at { HasScanned Profile.Lenient result n [] }
         ensures profile { profile_of result ≡ Profile.Lenient }
     {
         Scanner::with_profile(alloc, Profile::Lenient, n)
     }
 
-    /// Creates a scanner of a message of `n` octets, of which none is taken, by a profile. It takes
-    /// no memory.
+    /// Creates a scanner of a message of `n` octets, of which none is scanned, by a profile. It
+    /// allocates nothing.
     pub fn with_profile(alloc: Global, profile: Profile, n: u32) -> Scanner
         requires some { 0 < n }
         requires short { n < 2 ^ 31 }
-        ensures at { At profile result n [] }
+        ensures at { HasScanned profile result n [] }
         ensures profile { profile_of result ≡ profile }
     {
         Scanner {
@@ -73,26 +73,26 @@ impl Scanner {
         self.profile
     }
 
-    /// Returns what the octets taken decide.
+    /// Returns what the octets scanned so far decide.
     pub fn verdict(&self) -> Verdict
         ensures { result ≡ verdict_of self.now }
     {
         self.verdict
     }
 
-    /// Takes an octet. If memory is refused, it stays as it was and the octet may be taken again.
-    /// None is taken if there is room for half as many marks as the message has octets.
+    /// Scans an octet. If out of memory, it stays as it was and the octet may be scanned again.
+    /// It allocates nothing if there is capacity for half as many marks as the message has octets.
     #[inline(always)]
     pub fn step(&mut self, octet: u8) -> Result<Verdict, Memory>
         requires { verdict_of self.old ≡ Verdict.Open }
-        ensures at { (profile : Profile) (n : ℕ) (octets : List ℕ) → At profile self.old n octets → OnOk result (At profile self.new n (octets ++ octet ∷ [])) }
+        ensures at { (profile : Profile) (n : ℕ) (octets : List ℕ) → HasScanned profile self.old n octets → OnOk result (HasScanned profile self.new n (octets ++ octet ∷ [])) }
         ensures answer { IfOk result (λ decided. decided ≡ verdict_of self.new) }
         ensures ledger { OnOk result (ledger_of self.new ≡ ledger_of self.old + 1) }
-        ensures memory { (profile : Profile) (n : ℕ) (octets : List ℕ) → At profile self.old n octets → OnErr result (At profile self.new n octets) }
-        ensures full { OnErr result (room_of self.old ≤ length (marks_of self.old)) }
-        ensures ends { (profile : Profile) (n : ℕ) (octets : List ℕ) → At profile self.old n octets → OnErr result (length (Marks profile n (octets ++ octet ∷ [])) ≡ length (Marks profile n octets) + 1) }
-        ensures enough { (profile : Profile) (n : ℕ) (octets : List ℕ) → At profile self.old n octets → n / 2 ≤ room_of self.old → IsOk result }
-        ensures room { room_of self.old ≤ room_of self.new }
+        ensures memory { (profile : Profile) (n : ℕ) (octets : List ℕ) → HasScanned profile self.old n octets → OnErr result (HasScanned profile self.new n octets) }
+        ensures full { OnErr result (capacity_of self.old ≤ length (marks_of self.old)) }
+        ensures ends { (profile : Profile) (n : ℕ) (octets : List ℕ) → HasScanned profile self.old n octets → OnErr result (length (Marks profile n (octets ++ octet ∷ [])) ≡ length (Marks profile n octets) + 1) }
+        ensures enough { (profile : Profile) (n : ℕ) (octets : List ℕ) → HasScanned profile self.old n octets → n / 2 ≤ capacity_of self.old → IsOk result }
+        ensures capacity { capacity_of self.old ≤ capacity_of self.new }
         ensures profile { profile_of self.new ≡ profile_of self.old }
         ensures same { OnErr result ((ledger_of self.new ≡ ledger_of self.old) × (verdict_of self.new ≡ verdict_of self.old) × (marks_of self.new ≡ marks_of self.old)) }
     {
@@ -103,85 +103,85 @@ impl Scanner {
         Ok(decided)
     }
 
-    /// Takes octets as `run` and `step` would, one after another, until something is decided or none
-    /// is left. If memory is refused, it stays as it was before the octet that was not taken.
-    pub fn take(&mut self, octets: &[u8]) -> Taken
+    /// Scans octets as `run` and `step` would, one after another, until something is decided or none
+    /// is left. If out of memory, it stays as it was before the octet that was not scanned.
+    pub fn take(&mut self, octets: &[u8]) -> Scanned
         requires { verdict_of self.old ≡ Verdict.Open }
-        ensures at { (profile : Profile) (n : ℕ) (before : List ℕ) → At profile self.old n before → At profile self.new n (before ++ take result.used octets.now) }
+        ensures at { (profile : Profile) (n : ℕ) (before : List ℕ) → HasScanned profile self.old n before → HasScanned profile self.new n (before ++ take result.used octets.now) }
         ensures within { result.used ≤ length octets.now }
         ensures answer { IfOk result.verdict (λ decided. decided ≡ verdict_of self.new) }
         ensures all { result.verdict ≡ Ok Verdict.Open → result.used ≡ length octets.now }
-        ensures sooner { (profile : Profile) (n : ℕ) (before : List ℕ) (k : ℕ) → At profile self.old n before → k < result.used → judgement profile n (before ++ take k octets.now) ≡ Verdict.Open }
+        ensures sooner { (profile : Profile) (n : ℕ) (before : List ℕ) (k : ℕ) → HasScanned profile self.old n before → k < result.used → judgement profile n (before ++ take k octets.now) ≡ Verdict.Open }
         ensures ledger { ledger_of self.new ≡ ledger_of self.old + result.used }
         ensures memory { OnErr result.verdict (verdict_of self.new ≡ Verdict.Open) }
-        ensures full { OnErr result.verdict (room_of self.old ≤ length (marks_of self.new)) }
-        ensures ends { (profile : Profile) (n : ℕ) (before : List ℕ) → At profile self.old n before → OnErr result.verdict (length (Marks profile n (before ++ take (result.used + 1) octets.now)) ≡ length (Marks profile n (before ++ take result.used octets.now)) + 1) }
-        ensures enough { (profile : Profile) (n : ℕ) (before : List ℕ) → At profile self.old n before → n / 2 ≤ room_of self.old → IsOk result.verdict }
-        ensures room { room_of self.old ≤ room_of self.new }
+        ensures full { OnErr result.verdict (capacity_of self.old ≤ length (marks_of self.new)) }
+        ensures ends { (profile : Profile) (n : ℕ) (before : List ℕ) → HasScanned profile self.old n before → OnErr result.verdict (length (Marks profile n (before ++ take (result.used + 1) octets.now)) ≡ length (Marks profile n (before ++ take result.used octets.now)) + 1) }
+        ensures enough { (profile : Profile) (n : ℕ) (before : List ℕ) → HasScanned profile self.old n before → n / 2 ≤ capacity_of self.old → IsOk result.verdict }
+        ensures capacity { capacity_of self.old ≤ capacity_of self.new }
         ensures profile { profile_of self.new ≡ profile_of self.old }
     {
         let mut used = 0;
         'octets: while used < octets.len() {
-            let taken = self.take_some(&octets[used..]);
-            used += taken.used;
-            let Ok(Verdict::Open) = taken.verdict else {
-                return Taken {
+            let scanned = self.take_some(&octets[used..]);
+            used += scanned.used;
+            let Ok(Verdict::Open) = scanned.verdict else {
+                return Scanned {
                     used,
-                    verdict: taken.verdict,
+                    verdict: scanned.verdict,
                 };
             };
         }
-        Taken {
+        Scanned {
             used,
             verdict: Ok(Verdict::Open),
         }
     }
 
-    /// Takes some octets at once, of which there is one at least: what `run` takes, or else an octet.
-    fn take_some(&mut self, octets: &[u8]) -> Taken
+    /// Scans some octets at once, of which there is at least one: what `run` scans, or else an octet.
+    fn take_some(&mut self, octets: &[u8]) -> Scanned
         requires open { verdict_of self.old ≡ Verdict.Open }
         requires some { 0 < length octets.now }
-        ensures at { (profile : Profile) (n : ℕ) (before : List ℕ) → At profile self.old n before → At profile self.new n (before ++ take result.used octets.now) }
+        ensures at { (profile : Profile) (n : ℕ) (before : List ℕ) → HasScanned profile self.old n before → HasScanned profile self.new n (before ++ take result.used octets.now) }
         ensures within { result.used ≤ length octets.now }
         ensures answer { IfOk result.verdict (λ decided. decided ≡ verdict_of self.new) }
         ensures some { result.verdict ≡ Ok Verdict.Open → 0 < result.used }
-        ensures sooner { (profile : Profile) (n : ℕ) (before : List ℕ) (k : ℕ) → At profile self.old n before → k < result.used → judgement profile n (before ++ take k octets.now) ≡ Verdict.Open }
+        ensures sooner { (profile : Profile) (n : ℕ) (before : List ℕ) (k : ℕ) → HasScanned profile self.old n before → k < result.used → judgement profile n (before ++ take k octets.now) ≡ Verdict.Open }
         ensures ledger { ledger_of self.new ≡ ledger_of self.old + result.used }
         ensures memory { OnErr result.verdict (verdict_of self.new ≡ Verdict.Open) }
-        ensures full { OnErr result.verdict (room_of self.old ≤ length (marks_of self.new)) }
-        ensures ends { (profile : Profile) (n : ℕ) (before : List ℕ) → At profile self.old n before → OnErr result.verdict (length (Marks profile n (before ++ take (result.used + 1) octets.now)) ≡ length (Marks profile n (before ++ take result.used octets.now)) + 1) }
-        ensures room { room_of self.old ≤ room_of self.new }
+        ensures full { OnErr result.verdict (capacity_of self.old ≤ length (marks_of self.new)) }
+        ensures ends { (profile : Profile) (n : ℕ) (before : List ℕ) → HasScanned profile self.old n before → OnErr result.verdict (length (Marks profile n (before ++ take (result.used + 1) octets.now)) ≡ length (Marks profile n (before ++ take result.used octets.now)) + 1) }
+        ensures capacity { capacity_of self.old ≤ capacity_of self.new }
         ensures profile { profile_of self.new ≡ profile_of self.old }
     {
         let count = self.run(octets);
         if count > 0 {
-            return Taken {
+            return Scanned {
                 used: count,
                 verdict: Ok(Verdict::Open),
             };
         }
         match self.step(octets[0]) {
-            Ok(verdict) => Taken {
+            Ok(verdict) => Scanned {
                 used: 1,
                 verdict: Ok(verdict),
             },
-            Err(memory) => Taken {
+            Err(memory) => Scanned {
                 used: 0,
                 verdict: Err(memory),
             },
         }
     }
 
-    /// Returns the number of octets taken.
+    /// Returns the number of octets scanned.
     pub fn looked(&self) -> u32
-        ensures { (profile : Profile) (n : ℕ) (octets : List ℕ) → At profile self.now n octets → result ≡ length octets }
+        ensures { (profile : Profile) (n : ℕ) (octets : List ℕ) → HasScanned profile self.now n octets → result ≡ length octets }
     {
         self.path.looked
     }
 
     /// Returns the number of lengths that are whole and whose contents are not complete.
     pub fn open_lengths(&self) -> usize
-        ensures count { (profile : Profile) (n : ℕ) (octets : List ℕ) → At profile self.now n octets → result ≡ open_count profile n octets }
+        ensures count { (profile : Profile) (n : ℕ) (octets : List ℕ) → HasScanned profile self.now n octets → result ≡ open_count profile n octets }
         ensures few { result ≤ 13 }
     {
         match self.path.tip {
@@ -198,31 +198,31 @@ impl Scanner {
         self.path.marks.as_slice()
     }
 
-    /// For how many marks there is room, those that are there with them.
-    pub fn room(&self) -> usize
-        ensures { result ≡ room_of self.now }
+    /// Returns the number of marks for which memory is allocated, with those that are there.
+    pub fn capacity(&self) -> usize
+        ensures { result ≡ capacity_of self.now }
     {
         self.path.marks.capacity()
     }
 
-    /// As a new scanner of a message of `n` octets; but the room for marks stays, and the ledger.
+    /// As a new scanner of a message of `n` octets; but the capacity for marks stays, and the ledger.
     pub fn clear(&mut self, n: u32)
         requires some { 0 < n }
         requires short { n < 2 ^ 31 }
-        ensures at { At (profile_of self.old) self.new n [] }
+        ensures at { HasScanned (profile_of self.old) self.new n [] }
         ensures profile { profile_of self.new ≡ profile_of self.old }
         ensures ledger { ledger_of self.new ≡ ledger_of self.old }
-        ensures room { room_of self.old ≤ room_of self.new }
+        ensures capacity { capacity_of self.old ≤ capacity_of self.new }
     {
         self.path.clear(self.profile, n);
         self.verdict = Verdict::Open;
     }
 
-    /// As [`Scanner::clear`], but the room for marks is given back.
+    /// As [`Scanner::clear`], but the memory for marks is freed.
     pub fn restart(&mut self, alloc: Global, n: u32)
         requires some { 0 < n }
         requires short { n < 2 ^ 31 }
-        ensures at { At (profile_of self.old) self.new n [] }
+        ensures at { HasScanned (profile_of self.old) self.new n [] }
         ensures profile { profile_of self.new ≡ profile_of self.old }
         ensures ledger { ledger_of self.new ≡ ledger_of self.old }
     {
@@ -232,26 +232,26 @@ impl Scanner {
         self.verdict = Verdict::Open;
     }
 
-    /// Takes room for a number of marks in all.
+    /// Allocates memory for a number of marks in all.
     pub fn reserve(&mut self, marks: usize) -> Result<(), Memory>
-        ensures ok { OnOk result (marks ≤ room_of self.new) }
-        ensures at { (profile : Profile) (n : ℕ) (octets : List ℕ) → At profile self.old n octets → At profile self.new n octets }
+        ensures ok { OnOk result (marks ≤ capacity_of self.new) }
+        ensures at { (profile : Profile) (n : ℕ) (octets : List ℕ) → HasScanned profile self.old n octets → HasScanned profile self.new n octets }
         ensures same { (verdict_of self.new ≡ verdict_of self.old) × (ledger_of self.new ≡ ledger_of self.old) × (marks_of self.new ≡ marks_of self.old) }
-        ensures room { room_of self.old ≤ room_of self.new }
+        ensures capacity { capacity_of self.old ≤ capacity_of self.new }
         ensures profile { profile_of self.new ≡ profile_of self.old }
     {
         self.path.reserve(marks)
     }
 
-    /// Takes the longest front of octets that lies inside an open OCTET STRING, or a GeneralString that
+    /// Scans the longest prefix of octets that lies inside an open OCTET STRING, or a GeneralString that
     /// may have any octets, and stops short of its last octet, and says how many these are. The verdict stays.
     pub fn run(&mut self, octets: &[u8]) -> usize
-        ensures at { (profile : Profile) (n : ℕ) (before : List ℕ) → At profile self.old n before → At profile self.new n (before ++ take result octets.now) }
-        ensures longest { (profile : Profile) (n : ℕ) (before : List ℕ) → At profile self.old n before → result ≡ min (length octets.now) (string_left (messages profile) n before) }
+        ensures at { (profile : Profile) (n : ℕ) (before : List ℕ) → HasScanned profile self.old n before → HasScanned profile self.new n (before ++ take result octets.now) }
+        ensures longest { (profile : Profile) (n : ℕ) (before : List ℕ) → HasScanned profile self.old n before → result ≡ min (length octets.now) (string_left (messages profile) n before) }
         ensures verdict { verdict_of self.new ≡ verdict_of self.old }
         ensures ledger { ledger_of self.new ≡ ledger_of self.old + result }
         ensures marks { marks_of self.new ≡ marks_of self.old }
-        ensures room { room_of self.new ≡ room_of self.old }
+        ensures capacity { capacity_of self.new ≡ capacity_of self.old }
         ensures profile { profile_of self.new ≡ profile_of self.old }
     {
         let Verdict::Open = self.verdict else {

@@ -5,22 +5,22 @@
 pub(crate) enum Tip {
     /// The next item of the innermost open container.
     Between,
-    /// The item of a place, of which the tag octet is read.
+    /// The item of a position, of which the identifier octet is read.
     Tagged {
-        place: u16,
+        position: u16,
     },
-    /// The item of a place, of which `seen` of the `digits` octets of a long length are read, and the
+    /// The item of a position, of which `seen` of the `digits` octets of a long length are read, and the
     /// number that these spell.
     Long {
-        place: u16,
+        position: u16,
         digits: u32,
         seen: u32,
         value: u32,
     },
-    /// The item of a place, without items: from where to where its contents stand, an INTEGER's
+    /// The item of a position, without items: from where to where its contents are, an INTEGER's
     /// number so far and a BIT STRING's count of unused bits.
     Leaf {
-        place: u16,
+        position: u16,
         start: u32,
         end: u32,
         value: i64,

@@ -65,7 +65,7 @@ fn takes_what_is_in_range(rt: HostRuntime) {
 
 /// Returns how many flags there are, and whether the first three, the eighth and the last that a
 /// number can name are set.
-fn told(flags: &Flags) -> (u64, [bool; 5]) {
+fn bits_of(flags: &Flags) -> (u64, [bool; 5]) {
     let set = [
         flags.bit(0),
         flags.bit(1),
@@ -80,14 +80,14 @@ fn told(flags: &Flags) -> (u64, [bool; 5]) {
 fn flags(alloc: Global, unused: u8, octets: &[u8]) -> Result<Option<(u64, [bool; 5])>, Fail> {
     let octets = octets.to_vec(alloc)?;
     Ok(match Flags::new(unused, octets) {
-        Some(flags) => Some(told(&flags)),
+        Some(flags) => Some(bits_of(&flags)),
         None => None,
     })
 }
 
 #[test]
 fn takes_flags_with_clear_unused_bits(rt: HostRuntime) -> Result<(), Fail> {
-    for (unused, octets, told) in [
+    for (unused, octets, expected) in [
         (8, [0, 0].as_slice(), None),
         (1, [].as_slice(), None),
         (1, [0x41].as_slice(), None),
@@ -98,7 +98,7 @@ fn takes_flags_with_clear_unused_bits(rt: HostRuntime) -> Result<(), Fail> {
             Some((7, [false, true, false, false, false])),
         ),
     ] {
-        assert_eq!(rt; flags(rt.alloc(), unused, octets)?, told);
+        assert_eq!(rt; flags(rt.alloc(), unused, octets)?, expected);
     }
     Ok(())
 }

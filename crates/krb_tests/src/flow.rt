@@ -44,14 +44,14 @@ fn segment(sent: &Sent) -> Segment<'static> {
 fn comes_to(alloc: Global, direction: &mut Direction, sent: &Sent, wanted: &Wanted) -> bool {
     let mut waited = Vec::new(alloc);
     match direction.take(alloc, &segment(sent), &mut waited) {
-        Ok(taken) => {
+        Ok(delivered) => {
             let octets = wanted.2.as_bytes();
-            let at_once = taken.octets.len();
-            taken.before == wanted.0
-                && taken.begins == wanted.1
-                && taken.end == wanted.3
+            let at_once = delivered.octets.len();
+            delivered.before == wanted.0
+                && delivered.begins == wanted.1
+                && delivered.end == wanted.3
                 && octets.len() == at_once + waited.len()
-                && &octets[..at_once] == taken.octets
+                && &octets[..at_once] == delivered.octets
                 && &octets[at_once..] == waited.as_slice()
         }
         Err(_) => false,
@@ -90,7 +90,7 @@ fn segments_are_put_together(rt: HostRuntime) {
 }
 
 #[test]
-fn missing_octets_are_told(rt: HostRuntime) {
+fn missing_octets_are_reported(rt: HostRuntime) {
     let cut = Some(End::Lost(Lost {
         place: 2,
         octets: 2,

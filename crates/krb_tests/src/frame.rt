@@ -275,7 +275,7 @@ fn came_to(decoder: &mut Decoder, fed: Fed, row: &Row, octets: &[u8]) -> bool {
     } else {
         b"\0\0\0"
     });
-    let told = (
+    let found = (
         decoder.kept(),
         decoder.looked() as usize,
         decoder.open_lengths(),
@@ -284,7 +284,7 @@ fn came_to(decoder: &mut Decoder, fed: Fed, row: &Row, octets: &[u8]) -> bool {
         used: *used,
         status,
     } && again == Fed { used: 0, status }
-        && told == (*kept, *used, *open)
+        && found == (*kept, *used, *open)
         && decoder.ready().is_some() == is_ready
         && decoder.finish().err() == end
         && decoder.next() == is_ready
@@ -387,7 +387,7 @@ fn comes_again(alloc: Global, framed: &Framed<'_>, octets: &[u8], count: u32) ->
 
 /// Returns whether a decoder decodes a frame with this kind and these octets, and whether its
 /// message has them again.
-fn is_given(alloc: Global, octets: &[u8], kind: Kind, count: u32) -> bool {
+fn is_returned(alloc: Global, octets: &[u8], kind: Kind, count: u32) -> bool {
     let mut decoder = Decoder::new(alloc, Limit::DEFAULT);
     let _ = decoder.feed(octets);
     match decoder.ready() {
@@ -416,7 +416,10 @@ fn frames_come_again(rt: HostRuntime) -> Result<(), Fail> {
         (AS_REQ, Kind::AsReq, 60),
     ] {
         let octets = octets_of(alloc, digits)?;
-        assert!(rt; is_given(alloc, octets.as_slice(), kind, count), "{digits}");
+        assert!(rt;
+            is_returned(alloc, octets.as_slice(), kind, count),
+            "{digits}"
+        );
     }
     Ok(())
 }

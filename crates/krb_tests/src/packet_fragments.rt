@@ -108,7 +108,7 @@ fn fragments_are_put_together(rt: HostRuntime) {
         let second = packet(&rt, rt.alloc(), second, &SEGMENT[FIRST..]);
         let first = fragment(&rt, &first);
         let second = fragment(&rt, &second);
-        assert!(rt; first.place == 0 && !first.is_last && second.place == 16 && second.is_last);
+        assert!(rt; first.offset == 0 && !first.is_last && second.offset == 16 && second.is_last);
         assert!(rt; taken(&rt, &mut fragments, &second).is_none());
         assert!(rt; taken(&rt, &mut fragments, &second).is_none());
         assert!(rt; fragments.unread() == 2);
@@ -118,7 +118,7 @@ fn fragments_are_put_together(rt: HostRuntime) {
 }
 
 #[test]
-fn overlaps_spoil_datagrams(rt: HostRuntime) {
+fn overlaps_discard_datagrams(rt: HostRuntime) {
     let mut fragments = Fragments::new(rt.alloc());
     let first = packet(&rt, rt.alloc(), &HEADERS4[0], &SEGMENT[..FIRST]);
     let other = packet(&rt, rt.alloc(), &HEADERS4[0], &SEGMENT[8..24]);

@@ -4,7 +4,7 @@ use Rattle.krb_file.specs.declared.fault.FileFault.{FileFault}
 use Rattle.krb_file.specs.declared.fault.FileFault.TheVariants as faults
 use Rattle.krb_packet.specs.Captures.{packets}
 use Rattle.krb_packet.specs.Parsers.{Refusal}
-use Rattle.krb_packet.specs.Streaming.{GivesNext, Reading, Reads}
+use Rattle.krb_packet.specs.Streaming.{ReturnsNext, PacketsModel, Reads}
 use Rattle.krb_packet.specs.declared.fault.CaptureFault.{CaptureFault}
 use Rattle.krb_packet.specs.declared.field.CaptureField.{CaptureField}
 use Rattle.krb_packet.specs.declared.packet.Packet.{Packet}
@@ -20,15 +20,15 @@ use Rattle.krb_tool.specs.inner.CaptureRuns.{AddsCaptureEnd, AddsFileRefusal, Is
 use Rattle.krb_tool.specs.inner.RecordRuns.{AddsLine}
 
 -- what a call of the reader promises
-abbrev pub Promises : Reading → Result (Option Packet) CaptureFault → Reading → Type 0
-Promises old given new = (file : List ℕ) (count : ℕ) → Reads old file count → GivesNext file count given new
+abbrev pub Promises : PacketsModel → Result (Option Packet) CaptureFault → PacketsModel → Type 0
+Promises old given new = (file : List ℕ) (count : ℕ) → Reads old file count → ReturnsNext file count given new
 
-here : {A : Type 0} (items front back : List A) (item : A) (count : ℕ) → length front ≡ count → items ≡ front ++ item ∷ back → drop count items ≡ item ∷ back
-here items front back item count counted parts = ap (drop count) parts ∙ drop_at front (item ∷ back) count counted
+here : {A : Type 0} (items prefix suffix : List A) (item : A) (count : ℕ) → length prefix ≡ count → items ≡ prefix ++ item ∷ suffix → drop count items ≡ item ∷ suffix
+here items prefix suffix item count counted parts = ap (drop count) parts ∙ drop_at prefix (item ∷ suffix) count counted
 
-there : {A : Type 0} (items front back : List A) (item : A) (count : ℕ) → length front ≡ count → items ≡ front ++ item ∷ back → drop (suc count) items ≡ back
-there items front back item count counted parts =
-    ap (drop (suc count)) (parts ∙ sym (append_assoc front (item ∷ []) back)) ∙ drop_at (front ++ item ∷ []) back (suc count) (omega (arith, counted, length-append front (item ∷ [])))
+there : {A : Type 0} (items prefix suffix : List A) (item : A) (count : ℕ) → length prefix ≡ count → items ≡ prefix ++ item ∷ suffix → drop (suc count) items ≡ suffix
+there items prefix suffix item count counted parts =
+    ap (drop (suc count)) (parts ∙ sym (append_assoc prefix (item ∷ []) suffix)) ∙ drop_at (prefix ++ item ∷ []) suffix (suc count) (omega (arith, counted, length-append prefix (item ∷ [])))
 
 -- the last records were added, if they alone are left
 ended_so : (IsLeft : RecordListing → Type 0) (before after : List ℕ) (ended : Option RunEnd) (end : RunEnd) (left last : RecordListing) → ended ≡ Some end → after ≡ before ++ last.last → left ≡ last → last.lines ≡ [] → last.end ≡ end → AddsLine IsLeft left before after (Ok ended)
@@ -37,7 +37,7 @@ ended_so IsLeft before after (Some x) end left last e a l n f =
     let x' : x ≡ end = cc in
     (a ∙ ap (λ y. before ++ y.last) (sym l), ap (λ y. y.lines) l ∙ n, x' ∙ sym f ∙ ap (λ y. y.end) (sym l))
 
-module _ (form : Form) (old new : Reading) (was now : Capture) (count : ℕ) (left : RecordListing) (before after : List ℕ) (is_left : IsCaptureLeft old was form count left) where
+module _ (form : Form) (old new : PacketsModel) (was now : Capture) (count : ℕ) (left : RecordListing) (before after : List ℕ) (is_left : IsCaptureLeft old was form count left) where
   abbrev found : List Packet
   found = (packets is_left.file).packets
 
@@ -48,10 +48,10 @@ module _ (form : Form) (old new : Reading) (was now : Capture) (count : ℕ) (le
   packet_added packet promises followed listed =
       let given = promises is_left.file count is_left.reads in
       let taken = packet_taken is_left.settings packet is_left.progress in
-      let first = here found given.0.front given.0.back packet count given.0.counted given.0.parts in
-      let rest = there found given.0.front given.0.back packet count given.0.counted given.0.parts in (
+      let first = here found given.0.prefix given.0.suffix packet count given.0.counted given.0.parts in
+      let rest = there found given.0.prefix given.0.suffix packet count given.0.counted given.0.parts in (
         lines_of is_left.settings.form taken.found,
-        listing_from is_left.settings given.0.back refusal taken.progress,
+        listing_from is_left.settings given.0.suffix refusal taken.progress,
         listed is_left.settings is_left.progress is_left.followed,
         is_left.is ∙ ap (λ xs. listing_from is_left.settings xs refusal is_left.progress) first,
         record {
@@ -85,7 +85,7 @@ module _ (form : Form) (old new : Reading) (was now : Capture) (count : ℕ) (le
   refusal_added IsLeft fault (Err e) promises adds = tt
   refusal_added IsLeft fault (Ok ended) promises adds = by fault.fault fault.field (promises is_left.file count is_left.reads) adds
     where
-      by : (file_fault : FileFault) (field : CaptureField) → GivesNext is_left.file count (Err (record { fault = file_fault; field = field })) new → AddsFileRefusal file_fault field was form before after ended → AddsLine IsLeft left before after (Ok ended)
+      by : (file_fault : FileFault) (field : CaptureField) → ReturnsNext is_left.file count (Err (record { fault = file_fault; field = field })) new → AddsFileRefusal file_fault field was form before after ended → AddsLine IsLeft left before after (Ok ended)
       by faults.Read field given adds = absurd adds
       by faults.Memory field given adds = absurd adds
       by (faults.Refused place why unnamed) field given adds =
@@ -95,6 +95,6 @@ module _ (form : Form) (old new : Reading) (was now : Capture) (count : ℕ) (le
           ended_so IsLeft before after ended run.Refused left (listing_from is_left.settings [] refused is_left.progress) added.0 added.1 last refl refl
 
 -- before the first packet
-pub all_left : (settings : Settings) (file : List ℕ) (reading : Reading) (capture : Capture) → Reads reading file 0 → HasFollowed capture settings at_first → IsCaptureLeft reading capture settings.form 0 (capture_listing settings file)
+pub all_left : (settings : Settings) (file : List ℕ) (model : PacketsModel) (capture : Capture) → Reads model file 0 → HasFollowed capture settings at_first → IsCaptureLeft model capture settings.form 0 (capture_listing settings file)
 unfolding capture_listing
-all_left settings file reading capture reads followed = record { file = file; settings = settings; progress = at_first; reads = reads; followed = followed; form_is = refl; is = refl }
+all_left settings file model capture reads followed = record { file = file; settings = settings; progress = at_first; reads = reads; followed = followed; form_is = refl; is = refl }

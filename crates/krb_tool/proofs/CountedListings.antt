@@ -4,7 +4,7 @@ use Rattle.std.specs.Prelude.{IsSome, is_some}
 use Rattle.std.proofs.lemmas.List.{map-append}
 use Rattle.krb_der.specs.declared.why.Why.TheVariants.{HighBit}
 use Rattle.krb_der.specs.declared.verdict.Refusal.{Refusal}
-use Rattle.krb_msg.specs.Seen.{message_seen}
+use Rattle.krb_msg.specs.ViewValues.{message_of_view}
 use Rattle.krb_msg.specs.Views.{message_der}
 use Rattle.krb_msg.specs.declared.message.Message.{Message}
 use Rattle.krb_msg.specs.Grammar.{messages}
@@ -16,7 +16,7 @@ use Rattle.krb_frame.specs.declared.decoder.Fed.{Fed}
 use Rattle.krb_frame.specs.declared.pass.Passed.{Passed}
 use Rattle.krb_frame.specs.declared.decoder.Status.{Status}
 use Rattle.krb_frame.specs.declared.decoder.Status.TheVariants as status
-use Rattle.krb_frame.proofs.Founds.{more-nothing}
+use Rattle.krb_frame.proofs.DecoderFrames.{more-nothing}
 use Rattle.krb_list.specs.declared.form.Form.{Form}
 use Rattle.krb_tool.specs.Lines.{message_line}
 use Rattle.krb_tool.specs.Lines.{refused_line}
@@ -37,12 +37,12 @@ more_refused refusal e = cc
 pub messages_in-append : (xs ys : List Listed) → messages_in (xs ++ ys) ≡ messages_in xs + messages_in ys
 messages_in-append [] ys = omega arith
 messages_in-append (Whole message ∷ xs) ys = omega (arith, messages_in-append xs ys)
-messages_in-append (Faulty place reason front ∷ xs) ys = messages_in-append xs ys
+messages_in-append (Faulty place reason prefix ∷ xs) ys = messages_in-append xs ys
 
 pub refused_in-append : (xs ys : List Listed) → refused_in (xs ++ ys) ≡ refused_in xs + refused_in ys
 refused_in-append [] ys = omega arith
 refused_in-append (Whole message ∷ xs) ys = refused_in-append xs ys
-refused_in-append (Faulty place reason front ∷ xs) ys = omega (arith, refused_in-append xs ys)
+refused_in-append (Faulty place reason prefix ∷ xs) ys = omega (arith, refused_in-append xs ys)
 
 pub lines_after-append : (form : Form) (profile : Profile) (n : ℕ) (xs ys : List Listed) → lines_after form profile n (xs ++ ys) ≡ lines_after form profile n xs ++ lines_after form profile (n + messages_in xs) ys
 lines_after-append form profile n [] ys = let e : n ≡ n + 0 = omega arith in ap (λ k. lines_after form profile k ys) e
@@ -51,12 +51,12 @@ lines_after-append form profile n (Whole message ∷ xs) ys =
     ap (λ l. message_line form message ++ l) (lines_after-append form profile (n + 1) xs ys)
     ∙ sym (append_assoc (message_line form message) (lines_after form profile (n + 1) xs) (lines_after form profile (n + 1 + messages_in xs) ys))
     ∙ ap (λ k. (message_line form message ++ lines_after form profile (n + 1) xs) ++ lines_after form profile k ys) e
-lines_after-append form profile n (Faulty place reason front ∷ xs) ys =
-    ap (λ l. refused_line form n place reason (frame_path profile front) ++ l) (lines_after-append form profile n xs ys)
-    ∙ sym (append_assoc (refused_line form n place reason (frame_path profile front)) (lines_after form profile n xs) (lines_after form profile (n + messages_in xs) ys))
+lines_after-append form profile n (Faulty place reason prefix ∷ xs) ys =
+    ap (λ l. refused_line form n place reason (frame_path profile prefix) ++ l) (lines_after-append form profile n xs ys)
+    ∙ sym (append_assoc (refused_line form n place reason (frame_path profile prefix)) (lines_after form profile n xs) (lines_after form profile (n + messages_in xs) ys))
 
 -- one frame more
-HasCounted-more : (old new : CountingLister) (x : Listed) (stream grown written : List ℕ) (h : HasCounted old stream written) → ((front : List ℕ) → entry_of x ≡ Fault 3 HighBit front → ⊥) → new.decoder.current.profile ≡ old.decoder.current.profile → new.form ≡ old.form → string_bytes new.text ≡ string_bytes old.text ++ lines_after old.form old.decoder.current.profile old.messages (x ∷ []) → new.messages ≡ old.messages + messages_in (x ∷ []) → new.refused ≡ old.refused + refused_in (x ∷ []) → GoesOn (messages old.decoder.current.profile) new.decoder grown (map entry_of h.listed ++ entry_of x ∷ []) → HasCounted new grown written
+HasCounted-more : (old new : CountingLister) (x : Listed) (stream grown written : List ℕ) (h : HasCounted old stream written) → ((prefix : List ℕ) → entry_of x ≡ Fault 3 HighBit prefix → ⊥) → new.decoder.current.profile ≡ old.decoder.current.profile → new.form ≡ old.form → string_bytes new.text ≡ string_bytes old.text ++ lines_after old.form old.decoder.current.profile old.messages (x ∷ []) → new.messages ≡ old.messages + messages_in (x ∷ []) → new.refused ≡ old.refused + refused_in (x ∷ []) → GoesOn (messages old.decoder.current.profile) new.decoder grown (map entry_of h.listed ++ entry_of x ∷ []) → HasCounted new grown written
 HasCounted-more old new x stream grown written h known p o t m r g =
     let all : List Listed = h.listed ++ x ∷ [] in
     record {
@@ -87,7 +87,7 @@ some_rest : (o : Option ℕ) → true ≡ is_some o → (count : ℕ) × (o ≡ 
 some_rest (Some count) e = (count, refl)
 some_rest None e = absurd cc
 
-skipped_is : (old new : CountingLister) (refusal : Refusal) → CountsRefused old refusal new → new.decoder.current ≡ record old.decoder.current { octets = []; room = new.decoder.current.room }
+skipped_is : (old new : CountingLister) (refusal : Refusal) → CountsRefused old refusal new → new.decoder.current ≡ record old.decoder.current { octets = []; capacity = new.decoder.current.capacity }
 skipped_is old new refusal l =
     let o = some_rest (rest_to_come (messages old.decoder.current.profile) old.decoder.current) l.skipped.is_known in
     (subst (GivesUp (messages old.decoder.current.profile) old.decoder.current new.decoder.current) o.1 l.skipped.gives_up).left
@@ -163,7 +163,7 @@ module _ (old new : CountingLister) (piece : List ℕ) (fed : Fed) (f : FeedsAft
         let profile : next.decoder.current.profile ≡ new.decoder.current.profile = ap (λ d. d.profile) left in
         IsFed-used counting old next piece fed.used fed_within
         (same_request new.form next.form new.decoder.current next.decoder.current l.same_form profile (ap (λ d. d.limit) left) ∙ same)
-        (ap (λ d. status_of (messages d.profile) d) left ∙ more-nothing (messages new.decoder.current.profile) new.decoder.current.profile new.decoder.current.limit new.decoder.current.looks next.decoder.current.room)
+        (ap (λ d. status_of (messages d.profile) d) left ∙ more-nothing (messages new.decoder.current.profile) new.decoder.current.profile new.decoder.current.limit new.decoder.current.looks next.decoder.current.capacity)
         (omega (arith, fed_some (status.Refused refusal) w e (more_refused refusal) (memory_refused refusal), m, r, l.messages, l.refused))
         (λ stream written h.
         let u = HasCounted-used stream written h in
@@ -171,10 +171,10 @@ module _ (old new : CountingLister) (piece : List ℕ) (fed : Fed) (f : FeedsAft
         (l.skipped.goes_on (stream ++ take fed.used piece) (map entry_of u.listed) refusal.place refusal.why u.goes_on refused refl))
 
 -- ---- a frame that is passed
-module _ (old new : CountingLister) (octets : List ℕ) (passed : Passed) (p : PassesEntry (messages old.decoder.current.profile) old.decoder octets passed) (l : CountsLine (message_seen passed.message) old new) where
+module _ (old new : CountingLister) (octets : List ℕ) (passed : Passed) (p : PassesEntry (messages old.decoder.current.profile) old.decoder octets passed) (l : CountsLine (message_of_view passed.message) old new) where
   HasCounted-passed : (stream written : List ℕ) → HasCounted old stream written → HasCounted new (stream ++ framed (contents_of passed)) written
   HasCounted-passed stream written h =
-      let message : Message = message_seen passed.message in
+      let message : Message = message_of_view passed.message in
       let grown : List ℕ = stream ++ framed (contents_of passed) in
       HasCounted-more old new (Whole message) stream grown written h (whole_known (message_der message)) (ap (λ s. s.current.profile) l.same_decoder) l.same_form (l.line ∙ ap (λ t. string_bytes old.text ++ t) (sym (append-nil (message_line old.form message)))) (omega (arith, l.messages)) (omega (arith, l.refused))
       (subst (λ s. GoesOn (messages old.decoder.current.profile) s grown (map entry_of h.listed ++ Contents (message_der message) ∷ [])) (sym l.same_decoder)

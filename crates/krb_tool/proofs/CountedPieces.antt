@@ -123,8 +123,8 @@ waiting_known : (before : List Entry) → (EndsUnknown before → ⊥) → (end 
 waiting_known before known Boundary octets e u = known (subst EndsUnknown (append-nil before) u)
 waiting_known before known (Within present) octets e u = known_last before (Fault present Truncated octets) cut u
   where
-    cut : (front : List ℕ) → Fault present Truncated octets ≡ Fault 3 HighBit front → ⊥
-    cut front e = cc
+    cut : (prefix : List ℕ) → Fault present Truncated octets ≡ Fault 3 HighBit prefix → ⊥
+    cut prefix e = cc
 waiting_known before known (Refused place reason) octets e u = e
 
 module _ (lister : CountingLister) (taken : Taken) (w : WaitsAfter counting lister taken) where
@@ -178,7 +178,7 @@ done lister taken left (inl (w, a)) = record {
   all = entries_read lister taken w;
   few = omega (arith, w.few);
   ended = inl a;
-  stops = record { front = taken.octets; piece = []; parts = sym (append-nil taken.octets); goes_on = known lister taken w; short = omega arith };
+  stops = record { prefix = taken.octets; piece = []; parts = sym (append-nil taken.octets); goes_on = known lister taken w; short = omega arith };
 }
 done lister taken left (inr r) = record {
   listed = r.listed;
@@ -240,14 +240,14 @@ stops-unknown old new piece taken short w f =
         all = all;
         end = l.end;
         few = omega (arith, w.few, f.few);
-        stops = record { front = taken.octets; piece = piece; parts = refl; goes_on = subst (λ q. EndsUnknown (entries (messages q.profile) q.limit taken.octets) → ⊥) (sym f.same) (known old taken w); short = short };
+        stops = record { prefix = taken.octets; piece = piece; parts = refl; goes_on = subst (λ q. EndsUnknown (entries (messages q.profile) q.limit taken.octets) → ⊥) (sym f.same) (known old taken w); short = short };
       },
       record { found = h.listed; others = map entry_of (last_of new); in_frames = all; lines = h.lines },
     )
 
 -- ---- what a run did
-pub ListsAll-listed : (request : Request) (had left held holds : Option (List ℕ)) (ended : RunEnd) → ListsBy (counting_rules request) had left held holds ended → ListsAll request.form request.profile request.limit had left held holds ended
-ListsAll-listed request had left held holds ended l = record {
+pub ListsAll-listed : (request : Request) (had left written_before written_after : Option (List ℕ)) (ended : RunEnd) → ListsBy (counting_rules request) had left written_before written_after ended → ListsAll request.form request.profile request.limit had left written_before written_after ended
+ListsAll-listed request had left written_before written_after ended l = record {
   read = l.read;
   written = l.written;
   taken = l.taken;

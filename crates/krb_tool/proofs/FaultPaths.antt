@@ -7,7 +7,7 @@ use Rattle.krb_der.specs.declared.verdict.Refusal.{Refusal}
 use Rattle.krb_judge.specs.Paths.{message_path}
 use Rattle.krb_tool.specs.Paths.{refused_path}
 
--- no more octets are taken than there are
+-- `take` returns no more octets than there are
 take-few : (count : ℕ) (octets : List ℕ) → take (min count (length octets)) octets ≡ take count octets
 take-few count octets = elim (cases_lt (length octets) count) [
   | inl h ↦

@@ -2,39 +2,39 @@
 use Rattle.std.proofs.Common.{◌≡◌, ℕ, ◌+◌, ◌<◌, ◌≤◌, ◌⊎◌, inl, inr, List, [], ◌++◌, length, take, drop, Option, Some, None, IfSome, Result, Ok, Err, OnErr, IfErr, refl, sym, ◌∙◌, ap, subst, arith, append-nil, append_assoc, take-append-drop, length-append, length-take, drop_of_length-le, take-take}
 use Rattle.std.specs.Io.KnownBytes.{Consumes}
 use Rattle.std.proofs.KnownBytes.{Consumes-nil, Consumes-trans}
-use Rattle.krb_tool.specs.Files.{FileListing, TakesAll, TakesSome, ListsFront, FailsFile}
-use Rattle.krb_tool.specs.inner.FileRuns.{IsAllOrFull, IsTold, TakesFront, TellsRead}
+use Rattle.krb_tool.specs.Files.{FileListing, ReadsAll, ReadsSome, ListsPrefix, FailsFile}
+use Rattle.krb_tool.specs.inner.FileRuns.{IsAllOrFull, IsDecidedByPrefix, ReadsPrefix, MatchesReader}
 use Rattle.krb_tool.specs.declared.run.RunFault.{RunFault}
 use Rattle.krb_tool.specs.declared.run.RunFault.TheVariants as fault
 use Rattle.krb_tool.specs.Faults.{IsRead, IsWrite}
 use Rattle.krb_tool.specs.declared.transfer.ReaderState.{ReaderState}
 use Rattle.krb_tool.specs.declared.transfer.ReaderState.TheVariants as reader
-use Rattle.krb_tool.specs.inner.Transfers.{Gives}
+use Rattle.krb_tool.specs.inner.Transfers.{ReturnsOctets}
 
--- a reader that gives nothing has given all
-pub TakesAll-made : (had left after : Option (List ℕ)) (file piece : List ℕ) (room : ℕ) → Consumes had left file → Gives left after piece room → piece ≡ [] → 0 < room → TakesAll had after file
-TakesAll-made had left after file piece room c g none some = record {
+-- a reader that returns nothing is at its end
+pub ReadsAll-made : (had left after : Option (List ℕ)) (file piece : List ℕ) (room : ℕ) → Consumes had left file → ReturnsOctets left after piece room → piece ≡ [] → 0 < room → ReadsAll had after file
+ReadsAll-made had left after file piece room c g none some = record {
   taken = subst (Consumes had after) (ap (λ l. file ++ l) none ∙ append-nil file) (Consumes-trans had left after file piece c g.taken);
   ended = g.ended none some;
 }
 
 -- what came so far, the first octets of which are kept
-pub record KeepsFront (had left : Option (List ℕ)) (most : Option ℕ) (kept : List ℕ) : Type 0 where
+pub record KeepsPrefix (had left : Option (List ℕ)) (most : Option ℕ) (kept : List ℕ) : Type 0 where
   pub rest : List ℕ
   pub taken : Consumes had left (kept ++ rest)
   pub enough : IsAllOrFull most kept rest
   pub within : IfSome most (λ m. length kept ≤ m)
 
-pub KeepsFront-start : (had : Option (List ℕ)) (most : Option ℕ) → KeepsFront had had most []
-KeepsFront-start had None = record { rest = []; taken = Consumes-nil had; enough = inl refl; within = tt }
-KeepsFront-start had (Some m) = record { rest = []; taken = Consumes-nil had; enough = inl refl; within = omega arith }
+pub KeepsPrefix-start : (had : Option (List ℕ)) (most : Option ℕ) → KeepsPrefix had had most []
+KeepsPrefix-start had None = record { rest = []; taken = Consumes-nil had; enough = inl refl; within = tt }
+KeepsPrefix-start had (Some m) = record { rest = []; taken = Consumes-nil had; enough = inl refl; within = omega arith }
 
 grown : (kept piece : List ℕ) (n : ℕ) → n ≤ length piece → length kept + n ≡ length (kept ++ take n piece)
 grown kept piece n few = omega (arith, few, length-append kept (take n piece), length-take n piece)
 
--- and then a piece, of which all octets are kept, or the first that there is room for
-pub KeepsFront-more : (had left after : Option (List ℕ)) (most : Option ℕ) (kept piece : List ℕ) (n : ℕ) → KeepsFront had left most kept → Consumes left after piece → n ≤ length piece → IfSome most (λ m. length kept + n ≤ m) → (n ≡ length piece) ⊎ (most ≡ Some (length kept + n)) → KeepsFront had after most (kept ++ take n piece)
-KeepsFront-more had left after most kept piece n k c few within all = record {
+-- and then a piece, of which all octets are kept, or the first ones up to the greatest number
+pub KeepsPrefix-more : (had left after : Option (List ℕ)) (most : Option ℕ) (kept piece : List ℕ) (n : ℕ) → KeepsPrefix had left most kept → Consumes left after piece → n ≤ length piece → IfSome most (λ m. length kept + n ≤ m) → (n ≡ length piece) ⊎ (most ≡ Some (length kept + n)) → KeepsPrefix had after most (kept ++ take n piece)
+KeepsPrefix-more had left after most kept piece n k c few within all = record {
   rest = k.rest ++ drop n piece;
   taken = subst (Consumes had after) (together k.enough) (Consumes-trans had left after (kept ++ k.rest) piece k.taken c);
   enough = enough k.enough all;
@@ -64,45 +64,45 @@ KeepsFront-more had left after most kept piece n k c few within all = record {
     enough (inr e) (inl f) = inr (e ∙ ap Some (omega (arith, none e, grown kept piece n few)))
 
 -- the same of what came into a buffer
-pub KeepsFront-fed : (had left after : Option (List ℕ)) (most : Option ℕ) (kept buffer : List ℕ) (count n len : ℕ) → KeepsFront had left most kept → Consumes left after (take count buffer) → count ≤ length buffer → len ≡ length kept → n ≤ count → IfSome most (λ m. len + n ≤ m) → (n ≡ count) ⊎ (most ≡ Some (len + n)) → KeepsFront had after most (kept ++ take n buffer)
-KeepsFront-fed had left after most kept buffer count n len k c whole same few within all =
-    subst (λ l. KeepsFront had after most (kept ++ l)) (take-take n count buffer few)
-    (KeepsFront-more had left after most kept (take count buffer) n k c (omega (arith, few, whole, length-take count buffer)) (subst (λ l. IfSome most (λ m. l + n ≤ m)) same within) (by all))
+pub KeepsPrefix-fed : (had left after : Option (List ℕ)) (most : Option ℕ) (kept buffer : List ℕ) (count n len : ℕ) → KeepsPrefix had left most kept → Consumes left after (take count buffer) → count ≤ length buffer → len ≡ length kept → n ≤ count → IfSome most (λ m. len + n ≤ m) → (n ≡ count) ⊎ (most ≡ Some (len + n)) → KeepsPrefix had after most (kept ++ take n buffer)
+KeepsPrefix-fed had left after most kept buffer count n len k c whole same few within all =
+    subst (λ l. KeepsPrefix had after most (kept ++ l)) (take-take n count buffer few)
+    (KeepsPrefix-more had left after most kept (take count buffer) n k c (omega (arith, few, whole, length-take count buffer)) (subst (λ l. IfSome most (λ m. l + n ≤ m)) same within) (by all))
   where
     by : (n ≡ count) ⊎ (most ≡ Some (len + n)) → (n ≡ length (take count buffer)) ⊎ (most ≡ Some (length kept + n))
     by (inl e) = inl (omega (arith, e, whole, length-take count buffer))
     by (inr e) = inr (e ∙ ap (λ l. Some (l + n)) same)
 
--- a reader that gives nothing has given all
-pub TakesFront-made : (had left after : Option (List ℕ)) (most : Option ℕ) (kept piece : List ℕ) (room : ℕ) → KeepsFront had left most kept → Gives left after piece room → piece ≡ [] → 0 < room → TakesFront had after most kept
-TakesFront-made had left after most kept piece room k g none some = record {
+-- a reader that returns nothing is at its end
+pub ReadsPrefix-made : (had left after : Option (List ℕ)) (most : Option ℕ) (kept piece : List ℕ) (room : ℕ) → KeepsPrefix had left most kept → ReturnsOctets left after piece room → piece ≡ [] → 0 < room → ReadsPrefix had after most kept
+ReadsPrefix-made had left after most kept piece room k g none some = record {
   rest = k.rest;
-  taken = TakesAll-made had left after (kept ++ k.rest) piece room k.taken g none some;
+  taken = ReadsAll-made had left after (kept ++ k.rest) piece room k.taken g none some;
   enough = k.enough;
   within = k.within;
 }
 
 -- the listing of what is kept is that of all
-pub told-whole : (Lists : List ℕ → FileListing → Type 0) (most : Option ℕ) (kept rest : List ℕ) (listing : FileListing) → IsTold Lists most → IsAllOrFull most kept rest → Lists kept listing → Lists (kept ++ rest) listing
-told-whole Lists most kept rest listing t (inl e) l = subst (λ f. Lists f listing) (sym (ap (λ r. kept ++ r) e ∙ append-nil kept)) l
-told-whole Lists most kept rest listing t (inr e) l = t kept rest listing e l
+pub decided-whole : (Lists : List ℕ → FileListing → Type 0) (most : Option ℕ) (kept rest : List ℕ) (listing : FileListing) → IsDecidedByPrefix Lists most → IsAllOrFull most kept rest → Lists kept listing → Lists (kept ++ rest) listing
+decided-whole Lists most kept rest listing t (inl e) l = subst (λ f. Lists f listing) (sym (ap (λ r. kept ++ r) e ∙ append-nil kept)) l
+decided-whole Lists most kept rest listing t (inr e) l = t kept rest listing e l
 
--- octets were taken, whatever came then
-pub some-taken : {T E : Type 0} (r : Result T E) (had left : Option (List ℕ)) (taken : List ℕ) → Consumes had left taken → OnErr r (TakesSome had left)
+-- octets were read, whatever came then
+pub some-taken : {T E : Type 0} (r : Result T E) (had left : Option (List ℕ)) (taken : List ℕ) → Consumes had left taken → OnErr r (ReadsSome had left)
 some-taken (Ok x) had left taken c = tt
 some-taken (Err e) had left taken c = (taken, c)
 
 -- a fault that came at the end of the reader is not that of the reader
-pub told-ended : {T : Type 0} (state : ReaderState) (r : Result T RunFault) → state ≡ reader.Ended → IfErr r (λ f. IsRead f → ⊥) → IfErr r (TellsRead state)
-told-ended state (Ok x) s n = tt
-told-ended state (Err f) s n = subst (λ t. TellsRead t f) (sym s) n
+pub decided-ended : {T : Type 0} (state : ReaderState) (r : Result T RunFault) → state ≡ reader.Ended → IfErr r (λ f. IsRead f → ⊥) → IfErr r (MatchesReader state)
+decided-ended state (Ok x) s n = tt
+decided-ended state (Err f) s n = subst (λ t. MatchesReader t f) (sym s) n
 
 -- a write failed after the beginning of the listing
-pub failed-write : {T : Type 0} (r : Result T RunFault) (Lists : List ℕ → FileListing → Type 0) (had left held holds : Option (List ℕ)) → IfErr r IsWrite → ListsFront Lists had left held holds → IfErr r (FailsFile Lists had left held holds)
-failed-write (Ok x) Lists had left held holds w f = tt
-failed-write (Err (fault.Write e)) Lists had left held holds w f = f
-failed-write (Err (fault.Read e)) Lists had left held holds w f = absurd w
-failed-write (Err fault.Memory) Lists had left held holds w f = absurd w
+pub failed-write : {T : Type 0} (r : Result T RunFault) (Lists : List ℕ → FileListing → Type 0) (had left written_before written_after : Option (List ℕ)) → IfErr r IsWrite → ListsPrefix Lists had left written_before written_after → IfErr r (FailsFile Lists had left written_before written_after)
+failed-write (Ok x) Lists had left written_before written_after w f = tt
+failed-write (Err (fault.Write e)) Lists had left written_before written_after w f = f
+failed-write (Err (fault.Read e)) Lists had left written_before written_after w f = absurd w
+failed-write (Err fault.Memory) Lists had left written_before written_after w f = absurd w
 
 -- out of memory is no failed read, nor is a failed write
 pub memory-unread : {T : Type 0} (r : Result T RunFault) → IfErr r (λ e. e ≡ fault.Memory) → IfErr r (λ e. IsRead e → ⊥)

@@ -1,6 +1,6 @@
 -- The lines of a keytab, one record after another.
 use Rattle.std.proofs.Common.{ℕ, suc, List, length, Option, Some, None, Result, Ok, Err, IfOk, refl, ap, ap₂}
-use Rattle.krb_file.specs.FieldReaders.{Held}
+use Rattle.krb_file.specs.FieldReaders.{Cursor}
 use Rattle.krb_file.specs.declared.fault.FileFault.{FileFault}
 use Rattle.krb_file.specs.declared.fault.FileFault.TheVariants as faults
 use Rattle.krb_keytab.specs.declared.value.Record.{Record}
@@ -9,7 +9,7 @@ use Rattle.krb_keytab.specs.declared.reading.Next.{Next}
 use Rattle.krb_keytab.specs.declared.reading.Next.TheVariants as nexts
 use Rattle.krb_keytab.specs.declared.records.State.{State}
 use Rattle.krb_keytab.specs.Reading.{Items, items}
-use Rattle.krb_keytab.specs.Streaming.{Reads, GivesNext}
+use Rattle.krb_keytab.specs.Streaming.{Reads, ReturnsNext}
 use Rattle.krb_list.specs.declared.form.Form.{Form}
 use Rattle.krb_tool.specs.Lines.{record_line, keytab_end_line}
 use Rattle.krb_tool.specs.declared.run.RunEnd.{RunEnd}
@@ -21,10 +21,10 @@ use Rattle.krb_tool.specs.inner.RecordRuns.{Adds, AddsRefusal, AddsLine, AreReco
 use Rattle.krb_tool.proofs.Records.{item_added, last_added}
 
 -- what a call of the reader promises
-abbrev pub Promises : Held → State → Result Next FileFault → Held → State → Type 0
-Promises old from given new to = (file : List ℕ) (limit : ℕ) (count : ℕ) → Reads (Some limit) old from file count → GivesNext (Some limit) file count given new to
+abbrev pub Promises : Cursor → State → Result Next FileFault → Cursor → State → Type 0
+Promises old from given new to = (file : List ℕ) (limit : ℕ) (count : ℕ) → Reads (Some limit) old from file count → ReturnsNext (Some limit) file count given new to
 
-module _ (form : Form) (old new : Held) (from to : State) (count : ℕ) (left : RecordListing) (before after : List ℕ) (is_left : AreRecordsLeft form old from count left) where
+module _ (form : Form) (old new : Cursor) (from to : State) (count : ℕ) (left : RecordListing) (before after : List ℕ) (is_left : AreRecordsLeft form old from count left) where
   abbrev found : Items
   found = items field_limit is_left.file
 
@@ -36,7 +36,7 @@ module _ (form : Form) (old new : Held) (from to : State) (count : ℕ) (left : 
   record_added item (Ok ended) promises adds =
       let given = promises is_left.file 16777216 count is_left.reads in
       item_added (record_line form) found.records count (keytab_last form (length found.records) found.end) (end_of found.end) IsLeft left is_left.is before after ended
-      given.0.front given.0.back item given.0.counted given.0.parts (record { file = is_left.file; reads = given.1; is = refl }) adds
+      given.0.prefix given.0.suffix item given.0.counted given.0.parts (record { file = is_left.file; reads = given.1; is = refl }) adds
 
   pub stop_added : (stop : Stop) (r : Result (Option RunEnd) RunFault) → Promises old from (Ok (nexts.Done stop)) new to → IfOk r (Adds (keytab_end_line form count stop) (Some run.Clean) before after) → AddsLine (AreRecordsLeft form new to (suc count)) left before after r
   stop_added stop (Err e) promises adds = tt
@@ -55,6 +55,6 @@ module _ (form : Form) (old new : Held) (from to : State) (count : ℕ) (left : 
       _ run.Refused given.counted (ap₂ (keytab_last form) given.counted given.is) (ap end_of given.is) adds
 
 -- before the first record
-pub all_left : (form : Form) (file : List ℕ) (held : Held) (state : State) → Reads field_limit held state file 0 → AreRecordsLeft form held state 0 (keytab_listing form file)
+pub all_left : (form : Form) (file : List ℕ) (cursor : Cursor) (state : State) → Reads field_limit cursor state file 0 → AreRecordsLeft form cursor state 0 (keytab_listing form file)
 unfolding keytab_listing
-all_left form file held state reads = record { file = file; reads = reads; is = refl }
+all_left form file cursor state reads = record { file = file; reads = reads; is = refl }

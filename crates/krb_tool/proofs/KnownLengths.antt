@@ -9,13 +9,13 @@ use Rattle.krb_der.specs.declared.verdict.Refusal.{Refusal}
 use Rattle.krb_msg.specs.Judgement.{Outcome, Open, Bad, Done, message_outcome}
 use Rattle.krb_msg.specs.Stream.{Frames, Boundary, Within, Refused, ends, frame_and, frame_of, frames}
 use Rattle.krb_msg.specs.Term.{Term}
-use Rattle.krb_msg.proofs.Fronts.{frames-length}
+use Rattle.krb_msg.proofs.FramePrefixes.{frames-length}
 use Rattle.krb_frame.specs.Decoding.{Decoding, found, status_of}
 use Rattle.krb_frame.specs.GoingOn.{Entry, Contents, Fault, rest_of, rest_at, rest_to_come}
 use Rattle.krb_frame.specs.inner.Phases.{end_after}
 use Rattle.krb_frame.specs.declared.decoder.Status.TheVariants as status
 use Rattle.krb_frame.proofs.Ends.{refused_end}
-use Rattle.krb_frame.proofs.Founds.{found-short}
+use Rattle.krb_frame.proofs.DecoderFrames.{found-short}
 use Rattle.krb_tool.specs.GoingOn.{EndsUnknown}
 
 same_last : {A : Type 0} (xs ys : List A) (x y : A) → xs ++ x ∷ [] ≡ ys ++ y ∷ [] → x ≡ y
@@ -29,16 +29,16 @@ same_last (a ∷ xs) (b ∷ ys) x y e = same_last xs ys x y cc
 pub none_unknown : EndsUnknown [] → ⊥
 none_unknown u = no u.before u.length_octets u.parts
   where
-    no : (before : List Entry) (front : List ℕ) → [] ≡ before ++ Fault 3 HighBit front ∷ [] → ⊥
-    no [] front e = cc
-    no (first ∷ others) front e = cc
+    no : (before : List Entry) (prefix : List ℕ) → [] ≡ before ++ Fault 3 HighBit prefix ∷ [] → ⊥
+    no [] prefix e = cc
+    no (first ∷ others) prefix e = cc
 
 -- a list whose last frame has a known length
-pub known_last : (before : List Entry) (x : Entry) → ((front : List ℕ) → x ≡ Fault 3 HighBit front → ⊥) → EndsUnknown (before ++ x ∷ []) → ⊥
+pub known_last : (before : List Entry) (x : Entry) → ((prefix : List ℕ) → x ≡ Fault 3 HighBit prefix → ⊥) → EndsUnknown (before ++ x ∷ []) → ⊥
 known_last before x differs u = differs u.length_octets (same_last before u.before x (Fault 3 HighBit u.length_octets) u.parts)
 
-pub whole_known : (contents front : List ℕ) → Contents contents ≡ Fault 3 HighBit front → ⊥
-whole_known contents front e = cc
+pub whole_known : (contents prefix : List ℕ) → Contents contents ≡ Fault 3 HighBit prefix → ⊥
+whole_known contents prefix e = cc
 
 -- contents are refused after the octets of the length
 contents_known : (outcome : Outcome) (present : List ℕ) (rest : Frames) → frame_and outcome present rest ≡ ends (Refused 3 HighBit) → ⊥
@@ -83,9 +83,9 @@ not_cut (suc size) e = differs (ap (λ f. f.end) e)
     differs e = cc
 
 -- a refused frame of which a known number of octets is to come
-pub refused_known : (grammar : List Term) (d : Decoding) (refusal : Refusal) (count : ℕ) → status_of grammar d ≡ status.Refused refusal → rest_to_come grammar d ≡ Some count → (front : List ℕ) → Fault refusal.place refusal.why d.octets ≡ Fault 3 HighBit front → ⊥
+pub refused_known : (grammar : List Term) (d : Decoding) (refusal : Refusal) (count : ℕ) → status_of grammar d ≡ status.Refused refusal → rest_to_come grammar d ≡ Some count → (prefix : List ℕ) → Fault refusal.place refusal.why d.octets ≡ Fault 3 HighBit prefix → ⊥
 unfolding found
-refused_known grammar d refusal count st rest front e = not_high grammar d.limit d.octets four short high
+refused_known grammar d refusal count st rest prefix e = not_high grammar d.limit d.octets four short high
   where
     n : ℕ
     n = number (take 4 d.octets)

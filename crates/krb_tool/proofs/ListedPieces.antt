@@ -9,7 +9,7 @@ use Rattle.krb_msg.specs.Views.{message_der}
 use Rattle.krb_der.specs.declared.profile.Profile.{Profile}
 use Rattle.krb_frame.specs.Decoding.{AreOfOne, found, status_at}
 use Rattle.krb_frame.specs.GoingOn.{after_contents}
-use Rattle.krb_frame.specs.Stands.{after_frames, frames_size}
+use Rattle.krb_frame.specs.Decoded.{after_frames, frames_size}
 use Rattle.krb_frame.specs.declared.decoder.Status.TheVariants as status
 use Rattle.krb_frame.proofs.Ends.{none_found, refused_end, found_of, refusal_ends}
 use Rattle.krb_tool.specs.Lines.{message_line}
@@ -30,7 +30,7 @@ abbrev current_of : Lister → Frames
 current_of lister = found (messages lister.decoder.profile) lister.decoder
 
 frames-listed : (lister : Lister) (stream written : List ℕ) (h : HasListed lister stream written) → frames_of lister stream ≡ after_frames (map message_der h.messages) (current_of lister)
-frames-listed lister stream written h = found_of (messages lister.decoder.profile) lister.decoder stream (map message_der h.messages) h.stands
+frames-listed lister stream written h = found_of (messages lister.decoder.profile) lister.decoder stream (map message_der h.messages) h.decoded
 
 -- ---- while more is awaited
 more_ready : status.More ≡ status.Ready → ⊥
@@ -64,7 +64,7 @@ module _ (lister : Lister) (taken : Taken) (w : WaitsAfter stopping lister taken
         lines = λ more. record {
           found = w.listed.messages;
           others = (frames_of lister ((lister.decoder).octets ++ more)).contents;
-          in_frames = ap (λ f. f.contents) (w.listed.stands.goes_on more);
+          in_frames = ap (λ f. f.contents) (w.listed.decoded.goes_on more);
           lines = w.listed.lines;
         };
         rest = last;
@@ -88,16 +88,16 @@ path-is lister stream written more h same none rest =
     let profile : Profile = lister.decoder.profile in
     let octets : List ℕ = lister.decoder.octets in
     let cleared : List (List ℕ) = map message_der h.messages in
-    let before : List ℕ = h.stands.last.before in
+    let before : List ℕ = h.decoded.last.before in
     let read : frames_of lister (stream ++ more) ≡ after_frames cleared (current_of lister) = same ∙ frames-listed lister stream written h in
     let contents : (frames_of lister (stream ++ more)).contents ≡ cleared = ap (λ f. f.contents) read ∙ ap (λ c. cleared ++ c) none ∙ append-nil cleared in
     let after : after_contents (frames_of lister (stream ++ more)) (stream ++ more) ≡ octets ++ more =
     ap (λ c. drop (frames_size c) (stream ++ more)) contents
-    ∙ ap (λ s. drop (frames_size cleared) (s ++ more)) h.stands.last.parts
+    ∙ ap (λ s. drop (frames_size cleared) (s ++ more)) h.decoded.last.parts
     ∙ ap (drop (frames_size cleared)) (append_assoc before octets more)
-    ∙ drop_at before (octets ++ more) (frames_size cleared) h.stands.counted in
+    ∙ drop_at before (octets ++ more) (frames_size cleared) h.decoded.counted in
     ap₂ (λ e l. frame_path profile (last_octets e l)) (ap (λ f. f.end) read) after
-    ∙ ap (frame_path profile) (last-octets octets more (current_of lister).end (subst (λ c. AreOfOne octets c (current_of lister).end) none h.stands.one) rest)
+    ∙ ap (frame_path profile) (last-octets octets more (current_of lister).end (subst (λ c. AreOfOne octets c (current_of lister).end) none h.decoded.one) rest)
 
 -- ---- the end
 -- No piece follows. What was read has the frames of a stream that is listed, of which the lister has none.
@@ -125,7 +125,7 @@ done lister taken left (inl (w, a)) = record {
       ap (end_path lister.decoder.profile lister.decoder.limit) (sym (append-nil taken.octets))
       ∙ path-is lister taken.octets taken.written [] w.listed (ap (frames_of lister) (append-nil taken.octets)) (none_ready lister taken w) (λ n. refl);
   all_read = all_is_read (current_of lister).end left (not_refused lister taken w) a;
-  stops = record { front = taken.octets; piece = []; parts = sym (append-nil taken.octets); goes_on = goes_on lister taken w; short = omega arith };
+  stops = record { prefix = taken.octets; piece = []; parts = sym (append-nil taken.octets); goes_on = goes_on lister taken w; short = omega arith };
 }
 done lister taken left (inr r) = record {
   stream = r.stream;
@@ -172,7 +172,7 @@ stops-refused old new piece taken short w f =
     let r = refused_end (current_of new).contents (current_of new).end f.goes.0 f.goes.1 in
     let read = frames-listed new (taken.octets ++ take f.used piece) taken.written h in
     let parts : (taken.octets ++ take f.used piece) ++ drop f.used piece ≡ taken.octets ++ piece = append_assoc taken.octets (take f.used piece) (drop f.used piece) ∙ ap (λ l. taken.octets ++ l) (take-append-drop f.used piece) in
-    let ends = refusal_ends (messages new.decoder.profile) new.decoder (taken.octets ++ take f.used piece) (drop f.used piece) (map message_der h.messages) f.goes.0.place f.goes.0.why h.stands (ap (λ x. x.end) read ∙ r.1) in
+    let ends = refusal_ends (messages new.decoder.profile) new.decoder (taken.octets ++ take f.used piece) (drop f.used piece) (map message_der h.messages) f.goes.0.place f.goes.0.why h.decoded (ap (λ x. x.end) read ∙ r.1) in
     let same : frames_of new (taken.octets ++ piece) ≡ frames_of new (taken.octets ++ take f.used piece) = ap (frames_of new) (sym parts) ∙ ends in (
       record {
         stream = taken.octets ++ take f.used piece;
@@ -183,14 +183,14 @@ stops-refused old new piece taken short w f =
         none = r.0;
         refusal = f.goes.0;
         end = r.1;
-        stops = record { front = taken.octets; piece = piece; parts = refl; goes_on = subst (λ q. IsNotRefused (end_of q.profile q.limit taken.octets)) (sym f.same) (goes_on old taken w); short = short };
+        stops = record { prefix = taken.octets; piece = piece; parts = refl; goes_on = subst (λ q. IsNotRefused (end_of q.profile q.limit taken.octets)) (sym f.same) (goes_on old taken w); short = short };
       },
       record { found = h.messages; others = (current_of new).contents; in_frames = ap (λ x. x.contents) (same ∙ read); lines = h.lines },
     )
 
 -- ---- what a run did
-pub Lists-listed : (request : Request) (had left held holds : Option (List ℕ)) (ended : RunEnd) → ListsBy (stopping_rules request) had left held holds ended → Lists request.form request.profile request.limit had left held holds ended
-Lists-listed request had left held holds ended l = record {
+pub Lists-listed : (request : Request) (had left written_before written_after : Option (List ℕ)) (ended : RunEnd) → ListsBy (stopping_rules request) had left written_before written_after ended → Lists request.form request.profile request.limit had left written_before written_after ended
+Lists-listed request had left written_before written_after ended l = record {
   read = l.read;
   written = l.written;
   taken = l.taken;

@@ -13,15 +13,15 @@ use Rattle.krb_msg.specs.declared.message.Message.{Message}
 use Rattle.krb_frame.specs.Decoding.{Decoding, found, status_at, status_of, first_of, borrowed}
 use Rattle.krb_frame.specs.Frame.{framed}
 use Rattle.krb_frame.specs.Passes.{Passes, contents_of}
-use Rattle.krb_frame.specs.Stands.{Stands}
-use Rattle.krb_msg.specs.Seen.{message_seen}
+use Rattle.krb_frame.specs.Decoded.{HasDecoded}
+use Rattle.krb_msg.specs.ViewValues.{message_of_view}
 use Rattle.krb_frame.specs.Feeds.{Clears}
 use Rattle.krb_frame.specs.Feeds.{Feeds as Uses}
 use Rattle.krb_frame.specs.declared.decoder.Fed.{Fed}
 use Rattle.krb_frame.specs.declared.pass.Passed.{Passed}
 use Rattle.krb_frame.specs.declared.decoder.Status.{Status}
 use Rattle.krb_frame.specs.declared.decoder.Status.TheVariants as status
-use Rattle.krb_frame.proofs.Founds.{more-nothing, same-status}
+use Rattle.krb_frame.proofs.DecoderFrames.{more-nothing, same-status}
 use Rattle.krb_list.specs.declared.form.Form.{Form}
 use Rattle.krb_tool.specs.Lines.{message_line}
 use Rattle.krb_tool.specs.inner.Pieces.{request_of, IsWaiting, IsFed, Goes, TakesPiece}
@@ -29,7 +29,7 @@ use Rattle.krb_tool.specs.inner.Listers.{HasListed, ListsReady, AddsLine, stoppi
 use Rattle.krb_tool.specs.declared.listing.Lister.{Lister}
 use Rattle.krb_tool.proofs.Pieces.{IsFed-used, IsFed-frame}
 
--- ---- what a decoder's answer says
+-- ---- what follows from the result of a decoder
 ready_borrowed : (contents : List (List ℕ)) (end : End) → status_at contents end ≡ status.Ready → IsSome (first_of contents)
 ready_borrowed (first ∷ others) end e = refl
 ready_borrowed [] Boundary e = absurd cc
@@ -77,8 +77,8 @@ pub some_used : (profile : Profile) (old new : Decoding) (piece : List ℕ) (fed
 some_used profile old new piece fed f w e = some_used-by profile old new piece fed status.Ready f w e more_ready memory_ready
 
 -- what a decoder is whose frame was cleared
-pub cleared_is : (profile : Profile) (old new : Decoding) (contents : List ℕ) → Clears (messages profile) old new true → borrowed (messages profile) old ≡ Some contents → new ≡ record old { octets = []; room = new.room }
-cleared_is profile old new contents c e = c.left ∙ ap (λ o. if is_some o then record old { octets = []; room = new.room } else old) e
+pub cleared_is : (profile : Profile) (old new : Decoding) (contents : List ℕ) → Clears (messages profile) old new true → borrowed (messages profile) old ≡ Some contents → new ≡ record old { octets = []; capacity = new.room }
+cleared_is profile old new contents c e = c.left ∙ ap (λ o. if is_some o then record old { octets = []; capacity = new.room } else old) e
 
 pub cleared_waits : (profile : Profile) (old new : Decoding) (contents : List ℕ) → Clears (messages profile) old new true → borrowed (messages profile) old ≡ Some contents → status_of (messages new.profile) new ≡ status.More
 cleared_waits profile old new contents c e =
@@ -99,11 +99,11 @@ HasListed-ready old new l stream written h =
     let same : new.decoder.profile ≡ old.decoder.profile = ap (λ d. d.profile) (cleared_is old.decoder.profile old.decoder new.decoder l.contents l.cleared l.is_ready) in
     record {
       messages = all;
-      stands =
-          subst (λ p. Stands (messages p) new.decoder stream (map message_der all)) (sym same)
-          (subst (Stands (messages old.decoder.profile) new.decoder stream)
+      decoded =
+          subst (λ p. HasDecoded (messages p) new.decoder stream (map message_der all)) (sym same)
+          (subst (HasDecoded (messages old.decoder.profile) new.decoder stream)
           (ap (λ o. map message_der h.messages ++ o ∷ []) (sym l.form) ∙ sym (map-append message_der h.messages (l.message ∷ [])))
-          (l.cleared.stands stream l.contents (map message_der h.messages) h.stands l.is_ready));
+          (l.cleared.decoded stream l.contents (map message_der h.messages) h.decoded l.is_ready));
       lines = line_added old new l.message h.messages written l.line l.same_form h.lines;
       counted = omega (arith, l.counted, h.counted, length-append h.messages (l.message ∷ []));
     }
@@ -116,7 +116,7 @@ module _ (old new : Lister) (piece : List ℕ) (fed : Fed) (f : Uses (messages o
   HasListed-used : (stream written : List ℕ) → HasListed old stream written → HasListed new (stream ++ take fed.used piece) written
   HasListed-used stream written h = record {
     messages = h.messages;
-    stands = subst (λ p. Stands (messages p) new.decoder (stream ++ take fed.used piece) (map message_der h.messages)) (sym f.same_profile) (f.stands stream (map message_der h.messages) h.stands);
+    decoded = subst (λ p. HasDecoded (messages p) new.decoder (stream ++ take fed.used piece) (map message_der h.messages)) (sym f.same_profile) (f.decoded stream (map message_der h.messages) h.decoded);
     lines = ap (λ x. written ++ string_bytes x) t ∙ h.lines ∙ ap (λ form. flat_map (message_line form) h.messages) (sym o);
     counted = n ∙ h.counted;
   }
@@ -149,22 +149,22 @@ module _ (old new : Lister) (piece : List ℕ) (fed : Fed) (f : Uses (messages o
       (λ stream written h. HasListed-ready new next l (stream ++ take fed.used piece) written (HasListed-used stream written h))
 
 -- ---- a frame that is passed
-pub contents_is : (passed : Passed) → contents_of passed ≡ message_der (message_seen passed.message)
+pub contents_is : (passed : Passed) → contents_of passed ≡ message_der (message_of_view passed.message)
 unfolding contents_of
 contents_is passed = refl
 
-module _ (old new : Lister) (octets : List ℕ) (passed : Passed) (p : Passes (messages old.decoder.profile) old.decoder octets passed) (l : AddsLine (message_seen passed.message) old new) where
+module _ (old new : Lister) (octets : List ℕ) (passed : Passed) (p : Passes (messages old.decoder.profile) old.decoder octets passed) (l : AddsLine (message_of_view passed.message) old new) where
   HasListed-passed : (stream written : List ℕ) → HasListed old stream written → HasListed new (stream ++ framed (contents_of passed)) written
   HasListed-passed stream written h =
-      let message : Message = message_seen passed.message in
+      let message : Message = message_of_view passed.message in
       let grown : List ℕ = stream ++ framed (contents_of passed) in
       let all : List Message = h.messages ++ message ∷ [] in
       record {
         messages = all;
-        stands =
-            subst (λ d. Stands (messages d.profile) d grown (map message_der all)) (sym l.same_decoder)
-            (subst (Stands (messages old.decoder.profile) old.decoder grown) (ap (λ o. map message_der h.messages ++ o ∷ []) (contents_is passed) ∙ sym (map-append message_der h.messages (message ∷ [])))
-            (p.stands stream (map message_der h.messages) h.stands));
+        decoded =
+            subst (λ d. HasDecoded (messages d.profile) d grown (map message_der all)) (sym l.same_decoder)
+            (subst (HasDecoded (messages old.decoder.profile) old.decoder grown) (ap (λ o. map message_der h.messages ++ o ∷ []) (contents_is passed) ∙ sym (map-append message_der h.messages (message ∷ [])))
+            (p.decoded stream (map message_der h.messages) h.decoded));
         lines = line_added old new message h.messages written l.line l.same_form h.lines;
         counted = omega (arith, l.counted, h.counted, length-append h.messages (message ∷ []));
       }

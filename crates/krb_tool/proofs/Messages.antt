@@ -4,9 +4,9 @@ use Rattle.std.proofs.lemmas.Bool.{lt-ltb}
 use Rattle.hex.specs.Hex.{decode_of}
 use Rattle.krb_der.specs.declared.profile.Profile.{Profile}
 use Rattle.krb_der.specs.declared.verdict.Refusal.{Refusal}
-use Rattle.krb_msg.specs.Reading.{message_read}
+use Rattle.krb_msg.specs.ValueOfDer.{message_of_der}
 use Rattle.krb_msg.specs.declared.message.Message.{Message}
-use Rattle.krb_msg.proofs.MessageRead.{message_is_read}
+use Rattle.krb_msg.proofs.MessageOfDer.{message_of_der_is_message}
 use Rattle.krb_judge.specs.Parses.{refusal_of, AreOf}
 use Rattle.krb_list.specs.declared.refusal.InputFault.TheVariants as input
 use Rattle.krb_list.specs.declared.form.Form.{Form}
@@ -23,7 +23,7 @@ pub message-listed : (form : Form) {profile : Profile} (octets : List ℕ) (m : 
 unfolding octets_listing
 message-listed form {profile = profile} octets m are never =
     ap (λ found. parsed_listing form profile found octets) (not_refused (refusal_of profile octets) never)
-    ∙ ap (λ read. clean_with (message_line form read)) (ap message_read (sym are.form) ∙ message_is_read profile m are.in_profile)
+    ∙ ap (λ read. clean_with (message_line form read)) (ap message_of_der (sym are.form) ∙ message_of_der_is_message profile m are.in_profile)
 
 pub refusal-listed : (form : Form) (profile : Profile) (octets : List ℕ) (r : Refusal) → refusal_of profile octets ≡ Some r → octets_listing form profile octets ≡ refused_with (message_refused_line form r (refused_path profile octets r))
 unfolding octets_listing

@@ -7,7 +7,7 @@ use Rattle.krb_frame.specs.Decoding.{Decoding}
 use Rattle.krb_frame.specs.Frame.{framed}
 use Rattle.krb_frame.specs.Passes.{Passes, contents_of}
 use Rattle.krb_frame.specs.declared.pass.Passed.{Passed}
-use Rattle.krb_tool.specs.inner.Streams.{Request, Taken, with_piece, Begins, GoesOn, IsNew, MayTake, Feeds, Clears, IsLast, EndsListing, Finishes}
+use Rattle.krb_tool.specs.inner.Streams.{Request, Taken, with_piece, Begins, GoesOn, IsNew, AcceptsPiece, Feeds, Clears, IsLast, EndsListing, Finishes}
 use Rattle.krb_tool.specs.inner.Pieces.{Kind, IsWaiting, IsFed, Goes, TakesPiece, WaitsAfter, IsLastOf, listing_of}
 use Rattle.krb_tool.specs.declared.run.RunEnd.{RunEnd}
 
@@ -41,11 +41,11 @@ module _ {L : Type 0} (kind : Kind L) where
   pub IsFed-frame : (old new : L) (octets contents rest : List ℕ) → octets ≡ framed contents ++ rest → kind.request new ≡ kind.request old → IsWaiting kind new → kind.count new ≡ kind.count old + 1 → ((stream written : List ℕ) → kind.HasListed old stream written → kind.HasListed new (stream ++ framed contents) written) → IsFed kind old octets rest new
   IsFed-frame old new octets contents rest parts same waits one listed =
       let size : length octets ≡ length (framed contents) + length rest = ap length parts ∙ length-append (framed contents) rest in
-      let front : take (length (framed contents)) octets ≡ framed contents = ap (take (length (framed contents))) parts ∙ take_at (framed contents) rest (length (framed contents)) refl in
-      let back : drop (length (framed contents)) octets ≡ rest = ap (drop (length (framed contents))) parts ∙ drop_at (framed contents) rest (length (framed contents)) refl in
-      subst (λ r. IsFed kind old octets r new) back
+      let prefix : take (length (framed contents)) octets ≡ framed contents = ap (take (length (framed contents))) parts ∙ take_at (framed contents) rest (length (framed contents)) refl in
+      let suffix : drop (length (framed contents)) octets ≡ rest = ap (drop (length (framed contents))) parts ∙ drop_at (framed contents) rest (length (framed contents)) refl in
+      subst (λ r. IsFed kind old octets r new) suffix
       (IsFed-used old new octets (length (framed contents)) (omega (arith, size)) same waits (omega (arith, one))
-      (λ stream written h. subst (λ f. kind.HasListed new (stream ++ f) written) (sym front) (listed stream written h)))
+      (λ stream written h. subst (λ f. kind.HasListed new (stream ++ f) written) (sym prefix) (listed stream written h)))
 
   -- none was used
   pub IsFed-start : (lister : L) (piece : List ℕ) → IsWaiting kind lister → IsFed kind lister piece piece lister
@@ -97,15 +97,15 @@ module _ {L : Type 0} (kind : Kind L) where
       goes = goes_both new (length piece) (length octets) f.used goes_on i.within f.goes;
     }
 
-  -- ---- a lister that may take a piece
-  pub may_wait : {lister : L} → MayTake (listing_of kind lister) → IsWaiting kind lister
+  -- ---- a lister that accepts a piece
+  pub may_wait : {lister : L} → AcceptsPiece (listing_of kind lister) → IsWaiting kind lister
   may_wait m = m.waits.1.waits
 
   -- the frames of a piece can be counted, and one more after some of its octets
-  pub few_left : {initial now : L} {piece rest : List ℕ} → MayTake (listing_of kind initial) → length piece ≤ 65536 → IsFed kind initial piece rest now → kind.count now + length rest < 2 ^ 64
+  pub few_left : {initial now : L} {piece rest : List ℕ} → AcceptsPiece (listing_of kind initial) → length piece ≤ 65536 → IsFed kind initial piece rest now → kind.count now + length rest < 2 ^ 64
   few_left {initial = initial} m short i = let few : kind.count initial ≤ 65536 * m.taken.pieces = m.waits.1.few in omega (arith, m.few, i.few)
 
-  pub one_more : {initial now : L} {piece rest : List ℕ} (used : ℕ) → MayTake (listing_of kind initial) → length piece ≤ 65536 → IsFed kind initial piece rest now → 0 < used → used ≤ length rest → kind.count now + 1 < 2 ^ 64
+  pub one_more : {initial now : L} {piece rest : List ℕ} (used : ℕ) → AcceptsPiece (listing_of kind initial) → length piece ≤ 65536 → IsFed kind initial piece rest now → 0 < used → used ≤ length rest → kind.count now + 1 < 2 ^ 64
   one_more used m short i some within = omega (arith, few_left m short i)
 
   -- ---- a lister of a stream

@@ -8,16 +8,16 @@ use Rattle.krb_tool.specs.declared.run.RunEnd.{RunEnd}
 use Rattle.krb_tool.specs.declared.run.RunFault.{RunFault}
 use Rattle.krb_tool.specs.declared.run.RunFault.TheVariants as fault
 use Rattle.krb_tool.specs.Faults.{IsWrite}
-use Rattle.krb_tool.specs.Files.{RecordListing, text_of, after_line, AddsFront, ListsRecords}
+use Rattle.krb_tool.specs.Files.{RecordListing, text_of, after_line, AppendsPrefix, ListsRecords}
 use Rattle.krb_tool.specs.inner.RecordRuns.{Adds, Moves, AddsLine, left_of}
 
 -- ---- what is left of items, one after another
 module _ {A : Type 0} (line : A → List ℕ) (items : List A) (last : List ℕ) (end : RunEnd) where
-  pub item_left : (count : ℕ) (front back : List A) (item : A) → length front ≡ count → items ≡ front ++ item ∷ back → left_of line items count last end ≡ after_line (line item) (left_of line items (suc count) last end)
-  item_left count front back item counted parts =
-      let here : drop count items ≡ item ∷ back = ap (drop count) parts ∙ drop_at front (item ∷ back) count counted in
-      let there : drop (suc count) items ≡ back = ap (drop (suc count)) (parts ∙ sym (append_assoc front (item ∷ []) back)) ∙ drop_at (front ++ item ∷ []) back (suc count) (omega (arith, counted, length-append front (item ∷ []))) in
-      let lines : flat_map line (drop count items) ≡ line item ++ flat_map line (drop (suc count) items) = ap (flat_map line) here ∙ flat_map-cons line item back ∙ ap (λ (xs : List A). line item ++ flat_map line xs) (sym there) in
+  pub item_left : (count : ℕ) (prefix suffix : List A) (item : A) → length prefix ≡ count → items ≡ prefix ++ item ∷ suffix → left_of line items count last end ≡ after_line (line item) (left_of line items (suc count) last end)
+  item_left count prefix suffix item counted parts =
+      let here : drop count items ≡ item ∷ suffix = ap (drop count) parts ∙ drop_at prefix (item ∷ suffix) count counted in
+      let there : drop (suc count) items ≡ suffix = ap (drop (suc count)) (parts ∙ sym (append_assoc prefix (item ∷ []) suffix)) ∙ drop_at (prefix ++ item ∷ []) suffix (suc count) (omega (arith, counted, length-append prefix (item ∷ []))) in
+      let lines : flat_map line (drop count items) ≡ line item ++ flat_map line (drop (suc count) items) = ap (flat_map line) here ∙ flat_map-cons line item suffix ∙ ap (λ (xs : List A). line item ++ flat_map line xs) (sym there) in
       ap (λ (ls : List ℕ). let it : RecordListing = record { lines = ls; last = last; end = end } in it) lines
 
   pub none_left : (count : ℕ) → length items ≡ count → (left_of line items count last end).lines ≡ []
@@ -25,29 +25,29 @@ module _ {A : Type 0} (line : A → List ℕ) (items : List A) (last : List ℕ)
 
 -- ---- what a run has written
 -- What was written, then the text that is not written yet, and then what is left, are the listing.
-pub record Listed (IsLeft : RecordListing → Type 0) (all : RecordListing) (held holds : Option (List ℕ)) (text : List ℕ) : Type 0 where
+pub record Listed (IsLeft : RecordListing → Type 0) (all : RecordListing) (written_before written_after : Option (List ℕ)) (text : List ℕ) : Type 0 where
   pub written : List ℕ
   pub left : RecordListing
-  pub added : Appends held holds written
+  pub added : Appends written_before written_after written
   pub is_left : IsLeft left
   pub parts : all ≡ after_line (written ++ text) left
 
-pub Listed-start : (IsLeft : RecordListing → Type 0) (left : RecordListing) (held : Option (List ℕ)) (text : List ℕ) → IsLeft left → Listed IsLeft (after_line text left) held held text
-Listed-start IsLeft left held text is_left = record { written = []; left = left; added = Appends-nil held; is_left = is_left; parts = refl }
+pub Listed-start : (IsLeft : RecordListing → Type 0) (left : RecordListing) (written_before : Option (List ℕ)) (text : List ℕ) → IsLeft left → Listed IsLeft (after_line text left) written_before written_before text
+Listed-start IsLeft left written_before text is_left = record { written = []; left = left; added = Appends-nil written_before; is_left = is_left; parts = refl }
 
-module _ (IsLeft : RecordListing → Type 0) (all : RecordListing) (held holds : Option (List ℕ)) (text : List ℕ) (listed : Listed IsLeft all held holds text) where
+module _ (IsLeft : RecordListing → Type 0) (all : RecordListing) (written_before written_after : Option (List ℕ)) (text : List ℕ) (listed : Listed IsLeft all written_before written_after text) where
   -- the beginning of the text was written
-  pub Listed-moved : (after : Option (List ℕ)) (new : List ℕ) → Moves holds after text new → Listed IsLeft all held after new
+  pub Listed-moved : (after : Option (List ℕ)) (new : List ℕ) → Moves written_after after text new → Listed IsLeft all written_before after new
   Listed-moved after new moves = record {
     written = listed.written ++ moves.0;
     left = listed.left;
-    added = Appends-trans held holds after listed.written moves.0 listed.added moves.1;
+    added = Appends-trans written_before written_after after listed.written moves.0 listed.added moves.1;
     is_left = listed.is_left;
     parts = listed.parts ∙ ap (λ (ls : List ℕ). after_line ls listed.left) (ap (λ (t : List ℕ). listed.written ++ t) moves.2 ∙ sym (append_assoc listed.written moves.0 new));
   }
 
   -- a line was added
-  pub Listed-more : (IsLeftAfter : RecordListing → Type 0) (new : List ℕ) → AddsLine IsLeftAfter listed.left text new (Ok None) → Listed IsLeftAfter all held holds new
+  pub Listed-more : (IsLeftAfter : RecordListing → Type 0) (new : List ℕ) → AddsLine IsLeftAfter listed.left text new (Ok None) → Listed IsLeftAfter all written_before written_after new
   Listed-more IsLeftAfter new adds = record {
     written = listed.written;
     left = adds.1;
@@ -72,69 +72,69 @@ module _ (IsLeft : RecordListing → Type 0) (all : RecordListing) (held holds :
       ∙ append_assoc listed.written text (listed.left).last
       ∙ ap (λ (t : List ℕ). listed.written ++ t) (sym adds.0)
 
-  pub Listed-ended : (IsLeftAfter : RecordListing → Type 0) (new : List ℕ) (ended : RunEnd) (after : Option (List ℕ)) → AddsLine IsLeftAfter listed.left text new (Ok (Some ended)) → Appends holds after new → ListsRecords all held after (Ok ended)
+  pub Listed-ended : (IsLeftAfter : RecordListing → Type 0) (new : List ℕ) (ended : RunEnd) (after : Option (List ℕ)) → AddsLine IsLeftAfter listed.left text new (Ok (Some ended)) → Appends written_after after new → ListsRecords all written_before after (Ok ended)
   Listed-ended IsLeftAfter new ended after adds added = (
-    subst (Appends held after) (sym (whole IsLeftAfter new ended adds)) (Appends-trans held holds after listed.written new listed.added added),
+    subst (Appends written_before after) (sym (whole IsLeftAfter new ended adds)) (Appends-trans written_before written_after after listed.written new listed.added added),
     adds.2 ∙ ap (λ (l : RecordListing). l.end) (sym listed.parts),
   )
 
-  pub last-fails : (IsLeftAfter : RecordListing → Type 0) (new : List ℕ) (ended : RunEnd) (after : Option (List ℕ)) → AddsLine IsLeftAfter listed.left text new (Ok (Some ended)) → AddsFront holds after new → AddsFront held after (text_of all)
-  last-fails IsLeftAfter new ended after adds front = record {
-    front = listed.written ++ front.front;
-    rest = front.rest;
-    added = Appends-trans held holds after listed.written front.front listed.added front.added;
-    whole = whole IsLeftAfter new ended adds ∙ ap (λ (t : List ℕ). listed.written ++ t) front.whole ∙ sym (append_assoc listed.written front.front front.rest);
+  pub last-fails : (IsLeftAfter : RecordListing → Type 0) (new : List ℕ) (ended : RunEnd) (after : Option (List ℕ)) → AddsLine IsLeftAfter listed.left text new (Ok (Some ended)) → AppendsPrefix written_after after new → AppendsPrefix written_before after (text_of all)
+  last-fails IsLeftAfter new ended after adds prefix = record {
+    prefix = listed.written ++ prefix.prefix;
+    rest = prefix.rest;
+    added = Appends-trans written_before written_after after listed.written prefix.prefix listed.added prefix.added;
+    whole = whole IsLeftAfter new ended adds ∙ ap (λ (t : List ℕ). listed.written ++ t) prefix.whole ∙ sym (append_assoc listed.written prefix.prefix prefix.rest);
   }
 
   -- a write of the text failed
-  pub write-fails : (after : Option (List ℕ)) → AddsFront holds after text → AddsFront held after (text_of all)
-  write-fails after front = record {
-    front = listed.written ++ front.front;
-    rest = front.rest ++ ((listed.left).lines ++ (listed.left).last);
-    added = Appends-trans held holds after listed.written front.front listed.added front.added;
+  pub write-fails : (after : Option (List ℕ)) → AppendsPrefix written_after after text → AppendsPrefix written_before after (text_of all)
+  write-fails after prefix = record {
+    prefix = listed.written ++ prefix.prefix;
+    rest = prefix.rest ++ ((listed.left).lines ++ (listed.left).last);
+    added = Appends-trans written_before written_after after listed.written prefix.prefix listed.added prefix.added;
     whole =
         ap text_of listed.parts
         ∙ append_assoc (listed.written ++ text) (listed.left).lines (listed.left).last
-        ∙ ap (λ (t : List ℕ). (listed.written ++ t) ++ ((listed.left).lines ++ (listed.left).last)) front.whole
-        ∙ ap (λ (t : List ℕ). t ++ ((listed.left).lines ++ (listed.left).last)) (sym (append_assoc listed.written front.front front.rest))
-        ∙ append_assoc (listed.written ++ front.front) front.rest ((listed.left).lines ++ (listed.left).last);
+        ∙ ap (λ (t : List ℕ). (listed.written ++ t) ++ ((listed.left).lines ++ (listed.left).last)) prefix.whole
+        ∙ ap (λ (t : List ℕ). t ++ ((listed.left).lines ++ (listed.left).last)) (sym (append_assoc listed.written prefix.prefix prefix.rest))
+        ∙ append_assoc (listed.written ++ prefix.prefix) prefix.rest ((listed.left).lines ++ (listed.left).last);
   }
 
   -- another fault
-  pub Listed-stops : AddsFront held holds all.lines
+  pub Listed-stops : AppendsPrefix written_before written_after all.lines
   Listed-stops = record {
-    front = listed.written;
+    prefix = listed.written;
     rest = text ++ (listed.left).lines;
     added = listed.added;
     whole = ap (λ (l : RecordListing). l.lines) listed.parts ∙ append_assoc listed.written text (listed.left).lines;
   }
 
-  pub Listed-fails : (e : RunFault) → (IsWrite e → ⊥) → ListsRecords all held holds (Err e)
+  pub Listed-fails : (e : RunFault) → (IsWrite e → ⊥) → ListsRecords all written_before written_after (Err e)
   Listed-fails (fault.Read e) other = Listed-stops
   Listed-fails fault.Memory other = Listed-stops
   Listed-fails (fault.Write e) other = absurd (other tt)
 
 -- ---- what a line makes of what is left
 module _ {A : Type 0} (line : A → List ℕ) (items : List A) (count : ℕ) (last : List ℕ) (end : RunEnd) (IsLeft : RecordListing → Type 0) (left : RecordListing) (is : left ≡ left_of line items count last end) (old new : List ℕ) (ended : Option RunEnd) where
-  pub item_added : (front back : List A) (item : A) → length front ≡ count → items ≡ front ++ item ∷ back → IsLeft (left_of line items (suc count) last end) → Adds (line item) None old new ended → AddsLine IsLeft left old new (Ok ended)
-  item_added front back item counted parts after adds =
+  pub item_added : (prefix suffix : List A) (item : A) → length prefix ≡ count → items ≡ prefix ++ item ∷ suffix → IsLeft (left_of line items (suc count) last end) → Adds (line item) None old new ended → AddsLine IsLeft left old new (Ok ended)
+  item_added prefix suffix item counted parts after adds =
       subst (λ (e : Option RunEnd). AddsLine IsLeft left old new (Ok e)) (sym adds.0)
-      (line item, left_of line items (suc count) last end, adds.1, is ∙ item_left line items last end count front back item counted parts, after)
+      (line item, left_of line items (suc count) last end, adds.1, is ∙ item_left line items last end count prefix suffix item counted parts, after)
 
   pub last_added : (text : List ℕ) (stop : RunEnd) → length items ≡ count → last ≡ text → end ≡ stop → Adds text (Some stop) old new ended → AddsLine IsLeft left old new (Ok ended)
-  last_added text stop counted told stops adds =
+  last_added text stop counted decided stops adds =
       subst (λ (e : Option RunEnd). AddsLine IsLeft left old new (Ok e)) (sym adds.0) (
-        adds.1 ∙ ap (λ (t : List ℕ). old ++ t) (sym (ap (λ (l : RecordListing). l.last) is ∙ told)),
+        adds.1 ∙ ap (λ (t : List ℕ). old ++ t) (sym (ap (λ (l : RecordListing). l.last) is ∙ decided)),
         ap (λ (l : RecordListing). l.lines) is ∙ none_left line items last end count counted,
         sym (ap (λ (l : RecordListing). l.end) is ∙ stops),
       )
 
 -- a write failed
-pub write-fault : (all : RecordListing) (held after : Option (List ℕ)) (e : RunFault) → IsWrite e → AddsFront held after (text_of all) → ListsRecords all held after (Err e)
-write-fault all held after (fault.Write e) is front = front
-write-fault all held after (fault.Read e) is front = absurd is
-write-fault all held after fault.Memory is front = absurd is
+pub write-fault : (all : RecordListing) (written_before after : Option (List ℕ)) (e : RunFault) → IsWrite e → AppendsPrefix written_before after (text_of all) → ListsRecords all written_before after (Err e)
+write-fault all written_before after (fault.Write e) is prefix = prefix
+write-fault all written_before after (fault.Read e) is prefix = absurd is
+write-fault all written_before after fault.Memory is prefix = absurd is
 
 -- memory ran out before anything was written
-pub none_written : (all : RecordListing) (held : Option (List ℕ)) (e : RunFault) → e ≡ fault.Memory → ListsRecords all held held (Err e)
-none_written all held e is = subst (λ (f : RunFault). ListsRecords all held held (Err f)) (sym is) (record { front = []; rest = all.lines; added = Appends-nil held; whole = refl })
+pub none_written : (all : RecordListing) (written_before : Option (List ℕ)) (e : RunFault) → e ≡ fault.Memory → ListsRecords all written_before written_before (Err e)
+none_written all written_before e is = subst (λ (f : RunFault). ListsRecords all written_before written_before (Err f)) (sym is) (record { prefix = []; rest = all.lines; added = Appends-nil written_before; whole = refl })

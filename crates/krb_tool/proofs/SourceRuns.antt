@@ -6,48 +6,48 @@ use Rattle.krb_tool.specs.Lines.{file_line}
 use Rattle.krb_tool.specs.declared.run.RunFault.{RunFault}
 use Rattle.krb_tool.specs.declared.run.RunFault.TheVariants as fault
 use Rattle.krb_tool.specs.Faults.{IsWrite}
-use Rattle.krb_tool.specs.Files.{AddsFront}
+use Rattle.krb_tool.specs.Files.{AppendsPrefix}
 use Rattle.krb_tool.specs.Listing.{status_of}
 use Rattle.krb_tool.specs.Sources.{Outcome, Run, FailsName, ListsEach, ends_run}
 
 -- the line of a name was written in part
-pub FailsName-write : {T : Type 0} (form : Form) (r : Result T RunFault) (name : List ℕ) (held holds : Option (List ℕ)) → IfErr r IsWrite → AddsFront held holds (file_line form name) → IfErr r (FailsName form name held holds)
-FailsName-write form (Ok x) name held holds is front = tt
-FailsName-write form (Err (fault.Write e)) name held holds is front = front
-FailsName-write form (Err (fault.Read e)) name held holds is front = absurd is
-FailsName-write form (Err fault.Memory) name held holds is front = absurd is
+pub FailsName-write : {T : Type 0} (form : Form) (r : Result T RunFault) (name : List ℕ) (written_before written_after : Option (List ℕ)) → IfErr r IsWrite → AppendsPrefix written_before written_after (file_line form name) → IfErr r (FailsName form name written_before written_after)
+FailsName-write form (Ok x) name written_before written_after is prefix = tt
+FailsName-write form (Err (fault.Write e)) name written_before written_after is prefix = prefix
+FailsName-write form (Err (fault.Read e)) name written_before written_after is prefix = absurd is
+FailsName-write form (Err fault.Memory) name written_before written_after is prefix = absurd is
 
 -- the greater of two statuses, as `max` compares them
 greater-is : (a b : ℕ) → ord_max nat_cmp a b ≡ max a b
 greater-is a b = grind arith
 
 -- What the others do makes what all do, with the greatest status so far.
-pub record Goes {S : Type 0} (Lists : S → Run) (all rest : List S) (held now : Option (List ℕ)) (greatest : ℕ) : Type 0 where
-  pub whole : (holds : Option (List ℕ)) (status : ℕ) → ListsEach Lists rest now holds status → ListsEach Lists all held holds (max greatest status)
+pub record Goes {S : Type 0} (Lists : S → Run) (all rest : List S) (written_before now : Option (List ℕ)) (greatest : ℕ) : Type 0 where
+  pub whole : (written_after : Option (List ℕ)) (status : ℕ) → ListsEach Lists rest now written_after status → ListsEach Lists all written_before written_after (max greatest status)
 
-module _ {S : Type 0} (Lists : S → Run) (all : List S) (held : Option (List ℕ)) where
+module _ {S : Type 0} (Lists : S → Run) (all : List S) (written_before : Option (List ℕ)) where
   -- none is left
-  pub Goes-end : (rest : List S) (now : Option (List ℕ)) (greatest : ℕ) → Goes Lists all rest held now greatest → rest ≡ [] → ListsEach Lists all held now greatest
+  pub Goes-end : (rest : List S) (now : Option (List ℕ)) (greatest : ℕ) → Goes Lists all rest written_before now greatest → rest ≡ [] → ListsEach Lists all written_before now greatest
   Goes-end rest now greatest goes none =
-      subst (ListsEach Lists all held now) (omega arith)
+      subst (ListsEach Lists all written_before now) (omega arith)
       (goes.whole now 0 (subst (λ (l : List S). ListsEach Lists l now now 0) (sym none) (refl, refl)))
 
-  module _ (first : S) (others rest : List S) (now after : Option (List ℕ)) (greatest : ℕ) (outcome : Outcome) (goes : Goes Lists all rest held now greatest) (parts : rest ≡ first ∷ others) (listed : Lists first now after outcome) (greater : ℕ) (is : greater ≡ ord_max nat_cmp greatest (status_of outcome)) where
+  module _ (first : S) (others rest : List S) (now after : Option (List ℕ)) (greatest : ℕ) (outcome : Outcome) (goes : Goes Lists all rest written_before now greatest) (parts : rest ≡ first ∷ others) (listed : Lists first now after outcome) (greater : ℕ) (is : greater ≡ ord_max nat_cmp greatest (status_of outcome)) where
     is_max : greater ≡ max greatest (status_of outcome)
     is_max = is ∙ greater-is greatest (status_of outcome)
 
     -- the first of the rest was the last that is listed
-    pub Goes-stops : ends_run outcome ≡ true → ListsEach Lists all held after greater
+    pub Goes-stops : ends_run outcome ≡ true → ListsEach Lists all written_before after greater
     Goes-stops ends =
-        subst (ListsEach Lists all held after) (omega (arith, is_max))
+        subst (ListsEach Lists all written_before after) (omega (arith, is_max))
         (goes.whole after (max (status_of outcome) 0) (subst (λ (l : List S). ListsEach Lists l now after (max (status_of outcome) 0)) (sym parts)
         (record { between = after; outcome = outcome; others = 0; first = listed; follow = rw ends (refl, refl); greater = refl })))
 
     -- the others follow
-    pub Goes-on : ends_run outcome ≡ false → Goes Lists all others held after greater
+    pub Goes-on : ends_run outcome ≡ false → Goes Lists all others written_before after greater
     Goes-on ends = record {
-      whole = λ holds status each.
-          subst (ListsEach Lists all held holds) (omega (arith, is_max))
-          (goes.whole holds (max (status_of outcome) status) (subst (λ (l : List S). ListsEach Lists l now holds (max (status_of outcome) status)) (sym parts)
+      whole = λ written_after status each.
+          subst (ListsEach Lists all written_before written_after) (omega (arith, is_max))
+          (goes.whole written_after (max (status_of outcome) status) (subst (λ (l : List S). ListsEach Lists l now written_after (max (status_of outcome) status)) (sym parts)
           (record { between = after; outcome = outcome; others = status; first = listed; follow = rw ends each; greater = refl })));
     }

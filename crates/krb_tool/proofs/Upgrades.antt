@@ -11,7 +11,7 @@ use Rattle.krb_ccache.specs.declared.value.Header.{Header}
 use Rattle.krb_ccache.specs.Laws.{UpgradeHoldsTheSame}
 use Rattle.krb_ccache.specs.Reading.{Items}
 use Rattle.krb_ccache.specs.Spelling.{ccache, CcacheSpells, Spells3, upgraded}
-use Rattle.krb_ccache.specs.Streaming.{begun, credentials, Holds}
+use Rattle.krb_ccache.specs.Streaming.{file_start, credentials, Holds}
 use Rattle.krb_list.specs.declared.form.Form.{Form}
 use Rattle.krb_tool.specs.Lines.{cache_line}
 use Rattle.krb_tool.specs.declared.run.RunEnd.TheVariants as run
@@ -28,15 +28,15 @@ clean-ends form now (Ok start) found clean = ended found.end clean
 
 file-ends : (form : Form) (now : Option ℕ) (file : List ℕ) → (ccache_listing form now file).end ≡ run.Clean → (size : ℕ) × ((credentials field_limit file).end ≡ Ok size)
 unfolding ccache_listing
-file-ends form now file clean = clean-ends form now (begun field_limit file) (credentials field_limit file) clean
+file-ends form now file clean = clean-ends form now (file_start field_limit file) (credentials field_limit file) clean
 
 -- what holds a cache is listed by the cache alone
 abbrev listed : Form → Option ℕ → Ccache → RecordListing
 listed form now cache = after_line (cache_line form cache.header cache.principal) (credentials_listing form now (record { items = cache.credentials; end = Ok 0 }))
 
-holds-listed : (form : Form) (now : Option ℕ) (file : List ℕ) (cache : Ccache) → Holds field_limit file cache → ccache_listing form now file ≡ listed form now cache
+written_after-listed : (form : Form) (now : Option ℕ) (file : List ℕ) (cache : Ccache) → Holds field_limit file cache → ccache_listing form now file ≡ listed form now cache
 unfolding ccache_listing
-holds-listed form now file cache h =
+written_after-listed form now file cache h =
     ap (λ (r : Result (Start × Source) Fault). cache_listing form now r (credentials field_limit file)) h.begins
     ∙ ap (λ (found : Items Credential). cache_listing form now (Ok (h.start, h.after)) found) h.all
     ∙ ap₂ (λ (header : Header) (principal : FilePrincipal). after_line (cache_line form header principal) (credentials_listing form now (record { items = cache.credentials; end = Ok 0 }))) h.header h.principal
@@ -45,4 +45,4 @@ pub listed-alike : UpgradeHoldsTheSame → (form : Form) (now : Option ℕ) (v :
 listed-alike same form now v file other fits spelled written clean =
     let e = file-ends form now file clean in
     let h = same field_limit v file e.0 fits spelled e.1 in
-    ap (ccache_listing form now) written.octets ∙ holds-listed form now (ccache (upgraded v)) (upgraded v) h.1 ∙ sym (holds-listed form now file (upgraded v) h.0)
+    ap (ccache_listing form now) written.octets ∙ written_after-listed form now (ccache (upgraded v)) (upgraded v) h.1 ∙ sym (written_after-listed form now file (upgraded v) h.0)

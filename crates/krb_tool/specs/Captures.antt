@@ -10,13 +10,13 @@ use Rattle.krb_tool.specs.Files.{RecordListing}
 use Rattle.krb_tool.specs.declared.run.RunEnd.{RunEnd}
 use Rattle.krb_tool.specs.declared.run.RunEnd.TheVariants as run
 
--- the records that are due with packets, after others that left this
+-- the records of packets, from the progress that earlier ones left
 abbrev pub lines_from : Settings → List Packet → Progress → List ℕ
 lines_from settings [] progress = []
 lines_from settings (first ∷ others) progress =
     let taken = packet_taken settings first progress in lines_of settings.form taken.found ++ lines_from settings others taken.progress
 
--- what packets leave
+-- the progress after packets
 abbrev pub after_packets : Settings → List Packet → Progress → Progress
 after_packets settings [] progress = progress
 after_packets settings (first ∷ others) progress = after_packets settings others (packet_taken settings first progress).progress

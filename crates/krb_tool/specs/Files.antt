@@ -8,7 +8,7 @@ use Rattle.krb_keytab.specs.Reading.{Items as Records, items as keytab_records}
 use Rattle.krb_ccache.specs.declared.value.Credential.{Credential}
 use Rattle.krb_ccache.specs.declared.reading.Start.{Start}
 use Rattle.krb_ccache.specs.Reading.{Items}
-use Rattle.krb_ccache.specs.Streaming.{begun, credentials}
+use Rattle.krb_ccache.specs.Streaming.{file_start, credentials}
 use Rattle.krb_list.specs.declared.form.Form.{Form}
 use Rattle.krb_tool.specs.Lines.{record_line, keytab_end_line}
 use Rattle.krb_tool.specs.Lines.{cache_line, credential_line, cache_end_line}
@@ -19,19 +19,19 @@ use Rattle.krb_tool.specs.declared.run.RunEnd.TheVariants as run
 use Rattle.krb_tool.specs.declared.run.RunFault.{RunFault}
 use Rattle.krb_tool.specs.declared.run.RunFault.TheVariants as fault
 
--- all that a reader had was taken
-pub record TakesAll (had left : Option (List ℕ)) (file : List ℕ) : Type 0 where
+-- all octets that a reader had were read
+pub record ReadsAll (had left : Option (List ℕ)) (file : List ℕ) : Type 0 where
   pub taken : Consumes had left file
   pub ended : IsAtEnd left
 
--- what is written of a file, and how its run ends
+-- The listing of a file, and how its run ends.
 pub record FileListing : Type 0 where
   pub text : List ℕ
   pub end : RunEnd
 
 -- ---- the listings of keytabs and of caches
 
--- What is written of a file that is read one record at a time: a line for each record before the stop or the first fault, and the last line. And how its run ends.
+-- The listing of a file that is read one record at a time: a line for each record before the end or the first fault, and the last line; and how its run ends.
 pub record RecordListing : Type 0 where
   pub lines : List ℕ
   pub last : List ℕ
@@ -74,58 +74,58 @@ ccache_last form count (Err fault) = file_refused_line form fault.place fault.wh
 abbrev pub credentials_listing : Form → Option ℕ → Items Credential → RecordListing
 credentials_listing form now found = record { lines = flat_map (λ c. credential_line form now c) found.items; last = ccache_last form (length found.items) found.end; end = end_of found.end }
 
--- the line of a cache before them, or the refusal of what stands there
+-- the line of a cache before them, or the refusal of what is there
 abbrev pub cache_listing : Form → Option ℕ → Result (Start × Source) Fault → Items Credential → RecordListing
 cache_listing form now (Err fault) found = refused_listing form fault
 cache_listing form now (Ok start) found = after_line (cache_line form start.0.header start.0.principal) (credentials_listing form now found)
 
 unfoldable pub ccache_listing : Form → Option ℕ → List ℕ → RecordListing
-ccache_listing form now file = cache_listing form now (begun field_limit file) (credentials field_limit file)
+ccache_listing form now file = cache_listing form now (file_start field_limit file) (credentials field_limit file)
 
 -- ---- what a run does
 
--- A run took all that its reader had, and added the listing of that to what its writer held.
-pub record ListsFile (Lists : List ℕ → FileListing → Type 0) (had left held holds : Option (List ℕ)) (ended : RunEnd) : Type 0 where
+-- A run read all octets that its reader had, and appended the listing of these to what is written.
+pub record ListsFile (Lists : List ℕ → FileListing → Type 0) (had left written_before written_after : Option (List ℕ)) (ended : RunEnd) : Type 0 where
   pub file : List ℕ
   pub listing : FileListing
   pub listed : Lists file listing
-  pub taken : TakesAll had left file
-  pub added : Appends held holds listing.text
+  pub taken : ReadsAll had left file
+  pub added : Appends written_before written_after listing.text
   pub ended_so : ended ≡ listing.end
 
--- The beginning of a text was added to what a writer held. It may be all of the text, or none.
-pub record AddsFront (held holds : Option (List ℕ)) (text : List ℕ) : Type 0 where
-  pub front : List ℕ
+-- A prefix of a text was appended to what is written. It may be all of the text, or none.
+pub record AppendsPrefix (written_before written_after : Option (List ℕ)) (text : List ℕ) : Type 0 where
+  pub prefix : List ℕ
   pub rest : List ℕ
-  pub added : Appends held holds front
-  pub whole : text ≡ front ++ rest
+  pub added : Appends written_before written_after prefix
+  pub whole : text ≡ prefix ++ rest
 
--- A run took all that its reader had, and added the beginning of its listing to what its writer held.
-pub record ListsFront (Lists : List ℕ → FileListing → Type 0) (had left held holds : Option (List ℕ)) : Type 0 where
+-- A run read all octets that its reader had, and appended a prefix of their listing to what is written.
+pub record ListsPrefix (Lists : List ℕ → FileListing → Type 0) (had left written_before written_after : Option (List ℕ)) : Type 0 where
   pub file : List ℕ
   pub listing : FileListing
   pub listed : Lists file listing
-  pub taken : TakesAll had left file
-  pub added : AddsFront held holds listing.text
+  pub taken : ReadsAll had left file
+  pub added : AppendsPrefix written_before written_after listing.text
 
--- the first octets of what a reader had were taken
-abbrev pub TakesSome : Option (List ℕ) → Option (List ℕ) → Type 0
-TakesSome had left = (taken : List ℕ) × Consumes had left taken
+-- a prefix of the octets that a reader had was read
+abbrev pub ReadsSome : Option (List ℕ) → Option (List ℕ) → Type 0
+ReadsSome had left = (taken : List ℕ) × Consumes had left taken
 
--- A run took the first octets of what its reader had, and wrote nothing.
-pub record WritesNothing (had left held holds : Option (List ℕ)) : Type 0 where
-  pub taken : TakesSome had left
-  pub kept : Keeps held holds
+-- A run read a prefix of the octets that its reader had, and wrote nothing.
+pub record WritesNothing (had left written_before written_after : Option (List ℕ)) : Type 0 where
+  pub taken : ReadsSome had left
+  pub kept : Keeps written_before written_after
 
--- If a run fails by a write, the beginning of the listing is written, and else nothing.
+-- If a run fails by a write, a prefix of the listing is written, and else nothing.
 abbrev pub FailsFile : (List ℕ → FileListing → Type 0) → Option (List ℕ) → Option (List ℕ) → Option (List ℕ) → Option (List ℕ) → RunFault → Type 0
-FailsFile Lists had left held holds (fault.Read error) = WritesNothing had left held holds
-FailsFile Lists had left held holds (fault.Write error) = ListsFront Lists had left held holds
-FailsFile Lists had left held holds fault.Memory = WritesNothing had left held holds
+FailsFile Lists had left written_before written_after (fault.Read error) = WritesNothing had left written_before written_after
+FailsFile Lists had left written_before written_after (fault.Write error) = ListsPrefix Lists had left written_before written_after
+FailsFile Lists had left written_before written_after fault.Memory = WritesNothing had left written_before written_after
 
--- What a run on records adds to what its writer held: the listing; the beginning of it if a write fails; and the beginning of the lines of records if a read fails or memory runs out.
+-- What a run on records appends to what is written: the listing; a prefix of it if a write fails; and a prefix of the lines of records if a read fails or memory runs out.
 abbrev pub ListsRecords : RecordListing → Option (List ℕ) → Option (List ℕ) → Result RunEnd RunFault → Type 0
-ListsRecords listing held holds (Ok ended) = Appends held holds (text_of listing) × (ended ≡ listing.end)
-ListsRecords listing held holds (Err (fault.Write error)) = AddsFront held holds (text_of listing)
-ListsRecords listing held holds (Err (fault.Read error)) = AddsFront held holds listing.lines
-ListsRecords listing held holds (Err fault.Memory) = AddsFront held holds listing.lines
+ListsRecords listing written_before written_after (Ok ended) = Appends written_before written_after (text_of listing) × (ended ≡ listing.end)
+ListsRecords listing written_before written_after (Err (fault.Write error)) = AppendsPrefix written_before written_after (text_of listing)
+ListsRecords listing written_before written_after (Err (fault.Read error)) = AppendsPrefix written_before written_after listing.lines
+ListsRecords listing written_before written_after (Err fault.Memory) = AppendsPrefix written_before written_after listing.lines

@@ -16,34 +16,34 @@ use Rattle.krb_tool.specs.declared.run.RunEnd.{RunEnd}
 use Rattle.krb_tool.specs.declared.run.RunEnd.TheVariants as run
 use Rattle.krb_tool.specs.declared.run.RunFault.{RunFault}
 use Rattle.krb_tool.specs.declared.run.RunFault.TheVariants as fault
-use Rattle.krb_tool.specs.Listing.{WritesFront}
+use Rattle.krb_tool.specs.Listing.{WritesPrefix}
 
 -- what is listed of a frame: its message, or what it is refused for, with its octets up to the refused one
 pub data Listed : Type 0 where
   Whole : (message : Message) → Listed
-  Faulty : (place : ℕ) → (reason : Why) → (front : List ℕ) → Listed
+  Faulty : (place : ℕ) → (reason : Why) → (prefix : List ℕ) → Listed
 
 abbrev pub entry_of : Listed → Entry
 entry_of (Whole message) = Contents (message_der message)
-entry_of (Faulty place reason front) = Fault place reason front
+entry_of (Faulty place reason prefix) = Fault place reason prefix
 
 -- how many of them are messages
 abbrev pub messages_in : List Listed → ℕ
 messages_in [] = 0
 messages_in (Whole message ∷ others) = 1 + messages_in others
-messages_in (Faulty place reason front ∷ others) = messages_in others
+messages_in (Faulty place reason prefix ∷ others) = messages_in others
 
 -- how many are refused
 abbrev pub refused_in : List Listed → ℕ
 refused_in [] = 0
 refused_in (Whole message ∷ others) = refused_in others
-refused_in (Faulty place reason front ∷ others) = 1 + refused_in others
+refused_in (Faulty place reason prefix ∷ others) = 1 + refused_in others
 
 -- their lines, after n messages: each refusal has the number of the messages before it
 abbrev pub lines_after : Form → Profile → ℕ → List Listed → List ℕ
 lines_after form profile n [] = []
 lines_after form profile n (Whole message ∷ others) = message_line form message ++ lines_after form profile (n + 1) others
-lines_after form profile n (Faulty place reason front ∷ others) = refused_line form n place reason (frame_path profile front) ++ lines_after form profile n others
+lines_after form profile n (Faulty place reason prefix ∷ others) = refused_line form n place reason (frame_path profile prefix) ++ lines_after form profile n others
 
 -- The text is the listing of the stream: the line of each frame, in order, and then the line that counts them.
 pub record IsCountedListing (form : Form) (profile : Profile) (limit : ℕ) (stream text : List ℕ) : Type 0 where
@@ -64,18 +64,18 @@ pub record EndsUnknown (found : List Entry) : Type 0 where
 
 -- no more was read than octets whose last frame has a known length, and then one piece
 pub record StopsInPiece (profile : Profile) (limit : ℕ) (read : List ℕ) : Type 0 where
-  pub front : List ℕ
+  pub prefix : List ℕ
   pub piece : List ℕ
-  pub parts : read ≡ front ++ piece
-  pub goes_on : EndsUnknown (entries (messages profile) limit front) → ⊥
+  pub parts : read ≡ prefix ++ piece
+  pub goes_on : EndsUnknown (entries (messages profile) limit prefix) → ⊥
   pub short : length piece ≤ 65536
 
--- A run took octets from what its reader had, and added their listing to what its writer held. It left none, unless the length of the last frame is not known.
-pub record ListsAll (form : Form) (profile : Profile) (limit : ℕ) (had left held holds : Option (List ℕ)) (ended : RunEnd) : Type 0 where
+-- A run read octets that its reader had, and appended their listing to what is written. It left none, unless the length of the last frame is not known.
+pub record ListsAll (form : Form) (profile : Profile) (limit : ℕ) (had left written_before written_after : Option (List ℕ)) (ended : RunEnd) : Type 0 where
   pub read : List ℕ
   pub written : List ℕ
   pub taken : Consumes had left read
-  pub added : Appends held holds written
+  pub added : Appends written_before written_after written
   pub listed : IsCountedListing form profile limit read written
   pub ended_so : ended ≡ counted_run_end (refused_in listed.found)
   pub all_read : IsAtEnd left ⊎ EndsUnknown (entries (messages profile) limit read)
@@ -88,8 +88,8 @@ pub record AreCountedLines (form : Form) (profile : Profile) (limit : ℕ) (stre
   pub in_frames : entries (messages profile) limit stream ≡ map entry_of found ++ others
   pub lines : text ≡ lines_after form profile 0 found
 
--- If a run fails by a write, the beginning of the listing of what was read is written. If a read fails or memory runs out, it is the beginning of the lines of its frames, and no last line.
+-- If a run fails by a write, a prefix of the listing of what was read is written. If a read fails or memory runs out, it is a prefix of the lines of its frames, and no last line.
 abbrev pub FailsAll : Form → Profile → ℕ → Option (List ℕ) → Option (List ℕ) → Option (List ℕ) → Option (List ℕ) → RunFault → Type 0
-FailsAll form profile limit had left held holds (fault.Write error) = WritesFront (IsCountedListing form profile limit) had left held holds
-FailsAll form profile limit had left held holds (fault.Read error) = WritesFront (AreCountedLines form profile limit) had left held holds
-FailsAll form profile limit had left held holds fault.Memory = WritesFront (AreCountedLines form profile limit) had left held holds
+FailsAll form profile limit had left written_before written_after (fault.Write error) = WritesPrefix (IsCountedListing form profile limit) had left written_before written_after
+FailsAll form profile limit had left written_before written_after (fault.Read error) = WritesPrefix (AreCountedLines form profile limit) had left written_before written_after
+FailsAll form profile limit had left written_before written_after fault.Memory = WritesPrefix (AreCountedLines form profile limit) had left written_before written_after

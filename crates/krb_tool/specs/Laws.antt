@@ -1,4 +1,4 @@
--- What holds of all listings. Each is the contract of a function of the module `law`.
+-- A law of listings, which is the contract of a function of the module `law`.
 use Rattle.std.specs.Prelude.{ℕ, ◌≡◌, Option, List}
 use Rattle.krb_der.specs.Octets.{AreOctets}
 use Rattle.krb_ccache.specs.declared.value.Cache3.{Cache3}

@@ -15,7 +15,7 @@ use Rattle.krb_tool.specs.declared.run.RunEnd.{RunEnd}
 use Rattle.krb_tool.specs.declared.run.RunEnd.TheVariants as run
 use Rattle.krb_tool.specs.declared.run.RunFault.{RunFault}
 use Rattle.krb_tool.specs.declared.run.RunFault.TheVariants as fault
-use Rattle.krb_tool.specs.Files.{AddsFront}
+use Rattle.krb_tool.specs.Files.{AppendsPrefix}
 
 -- the end of a stream by a profile, with frames of at most n octets
 abbrev pub end_of : Profile → ℕ → List ℕ → End
@@ -46,18 +46,18 @@ IsNotRefused (Refused place reason) = ⊥
 
 -- no more was read than octets that are not refused, and then one piece
 pub record StopsInPiece (profile : Profile) (limit : ℕ) (read : List ℕ) : Type 0 where
-  pub front : List ℕ
+  pub prefix : List ℕ
   pub piece : List ℕ
-  pub parts : read ≡ front ++ piece
-  pub goes_on : IsNotRefused (end_of profile limit front)
+  pub parts : read ≡ prefix ++ piece
+  pub goes_on : IsNotRefused (end_of profile limit prefix)
   pub short : length piece ≤ 65536
 
--- A run took octets from what its reader had and left the rest, and added their listing to what its writer held.
-pub record Lists (form : Form) (profile : Profile) (limit : ℕ) (had left held holds : Option (List ℕ)) (ended : RunEnd) : Type 0 where
+-- A run read octets that its reader had, and appended their listing to what is written; the reader has the rest.
+pub record Lists (form : Form) (profile : Profile) (limit : ℕ) (had left written_before written_after : Option (List ℕ)) (ended : RunEnd) : Type 0 where
   pub read : List ℕ
   pub written : List ℕ
   pub taken : Consumes had left read
-  pub added : Appends held holds written
+  pub added : Appends written_before written_after written
   pub listed : IsListing form profile limit read written
   pub ended_so : ended ≡ run_end (end_of profile limit read)
   pub all_read : AllIsRead (end_of profile limit read) left
@@ -70,21 +70,21 @@ pub record AreLines (form : Form) (profile : Profile) (limit : ℕ) (stream text
   pub in_frames : (frames (messages profile) limit stream).contents ≡ map message_der found ++ others
   pub lines : text ≡ flat_map (message_line form) found
 
--- A run took octets from what its reader had, and added the beginning of a text of theirs to what its writer held.
-pub record WritesFront (IsText : List ℕ → List ℕ → Type 0) (had left held holds : Option (List ℕ)) : Type 0 where
+-- A run read octets that its reader had, and appended a prefix of their text to what is written.
+pub record WritesPrefix (IsText : List ℕ → List ℕ → Type 0) (had left written_before written_after : Option (List ℕ)) : Type 0 where
   pub read : List ℕ
   pub text : List ℕ
   pub taken : Consumes had left read
   pub is_text : IsText read text
-  pub added : AddsFront held holds text
+  pub added : AppendsPrefix written_before written_after text
 
--- If a run fails by a write, the beginning of the listing of what was read is written. If a read fails or memory runs out, it is the beginning of the lines of messages, and no last line.
+-- If a run fails by a write, a prefix of the listing of what was read is written. If a read fails or memory runs out, it is a prefix of the lines of messages, and no last line.
 abbrev pub Fails : Form → Profile → ℕ → Option (List ℕ) → Option (List ℕ) → Option (List ℕ) → Option (List ℕ) → RunFault → Type 0
-Fails form profile limit had left held holds (fault.Write error) = WritesFront (IsListing form profile limit) had left held holds
-Fails form profile limit had left held holds (fault.Read error) = WritesFront (AreLines form profile limit) had left held holds
-Fails form profile limit had left held holds fault.Memory = WritesFront (AreLines form profile limit) had left held holds
+Fails form profile limit had left written_before written_after (fault.Write error) = WritesPrefix (IsListing form profile limit) had left written_before written_after
+Fails form profile limit had left written_before written_after (fault.Read error) = WritesPrefix (AreLines form profile limit) had left written_before written_after
+Fails form profile limit had left written_before written_after fault.Memory = WritesPrefix (AreLines form profile limit) had left written_before written_after
 
--- the status of a process whose run gave this
+-- the status of a process whose run returned this
 abbrev pub status_of : Result RunEnd RunFault → ℕ
 status_of (Ok run.Clean) = 0
 status_of (Ok run.Refused) = 1

@@ -1,11 +1,11 @@
--- The listing of a message that is given in hexadecimal.
+-- The listing of a message in hexadecimal.
 use Rattle.std.specs.Prelude.{ℕ, ◌≡◌, Bool, not, ◌||◌, ◌==◌, nat_lt, if◌then◌else◌, List, length, Option, Some, None, Result, Ok, Err}
 use Rattle.std.specs.List.{filter}
 use Rattle.hex.specs.Hex.{decode_of}
 use Rattle.hex.specs.declared.error.FromHexError.{FromHexError}
 use Rattle.krb_der.specs.declared.profile.Profile.{Profile}
 use Rattle.krb_der.specs.declared.verdict.Refusal.{Refusal}
-use Rattle.krb_msg.specs.Reading.{message_read}
+use Rattle.krb_msg.specs.ValueOfDer.{message_of_der}
 use Rattle.krb_judge.specs.Parses.{refusal_of}
 use Rattle.krb_list.specs.declared.form.Form.{Form}
 use Rattle.krb_list.specs.declared.refusal.InputFault.TheVariants as input
@@ -22,7 +22,7 @@ refused_with line = record { text = line; end = run.Refused }
 
 -- the line of a message, or of its refusal
 abbrev pub parsed_listing : Form → Profile → Option Refusal → List ℕ → FileListing
-parsed_listing form profile None octets = clean_with (message_line form (message_read octets))
+parsed_listing form profile None octets = clean_with (message_line form (message_of_der octets))
 parsed_listing form profile (Some refusal) octets = refused_with (message_refused_line form refusal (refused_path profile octets refusal))
 
 -- of octets

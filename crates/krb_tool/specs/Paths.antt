@@ -35,7 +35,7 @@ unfoldable pub refused_path : Profile → List ℕ → Refusal → Option (List 
 refused_path profile octets refusal =
     if nat_lt 2147483647 (length octets) then None else message_path profile (length octets) (take (refusal.place + 1) octets)
 
--- ---- The field at fault of a file, if there is one: after so many records of a keytab, after so many credentials of a cache, and before these.
+-- ---- The field at fault of a file, if there is one: after a number of records of a keytab, after a number of credentials of a cache, and before these.
 
 unfoldable pub keytab_path : ℕ → Option FileField → Option (List ℕ)
 keytab_path records field = option_map (λ found. keytab_text (record { records = records; field = found })) field

@@ -1,4 +1,4 @@
--- What a run over several sources does to its writer, and the status that it gives.
+-- What a run over several sources does to its writer, and the status that it returns.
 use Rattle.std.specs.Prelude.{ℕ, ◌≡◌, ◌⊎◌, max, Bool, true, false, List, [], ◌∷◌, Option, Result, Ok, Err, IfErr}
 use Rattle.std.specs.Io.KnownBytes.{Appends}
 use Rattle.krb_list.specs.declared.form.Form.{Form}
@@ -6,14 +6,14 @@ use Rattle.krb_tool.specs.Lines.{file_line}
 use Rattle.krb_tool.specs.declared.run.RunEnd.{RunEnd}
 use Rattle.krb_tool.specs.declared.run.RunFault.{RunFault}
 use Rattle.krb_tool.specs.declared.run.RunFault.TheVariants as fault
-use Rattle.krb_tool.specs.Files.{AddsFront}
+use Rattle.krb_tool.specs.Files.{AppendsPrefix}
 use Rattle.krb_tool.specs.Listing.{status_of}
 
--- what the run over one source gives
+-- the result of the run over one source
 abbrev pub Outcome : Type 0
 Outcome = Result RunEnd RunFault
 
--- What a run may do: what its writer held before it and holds after it, and what it gives.
+-- What a run may do: what is written before it and after it, and its result.
 abbrev pub Run : Type 1
 Run = Option (List ℕ) → Option (List ℕ) → Outcome → Type 0
 
@@ -21,28 +21,28 @@ Run = Option (List ℕ) → Option (List ℕ) → Outcome → Type 0
 
 -- The line of a name was not written whole, since a write failed or memory ran out.
 abbrev pub FailsName : Form → List ℕ → Option (List ℕ) → Option (List ℕ) → RunFault → Type 0
-FailsName form name held holds (fault.Read error) = ⊥
-FailsName form name held holds (fault.Write error) = AddsFront held holds (file_line form name)
-FailsName form name held holds fault.Memory = holds ≡ held
+FailsName form name written_before written_after (fault.Read error) = ⊥
+FailsName form name written_before written_after (fault.Write error) = AppendsPrefix written_before written_after (file_line form name)
+FailsName form name written_before written_after fault.Memory = written_after ≡ written_before
 
 -- The line of the name was written, and then the source was listed.
-pub record ListsNamed (form : Form) (Lists : Run) (name : List ℕ) (held holds : Option (List ℕ)) (outcome : Outcome) : Type 0 where
+pub record ListsNamed (form : Form) (Lists : Run) (name : List ℕ) (written_before written_after : Option (List ℕ)) (outcome : Outcome) : Type 0 where
   pub between : Option (List ℕ)
-  pub named : Appends held between (file_line form name)
-  pub listed : Lists between holds outcome
+  pub named : Appends written_before between (file_line form name)
+  pub listed : Lists between written_after outcome
 
 abbrev pub FailsFirst : Form → List ℕ → Run
-FailsFirst form name held holds (Ok ended) = ⊥
-FailsFirst form name held holds (Err fault) = FailsName form name held holds fault
+FailsFirst form name written_before written_after (Ok ended) = ⊥
+FailsFirst form name written_before written_after (Err fault) = FailsName form name written_before written_after fault
 
 -- a source is listed after the line of its name, if it has one
 abbrev pub ListsOne : Form → Bool → List ℕ → Run → Run
-ListsOne form false name Lists held holds outcome = Lists held holds outcome
-ListsOne form true name Lists held holds outcome = ListsNamed form Lists name held holds outcome ⊎ FailsFirst form name held holds outcome
+ListsOne form false name Lists written_before written_after outcome = Lists written_before written_after outcome
+ListsOne form true name Lists written_before written_after outcome = ListsNamed form Lists name written_before written_after outcome ⊎ FailsFirst form name written_before written_after outcome
 
 -- a source is listed, and a fault by which its listing ends is reported
 abbrev pub Reports : (RunFault → Type 0) → Run → Run
-Reports IsReported Lists held holds outcome = Lists held holds outcome × IfErr outcome IsReported
+Reports IsReported Lists written_before written_after outcome = Lists written_before written_after outcome × IfErr outcome IsReported
 
 -- ---- all sources
 
@@ -53,25 +53,25 @@ ends_run (Err (fault.Read error)) = false
 ends_run (Err (fault.Write error)) = true
 ends_run (Err fault.Memory) = true
 
--- What a run over sources may do: what its writer held before it and holds after it, and the status.
+-- What a run over sources may do: what is written before it and after it, and the status.
 abbrev pub RunOver : Type 1
 RunOver = Option (List ℕ) → Option (List ℕ) → ℕ → Type 0
 
 -- the other sources follow, unless the run has ended
 abbrev pub Follow : Bool → RunOver → RunOver
-Follow true Others held holds status = (holds ≡ held) × (status ≡ 0)
-Follow false Others held holds status = Others held holds status
+Follow true Others written_before written_after status = (written_after ≡ written_before) × (status ≡ 0)
+Follow false Others written_before written_after status = Others written_before written_after status
 
 -- The first source is listed and then the others, and the status is the greater of theirs.
-pub record ListsFirst (First : Run) (Others : RunOver) (held holds : Option (List ℕ)) (status : ℕ) : Type 0 where
+pub record ListsFirst (First : Run) (Others : RunOver) (written_before written_after : Option (List ℕ)) (status : ℕ) : Type 0 where
   pub between : Option (List ℕ)
   pub outcome : Outcome
   pub others : ℕ
-  pub first : First held between outcome
-  pub follow : Follow (ends_run outcome) Others between holds others
+  pub first : First written_before between outcome
+  pub follow : Follow (ends_run outcome) Others between written_after others
   pub greater : status ≡ max (status_of outcome) others
 
 -- Each source is listed, one after another, and the status is the greatest of theirs.
 abbrev pub ListsEach : {S : Type 0} → (S → Run) → List S → RunOver
-ListsEach Lists [] held holds status = (holds ≡ held) × (status ≡ 0)
-ListsEach Lists (first ∷ others) held holds status = ListsFirst (Lists first) (ListsEach Lists others) held holds status
+ListsEach Lists [] written_before written_after status = (written_after ≡ written_before) × (status ≡ 0)
+ListsEach Lists (first ∷ others) written_before written_after status = ListsFirst (Lists first) (ListsEach Lists others) written_before written_after status

@@ -99,9 +99,8 @@ impl<R: Read> RecordLines for CaptureLines<'_, R> {
     }
 }
 
-/// Lists the Kerberos messages of a capture, a pcap or a pcapng, in a form: writes the records that are
-/// due with each packet, and at the end those that are due then and the totals, or the refusal of the
-/// file. Frames of more than `limit` octets are refused, and `port` is the one of KDCs. Reads and writes
+/// Lists the Kerberos messages of a capture, a pcap or a pcapng, in a form: writes the records of
+/// each packet, and at the end those of the end and the totals, or the refusal of the file. Frames of more than `limit` octets are refused, and `port` is the one of KDCs. Reads and writes
 /// as [`run_keytab_in`](crate::run_keytab_in) does.
 pub fn run_capture<R: Read, W: Write>(
     alloc: Global,

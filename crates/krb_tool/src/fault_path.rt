@@ -52,8 +52,8 @@ pub(crate) fn refused_path(
     if octets.len() > MOST_OCTETS {
         return Ok(None);
     }
-    let front = (refusal.place as usize + 1).min(octets.len());
-    Ok(path(alloc, profile, octets.len() as u32, &octets[..front])?)
+    let prefix = (refusal.place as usize + 1).min(octets.len());
+    Ok(path(alloc, profile, octets.len() as u32, &octets[..prefix])?)
 }
 
 /// Appends the line of a frame that is refused, after a number of messages.

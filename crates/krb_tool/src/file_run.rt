@@ -2,8 +2,8 @@
 
 ghost use Rattle.std.specs.Prelude.{◌≡◌, ◌+◌, ◌^◌, ◌≤◌, ◌⊎◌, List, ℕ, Some, IfSome, IfErr, IfOk, OnErr, OnOk};
 ghost use Rattle.krb_tool.specs.declared.transfer.ReaderState.TheVariants as reader;
-ghost use Rattle.krb_tool.specs.Files.{TakesSome, FileListing, ListsFile, FailsFile};
-ghost use Rattle.krb_tool.specs.inner.FileRuns.{TakesFront, IsOfReading, IsTold, TellsRead, shown};
+ghost use Rattle.krb_tool.specs.Files.{ReadsSome, FileListing, ListsFile, FailsFile};
+ghost use Rattle.krb_tool.specs.inner.FileRuns.{ReadsPrefix, IsOfReading, IsDecidedByPrefix, MatchesReader, shown};
 
 use crate::run::{PIECE_OCTETS, RunEnd, RunFault};
 use crate::transfer::{Asked, write_all};
@@ -17,8 +17,8 @@ pub(crate) struct FileText {
     pub end: RunEnd,
 }
 
-/// Returns how many of `count` octets are kept after the `kept` others: all of them, or those that
-/// there is room for.
+/// Returns how many of `count` octets are kept after the `kept` others: all of them, or those
+/// up to the greatest number.
 fn room(most: Option<usize>, kept: usize, count: usize) -> usize
     requires { IfSome most (λ most. kept ≤ most) }
     ensures few { result ≤ count }
@@ -40,10 +40,10 @@ fn read_all<R: Read>(
 ) -> Result<Vec<u8>, RunFault>
     requires open { asked.old.state ≡ reader.Open }
     ensures same_reader { asked.new.reader.ghost_name ≡ asked.old.reader.ghost_name }
-    ensures front { IfOk result (λ file. TakesFront (R.remaining asked.old.reader.now) (R.remaining asked.new.reader.now) most file.items) }
+    ensures prefix { IfOk result (λ file. ReadsPrefix (R.remaining asked.old.reader.now) (R.remaining asked.new.reader.now) most file.items) }
     ensures ended { OnOk result (asked.new.state ≡ reader.Ended) }
     ensures fault { IfErr result (IsOfReading asked.new.state) }
-    ensures taken { OnErr result (TakesSome (R.remaining asked.old.reader.now) (R.remaining asked.new.reader.now)) }
+    ensures taken { OnErr result (ReadsSome (R.remaining asked.old.reader.now) (R.remaining asked.new.reader.now)) }
     ensures asks { asked.new.made ≤ 2 ^ 40 }
 {
     let mut buffer = vec![in alloc; 0u8; PIECE_OCTETS]?;
@@ -66,7 +66,7 @@ pub(crate) trait FileFormat {
     /// Returns the number of octets of a file that decide its listing, if there is one: octets
     /// after them change nothing.
     fn most(&self) -> Option<usize>
-        ensures { IsTold (Lists self.now) result };
+        ensures { IsDecidedByPrefix (Lists self.now) result };
 
     /// Returns the lines of a file, or the line of its refusal.
     fn list(&self, alloc: Global, file: &[u8]) -> Result<FileText, RunFault>
@@ -86,7 +86,7 @@ pub(crate) fn run_file<R: Read, W: Write, F: FileFormat>(
     ensures same_reader { asked.new.reader.ghost_name ≡ asked.old.reader.ghost_name }
     ensures listed { IfOk result (ListsFile (F.Lists format.now) (R.remaining asked.old.reader.now) (R.remaining asked.new.reader.now) (W.contents writer.old) (W.contents writer.new)) }
     ensures fault { IfErr result (FailsFile (F.Lists format.now) (R.remaining asked.old.reader.now) (R.remaining asked.new.reader.now) (W.contents writer.old) (W.contents writer.new)) }
-    ensures told { IfErr result (TellsRead asked.new.state) }
+    ensures decided { IfErr result (MatchesReader asked.new.state) }
 {
     let file = read_all(alloc, asked, format.most())?;
     let listed = format.list(alloc, file.as_slice())?;

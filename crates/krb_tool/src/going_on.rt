@@ -2,7 +2,7 @@
 
 ghost use Rattle.std.specs.Prelude.{◌≡◌, ◌≢◌, ◌+◌, ◌<◌, ◌^◌, length, IfErr, IfOk, OnOk, IsSome};
 ghost use Rattle.krb_msg.specs.Grammar.{messages};
-ghost use Rattle.krb_msg.specs.Seen.{MessageLists, message_seen};
+ghost use Rattle.krb_msg.specs.ViewValues.{MessageLists, message_of_view};
 ghost use Rattle.krb_frame.specs.Decoding.{status_of, borrowed};
 ghost use Rattle.krb_frame.specs.declared.decoder.Status.TheVariants as status;
 ghost use Rattle.krb_tool.specs.GoingOn.{ListsAll, FailsAll, counted_run_end};
@@ -23,7 +23,7 @@ use std::io::{Read, Write};
 
 /// Lists a stream of framed messages (RFC 4120, 7.2.2) of a profile, and goes on after refusals:
 /// writes a line for each message and for each frame that is refused, and then a line that counts
-/// both. The frame after one that is refused begins where that one ends. Nothing is looked at after
+/// both. The frame after one that is refused begins at its end. Nothing is looked at after
 /// a frame whose length has its high bit set, since its length is not known. Reads and writes as
 /// [`run_stream_in`](crate::run_stream_in) does.
 pub fn run_stream_going_on<R: Read, W: Write>(
@@ -54,7 +54,7 @@ pub(crate) struct CountingLister {
 }
 
 impl CountingLister {
-    /// Adds the lines of the frames that stand whole at the beginning of a piece, and returns the
+    /// Adds the lines of the frames that are whole at the beginning of a piece, and returns the
     /// octets after them.
     fn list_passed<'p>(&mut self, piece: &'p [u8]) -> Result<&'p [u8], RunFault>
         requires waits { status_of (messages self.old.decoder.current.profile) self.old.decoder.current ≡ status.More }
@@ -74,7 +74,7 @@ impl CountingLister {
     fn add_line(&mut self, message: &MessageView<'_>) -> Result<(), RunFault>
         requires few { self.old.messages + 1 < 2 ^ 64 }
         requires lists { MessageLists message.now }
-        ensures added { OnOk result (CountsLine (message_seen message.now) self.old self.new) }
+        ensures added { OnOk result (CountsLine (message_of_view message.now) self.old self.new) }
         ensures fault { IfErr result (λ e. e ≡ fault.Memory) }
     {
         put_message_view(&mut self.text, self.form, message)?;

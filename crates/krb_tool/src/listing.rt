@@ -3,7 +3,7 @@
 ghost use Rattle.std.specs.Prelude.{◌≡◌, ◌≢◌, ◌+◌, ◌<◌, ◌^◌, length, IfErr, IfOk, OnOk, IsSome};
 ghost use Rattle.krb_msg.specs.Grammar.{messages};
 ghost use Rattle.krb_frame.specs.Decoding.{status_of, borrowed};
-ghost use Rattle.krb_msg.specs.Seen.{MessageLists, message_seen};
+ghost use Rattle.krb_msg.specs.ViewValues.{MessageLists, message_of_view};
 ghost use Rattle.krb_frame.specs.declared.decoder.Status.TheVariants as status;
 ghost use Rattle.krb_tool.specs.declared.run.RunFault.TheVariants as fault;
 ghost use Rattle.krb_tool.specs.inner.Pieces.{IsFed, listing_of};
@@ -30,7 +30,7 @@ pub(crate) struct Lister {
 }
 
 impl Lister {
-    /// Adds the lines of the frames that stand whole at the beginning of a piece, and returns the
+    /// Adds the lines of the frames that are whole at the beginning of a piece, and returns the
     /// octets after them.
     fn list_passed<'p>(&mut self, piece: &'p [u8]) -> Result<&'p [u8], RunFault>
         requires waits { status_of (messages self.old.decoder.profile) self.old.decoder ≡ status.More }
@@ -50,7 +50,7 @@ impl Lister {
     fn add_line(&mut self, message: &MessageView<'_>) -> Result<(), RunFault>
         requires few { self.old.messages + 1 < 2 ^ 64 }
         requires lists { MessageLists message.now }
-        ensures added { OnOk result (AddsLine (message_seen message.now) self.old self.new) }
+        ensures added { OnOk result (AddsLine (message_of_view message.now) self.old self.new) }
         ensures fault { IfErr result (λ e. e ≡ fault.Memory) }
     {
         put_message_view(&mut self.text, self.form, message)?;

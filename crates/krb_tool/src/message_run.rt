@@ -1,4 +1,4 @@
-//! A run over one message, which is given in hexadecimal.
+//! A run over one message in hexadecimal.
 
 ghost use Rattle.std.specs.Prelude.{◌≡◌, IfErr, IfOk};
 ghost use Rattle.krb_tool.specs.Paths.{refused_path};
@@ -19,7 +19,7 @@ use krb_msg::Message;
 use std::alloc::{AllocError, Global};
 use std::io::{Read, Write};
 
-/// The greatest number of octets of a text that gives a message, with its blanks.
+/// The greatest number of octets of a message in hexadecimal, with its blanks.
 const MOST_TEXT: usize = 16777216;
 
 /// Returns whether an octet of text is ignored: a space, a tab, CR or LF.
@@ -127,7 +127,7 @@ impl FileFormat for HexFormat {
     }
 }
 
-/// Lists one message that is given in hexadecimal, by the lenient profile and in a line, as
+/// Lists one message in hexadecimal, by the lenient profile and in a line, as
 /// [`run_message_in`] does.
 pub fn run_message<R: Read, W: Write>(
     alloc: Global,
@@ -140,7 +140,7 @@ pub fn run_message<R: Read, W: Write>(
     run_message_in(alloc, Form::Lines, Profile::Lenient, reader, writer)
 }
 
-/// Lists one message of a profile in a form. It is given in hexadecimal, in digits of either case
+/// Lists one message of a profile in a form. It is in hexadecimal, in digits of either case
 /// and with blanks anywhere: writes its line, or the line of its refusal, or `refused hex` if the
 /// text is not hexadecimal, or `refused length` if it has more than 16777216 octets, of which the
 /// first 16777217 are kept. All that the reader has is read first, by at most 2^40 reads of 64 KiB each.

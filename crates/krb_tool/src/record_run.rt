@@ -7,7 +7,7 @@ ghost use Rattle.krb_tool.specs.Lines.{record_line, keytab_end_line, cache_line,
 ghost use Rattle.krb_tool.specs.Paths.{keytab_path, credential_path, start_path};
 ghost use Rattle.krb_tool.specs.declared.run.RunEnd.TheVariants as run;
 ghost use Rattle.krb_tool.specs.Faults.{IsWrite};
-ghost use Rattle.krb_tool.specs.Files.{RecordListing, after_line, keytab_listing, ccache_listing, AddsFront, ListsRecords};
+ghost use Rattle.krb_tool.specs.Files.{RecordListing, after_line, keytab_listing, ccache_listing, AppendsPrefix, ListsRecords};
 ghost use Rattle.krb_tool.specs.inner.RecordRuns.{Adds, AddsRefusal, AddsLine, Moves, AreRecordsLeft, AreCredentialsLeft, IsRefusal};
 
 use crate::file_path::{credential_path, keytab_path, start_path};
@@ -27,7 +27,7 @@ use std::io::{BufReader, Read, Write};
 /// What is known of a reader.
 #[derive(Drop)]
 pub(crate) struct Watch {
-    /// Whether its last read gave all the octets that it was asked for, as that of a fast file
+    /// Whether its last read returned all the octets that it was asked for, as that of a fast file
     /// does.
     is_fast: Cell<bool>,
     /// The error of a read that failed.
@@ -311,7 +311,7 @@ fn put_end(text: &mut String, form: Form, count: u64) -> Result<Option<RunEnd>, 
     Ok(Some(RunEnd::Clean))
 }
 
-/// The lines of the credentials of a cache, at a time in seconds since 1970 if one is given.
+/// The lines of the credentials of a cache, at a time in seconds since 1970 if there is one.
 #[derive(Drop)]
 struct CredentialLines<'a, R: Read> {
     credentials: Credentials<R>,
@@ -341,10 +341,10 @@ impl<R: Read + Drop> RecordLines for CredentialLines<'_, R> {
     }
 }
 
-/// Writes a text if it is due, and forgets what is written.
+/// Writes a text if it has to be written now, and clears it.
 fn write_early<W: Write>(writer: &mut W, text: &mut String, is_due: bool) -> Result<(), RunFault>
     ensures moved { OnOk result (Moves (W.contents writer.old) (W.contents writer.new) (string_bytes text.old) (string_bytes text.new)) }
-    ensures front { OnErr result (AddsFront (W.contents writer.old) (W.contents writer.new) (string_bytes text.old)) }
+    ensures prefix { OnErr result (AppendsPrefix (W.contents writer.old) (W.contents writer.new) (string_bytes text.old)) }
     ensures fault { IfErr result IsWrite }
 {
     if is_due {
@@ -390,7 +390,7 @@ pub fn run_keytab<R: Read, W: Write>(
 /// Lists a keytab of format 0x0502 in a form: writes a line for each record, and then the line of the end or
 /// of the refusal. A field of more than 16777216 octets is refused. The reader is asked at most
 /// 2^40 times, for 64 KiB or the octets of a field, and not again after its end or an error. Each
-/// line is written as its record ends, but the lines of a reader that gives all that it is asked
+/// line is written as its record ends, but the lines of a reader that returns all that it is asked
 /// for are written together.
 pub fn run_keytab_in<R: Read, W: Write>(
     alloc: Global,

@@ -21,7 +21,7 @@ pub trait ListSource<S> {
     /// What the listing of a source does.
     ghost Lists: { Self → S → Run };
 
-    /// Returns the name that stands before the listing of a source among several.
+    /// Returns the name that is printed before the listing of a source among several.
     fn name<'a>(&self, source: &'a S) -> &'a str
         ensures { result.now ≡ called source.now };
 

@@ -2,7 +2,7 @@
 
 ghost use Rattle.std.specs.Prelude.{◌≡◌, ◌+◌, ◌^◌, ◌≤◌, length, IsTrue, IfErr, IfOk, OnOk};
 ghost use Rattle.krb_tool.specs.declared.transfer.ReaderState.TheVariants as reader;
-ghost use Rattle.krb_tool.specs.inner.Streams.{Request, Rules, Listing, IsNew, MayTake, Feeds, Clears, MayFinish, Finishes, ListsBy, FailsBy, Reads, FailsToRead};
+ghost use Rattle.krb_tool.specs.inner.Streams.{Request, Rules, Listing, IsNew, AcceptsPiece, Feeds, Clears, MayFinish, Finishes, ListsBy, FailsBy, Reads, FailsToRead};
 
 use crate::run::{PIECE_OCTETS, RunEnd, RunFault};
 use crate::transfer::{Asked, write_all};
@@ -27,7 +27,7 @@ pub(crate) trait ListStream: Drop {
     /// Takes the next piece of the stream, adds the lines of its frames, and returns whether the
     /// stream goes on.
     fn feed(&mut self, piece: &[u8]) -> Result<bool, RunFault>
-        requires waits { MayTake (listing self.old) }
+        requires waits { AcceptsPiece (listing self.old) }
         requires short { length piece.now ≤ 65536 }
         ensures fed { IfOk result (Feeds rules (listing self.old) piece.now (listing self.new)) }
         ensures fault { IfErr result (λ e. e ≡ RunFault.Memory) };
@@ -54,7 +54,7 @@ fn feed_next<L: ListStream, R: Read>(
     asked: &mut Asked<'_, R>,
     buffer: &mut [u8],
 ) -> Result<bool, RunFault>
-    requires waits { MayTake (L.listing lister.old) }
+    requires waits { AcceptsPiece (L.listing lister.old) }
     requires open { asked.old.state ≡ reader.Open }
     requires size { length buffer.old ≡ 65536 }
     ensures same_reader { asked.new.reader.ghost_name ≡ asked.old.reader.ghost_name }

@@ -3,8 +3,8 @@
 ghost use Rattle.std.specs.Prelude.{◌≡◌, ◌≢◌, ◌+◌, ◌^◌, ◌<◌, ◌≤◌, min, length, take, IfErr, IfOk, OnErr, OnOk};
 ghost use Rattle.std.specs.Io.KnownBytes.{Keeps, Appends};
 ghost use Rattle.krb_tool.specs.Faults.{IsRead, IsWrite};
-ghost use Rattle.krb_tool.specs.Files.{AddsFront};
-ghost use Rattle.krb_tool.specs.inner.Transfers.{Gives};
+ghost use Rattle.krb_tool.specs.Files.{AppendsPrefix};
+ghost use Rattle.krb_tool.specs.inner.Transfers.{ReturnsOctets};
 
 use crate::run::RunFault;
 use std::io;
@@ -21,7 +21,7 @@ pub(crate) fn too_many_reads() -> io::Error {
 /// Whether a reader may be asked again. Only contracts read it.
 #[derive(Clone, Copy)]
 pub(crate) enum ReaderState {
-    /// It gave octets whenever it was asked.
+    /// It returned octets at each read.
     Open,
     /// It has ended.
     Ended,
@@ -62,7 +62,7 @@ impl<'a, R: Read> Asked<'a, R> {
         requires room { 0 < length buffer.old }
         ensures same_reader { self.new.reader.ghost_name ≡ self.old.reader.ghost_name }
         ensures count { IfOk result (λ count. count ≤ length buffer.new) }
-        ensures given { IfOk result (λ count. Gives (R.remaining self.old.reader.now) (R.remaining self.new.reader.now) (take count buffer.new) (length buffer.old)) }
+        ensures given { IfOk result (λ count. ReturnsOctets (R.remaining self.old.reader.now) (R.remaining self.new.reader.now) (take count buffer.new) (length buffer.old)) }
         ensures counted { OnOk result (self.new.made ≡ self.old.made + 1) }
         ensures ended { IfOk result (λ count. count ≡ 0 → self.new.state ≡ ReaderState.Ended) }
         ensures goes_on { IfOk result (λ count. count ≢ 0 → self.new.state ≡ ReaderState.Open) }
@@ -90,10 +90,10 @@ impl<'a, R: Read> Asked<'a, R> {
     }
 }
 
-/// Writes all the octets. A write that fails, or takes nothing, is a fault.
+/// Writes all the octets. A write that fails, or writes nothing, is a fault.
 pub(crate) fn write_all<W: Write>(writer: &mut W, octets: &[u8]) -> Result<(), RunFault>
     ensures all { OnOk result (Appends (W.contents writer.old) (W.contents writer.new) octets.now) }
-    ensures front { OnErr result (AddsFront (W.contents writer.old) (W.contents writer.new) octets.now) }
+    ensures prefix { OnErr result (AppendsPrefix (W.contents writer.old) (W.contents writer.new) octets.now) }
     ensures fault { IfErr result IsWrite }
 {
     let mut rest = octets;

@@ -1,4 +1,4 @@
--- The command line, in the words of `clap`: what each command takes, and the order that the matches of words name.
+-- The command line, by `clap`'s own definitions: the options and words of each command, and the command line of the matches of words.
 use Rattle.std.specs.Prelude.{ℕ, pos, ◌≡◌, ◌≢◌, Bool, true, false, List, [], ◌∷◌, ◌++◌, Option, Some, None, Ok, codes, map}
 use Rattle.std.specs.Str.Parse.{ParsesUnsigned}
 use Rattle.clap.specs.Words.{App, IsAmong, Kinds, Row, Rule, Text, fault_of, all_of, first_of, one_of, new_app, new_rule, subcommand_of, with_rule, with_subcommand}
@@ -17,7 +17,7 @@ use Rattle.krb_words.specs.declared.words.AfterRefusal.{AfterRefusal}
 use Rattle.krb_words.specs.declared.words.AfterRefusal.TheVariants as after
 use Rattle.krb_words.specs.declared.words.Job.{Job}
 use Rattle.krb_words.specs.declared.words.Job.TheVariants as job
-use Rattle.krb_words.specs.declared.words.Order.{Order}
+use Rattle.krb_words.specs.declared.words.CommandLine.{CommandLine}
 use Rattle.krb_words.specs.Sources.{path_of, file_path, word_path, words_of, or_input}
 
 -- ---- the command
@@ -25,7 +25,7 @@ use Rattle.krb_words.specs.Sources.{path_of, file_path, word_path, words_of, or_
 abbrev pub option : Text → Rule
 option name = record (new_rule name) { long = Some name; action = Some Set; value_names = 1 }
 
--- an option whose value is a number that a parser takes
+-- an option whose value is a number that a parser accepts
 abbrev pub number_option : Text → ValueParser → Rule
 number_option name taken = record (option name) { parser = Some taken }
 
@@ -92,12 +92,12 @@ krbls_top = on_top (λ s. record s { no_binary_name = true; disable_help_subcomm
 abbrev pub krbls : App
 krbls = with_subcommand (with_subcommand (with_subcommand (with_subcommand (with_subcommand krbls_top stream_app.top) message_app.top) keytab_app.top) ccache_app.top) capture_app.top
 
--- ---- the order
--- a text spells a number of 32 bits, as `u32` reads it
+-- ---- the command line
+-- a text is a number of 32 bits, as `u32` reads it
 abbrev pub Spells : Text → ℕ → Type 0
 Spells text number = ParsesUnsigned {E = ℕ} 32 10 text (Ok number)
 
--- the number that a text spells, or else a number for no text
+-- the number that a text is, or the default if there is no text
 abbrev pub IsNumberOr : ℕ → Option Text → ℕ → Type 0
 IsNumberOr none None number = number ≡ none
 IsNumberOr none (Some text) number = Spells text number
@@ -128,7 +128,7 @@ IsForm rows form.Json = IsGiven (first_of (codes "json") rows) true
 IsForm rows form.NamedLines = IsGiven (first_of (codes "json") rows) false × IsGiven (first_of (codes "names") rows) true
 IsForm rows form.Lines = IsGiven (first_of (codes "json") rows) false × IsGiven (first_of (codes "names") rows) false
 
--- the job that a command and its options name
+-- the job of a command and its options
 abbrev pub IsJob : Text → List Row → Job → Type 0
 IsJob name rows (job.Stream limit chosen refused) = (name ≡ codes "stream") × IsNumberOr 16777216 (one_of (codes "limit") rows) limit × IsProfile (first_of (codes "strict") rows) chosen × IsAfter (first_of (codes "keep-going") rows) refused
 IsJob name rows (job.Message chosen) = (name ≡ codes "message") × IsProfile (first_of (codes "strict") rows) chosen
@@ -138,25 +138,25 @@ IsJob name rows (job.Capture limit port) = (name ≡ codes "capture") × IsNumbe
 IsJob name rows (job.Help text) = ⊥
 IsJob name rows (job.Version text) = ⊥
 
--- what is read, by the options and words of a command
+-- the job, by the options and words of a command
 abbrev pub sources_of : List Row → List (Option Text)
 sources_of rows = or_input (file_path (first_of (codes "file") rows) ++ map word_path (words_of (all_of (codes "file names") rows)))
 
--- The order names the job of the command that was met, how records are printed, and what is read.
-abbrev pub IsOrderOf : Option (Text × List Row) → Order → Type 0
-IsOrderOf None order = ⊥
-IsOrderOf (Some met) order = IsJob met.0 met.1 order.job × IsForm met.1 order.form × (map path_of order.sources.items ≡ sources_of met.1)
+-- The command line has the job of the command that was found, the form of records, and the sources.
+abbrev pub IsCommandLineOf : Option (Text × List Row) → CommandLine → Type 0
+IsCommandLineOf None command_line = ⊥
+IsCommandLineOf (Some met) command_line = IsJob met.0 met.1 command_line.job × IsForm met.1 command_line.form × (map path_of command_line.sources.items ≡ sources_of met.1)
 
--- the job is to print the text that such an error of `clap` has
+-- the job is to print the text of an error of `clap`
 abbrev pub IsTextBy : ErrorKind → Job → Type 0
 IsTextBy kind (job.Help text) = kind ≡ DisplayHelp
 IsTextBy kind (job.Version text) = kind ≡ DisplayVersion
 IsTextBy kind job = ⊥
 
--- The order by the kinds of error that `clap` may give for the words: what their matches name if there is none, and else the text of an error of one of them, and nothing that is read.
-abbrev pub IsOrderBy : Kinds → List Text → Order → Type 0
-IsOrderBy [] words order = IsOrderOf (subcommand_of krbls words) order
-IsOrderBy (first ∷ kinds) words order = (kind : ErrorKind) × IsAmong kind (first ∷ kinds) × IsTextBy kind order.job × (order.sources.items ≡ [])
+-- The command line by the kinds of error that `clap` may return for the words: that of their matches if there is none, or else the text of an error of one of them, and no source.
+abbrev pub IsCommandLineBy : Kinds → List Text → CommandLine → Type 0
+IsCommandLineBy [] words command_line = IsCommandLineOf (subcommand_of krbls words) command_line
+IsCommandLineBy (first ∷ kinds) words command_line = (kind : ErrorKind) × IsAmong kind (first ∷ kinds) × IsTextBy kind command_line.job × (command_line.sources.items ≡ [])
 
-abbrev pub IsOrderIn : List Text → Order → Type 0
-IsOrderIn words order = IsOrderBy (fault_of krbls words) words order
+abbrev pub IsCommandLineIn : List Text → CommandLine → Type 0
+IsCommandLineIn words command_line = IsCommandLineBy (fault_of krbls words) words command_line

@@ -1,4 +1,4 @@
-//! Where octets come from.
+//! The sources of a listing.
 
 ghost use Rattle.std.specs.Prelude.{◌≡◌, ◌∷◌, ◌++◌, [], Some, codes, map, IfOk, OnOk};
 ghost use Rattle.clap.specs.Words.{found_of, rows_of, all_of, first_of};
@@ -7,7 +7,7 @@ ghost use Rattle.krb_words.specs.Sources.{path_of, word_path, file_path, words_o
 use clap::ArgMatches;
 use std::alloc::{AllocError, Global};
 
-/// Where octets come from.
+/// A source of octets.
 #[derive(Drop)]
 pub enum Source {
     /// The standard input.

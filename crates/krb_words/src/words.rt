@@ -3,7 +3,7 @@
 ghost use Rattle.std.specs.Prelude.{◌≡◌, false, codes, map, string_bytes, [], IfOk};
 ghost use Rattle.clap.specs.Words.{app_of, new_app, found_of, kind_of, rows_of, rule_of, subcommand_rows_of, first_of, one_of};
 ghost use Rattle.clap.specs.declared.builder.command.Command.TheViews.{out-Command};
-ghost use Rattle.krb_words.specs.Words.{file_option, file_names, with_output, with_files, number_option, limit_option, flag, strict_flag, keep_going_flag, names_flag, json_flag, stream_app, message_app, keytab_app, ccache_app, capture_app, krbls, IsTextBy, IsJob, IsProfile, IsAfter, IsForm, IsGiven, IsOrderOf, IsOrderIn, IsNumber, IsNumberOr};
+ghost use Rattle.krb_words.specs.Words.{file_option, file_names, with_output, with_files, number_option, limit_option, flag, strict_flag, keep_going_flag, names_flag, json_flag, stream_app, message_app, keytab_app, ccache_app, capture_app, krbls, IsTextBy, IsJob, IsProfile, IsAfter, IsForm, IsGiven, IsCommandLineOf, IsCommandLineIn, IsNumber, IsNumberOr};
 
 use crate::sources::{Source, sources_of};
 use clap::builder::ValueParser;
@@ -17,7 +17,7 @@ use std::alloc::{AllocError, Global};
 /// What becomes of a stream after a frame that is refused.
 #[derive(Clone, Copy, PartialEq, Eq, Debug)]
 pub enum AfterRefusal {
-    /// Its listing ends there.
+    /// Its listing ends.
     Ends,
     /// Its listing goes on with the next frame.
     GoesOn,
@@ -44,9 +44,9 @@ pub enum Job {
     Version(String),
 }
 
-/// What the command line asks for.
+/// A command line that was read.
 #[derive(Drop)]
-pub struct Order {
+pub struct CommandLine {
     /// What is to be listed.
     pub job: Job,
     /// How records are printed.
@@ -55,7 +55,7 @@ pub struct Order {
     pub sources: Vec<Source>,
 }
 
-/// Why words give no order.
+/// Why words are not a command line.
 #[derive(Drop)]
 pub enum WordsFault {
     /// The words are no command line of the program. This text says what is wrong with them, how
@@ -100,7 +100,7 @@ const KRBLS_HELP: CommandHelp = CommandHelp {
     below: "\
 Reads files or the standard input, and prints a line for each message, record or
 credential. The last line says that all was read, or what was refused, at which
-octet and why. If there are several files, a line `file name=FILE` stands before
+octet and why. If there are several files, a line `file name=FILE` comes before
 the lines of each. Each command has --json, with which lines are JSON objects.
 No octet of a key is shown.
 
@@ -219,7 +219,7 @@ fn file_option<'a>(alloc: Global) -> Arg<'a>
         .help("Reads this file before those that are named")
 }
 
-/// Returns the words `FILE..`, which stand after all options of a command.
+/// Returns the words `FILE..`, which come after all options of a command.
 fn file_names<'a>(alloc: Global) -> Arg<'a>
     ensures rule { rule_of result ≡ file_names }
     ensures local { result.global ≡ false }
@@ -269,7 +269,7 @@ fn names_flag<'a>(alloc: Global) -> Arg<'a>
     flag(
         alloc,
         "names",
-        "Gives numbers their names: 18:aes256-cts-hmac-sha1-96",
+        "Adds the names of numbers: 18:aes256-cts-hmac-sha1-96",
     )
 }
 
@@ -285,7 +285,7 @@ fn json_flag<'a>(alloc: Global) -> Arg<'a>
     )
 }
 
-/// Returns an option whose value is a number that a parser takes.
+/// Returns an option whose value is a number that a parser accepts.
 fn number_option<'a>(
     alloc: Global,
     name: &'a str,
@@ -326,7 +326,7 @@ fn with_output<'a>(alloc: Global, command: Command<'a>) -> Result<Command<'a>, A
     command.arg(names_flag(alloc))?.arg(json_flag(alloc))
 }
 
-/// Returns a command that takes files.
+/// Returns a command with the words that name files.
 fn with_files<'a>(alloc: Global, command: Command<'a>) -> Result<Command<'a>, AllocError>
     requires local { (out-Command command).has_globals ≡ false }
     ensures { IfOk result (λ c. (app_of c ≡ with_files (app_of command.entry)) × ((out-Command c).has_globals ≡ false)) }
@@ -409,7 +409,7 @@ fn krbls_command<'a>(alloc: Global) -> Result<Command<'a>, AllocError>
         .subcommand(capture_command(alloc)?)
 }
 
-/// Returns the fault of words that `clap` takes and that give no order. There are no such words.
+/// Returns the fault of words that `clap` accepts and that are no command line. There are none.
 fn not_read(alloc: Global) -> WordsFault {
     match String::from_str(alloc, "error: the command line is not read\n") {
         Ok(text) => WordsFault::Wrong(text),
@@ -527,9 +527,9 @@ fn job_of(alloc: Global, name: &str, found: &ArgMatches<'_>) -> Result<Job, Word
     }
 }
 
-/// Returns the order that matches name.
-fn order_of(alloc: Global, matches: &ArgMatches<'_>) -> Result<Order, WordsFault>
-    ensures { IfOk result (IsOrderOf (subcommand_rows_of matches.now)) }
+/// Returns the command line of the matches.
+fn command_line_of(alloc: Global, matches: &ArgMatches<'_>) -> Result<CommandLine, WordsFault>
+    ensures { IfOk result (IsCommandLineOf (subcommand_rows_of matches.now)) }
 {
     match matches.subcommand() {
         None => Err(not_read(alloc)),
@@ -537,14 +537,14 @@ fn order_of(alloc: Global, matches: &ArgMatches<'_>) -> Result<Order, WordsFault
             let job = job_of(alloc, name, found)?;
             let form = form_of(found);
             let sources = sources_of(alloc, found)?;
-            Ok(Order { job, form, sources })
+            Ok(CommandLine { job, form, sources })
         }
     }
 }
 
-/// Returns the order to print a text, if that is what words ask for that `clap` does not accept.
-fn text_of(alloc: Global, error: &Error) -> Result<Order, WordsFault>
-    ensures { IfOk result (λ order. IsTextBy (kind_of error.now) order.job × (order.sources.items ≡ [])) }
+/// Returns the command line that prints a text, if words that `clap` does not accept ask for it.
+fn text_of(alloc: Global, error: &Error) -> Result<CommandLine, WordsFault>
+    ensures { IfOk result (λ command_line. IsTextBy (kind_of error.now) command_line.job × (command_line.sources.items ≡ [])) }
 {
     let text = format!(in alloc; "{error}")?;
     let job = match error.kind() {
@@ -553,21 +553,21 @@ fn text_of(alloc: Global, error: &Error) -> Result<Order, WordsFault>
         ErrorKind::OutOfMemory => return Err(WordsFault::Memory),
         _ => return Err(WordsFault::Wrong(text)),
     };
-    Ok(Order {
+    Ok(CommandLine {
         job,
         form: Form::Lines,
         sources: Vec::new(alloc),
     })
 }
 
-/// Returns the order that the words after the program's name give: a command, its options and the
+/// Returns the command line of the words after the program's name: a command, its options and the
 /// files to read, as `clap` reads them.
-pub fn read_words(alloc: Global, words: &[String]) -> Result<Order, WordsFault>
-    ensures { IfOk result (IsOrderIn (map string_bytes words.now)) }
+pub fn read_words(alloc: Global, words: &[String]) -> Result<CommandLine, WordsFault>
+    ensures { IfOk result (IsCommandLineIn (map string_bytes words.now)) }
 {
     let command = krbls_command(alloc)?;
     match command.try_get_matches_from(words) {
-        Ok(matches) => order_of(alloc, &matches),
+        Ok(matches) => command_line_of(alloc, &matches),
         Err(error) => text_of(alloc, &error),
     }
 }

@@ -1,4 +1,4 @@
--- The octets of a value tell where they end, and the value.
+-- No value's octets begin another's, and different values have different octets.
 use Rattle.std.proofs.Common.{◌≡◌, ℕ, ◌<◌, ℤ, pos, List, [], ◌∷◌, ◌++◌, length, refl, sym, ◌∙◌, ap, ap₂, arith}
 use Rattle.std.specs.List.{flat_map}
 use Rattle.krb_der.specs.Octets.{item, integer_octets, integer_value}
@@ -40,13 +40,13 @@ not_nil : (octets more : List ℕ) → 0 < length octets → octets ++ more ≡ 
 not_nil [] more h e = absurd (omega arith)
 not_nil (octet ∷ octets) more h e = absurd cc
 
-module _ {A : Type 0} (f : A → List ℕ) (begins : (value : A) → 0 < length (f value)) (tells : (value other : A) (rest more : List ℕ) → f value ++ rest ≡ f other ++ more → (value ≡ other) × (rest ≡ more)) where
+module _ {A : Type 0} (f : A → List ℕ) (begins : (value : A) → 0 < length (f value)) (prefix_free : (value other : A) (rest more : List ℕ) → f value ++ rest ≡ f other ++ more → (value ≡ other) × (rest ≡ more)) where
   pub same_from_flat_map : (values others : List A) → flat_map f values ≡ flat_map f others → values ≡ others
   same_from_flat_map [] [] e = refl
   same_from_flat_map [] (other ∷ others) e = absurd (not_nil (f other) (flat_map f others) (begins other) (sym e))
   same_from_flat_map (value ∷ values) [] e = absurd (not_nil (f value) (flat_map f values) (begins value) e)
   same_from_flat_map (value ∷ values) (other ∷ others) e =
-      let p : (value ≡ other) × (flat_map f values ≡ flat_map f others) = tells value other (flat_map f values) (flat_map f others) e in
+      let p : (value ≡ other) × (flat_map f values ≡ flat_map f others) = prefix_free value other (flat_map f values) (flat_map f others) e in
       let q : values ≡ others = same_from_flat_map values others p.1 in
       ap₂ ◌∷◌ p.0 q
 

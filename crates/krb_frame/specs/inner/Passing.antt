@@ -1,9 +1,9 @@
--- What the parts of a pass promise each other.
+-- The contracts of the parts of a pass.
 use Rattle.std.specs.Prelude.{ℕ, ◌≡◌, List, ◌++◌, length}
 use Rattle.krb_msg.specs.Term.{Term}
 use Rattle.krb_frame.specs.Frame.{framed, frame_length}
 use Rattle.krb_frame.specs.Passes.{contents_of}
-use Rattle.krb_msg.specs.Seen.{IsMessageView}
+use Rattle.krb_msg.specs.ViewValues.{IsMessageView}
 use Rattle.krb_frame.specs.inner.Phases.{HasFrame}
 use Rattle.krb_frame.specs.declared.pass.Passed.{Passed}
 

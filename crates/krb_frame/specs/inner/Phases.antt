@@ -1,4 +1,4 @@
--- What the parts of a decoder by any messages promise each other.
+-- The contracts of the parts of a decoder by any messages.
 use Rattle.std.specs.Prelude.{ℕ, zero, suc, ◌≡◌, ◌≢◌, ◌+◌, ◌-◌, ◌<◌, ◌≤◌, ◌^◌, ◌⊎◌, List, [], ◌++◌, length, take, min, Result, Ok, Err}
 use Rattle.krb_der.specs.Octets.{number}
 use Rattle.krb_der.specs.declared.memory.Memory.{Memory}
@@ -10,9 +10,9 @@ use Rattle.krb_der.specs.declared.why.Why.{Why}
 use Rattle.krb_msg.specs.Term.{Term}
 use Rattle.krb_msg.specs.Judgement.{judgement_by}
 use Rattle.krb_msg.specs.Stream.{End, Boundary, Within, Refused, ends, frames}
-use Rattle.krb_scan.specs.Scanner.{At}
+use Rattle.krb_scan.specs.Scanner.{HasScanned}
 use Rattle.krb_scan.specs.declared.scanner.Scanner.{Scanner}
-use Rattle.krb_frame.specs.Decoding.{Decoding, Room, length_present, status_of, kept_contents, IsOfOneFrame}
+use Rattle.krb_frame.specs.Decoding.{Decoding, Capacity, length_present, status_of, kept_contents, IsOfOneFrame}
 use Rattle.krb_frame.specs.declared.decoder.Fed.{Fed}
 use Rattle.krb_frame.specs.declared.decoder.Status.{Status}
 use Rattle.krb_frame.specs.declared.decoder.Status.TheVariants as status
@@ -26,15 +26,15 @@ pub record IsRefusedIn (messages : List Term) (size : ℕ) (contents : List ℕ)
   pub judged : judgement_by messages size contents ≡ verdict.Refused (record { place = offset; why = refusal.why })
   pub last : length contents ≡ offset + 1
 
--- what contents decide, of which a count of octets of a piece was taken
+-- the status of contents to which a count of octets of a piece was appended
 abbrev pub IsDecided : List Term → ℕ → List ℕ → List ℕ → ℕ → Status → Type 0
 IsDecided messages size contents piece count status.More = (judgement_by messages size contents ≡ verdict.Open) × (count ≡ length piece)
 IsDecided messages size contents piece count status.Ready = (judgement_by messages size contents ≡ verdict.Whole) × (length contents ≡ size)
 IsDecided messages size contents piece count (status.Refused refusal) = IsRefusedIn messages size contents refusal
 IsDecided messages size contents piece count status.Memory = (judgement_by messages size contents ≡ verdict.Open) × (count < length piece)
 
--- octets of a piece were taken after the contents of a frame
-pub record IsTaken (messages : List Term) (size : ℕ) (before piece after : List ℕ) (fed : Fed) : Type 0 where
+-- octets of a piece were appended to the contents of a frame and judged
+pub record IsFedContents (messages : List Term) (size : ℕ) (before piece after : List ℕ) (fed : Fed) : Type 0 where
   pub within : fed.used ≤ length piece
   pub contents : after ≡ before ++ take fed.used piece
   pub present : length after ≤ size
@@ -45,7 +45,7 @@ abbrev pub IsEarly : Verdict → Type 0
 IsEarly (verdict.Refused refusal) = refusal.place < 2 ^ 31
 IsEarly other = Unit {0}
 
--- what is answered if a scanner decides so, or was out of memory
+-- the status by the verdict of a scanner, or if it is out of memory
 abbrev pub status_by : Result Verdict Memory → Status
 status_by (Ok verdict.Open) = status.More
 status_by (Ok verdict.Whole) = status.Ready
@@ -65,8 +65,8 @@ end_after zero = Boundary
 end_after (suc present) = Within (suc present)
 
 -- ---- the fields of a decoder
--- no room is lost
-pub record KeepsRoom (old new : Room) : Type 0 where
+-- no capacity is lost
+pub record KeepsCapacity (old new : Capacity) : Type 0 where
   pub octets : old.octets ≤ new.octets
   pub marks : old.marks ≤ new.marks
 
@@ -78,19 +78,19 @@ pub record IsAccepted (limit : ℕ) (announced : List ℕ) (size : ℕ) : Type 0
   pub short : size < 2 ^ 31
   pub within : size ≤ limit
 
--- the length is not all there
+-- the length is not complete
 pub record HasPartOfLength (announced contents : List ℕ) (count : ℕ) : Type 0 where
   pub four : length announced ≡ 4
   pub part : count < 4
   pub none : contents ≡ []
 
--- the contents are not all there
+-- the contents are not complete
 pub record HasPart (messages : List Term) (limit : ℕ) (announced contents : List ℕ) (size : ℕ) : Type 0 where
   pub accepted : IsAccepted limit announced size
   pub present : length contents ≤ size
   pub undecided : judgement_by messages size contents ≡ verdict.Open
 
--- the frame is all there
+-- the frame is complete
 pub record HasFrame (messages : List Term) (limit : ℕ) (announced contents : List ℕ) : Type 0 where
   pub accepted : IsAccepted limit announced (length contents)
   pub whole : judgement_by messages (length contents) contents ≡ verdict.Whole
@@ -107,29 +107,29 @@ pub record HasRefused (messages : List Term) (limit : ℕ) (announced contents :
 abbrev pub IsRefusedLength : ℕ → List ℕ → Why → Type 0
 IsRefusedLength limit announced reason = (messages : List Term) → HasRefused messages limit announced [] (record { place = 3; why = reason })
 
-abbrev pub IsAt : List Term → ℕ → List ℕ → List ℕ → Phase → Type 0
-IsAt messages limit announced contents (phase.Length count) = HasPartOfLength announced contents count
-IsAt messages limit announced contents (phase.Contents size) = HasPart messages limit announced contents size
-IsAt messages limit announced contents phase.Ready = HasFrame messages limit announced contents
-IsAt messages limit announced contents (phase.Refused refusal) = HasRefused messages limit announced contents refusal
+abbrev pub IsPhaseOf : List Term → ℕ → List ℕ → List ℕ → Phase → Type 0
+IsPhaseOf messages limit announced contents (phase.Length count) = HasPartOfLength announced contents count
+IsPhaseOf messages limit announced contents (phase.Contents size) = HasPart messages limit announced contents size
+IsPhaseOf messages limit announced contents phase.Ready = HasFrame messages limit announced contents
+IsPhaseOf messages limit announced contents (phase.Refused refusal) = HasRefused messages limit announced contents refusal
 
--- if there are contents, the scanner stands for them
+-- if there are contents, the scanner has scanned them
 abbrev pub IsScanned : Profile → Scanner → List ℕ → List ℕ → Phase → Type 0
 IsScanned profile scanner announced contents (phase.Length count) = Unit {0}
-IsScanned profile scanner announced contents (phase.Contents size) = At profile scanner size contents
-IsScanned profile scanner announced contents phase.Ready = At profile scanner (length contents) contents
-IsScanned profile scanner announced contents (phase.Refused refusal) = (contents ≡ []) ⊎ At profile scanner (number announced) contents
+IsScanned profile scanner announced contents (phase.Contents size) = HasScanned profile scanner size contents
+IsScanned profile scanner announced contents phase.Ready = HasScanned profile scanner (length contents) contents
+IsScanned profile scanner announced contents (phase.Refused refusal) = (contents ≡ []) ⊎ HasScanned profile scanner (number announced) contents
 
--- what is judged with the last octet of a length
+-- the phase after the last octet of a length
 pub record IsLengthJudged (messages : List Term) (limit : ℕ) (announced : List ℕ) (phase : Phase) : Type 0 where
-  pub at : IsAt messages limit announced [] phase
+  pub at : IsPhaseOf messages limit announced [] phase
   pub all : length_present phase ≡ 4
 
--- ---- what the parts of a feed do
--- octets of a length were put after those that are there
+-- ---- the parts of a feed
+-- octets of a length were put after those that are present
 pub record IsPut (before : List ℕ) (present : ℕ) (piece after : List ℕ) (count : ℕ) : Type 0 where
   pub many : count ≡ min (4 - present) (length piece)
-  pub front : take (present + count) after ≡ take present before ++ take count piece
+  pub prefix : take (present + count) after ≡ take present before ++ take count piece
 
 -- octets of a length, if any is missing, were used
 pub record FeedsLength (messages : List Term) (old : Decoding) (piece : List ℕ) (new : Decoding) (used : ℕ) : Type 0 where
@@ -140,7 +140,7 @@ pub record FeedsLength (messages : List Term) (old : Decoding) (piece : List ℕ
   pub looks : new.looks ≡ old.looks
   pub contents : length (kept_contents new) ≡ length (kept_contents old)
   pub again : status_of messages old ≢ status.More → used ≡ 0
-  pub room : KeepsRoom old.room new.room
+  pub capacity : KeepsCapacity old.capacity new.capacity
   pub on : (used ≡ length piece) ⊎ (4 ≤ length new.octets)
   pub one : IsOfOneFrame messages new
 

@@ -1,4 +1,4 @@
--- What the functions that go to the field at fault promise each other.
+-- The contracts of the functions that find the field at fault.
 use Rattle.std.specs.Prelude.{ℕ, ◌+◌, ◌^◌, ◌<◌, ◌≤◌, false, List, length, Option, Some, None}
 use Rattle.krb_msg.specs.Nodes.{nodes, term_at}
 use Rattle.krb_msg.specs.Shape.{depth, depth_of_fields}
@@ -13,13 +13,13 @@ use Rattle.krb_judge.specs.declared.locating.names.Field.{Field}
 use Rattle.krb_judge.specs.declared.locating.names.Names.{Names}
 use Rattle.krb_judge.specs.declared.locating.Item.{Item}
 use Rattle.krb_judge.specs.declared.locating.Rest.{Rest}
-use Rattle.krb_judge.specs.declared.locating.Due.{Due}
-use Rattle.krb_judge.specs.declared.locating.Due.TheVariants as due
+use Rattle.krb_judge.specs.declared.locating.Presence.{Presence}
+use Rattle.krb_judge.specs.declared.locating.Presence.TheVariants as presence
 use Rattle.krb_judge.specs.declared.locating.Fault.{Fault}
 use Rattle.krb_judge.specs.declared.locating.Fault.TheVariants as fault
 use Rattle.krb_judge.specs.declared.locating.Element.{Element}
 
--- a field as the code holds it
+-- a field of the code as one of the definitions
 abbrev pub named : Field → Named
 named it = record { name = it.name.now; inside = it.inside }
 
@@ -73,28 +73,28 @@ in_first term path rest (Some next) inside after = after next.room next.octets.n
 abbrev pub in_field : Term → Named → List ℕ → ℕ → List ℕ → List ℕ
 in_field term field path room octets = item_path term field.inside (field_path path field.name) room false octets
 
--- what is due for a field, whatever fields are after it, and whatever their names
-abbrev pub due_path : Due → Rest → Fields → Names → List ℕ → ℕ → List ℕ
-due_path due.Missing rest fields names path index = field_path path (field_at names index).name
-due_path due.Sequence rest fields names path index = path
-due_path due.LeftOut rest fields names path index = fields_path fields names path (index + 1) rest.room rest.octets.now
-due_path (due.Item node) rest fields names path index =
+-- the path by whether a field is present, whatever fields are after it, and whatever their names
+abbrev pub presence_path : Presence → Rest → Fields → Names → List ℕ → ℕ → List ℕ
+presence_path presence.Missing rest fields names path index = field_path path (field_at names index).name
+presence_path presence.Sequence rest fields names path index = path
+presence_path presence.Absent rest fields names path index = fields_path fields names path (index + 1) rest.room rest.octets.now
+presence_path (presence.Item node) rest fields names path index =
     first_item (term_at node) (field_path path (field_at names index).name) rest.room rest.octets.now
     (contents_path (term_at node) (field_at names index).inside (field_path path (field_at names index).name))
     (fields_path fields names path (index + 1))
 
-pub record IsDueItem (slot : Slot) (rest : Rest) (node : ℕ) : Type 0 where
+pub record IsItemOfField (slot : Slot) (rest : Rest) (node : ℕ) : Type 0 where
   pub known : IsNode node
   pub some : 0 < length rest.octets.now
   pub shallow : (fields : Fields) → depth (term_at node) ≤ depth_of_fields (with_slot nodes slot fields)
 
-abbrev pub IsDueFor : Slot → Rest → Due → Type 0
-IsDueFor slot rest due.Missing = Unit {0}
-IsDueFor slot rest due.Sequence = Unit {0}
-IsDueFor slot rest due.LeftOut = Unit {0}
-IsDueFor slot rest (due.Item node) = IsDueItem slot rest node
+abbrev pub IsPresenceFor : Slot → Rest → Presence → Type 0
+IsPresenceFor slot rest presence.Missing = Unit {0}
+IsPresenceFor slot rest presence.Sequence = Unit {0}
+IsPresenceFor slot rest presence.Absent = Unit {0}
+IsPresenceFor slot rest (presence.Item node) = IsItemOfField slot rest node
 
--- the path in a SEQUENCE of which this is at fault
+-- the path in a SEQUENCE, by what is at fault in it
 abbrev pub fault_path : Fault → Names → List ℕ → List ℕ
 fault_path fault.Sequence names path = path
 fault_path (fault.Missing index) names path = field_path path (field_at names index).name

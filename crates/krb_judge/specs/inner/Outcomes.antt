@@ -10,8 +10,8 @@ use Rattle.krb_msg.specs.declared.grammar.Slot.{Slot}
 use Rattle.krb_judge.specs.declared.judging.Left.{Left}
 use Rattle.krb_judge.specs.declared.judging.Step.{Step}
 use Rattle.krb_judge.specs.declared.judging.Step.TheVariants as step
-use Rattle.krb_judge.specs.declared.judging.Due.{Due}
-use Rattle.krb_judge.specs.declared.judging.Due.TheVariants as due
+use Rattle.krb_judge.specs.declared.judging.Presence.{Presence}
+use Rattle.krb_judge.specs.declared.judging.Presence.TheVariants as presence
 use Rattle.krb_judge.specs.declared.judging.outcome.Outcome.{Outcome as Decided}
 use Rattle.krb_judge.specs.declared.judging.outcome.Outcome.TheVariants as decided
 use Rattle.krb_judge.specs.declared.judging.head.Head.{Head as Found}
@@ -31,7 +31,7 @@ head_of (found.Got header size) = Got header size
 abbrev pub sized_outcome : Term → ℕ → ℕ → List ℕ → Outcome
 sized_outcome term before size octets = if has_size term size then contents_outcome term before size octets else Bad (before - 1) why.Size
 
--- what is left is in its room
+-- the octets present of what is left are within its room
 pub record IsLeft (left : Left) : Type 0 where
   pub some : 0 < left.before
   pub short : left.before + left.room < 2 ^ 31
@@ -41,12 +41,12 @@ pub record IsLeft (left : Left) : Type 0 where
 abbrev pub outcome_in : Left → Fields → Outcome
 outcome_in left fields = fields_outcome fields left.before left.room left.octets.now
 
--- a field is left out, whatever fields are after it
-abbrev pub IsLeftOut : Slot → Left → Type 0
-IsLeftOut slot left = (fields : Fields) → outcome_in left (with_slot nodes slot fields) ≡ outcome_in left fields
+-- a field is absent, whatever fields are after it
+abbrev pub IsAbsent : Slot → Left → Type 0
+IsAbsent slot left = (fields : Fields) → outcome_in left (with_slot nodes slot fields) ≡ outcome_in left fields
 
--- an item is due for a field, and then the fields after it
-pub record IsDueItem (slot : Slot) (left : Left) (node : ℕ) : Type 0 where
+-- the next item has to be that of a field, and after it come the fields after that one
+pub record IsItemOfField (slot : Slot) (left : Left) (node : ℕ) : Type 0 where
   pub known : IsNode node
   pub room : 0 < left.room
   pub shallow : (fields : Fields) → depth (term_at node) ≤ depth_of_fields (with_slot nodes slot fields)
@@ -55,11 +55,11 @@ pub record IsDueItem (slot : Slot) (left : Left) (node : ℕ) : Type 0 where
       → outcome_in left (with_slot nodes slot fields)
       ≡ then_after left.before (item_outcome (term_at node) left.room false left.octets.now) (λ count. fields_outcome fields (left.before + count) (left.room - count) (drop count left.octets.now))
 
--- what is due for a field
-abbrev pub IsDue : Slot → Left → Due → Type 0
-IsDue slot left (due.Decided outcome) = (fields : Fields) → outcome_in left (with_slot nodes slot fields) ≡ outcome_of outcome
-IsDue slot left due.LeftOut = IsLeftOut slot left
-IsDue slot left (due.Item node) = IsDueItem slot left node
+-- whether a field is present, or what is decided without its item
+abbrev pub IsPresenceOf : Slot → Left → Presence → Type 0
+IsPresenceOf slot left (presence.Decided outcome) = (fields : Fields) → outcome_in left (with_slot nodes slot fields) ≡ outcome_of outcome
+IsPresenceOf slot left presence.Absent = IsAbsent slot left
+IsPresenceOf slot left (presence.Item node) = IsItemOfField slot left node
 
 -- an item is done, and this is left after it
 pub record IsNext (item : Outcome) (left next : Left) : Type 0 where
@@ -71,7 +71,7 @@ pub record IsNext (item : Outcome) (left next : Left) : Type 0 where
   pub room : next.room ≡ left.room - count
   pub octets : next.octets.now ≡ drop count left.octets.now
 
--- how it goes on after an item, of which this is the outcome
+-- the step after an item with this outcome
 abbrev pub IsStep : Outcome → Left → Step → Type 0
 IsStep item left (step.Decided outcome) = (next : ℕ → Outcome) → then_after left.before item next ≡ outcome_of outcome
 IsStep item left (step.Next next) = IsNext item left next

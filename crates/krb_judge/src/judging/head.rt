@@ -1,4 +1,4 @@
-//! An item's tag and length octets (X.690, 8.1.2, 8.1.3 and 10.1).
+//! An item's identifier and length octets (X.690, 8.1.2, 8.1.3 and 10.1).
 
 ghost use Rattle.std.specs.Prelude.{◌≡◌, ◌<◌, ◌≤◌, length, take, drop};
 ghost use Rattle.krb_msg.specs.Judgement.{head as head_from, short_head, long_head as long_head_from, fitting as fits};
@@ -17,7 +17,7 @@ pub(crate) enum Head {
     Got { header: u32, size: u32 },
 }
 
-/// Returns the tag and length octets of an item in a room.
+/// Returns the head of an item in a room: its identifier and length octets.
 pub(crate) fn read_head(room: u32, octets: &[u8]) -> Head
     ensures { head_of result ≡ head_from room octets.now }
 {
@@ -96,7 +96,7 @@ fn fitting(room: u32, header: u32, size: u64) -> Head
     }
 }
 
-/// Returns the octets from a place on that are present, up to a size.
+/// Returns the octets from an offset on that are present, up to a size.
 pub(crate) fn part(octets: &[u8], start: u32, size: u32) -> &[u8]
     ensures { result.now ≡ take size (drop start octets.now) }
 {

@@ -1,4 +1,4 @@
-//! The contents of the items that hold no others, after their tag and length octets.
+//! The contents of the items that hold no others, after their identifier and length octets.
 
 ghost use Rattle.std.specs.Prelude.{◌≡◌, ◌+◌, ◌^◌, ◌<◌, ◌≤◌, length, ℤ, ◌&&◌};
 ghost use Rattle.krb_msg.specs.Judgement.{after, any_contents, integer_contents, each_contents, text_octet, time_octet, bits_contents, int_le};

@@ -2,7 +2,7 @@
 use Rattle.std.specs.Prelude.{◌≡◌, List, map, Option}
 use Rattle.std.specs.Option.{option_map}
 
--- The items that values of a term stand for, in order: `value` is what is seen of one as such a value, and `copied` the item.
+-- The items whose values as values of a term are these, in order: `value` is the value of a view, and `copied` the item that is copied out of it.
 abbrev pub AreCopies : {Seen Of Copy : Type 0} → (value : Seen → Of) → (copied : Seen → Copy) → List Of → List Copy → Type 0
 AreCopies {Seen = Seen} {Of = Of} {Copy = Copy} value copied values copies = (of : Of → Copy) → ((seen : Seen) → copied seen ≡ of (value seen)) → copies ≡ map of values
 

@@ -23,7 +23,7 @@ at_most_255 (octet ∷ octets) f = (omega (arith, f.0), at_most_255 octets f.1)
 pub string_fits : (octets : List ℕ) → AreOctets octets → Fits kerberos_string octets
 string_fits octets f = (f, at_most_255 octets f)
 
--- no more bits are unused than there are
+-- there are at least as many bits as are unused
 unused_there : (unused : ℕ) (octets : List ℕ) → AreBits unused octets → 0 + unused ≤ 8 * length octets
 unused_there unused [] f = omega (arith, f.none_unused refl)
 unused_there unused (octet ∷ octets) f = omega (arith, f.few)

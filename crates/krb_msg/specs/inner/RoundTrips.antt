@@ -12,7 +12,7 @@ use Rattle.krb_msg.specs.declared.krb_safe.KrbSafe.{KrbSafe}
 use Rattle.krb_msg.specs.declared.krb_cred.KrbCred.{KrbCred}
 use Rattle.krb_msg.specs.declared.krb_error.KrbError.{KrbError}
 use Rattle.krb_msg.specs.Views.{pa_data_value, pa_data_of, principal_name_value, principal_name_of, host_address_value, host_address_of, encrypted_data_value, encrypted_data_of, ticket_value, ticket_of, kdc_req_body_value, kdc_req_body_of, micros_of, krb_safe_body_value, krb_safe_body_of, krb_safe_value, krb_safe_of, krb_cred_value, krb_cred_of, krb_error_value, krb_error_of}
-use Rattle.krb_msg.specs.inner.Told.{map-back, option-back, list-back}
+use Rattle.krb_msg.specs.inner.PrefixFree.{map-back, option-back, list-back}
 
 micros-back : (o : Option ℕ) → option_map micros_of (option_map pos o) ≡ o
 micros-back = option-back pos micros_of (λ n. refl)

@@ -5,7 +5,7 @@ ghost use Rattle.krb_der.specs.declared.profile.Profile.TheVariants.{Lenient};
 ghost use Rattle.krb_msg.specs.Term.{Fits};
 ghost use Rattle.krb_msg.specs.Grammar.{kdc_req_body, as_rep};
 ghost use Rattle.krb_msg.specs.Views.{IsInProfile};
-ghost use Rattle.krb_msg.specs.Seen.{KdcRepLists, KdcReqLists, MessageLists, ap_rep_seen, ap_req_seen, kdc_rep_seen, kdc_rep_view_value, kdc_req_body_view_value, kdc_req_seen, krb_cred_seen, krb_error_seen, krb_priv_seen, krb_safe_seen, message_seen};
+ghost use Rattle.krb_msg.specs.ViewValues.{KdcRepLists, KdcReqLists, MessageLists, ap_rep_of_view, ap_req_of_view, kdc_rep_of_view, kdc_rep_view_value, kdc_req_body_view_value, kdc_req_of_view, krb_cred_of_view, krb_error_of_view, krb_priv_of_view, krb_safe_of_view, message_of_view};
 
 use crate::ap_rep::{ApRep, ApRepView};
 use crate::ap_req::{ApReq, ApReqView};
@@ -28,12 +28,12 @@ use krb_der::{Flags, Int32, KString, KerberosTime, Memory, Micros, Octets};
 use std::alloc::Global;
 
 impl<'a> MessageView<'a> {
-    /// Returns the message that is seen. Nothing is judged again, and each string of octets is
+    /// Returns the message of the view. Nothing is judged again, and each string of octets is
     /// copied once.
     pub fn to_message(&self, alloc: Global) -> Result<Message, Memory>
         requires lists { MessageLists self.now }
-        requires in_profile { IsInProfile Lenient (message_seen self.now) }
-        ensures { IfOk result (λ message. message ≡ message_seen self.now) }
+        requires in_profile { IsInProfile Lenient (message_of_view self.now) }
+        ensures { IfOk result (λ message. message ≡ message_of_view self.now) }
     {
         match self {
             MessageView::AsReq(req) => Ok(Message::AsReq(copy_kdc_req(alloc, req)?)),
@@ -54,11 +54,11 @@ impl<'a> MessageView<'a> {
     }
 }
 
-/// Returns the KDC-REQ that is seen, of an AS-REQ or a TGS-REQ.
+/// Returns the KDC-REQ of a view, of an AS-REQ or a TGS-REQ.
 fn copy_kdc_req(alloc: Global, seen: &KdcReqView<'_>) -> Result<KdcReq, Memory>
     requires fits { Fits kdc_req_body (kdc_req_body_view_value seen.now.body) }
     requires lists { KdcReqLists seen.now }
-    ensures { IfOk result (λ req. req ≡ kdc_req_seen seen.now) }
+    ensures { IfOk result (λ req. req ≡ kdc_req_of_view seen.now) }
 {
     Ok(KdcReq {
         padata: copy_item_option(alloc, seen.padata)?,
@@ -66,11 +66,11 @@ fn copy_kdc_req(alloc: Global, seen: &KdcReqView<'_>) -> Result<KdcReq, Memory>
     })
 }
 
-/// Returns the KDC-REP that is seen, of an AS-REP or a TGS-REP.
+/// Returns the KDC-REP of a view, of an AS-REP or a TGS-REP.
 fn copy_kdc_rep(alloc: Global, seen: &KdcRepView<'_>) -> Result<KdcRep, Memory>
     requires fits { Fits as_rep (kdc_rep_view_value 11 seen.now) }
     requires lists { KdcRepLists seen.now }
-    ensures { IfOk result (λ rep. rep ≡ kdc_rep_seen seen.now) }
+    ensures { IfOk result (λ rep. rep ≡ kdc_rep_of_view seen.now) }
 {
     Ok(KdcRep {
         padata: copy_item_option(alloc, seen.padata)?,
@@ -82,7 +82,7 @@ fn copy_kdc_rep(alloc: Global, seen: &KdcRepView<'_>) -> Result<KdcRep, Memory>
 }
 
 impl<'a> FromView<'a> for ApReq {
-    ghost copied = { ap_req_seen };
+    ghost copied = { ap_req_of_view };
 
     fn from_view(alloc: Global, seen: &ApReqView<'a>) -> Result<ApReq, Memory> {
         Ok(ApReq {
@@ -94,7 +94,7 @@ impl<'a> FromView<'a> for ApReq {
 }
 
 impl<'a> FromView<'a> for ApRep {
-    ghost copied = { ap_rep_seen };
+    ghost copied = { ap_rep_of_view };
 
     fn from_view(alloc: Global, seen: &ApRepView<'a>) -> Result<ApRep, Memory> {
         Ok(ApRep {
@@ -104,7 +104,7 @@ impl<'a> FromView<'a> for ApRep {
 }
 
 impl<'a> FromView<'a> for KrbSafe {
-    ghost copied = { krb_safe_seen };
+    ghost copied = { krb_safe_of_view };
 
     fn from_view(alloc: Global, seen: &KrbSafeView<'a>) -> Result<KrbSafe, Memory> {
         Ok(KrbSafe {
@@ -115,7 +115,7 @@ impl<'a> FromView<'a> for KrbSafe {
 }
 
 impl<'a> FromView<'a> for KrbPriv {
-    ghost copied = { krb_priv_seen };
+    ghost copied = { krb_priv_of_view };
 
     fn from_view(alloc: Global, seen: &KrbPrivView<'a>) -> Result<KrbPriv, Memory> {
         Ok(KrbPriv {
@@ -125,7 +125,7 @@ impl<'a> FromView<'a> for KrbPriv {
 }
 
 impl<'a> FromView<'a> for KrbCred {
-    ghost copied = { krb_cred_seen };
+    ghost copied = { krb_cred_of_view };
 
     fn from_view(alloc: Global, seen: &KrbCredView<'a>) -> Result<KrbCred, Memory> {
         Ok(KrbCred {
@@ -136,7 +136,7 @@ impl<'a> FromView<'a> for KrbCred {
 }
 
 impl<'a> FromView<'a> for KrbError {
-    ghost copied = { krb_error_seen };
+    ghost copied = { krb_error_of_view };
 
     fn from_view(alloc: Global, seen: &KrbErrorView<'a>) -> Result<KrbError, Memory> {
         Ok(KrbError {

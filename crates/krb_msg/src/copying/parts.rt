@@ -4,7 +4,7 @@ ghost use Rattle.std.specs.Prelude.{map};
 ghost use Rattle.krb_msg.specs.Grammar.{pa_data};
 ghost use Rattle.krb_msg.specs.Viewed.{items_of};
 ghost use Rattle.krb_msg.specs.Views.{pa_data_of};
-ghost use Rattle.krb_msg.specs.Seen.{checksum_seen, encrypted_data_seen, host_address_seen, kdc_req_body_seen, krb_safe_body_seen, pa_data_seen, principal_name_seen, ticket_seen};
+ghost use Rattle.krb_msg.specs.ViewValues.{checksum_of_view, encrypted_data_of_view, host_address_of_view, kdc_req_body_of_view, krb_safe_body_of_view, pa_data_of_view, principal_name_of_view, ticket_of_view};
 
 use crate::checksum::{Checksum, ChecksumView};
 use crate::copying::{FromView, copy_item_option, copy_items, copy_option};
@@ -20,7 +20,7 @@ use krb_der::{Flags, Int32, KString, KerberosTime, Many, Memory, Micros, Octets,
 use std::alloc::Global;
 
 impl<'a> FromView<'a> for EncryptedData {
-    ghost copied = { encrypted_data_seen };
+    ghost copied = { encrypted_data_of_view };
 
     fn from_view(alloc: Global, seen: &EncryptedDataView<'a>) -> Result<EncryptedData, Memory> {
         Ok(EncryptedData {
@@ -32,7 +32,7 @@ impl<'a> FromView<'a> for EncryptedData {
 }
 
 impl<'a> FromView<'a> for PrincipalName {
-    ghost copied = { principal_name_seen };
+    ghost copied = { principal_name_of_view };
 
     fn from_view(alloc: Global, seen: &PrincipalNameView<'a>) -> Result<PrincipalName, Memory> {
         Ok(PrincipalName {
@@ -43,7 +43,7 @@ impl<'a> FromView<'a> for PrincipalName {
 }
 
 impl<'a> FromView<'a> for PaData {
-    ghost copied = { pa_data_seen };
+    ghost copied = { pa_data_of_view };
 
     fn from_view(alloc: Global, seen: &PaDataView<'a>) -> Result<PaData, Memory> {
         Ok(PaData {
@@ -63,7 +63,7 @@ impl<'a> FromView<'a> for Many<PaData> {
 }
 
 impl<'a> FromView<'a> for Checksum {
-    ghost copied = { checksum_seen };
+    ghost copied = { checksum_of_view };
 
     fn from_view(alloc: Global, seen: &ChecksumView<'a>) -> Result<Checksum, Memory> {
         Ok(Checksum {
@@ -74,7 +74,7 @@ impl<'a> FromView<'a> for Checksum {
 }
 
 impl<'a> FromView<'a> for HostAddress {
-    ghost copied = { host_address_seen };
+    ghost copied = { host_address_of_view };
 
     fn from_view(alloc: Global, seen: &HostAddressView<'a>) -> Result<HostAddress, Memory> {
         Ok(HostAddress {
@@ -85,7 +85,7 @@ impl<'a> FromView<'a> for HostAddress {
 }
 
 impl<'a> FromView<'a> for Ticket {
-    ghost copied = { ticket_seen };
+    ghost copied = { ticket_of_view };
 
     fn from_view(alloc: Global, seen: &TicketView<'a>) -> Result<Ticket, Memory> {
         Ok(Ticket {
@@ -97,7 +97,7 @@ impl<'a> FromView<'a> for Ticket {
 }
 
 impl<'a> FromView<'a> for KdcReqBody {
-    ghost copied = { kdc_req_body_seen };
+    ghost copied = { kdc_req_body_of_view };
 
     fn from_view(alloc: Global, seen: &KdcReqBodyView<'a>) -> Result<KdcReqBody, Memory> {
         Ok(KdcReqBody {
@@ -118,7 +118,7 @@ impl<'a> FromView<'a> for KdcReqBody {
 }
 
 impl<'a> FromView<'a> for KrbSafeBody {
-    ghost copied = { krb_safe_body_seen };
+    ghost copied = { krb_safe_body_of_view };
 
     fn from_view(alloc: Global, seen: &KrbSafeBodyView<'a>) -> Result<KrbSafeBody, Memory> {
         Ok(KrbSafeBody {

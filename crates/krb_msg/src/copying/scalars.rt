@@ -1,7 +1,7 @@
 //! The scalars (RFC 4120, 5.2) copied out of views of them.
 
 ghost use Rattle.krb_msg.specs.Views.{micros_of};
-ghost use Rattle.krb_msg.specs.Seen.{flags_seen};
+ghost use Rattle.krb_msg.specs.ViewValues.{flags_of_view};
 
 use crate::copying::FromView;
 use crate::view::scalars::FlagsView;
@@ -69,7 +69,7 @@ impl<'a> FromView<'a> for KerberosTime {
 }
 
 impl<'a> FromView<'a> for Flags {
-    ghost copied = { flags_seen };
+    ghost copied = { flags_of_view };
 
     fn from_view(alloc: Global, seen: &FlagsView<'a>) -> Result<Flags, Memory> {
         match Flags::new(seen.unused, Vec::from_slice(alloc, seen.octets)?) {

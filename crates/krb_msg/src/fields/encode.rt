@@ -26,12 +26,12 @@ pub trait Encode {
     fn size(&self) -> u64
         ensures { IsSized term (value self.now) result };
 
-    /// Appends the octets, at most 2147483647 of them, into room that is there. It takes no
-    /// memory.
+    /// Appends the octets, at most 2147483647 of them, within the vector's
+    /// capacity. It allocates nothing.
     fn put(&self, out: &mut Vec<u8>)
         requires tags { has_octet_tags term ≡ true }
         requires short { length (der term (value self.now)) ≤ 2147483647 }
-        requires room { vec_len out.old + length (der term (value self.now)) ≤ vec_capacity out.old }
+        requires capacity { vec_len out.old + length (der term (value self.now)) ≤ vec_capacity out.old }
         ensures { Puts (der term (value self.now)) out.old out.new };
 }
 
@@ -48,12 +48,12 @@ pub trait EncodeFields {
         ensures octets { result ≡ saturated (length (der_of_fields fields (values self.now))) }
         ensures fit { AllFit fields (values self.now) };
 
-    /// Appends the octets, at most 2147483647 of them, into room that is there. It takes no
-    /// memory.
+    /// Appends the octets, at most 2147483647 of them, within the vector's
+    /// capacity. It allocates nothing.
     fn put(&self, out: &mut Vec<u8>)
         requires tags { have_octet_tags fields ≡ true }
         requires short { length (der_of_fields fields (values self.now)) ≤ 2147483647 }
-        requires room { vec_len out.old + length (der_of_fields fields (values self.now)) ≤ vec_capacity out.old }
+        requires capacity { vec_len out.old + length (der_of_fields fields (values self.now)) ≤ vec_capacity out.old }
         ensures { Puts (der_of_fields fields (values self.now)) out.old out.new };
 }
 

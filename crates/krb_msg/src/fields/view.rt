@@ -1,31 +1,31 @@
-//! Fields viewed where they stand.
+//! Fields viewed in place.
 
 ghost use Rattle.std.specs.Prelude.{⊤, ◌≡◌, ◌+◌, ◌^◌, ◌<◌, true, pos, length, MatchOption};
 ghost use Rattle.std.specs.Option.{option_map};
 ghost use Rattle.krb_msg.specs.Term.{Term, Fields as TermFields, Value, Values, Sequence as SequenceTerm, Application as ApplicationTerm, Tagged, End as NoField, Required as RequiredField, Optional as OptionalField, tag_of};
 ghost use Rattle.krb_msg.specs.Grammar.{exactly};
 ghost use Rattle.krb_msg.specs.Shape.{is_unambiguous, are_unambiguous, has_octet_tags, have_octet_tags};
-ghost use Rattle.krb_msg.specs.Viewed.{AreContents, AreNoContents, AreFields, AreNoFields, StandsFirst, NoneStandsFirst, MayStandFirst, IsSpoiled, OfSome};
+ghost use Rattle.krb_msg.specs.Viewed.{AreContents, AreNoContents, AreFields, AreNoFields, BeginsWithValue, BeginsWithNoValue, MayBeginWithValue, IsMalformedField, OfSome};
 
 use crate::fields::{Application, End, Fixed, Optional, Required, Sequence};
 use crate::view::head::{first_item, only_item};
 use crate::view::scalars::Exactly;
 
-/// A type whose items are judged and viewed where they stand.
+/// A type whose items are judged and viewed in place.
 pub trait View<'a> {
-    /// What is seen of an item.
+    /// The view of an item.
     type Of: Copy;
 
     /// The term.
     ghost term: { Term };
 
-    /// What is seen, as a value of the term.
+    /// The view as a value of the term.
     ghost value: { Self.Of → Value term };
 
-    /// What is known of what is seen: lists are items, times are times, and so on.
+    /// What is known of a view: lists are items, times are times, and so on.
     ghost Lists: { Self.Of → Type 0 };
 
-    /// Returns the tag octet.
+    /// Returns the identifier octet.
     fn tag() -> u8
         requires { has_octet_tags term ≡ true }
         ensures { result ≡ tag_of term };
@@ -38,18 +38,18 @@ pub trait View<'a> {
         ensures { MatchOption result (AreNoContents term contents.now) (λ seen. AreContents term contents.now (value seen) × Lists seen) };
 }
 
-/// Fields, from one on, that are judged and viewed where they stand.
+/// Fields, from one on, that are judged and viewed in place.
 pub trait ViewFields<'a> {
-    /// What is seen of them.
+    /// The views of them.
     type Of: Copy;
 
     /// The fields of the grammar.
     ghost fields: { TermFields };
 
-    /// What is seen, as their values.
+    /// The views as values of the fields.
     ghost values: { Self.Of → Values fields };
 
-    /// What is known of what is seen: lists are items, times are times, and so on.
+    /// What is known of a view: lists are items, times are times, and so on.
     ghost Lists: { Self.Of → Type 0 };
 
     /// Returns a view of the fields that octets are, if they are those.
@@ -60,13 +60,13 @@ pub trait ViewFields<'a> {
         ensures { MatchOption result (AreNoFields fields octets.now) (λ seen. AreFields fields octets.now (values seen) × Lists seen) };
 }
 
-/// Returns the field `[INDEX]` that stands first, and what follows it.
+/// Returns the field `[INDEX]` with which octets begin, and what follows it.
 #[inline(always)]
 fn view_field<'a, const INDEX: u8, T: View<'a>>(octets: &'a [u8]) -> Option<(T::Of, &'a [u8])>
     requires short { length octets.now < 2 ^ 31 }
     requires tags { has_octet_tags (Tagged INDEX T.term) ≡ true }
     requires unambiguous { is_unambiguous T.term ≡ true }
-    ensures { MatchOption result (NoneStandsFirst (Tagged INDEX T.term) octets.now) (λ (seen, rest). StandsFirst (Tagged INDEX T.term) octets.now (T.value seen) rest.now × T.Lists seen) }
+    ensures { MatchOption result (BeginsWithNoValue (Tagged INDEX T.term) octets.now) (λ (seen, rest). BeginsWithValue (Tagged INDEX T.term) octets.now (T.value seen) rest.now × T.Lists seen) }
 {
     let (inner, rest) = first_item(0xA0 + INDEX, octets)?;
     let contents = only_item(T::tag(), inner)?;
@@ -74,7 +74,7 @@ fn view_field<'a, const INDEX: u8, T: View<'a>>(octets: &'a [u8]) -> Option<(T::
     Some((seen, rest))
 }
 
-/// Returns the field `[INDEX]`, if its tag stands first, and what follows it.
+/// Returns the field `[INDEX]`, if octets begin with its tag, and what follows it.
 #[inline(always)]
 fn view_optional<'a, const INDEX: u8, T: View<'a>>(
     octets: &'a [u8],
@@ -82,7 +82,7 @@ fn view_optional<'a, const INDEX: u8, T: View<'a>>(
     requires short { length octets.now < 2 ^ 31 }
     requires tags { has_octet_tags (Tagged INDEX T.term) ≡ true }
     requires unambiguous { is_unambiguous T.term ≡ true }
-    ensures { MatchOption result (IsSpoiled (Tagged INDEX T.term) octets.now) (λ (seen, rest). MayStandFirst (Tagged INDEX T.term) octets.now (option_map T.value seen) rest.now × OfSome T.Lists seen) }
+    ensures { MatchOption result (IsMalformedField (Tagged INDEX T.term) octets.now) (λ (seen, rest). MayBeginWithValue (Tagged INDEX T.term) octets.now (option_map T.value seen) rest.now × OfSome T.Lists seen) }
 {
     match octets.first() {
         Some(tag) if *tag == 0xA0 + INDEX => {

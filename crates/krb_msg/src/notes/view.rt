@@ -6,7 +6,7 @@ ghost use Rattle.krb_msg.specs.Grammar.{principal_name, encrypted_data, ticket, 
 ghost use Rattle.krb_msg.specs.Shape.{has_octet_tags, is_unambiguous};
 ghost use Rattle.krb_msg.specs.Views.{principal_name_value, encrypted_data_value, ticket_value, kdc_req_body_value, kdc_req_value, kdc_rep_value, ap_req_value, ap_rep_value, krb_safe_body_value, krb_safe_value, krb_priv_value, krb_cred_value, krb_error_value, is_strict};
 ghost use Rattle.krb_msg.specs.Viewed.{AreViewed, OfSome, items_of};
-ghost use Rattle.krb_msg.specs.Seen.{ApReqLists, KdcRepLists, KdcReqBodyLists, KdcReqLists, KrbCredLists, KrbErrorLists, MessageLists, PrincipalNameLists, TicketLists, ap_rep_seen, ap_req_seen, encrypted_data_seen, flags_seen, kdc_rep_seen, kdc_req_body_seen, kdc_req_seen, krb_cred_seen, krb_error_seen, krb_priv_seen, krb_safe_body_seen, krb_safe_seen, message_seen, principal_name_seen, ticket_seen};
+ghost use Rattle.krb_msg.specs.ViewValues.{ApReqLists, KdcRepLists, KdcReqBodyLists, KdcReqLists, KrbCredLists, KrbErrorLists, MessageLists, PrincipalNameLists, TicketLists, ap_rep_of_view, ap_req_of_view, encrypted_data_of_view, flags_of_view, kdc_rep_of_view, kdc_req_body_of_view, kdc_req_of_view, krb_cred_of_view, krb_error_of_view, krb_priv_of_view, krb_safe_body_of_view, krb_safe_of_view, message_of_view, principal_name_of_view, ticket_of_view};
 ghost use Rattle.krb_msg.specs.Notes.{text_has, flags_have, number_has, list_has, option_any, has, notes_by, notes_of};
 
 use crate::ap_rep::ApRepView;
@@ -37,10 +37,10 @@ trait NotedView {
 
     ghost noted: { Note → Self → Bool };
 
-    /// The lists that are seen are items.
+    /// The lists of the view are items.
     ghost AreLists: { Self → Type 0 };
 
-    /// Returns the notes that hold in what is seen.
+    /// Returns the notes on the view.
     fn notes(&self) -> Notes
         requires { AreLists self.now }
         ensures { result ≡ notes_by (λ note. noted note self.now) };
@@ -61,7 +61,7 @@ impl<'a> NotedView for &'a [u8] {
 }
 
 impl<'a> NotedView for FlagsView<'a> {
-    ghost noted = { λ note flags. flags_have note (flags_seen flags) };
+    ghost noted = { λ note flags. flags_have note (flags_of_view flags) };
 
     ghost AreLists = { λ flags. ⊤ };
 
@@ -155,7 +155,7 @@ fn list_notes<'a, T: View<'a>>(items: Option<ItemsView<'a>>) -> Notes
 }
 
 impl<'a> NotedView for PrincipalNameView<'a> {
-    ghost noted = { λ note name. has note principal_name (principal_name_value (principal_name_seen name)) };
+    ghost noted = { λ note name. has note principal_name (principal_name_value (principal_name_of_view name)) };
 
     ghost AreLists = { PrincipalNameLists };
 
@@ -165,7 +165,7 @@ impl<'a> NotedView for PrincipalNameView<'a> {
 }
 
 impl<'a> NotedView for EncryptedDataView<'a> {
-    ghost noted = { λ note sealed. has note encrypted_data (encrypted_data_value (encrypted_data_seen sealed)) };
+    ghost noted = { λ note sealed. has note encrypted_data (encrypted_data_value (encrypted_data_of_view sealed)) };
 
     ghost AreLists = { λ sealed. ⊤ };
 
@@ -175,7 +175,7 @@ impl<'a> NotedView for EncryptedDataView<'a> {
 }
 
 impl<'a> NotedView for TicketView<'a> {
-    ghost noted = { λ note a_ticket. has note ticket (ticket_value (ticket_seen a_ticket)) };
+    ghost noted = { λ note a_ticket. has note ticket (ticket_value (ticket_of_view a_ticket)) };
 
     ghost AreLists = { TicketLists };
 
@@ -199,7 +199,7 @@ fn tickets_notes(tickets: Option<ItemsView<'_>>) -> Notes
 }
 
 impl<'a> NotedView for KdcReqBodyView<'a> {
-    ghost noted = { λ note body. has note kdc_req_body (kdc_req_body_value (kdc_req_body_seen body)) };
+    ghost noted = { λ note body. has note kdc_req_body (kdc_req_body_value (kdc_req_body_of_view body)) };
 
     ghost AreLists = { KdcReqBodyLists };
 
@@ -219,7 +219,7 @@ impl<'a> NotedView for KdcReqBodyView<'a> {
 
 /// The notes of an AS-REQ and of a TGS-REQ are alike: their type is not noted.
 impl<'a> NotedView for KdcReqView<'a> {
-    ghost noted = { λ note req. has note as_req (kdc_req_value 10 (kdc_req_seen req)) };
+    ghost noted = { λ note req. has note as_req (kdc_req_value 10 (kdc_req_of_view req)) };
 
     ghost AreLists = { KdcReqLists };
 
@@ -230,7 +230,7 @@ impl<'a> NotedView for KdcReqView<'a> {
 
 /// The notes of an AS-REP and of a TGS-REP are alike, too.
 impl<'a> NotedView for KdcRepView<'a> {
-    ghost noted = { λ note rep. has note as_rep (kdc_rep_value 11 (kdc_rep_seen rep)) };
+    ghost noted = { λ note rep. has note as_rep (kdc_rep_value 11 (kdc_rep_of_view rep)) };
 
     ghost AreLists = { KdcRepLists };
 
@@ -244,7 +244,7 @@ impl<'a> NotedView for KdcRepView<'a> {
 }
 
 impl<'a> NotedView for ApReqView<'a> {
-    ghost noted = { λ note req. has note ap_req (ap_req_value (ap_req_seen req)) };
+    ghost noted = { λ note req. has note ap_req (ap_req_value (ap_req_of_view req)) };
 
     ghost AreLists = { ApReqLists };
 
@@ -257,7 +257,7 @@ impl<'a> NotedView for ApReqView<'a> {
 }
 
 impl<'a> NotedView for ApRepView<'a> {
-    ghost noted = { λ note rep. has note ap_rep (ap_rep_value (ap_rep_seen rep)) };
+    ghost noted = { λ note rep. has note ap_rep (ap_rep_value (ap_rep_of_view rep)) };
 
     ghost AreLists = { λ rep. ⊤ };
 
@@ -267,7 +267,7 @@ impl<'a> NotedView for ApRepView<'a> {
 }
 
 impl<'a> NotedView for KrbSafeBodyView<'a> {
-    ghost noted = { λ note body. has note krb_safe_body (krb_safe_body_value (krb_safe_body_seen body)) };
+    ghost noted = { λ note body. has note krb_safe_body (krb_safe_body_value (krb_safe_body_of_view body)) };
 
     ghost AreLists = { λ body. ⊤ };
 
@@ -277,7 +277,7 @@ impl<'a> NotedView for KrbSafeBodyView<'a> {
 }
 
 impl<'a> NotedView for KrbSafeView<'a> {
-    ghost noted = { λ note safe. has note krb_safe (krb_safe_value (krb_safe_seen safe)) };
+    ghost noted = { λ note safe. has note krb_safe (krb_safe_value (krb_safe_of_view safe)) };
 
     ghost AreLists = { λ safe. ⊤ };
 
@@ -287,7 +287,7 @@ impl<'a> NotedView for KrbSafeView<'a> {
 }
 
 impl<'a> NotedView for KrbPrivView<'a> {
-    ghost noted = { λ note private. has note krb_priv (krb_priv_value (krb_priv_seen private)) };
+    ghost noted = { λ note private. has note krb_priv (krb_priv_value (krb_priv_of_view private)) };
 
     ghost AreLists = { λ private. ⊤ };
 
@@ -297,7 +297,7 @@ impl<'a> NotedView for KrbPrivView<'a> {
 }
 
 impl<'a> NotedView for KrbCredView<'a> {
-    ghost noted = { λ note cred. has note krb_cred (krb_cred_value (krb_cred_seen cred)) };
+    ghost noted = { λ note cred. has note krb_cred (krb_cred_value (krb_cred_of_view cred)) };
 
     ghost AreLists = { KrbCredLists };
 
@@ -307,7 +307,7 @@ impl<'a> NotedView for KrbCredView<'a> {
 }
 
 impl<'a> NotedView for KrbErrorView<'a> {
-    ghost noted = { λ note error. has note krb_error (krb_error_value (krb_error_seen error)) };
+    ghost noted = { λ note error. has note krb_error (krb_error_value (krb_error_of_view error)) };
 
     ghost AreLists = { KrbErrorLists };
 
@@ -321,11 +321,11 @@ impl<'a> NotedView for KrbErrorView<'a> {
     }
 }
 
-/// Returns the notes that hold in a message that is viewed where it stands, which are
-/// [`notes_of`](crate::notes_of)'s. It takes no memory.
+/// Returns the notes that hold in a message that is viewed in place, which are
+/// [`notes_of`](crate::notes_of)'s. It allocates nothing.
 pub fn notes_of_view(view: &MessageView<'_>) -> Notes
     requires { MessageLists view.now }
-    ensures { result ≡ notes_of (message_seen view.now) }
+    ensures { result ≡ notes_of (message_of_view view.now) }
 {
     match view {
         MessageView::AsReq(req) => req.notes(),
@@ -341,11 +341,11 @@ pub fn notes_of_view(view: &MessageView<'_>) -> Notes
     }
 }
 
-/// Returns whether a message that is viewed where it stands keeps the strict rules
-/// ([`is_strict`](crate::is_strict)). It takes no memory.
+/// Returns whether a message that is viewed in place keeps the strict rules
+/// ([`is_strict`](crate::is_strict)). It allocates nothing.
 pub fn is_strict_view(view: &MessageView<'_>) -> bool
     requires { MessageLists view.now }
-    ensures { result ≡ is_strict (message_seen view.now) }
+    ensures { result ≡ is_strict (message_of_view view.now) }
 {
     notes_of_view(view).are_none()
 }

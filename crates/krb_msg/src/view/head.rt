@@ -1,4 +1,4 @@
-//! Items found where they stand (X.690, 8.1 and 10.1).
+//! Items found in place (X.690, 8.1 and 10.1).
 
 ghost use Rattle.std.specs.Prelude.{◌≡◌, ◌^◌, ◌<◌, ◌≤◌, ◌++◌, ◌∷◌, length, MatchOption};
 ghost use Rattle.krb_der.specs.Octets.{item, length_octets};
@@ -30,7 +30,7 @@ pub fn first_item(tag: u8, octets: &[u8]) -> Option<(&[u8], &[u8])>
 /// Returns a first part of a size, and the other octets.
 #[inline(always)]
 fn split(octets: &[u8], size: usize) -> Option<(&[u8], &[u8])>
-    ensures { MatchOption result (length octets.now < size) (λ (front, rest). (length front.now ≡ size) × (octets.now ≡ front.now ++ rest.now)) }
+    ensures { MatchOption result (length octets.now < size) (λ (prefix, rest). (length prefix.now ≡ size) × (octets.now ≡ prefix.now ++ rest.now)) }
 {
     if size <= octets.len() {
         Some(octets.split_at(size))

@@ -1,4 +1,4 @@
-//! A SEQUENCE OF viewed where it stands (X.690, 8.10).
+//! A SEQUENCE OF viewed in place (X.690, 8.10).
 
 ghost use Rattle.std.specs.Prelude.{◌≡◌, ◌^◌, ◌<◌, true, [], length, MatchOption};
 ghost use Rattle.krb_msg.specs.Grammar.{sequence_of};

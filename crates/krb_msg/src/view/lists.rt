@@ -1,4 +1,4 @@
-//! The lists of the grammar viewed where they stand.
+//! The lists of the grammar viewed in place.
 
 ghost use Rattle.std.specs.Prelude.{◌≡◌, ◌^◌, ◌<◌, true, length, MatchOption};
 ghost use Rattle.krb_msg.specs.Term.{tag_of};

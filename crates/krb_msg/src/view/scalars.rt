@@ -1,4 +1,4 @@
-//! The scalars (RFC 4120, 5.2) viewed where they stand.
+//! The scalars (RFC 4120, 5.2) viewed in place.
 
 ghost use Rattle.std.specs.Prelude.{⊤, ◌≡◌, ◌≤ℤ◌, ◌↔◌, ◌^◌, ◌<◌, true, pos, length, MatchOption};
 ghost use Rattle.krb_der.specs.Octets.{AreBits};

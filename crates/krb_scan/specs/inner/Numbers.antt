@@ -1,4 +1,4 @@
--- What the machine keeps of a partly read header or leaf is numbers. What an octet decides, from them.
+-- The outcome of an octet from numbers alone, since those are what is kept of a partly read header or leaf.
 use Rattle.std.specs.Prelude.{ℕ, zero, suc, ℤ, pos, negsuc, ◌+◌, ◌-◌, ◌*◌, ◌%◌, ◌^◌, ◌+ℤ◌, ◌*ℤ◌, Bool, ◌&&◌, ◌||◌, ◌==◌, nat_lt, nat_le, if◌then◌else◌}
 use Rattle.krb_der.specs.declared.why.Why.{Why}
 use Rattle.krb_der.specs.declared.why.Why.TheVariants as why
@@ -22,7 +22,7 @@ next_head room k seen value octet =
     else if nat_lt (seen + 1) k then Partial
     else fitting room (2 + k) (value * 256 + octet)
 
--- the value of a first octet, and of an octet after others
+-- the value of an INTEGER with an octet more, the first or one after others
 abbrev pub extended : ℕ → ℤ → ℕ → ℤ
 extended zero value octet = if nat_lt octet 128 then pos octet else negsuc (255 - octet)
 extended (suc seen) value octet = value *ℤ pos 256 +ℤ pos octet
@@ -35,7 +35,7 @@ pads (negsuc n) octet = (n == 0) && nat_le 128 octet
 abbrev pub in_range : ℤ → ℤ → ℤ → Bool
 in_range low high value = int_le low value && int_le value high
 
--- an integer's next octet, if with it the number would be in the range
+-- the next octet of an INTEGER, by whether the value with it is in the range
 abbrev pub integer_with : Bool → ℕ → ℕ → ℤ → ℕ → Outcome
 integer_with within count seen value octet =
     if (seen == 1) && pads value octet then Bad 1 why.IntegerNotMinimal
@@ -46,7 +46,7 @@ integer_with within count seen value octet =
 abbrev pub integer_next : ℤ → ℤ → ℕ → ℕ → ℤ → ℕ → Outcome
 integer_next low high count seen value octet = integer_with (in_range low high (extended seen value octet)) count seen value octet
 
--- an octet at a place that passes a test there, and else is refused
+-- an octet at an index, which is refused unless it passes a test at that index
 abbrev pub each_next : (ℕ → ℕ → Bool) → Why → ℕ → ℕ → ℕ → Outcome
 each_next passes reason count place octet = if passes place octet then (if nat_lt (place + 1) count then Open else Done count) else Bad place reason
 
@@ -57,7 +57,7 @@ bits_next least count (suc seen) unused octet = if nat_lt (suc seen + 1) count t
 abbrev pub any_next : ℕ → ℕ → Outcome
 any_next count seen = if nat_lt (seen + 1) count then Open else Done count
 
--- a leaf's next octet, after a number of octets: an integer's value so far, and a bit string's unused count
+-- the next octet of a leaf, after a number of octets, with the value of an INTEGER so far and the number of unused bits of a BIT STRING
 abbrev pub leaf_next : Term → ℕ → ℕ → ℤ → ℕ → ℕ → Outcome
 leaf_next (Integer low high) count seen value unused octet = integer_next low high count seen value octet
 leaf_next (Text greatest) count seen value unused octet = each_next (text_octet greatest) why.Charset count seen octet

@@ -4,7 +4,7 @@ use Rattle.krb_file.specs.declared.fault.FileFault.{FileFault}
 use Rattle.krb_file.specs.declared.fault.FileFault.TheVariants as faults
 use Rattle.krb_packet.specs.Captures.{packets}
 use Rattle.krb_packet.specs.FieldNames.{capture_field_text}
-use Rattle.krb_packet.specs.Streaming.{Reading, Reads}
+use Rattle.krb_packet.specs.Streaming.{PacketsModel, Reads}
 use Rattle.krb_packet.specs.declared.field.CaptureField.{CaptureField}
 use Rattle.krb_list.specs.Captures.{capture_refused_line}
 use Rattle.krb_list.specs.declared.form.Form.{Form}
@@ -16,12 +16,12 @@ use Rattle.krb_tool.specs.declared.run.RunEnd.{RunEnd}
 use Rattle.krb_tool.specs.declared.run.RunEnd.TheVariants as run
 use Rattle.std.specs.Prelude.{None}
 
--- A reader gave the first `count` packets of a file, they were followed, and this is left of its listing.
-pub record IsCaptureLeft (reading : Reading) (capture : Capture) (form : Form) (count : ℕ) (left : RecordListing) : Type 0 where
+-- A reader returned the first `count` packets of a file, they were followed, and this is left of its listing.
+pub record IsCaptureLeft (model : PacketsModel) (capture : Capture) (form : Form) (count : ℕ) (left : RecordListing) : Type 0 where
   pub file : List ℕ
   pub settings : Settings
   pub progress : Progress
-  pub reads : Reads reading file count
+  pub reads : Reads model file count
   pub followed : HasFollowed capture settings progress
   pub form_is : form ≡ settings.form
   pub is : left ≡ listing_from settings (drop count (packets file).packets) (packets file).refusal progress

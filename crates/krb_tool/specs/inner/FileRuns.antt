@@ -6,24 +6,24 @@ use Rattle.krb_tool.specs.declared.file_run.FileText.{FileText}
 use Rattle.krb_tool.specs.declared.transfer.ReaderState.{ReaderState}
 use Rattle.krb_tool.specs.declared.transfer.ReaderState.TheVariants as reader
 use Rattle.krb_tool.specs.Faults.{IsRead}
-use Rattle.krb_tool.specs.Files.{FileListing, TakesAll}
+use Rattle.krb_tool.specs.Files.{FileListing, ReadsAll}
 
--- what is kept is all, or as many octets as are kept at most
+-- what is kept is all, or the greatest number of octets that are kept
 abbrev pub IsAllOrFull : Option ℕ → List ℕ → List ℕ → Type 0
 IsAllOrFull most kept rest = (rest ≡ []) ⊎ (most ≡ Some (length kept))
 
--- All that a reader had was taken. It is kept, or as many of its first octets as are kept at most.
-pub record TakesFront (had left : Option (List ℕ)) (most : Option ℕ) (kept : List ℕ) : Type 0 where
+-- All octets that a reader had were read. They are kept, or the first ones up to the greatest number that are kept.
+pub record ReadsPrefix (had left : Option (List ℕ)) (most : Option ℕ) (kept : List ℕ) : Type 0 where
   pub rest : List ℕ
-  pub taken : TakesAll had left (kept ++ rest)
+  pub taken : ReadsAll had left (kept ++ rest)
   pub enough : IsAllOrFull most kept rest
   pub within : IfSome most (λ most. length kept ≤ most)
 
--- if there is a number, the first octets of a file, of that number, decide its listing
-abbrev pub IsTold : (List ℕ → FileListing → Type 0) → Option ℕ → Type 0
-IsTold Lists most = (kept rest : List ℕ) (listing : FileListing) → most ≡ Some (length kept) → Lists kept listing → Lists (kept ++ rest) listing
+-- if there is a greatest number, a prefix of a file of that length decides its listing
+abbrev pub IsDecidedByPrefix : (List ℕ → FileListing → Type 0) → Option ℕ → Type 0
+IsDecidedByPrefix Lists most = (kept rest : List ℕ) (listing : FileListing) → most ≡ Some (length kept) → Lists kept listing → Lists (kept ++ rest) listing
 
--- what the code made
+-- the listing that a function made
 abbrev pub shown : FileText → FileListing
 shown made = record { text = string_bytes made.text; end = made.end }
 
@@ -34,7 +34,7 @@ IsOfReading reader.Open e = e ≡ fault.Memory
 IsOfReading reader.Ended e = e ≡ fault.Memory
 
 -- a fault is that of the reader if this failed, and else it is not
-abbrev pub TellsRead : ReaderState → RunFault → Type 0
-TellsRead reader.Failed e = IsRead e
-TellsRead reader.Open e = IsRead e → ⊥
-TellsRead reader.Ended e = IsRead e → ⊥
+abbrev pub MatchesReader : ReaderState → RunFault → Type 0
+MatchesReader reader.Failed e = IsRead e
+MatchesReader reader.Open e = IsRead e → ⊥
+MatchesReader reader.Ended e = IsRead e → ⊥

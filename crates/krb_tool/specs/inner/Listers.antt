@@ -8,7 +8,7 @@ use Rattle.krb_msg.specs.Grammar.{messages as grammar}
 use Rattle.krb_msg.specs.Stream.{Refused, frames}
 use Rattle.krb_msg.specs.Views.{message_der}
 use Rattle.krb_frame.specs.Decoding.{found, status_of, borrowed}
-use Rattle.krb_frame.specs.Stands.{Stands}
+use Rattle.krb_frame.specs.Decoded.{HasDecoded}
 use Rattle.krb_frame.specs.Feeds.{Clears}
 use Rattle.krb_frame.specs.declared.decoder.Status.TheVariants as status
 use Rattle.krb_tool.specs.Lines.{message_line}
@@ -23,7 +23,7 @@ use Rattle.krb_tool.specs.declared.run.RunEnd.{RunEnd}
 -- The frames that the decoder cleared of a stream are messages. Their lines are in what was written and then in the text, and they are counted.
 pub record HasListed (lister : Lister) (stream written : List ℕ) : Type 0 where
   pub messages : List Message
-  pub stands : Stands (grammar lister.decoder.profile) lister.decoder stream (map message_der messages)
+  pub decoded : HasDecoded (grammar lister.decoder.profile) lister.decoder stream (map message_der messages)
   pub lines : written ++ string_bytes lister.text ≡ flat_map (message_line lister.form) messages
   pub counted : lister.messages ≡ length messages
 
@@ -51,7 +51,7 @@ pub record AddsEnd (old new : Lister) (ended : RunEnd) : Type 0 where
   pub ended_so : ended ≡ run_end (found (grammar old.decoder.profile) old.decoder).end
 
 -- ---- a lister of a stream
--- An octet of the last piece is refused. The frames before it are listed, and the octets of the frame that were used tell where it stands. The rest of the piece was not used.
+-- An octet of the last piece is refused. The frames before it are listed, and the octets of the frame that were used end with it. The rest of the piece was not used.
 pub record IsRefusedAfter (lister : Lister) (taken : Taken) : Type 0 where
   pub stream : List ℕ
   pub listed : HasListed lister stream taken.written

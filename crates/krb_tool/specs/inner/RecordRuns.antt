@@ -2,7 +2,7 @@
 use Rattle.std.specs.Prelude.{ℕ, ◌≡◌, List, [], ◌++◌, length, drop, Option, Some, None, Result, Ok, Err}
 use Rattle.std.specs.List.{flat_map}
 use Rattle.std.specs.Io.KnownBytes.{Appends}
-use Rattle.krb_file.specs.FieldReaders.{Held}
+use Rattle.krb_file.specs.FieldReaders.{Cursor}
 use Rattle.krb_file.specs.declared.fault.FileFault.{FileFault}
 use Rattle.krb_file.specs.declared.fault.FileFault.TheVariants as faults
 use Rattle.krb_file.specs.declared.field_name.FileField.{FileField}
@@ -39,9 +39,9 @@ AddsRefusal path form (faults.Refused place why field) old new ended = Adds (fil
 AddsRefusal path form faults.Read old new ended = ⊥
 AddsRefusal path form faults.Memory old new ended = ⊥
 
--- the beginning of a text was written, and the rest is kept
+-- a prefix of a text was written, and the rest is kept
 abbrev pub Moves : Option (List ℕ) → Option (List ℕ) → List ℕ → List ℕ → Type 0
-Moves held holds old new = (front : List ℕ) × Appends held holds front × (old ≡ front ++ new)
+Moves written_before written_after old new = (prefix : List ℕ) × Appends written_before written_after prefix × (old ≡ prefix ++ new)
 
 -- what is left after `count` items
 abbrev pub left_of : {A : Type 0} → (A → List ℕ) → List A → ℕ → List ℕ → RunEnd → RecordListing
@@ -53,16 +53,16 @@ records_left form count found = left_of (λ r. record_line form r) found.records
 abbrev pub credentials_left : Form → Option ℕ → ℕ → Items Credential → RecordListing
 credentials_left form now count found = left_of (λ c. credential_line form now c) found.items count (ccache_last form (length found.items) found.end) (end_of found.end)
 
--- A reader gave the first `count` records of a file, and this is left of its listing.
-pub record AreRecordsLeft (form : Form) (held : Held) (state : RecordsState) (count : ℕ) (left : RecordListing) : Type 0 where
+-- A reader returned the first `count` records of a file, and this is left of its listing.
+pub record AreRecordsLeft (form : Form) (written_before : Cursor) (state : RecordsState) (count : ℕ) (left : RecordListing) : Type 0 where
   pub file : List ℕ
-  pub reads : ReadsRecords field_limit held state file count
+  pub reads : ReadsRecords field_limit written_before state file count
   pub is : left ≡ records_left form count (keytab_records field_limit file)
 
--- The same of credentials, at a time if one is given.
-pub record AreCredentialsLeft (form : Form) (held : Held) (start : Start) (state : CredentialsState) (now : Option ℕ) (count : ℕ) (left : RecordListing) : Type 0 where
+-- The same of credentials, at a time if there is one.
+pub record AreCredentialsLeft (form : Form) (written_before : Cursor) (start : Start) (state : CredentialsState) (now : Option ℕ) (count : ℕ) (left : RecordListing) : Type 0 where
   pub file : List ℕ
-  pub reads : ReadsCredentials field_limit held start state file count
+  pub reads : ReadsCredentials field_limit written_before start state file count
   pub is : left ≡ credentials_left form now count (credentials field_limit file)
 
 -- if a file is refused, the line of the refusal is what is left

@@ -6,7 +6,7 @@ use Rattle.krb_list.specs.declared.form.Form.{Form}
 use Rattle.krb_tool.specs.declared.run.RunEnd.{RunEnd}
 use Rattle.krb_tool.specs.declared.run.RunFault.{RunFault}
 use Rattle.krb_tool.specs.declared.run.RunFault.TheVariants as fault
-use Rattle.krb_tool.specs.Listing.{WritesFront}
+use Rattle.krb_tool.specs.Listing.{WritesPrefix}
 
 -- what a listing is asked for: its form, the profile of the messages, and the greatest length of a frame
 pub record Request : Type 0 where
@@ -34,7 +34,7 @@ with_piece taken piece = record { pieces = taken.pieces + 1; octets = taken.octe
 abbrev pub with_lines : Taken → List ℕ → Taken
 with_lines taken lines = record { pieces = taken.pieces; octets = taken.octets; written = taken.written ++ lines }
 
--- A lister: its lines that are not written yet, what may have come if it waits for a piece, and what may have come if it takes none.
+-- A lister: its lines that are not written yet, what may have come if it waits for a piece, and what may have come if it accepts none.
 pub record Listing : Type 1 where
   pub text : List ℕ
   pub Waits : Request → Taken → Type 0
@@ -52,7 +52,7 @@ pub record Waits (rules : Rules) (request : Request) (taken : Taken) (lister : L
   pub waits : lister.Waits request taken
   pub begins : Begins rules taken lister.text
 
--- it takes no piece
+-- it accepts no piece
 pub record Stops (rules : Rules) (request : Request) (taken : Taken) (lister : Listing) : Type 0 where
   pub stops : lister.Stops request taken
   pub lines : rules.AreLines taken.octets (taken.written ++ lister.text)
@@ -67,13 +67,13 @@ pub record IsNew (rules : Rules) (request : Request) (lister : Listing) : Type 0
   pub waits : Waits rules request (record { pieces = 0; octets = []; written = [] }) lister
 
 -- it waits for a piece, after at most 2^40 others
-pub record MayTake (lister : Listing) : Type 0 where
+pub record AcceptsPiece (lister : Listing) : Type 0 where
   pub request : Request
   pub taken : Taken
   pub waits : lister.Waits request taken
   pub few : taken.pieces ≤ 2 ^ 40
 
--- it took a piece
+-- it was fed a piece
 abbrev pub Feeds : (Request → Rules) → Listing → List ℕ → Listing → Bool → Type 0
 Feeds rules old piece new goes_on = (request : Request) (taken : Taken) → old.Waits request taken → GoesOn goes_on (rules request) request (with_piece taken piece) new
 
@@ -82,7 +82,7 @@ pub record Clears (old new : Listing) : Type 0 where
   pub none : new.text ≡ []
   pub waits : (request : Request) (taken : Taken) → old.Waits request taken → new.Waits request (with_lines taken old.text)
 
--- no piece follows: the reader is at its end, or the lister takes none
+-- no piece follows: the reader is at its end, or the lister accepts none
 abbrev pub IsLast : Listing → Request → Taken → Option (List ℕ) → Type 0
 IsLast lister request taken left = (lister.Waits request taken × IsAtEnd left) ⊎ lister.Stops request taken
 
@@ -104,45 +104,45 @@ abbrev pub Finishes : (Request → Rules) → Listing → Listing → RunEnd →
 Finishes rules old new ended = (request : Request) (taken : Taken) (left : Option (List ℕ)) → IsLast old request taken left → EndsListing (rules request) taken.octets (taken.written ++ new.text) left ended
 
 -- ---- what a run does
--- If a run fails by a write, the beginning of the listing of what was read is written, and else the beginning of the lines of the first frames.
+-- If a run fails by a write, a prefix of the listing of what was read is written, and else a prefix of the lines of the first frames.
 abbrev pub FailsBy : Rules → Option (List ℕ) → Option (List ℕ) → Option (List ℕ) → Option (List ℕ) → RunFault → Type 0
-FailsBy rules had left held holds (fault.Write error) = WritesFront rules.IsListing had left held holds
-FailsBy rules had left held holds (fault.Read error) = WritesFront rules.AreLines had left held holds
-FailsBy rules had left held holds fault.Memory = WritesFront rules.AreLines had left held holds
+FailsBy rules had left written_before written_after (fault.Write error) = WritesPrefix rules.IsListing had left written_before written_after
+FailsBy rules had left written_before written_after (fault.Read error) = WritesPrefix rules.AreLines had left written_before written_after
+FailsBy rules had left written_before written_after fault.Memory = WritesPrefix rules.AreLines had left written_before written_after
 
--- So far a run took octets from its reader by a number of asks, and wrote the first of their lines. The other lines are in its lister, which waits for a piece.
-pub record Runs (rules : Rules) (request : Request) (had left held holds : Option (List ℕ)) (asks : ℕ) (lister : Listing) : Type 0 where
+-- So far a run read octets from its reader by a number of reads, and wrote the first of their lines. The other lines are in its lister, which waits for a piece.
+pub record Runs (rules : Rules) (request : Request) (had left written_before written_after : Option (List ℕ)) (asks : ℕ) (lister : Listing) : Type 0 where
   pub come : Taken
   pub taken : Consumes had left come.octets
-  pub added : Appends held holds come.written
+  pub added : Appends written_before written_after come.written
   pub pieces : come.pieces ≡ asks
   pub waits : Waits rules request come lister
 
 -- No piece follows.
-pub record IsOver (rules : Rules) (request : Request) (had left held holds : Option (List ℕ)) (asks : ℕ) (lister : Listing) : Type 0 where
+pub record IsOver (rules : Rules) (request : Request) (had left written_before written_after : Option (List ℕ)) (asks : ℕ) (lister : Listing) : Type 0 where
   pub come : Taken
   pub taken : Consumes had left come.octets
-  pub added : Appends held holds come.written
+  pub added : Appends written_before written_after come.written
   pub pieces : come.pieces ≤ asks
   pub last : IsLast lister request come left
   pub lines : rules.AreLines come.octets (come.written ++ lister.text)
 
 abbrev pub RunsOn : Bool → Rules → Request → Option (List ℕ) → Option (List ℕ) → Option (List ℕ) → Option (List ℕ) → ℕ → Listing → Type 0
-RunsOn true rules request had left held holds asks lister = Runs rules request had left held holds asks lister
-RunsOn false rules request had left held holds asks lister = IsOver rules request had left held holds asks lister
+RunsOn true rules request had left written_before written_after asks lister = Runs rules request had left written_before written_after asks lister
+RunsOn false rules request had left written_before written_after asks lister = IsOver rules request had left written_before written_after asks lister
 
--- a piece was read, and the lister took it, or the reader has ended
+-- a piece was read and fed to the lister, or the reader has ended
 abbrev pub Reads : (Request → Rules) → Option (List ℕ) → ℕ → Listing → Option (List ℕ) → ℕ → Listing → Bool → Type 0
-Reads rules left asks lister left' asks' lister' goes_on = (request : Request) (had held holds : Option (List ℕ)) → Runs (rules request) request had left held holds asks lister → RunsOn goes_on (rules request) request had left' held holds asks' lister'
+Reads rules left asks lister left' asks' lister' goes_on = (request : Request) (had written_before written_after : Option (List ℕ)) → Runs (rules request) request had left written_before written_after asks lister → RunsOn goes_on (rules request) request had left' written_before written_after asks' lister'
 
 -- a piece was to be read
 abbrev pub FailsToRead : (Request → Rules) → Option (List ℕ) → ℕ → Listing → Option (List ℕ) → RunFault → Type 0
-FailsToRead rules left asks lister left' fault = (request : Request) (had held holds : Option (List ℕ)) → Runs (rules request) request had left held holds asks lister → FailsBy (rules request) had left' held holds fault
+FailsToRead rules left asks lister left' fault = (request : Request) (had written_before written_after : Option (List ℕ)) → Runs (rules request) request had left written_before written_after asks lister → FailsBy (rules request) had left' written_before written_after fault
 
--- A run took octets from what its reader had, and added their listing to what its writer held.
-pub record ListsBy (rules : Rules) (had left held holds : Option (List ℕ)) (ended : RunEnd) : Type 0 where
+-- A run read octets that its reader had, and appended their listing to what is written.
+pub record ListsBy (rules : Rules) (had left written_before written_after : Option (List ℕ)) (ended : RunEnd) : Type 0 where
   pub read : List ℕ
   pub written : List ℕ
   pub taken : Consumes had left read
-  pub added : Appends held holds written
+  pub added : Appends written_before written_after written
   pub listing : EndsListing rules read written left ended

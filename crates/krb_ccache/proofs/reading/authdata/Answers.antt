@@ -10,4 +10,4 @@ use Rattle.krb_ccache.proofs.reading.authdata.Goals as goal
 pub returns-in_err-read_many-clause-read : goal.returns-in_err-read_many-clause-read
 returns-in_err-read_many-clause-read g c =
     let p = err_from_is_err_and c.from_residual-in_err-read_many.result c.from_residual-in_err-read_many.ensures.1 in
-    rw (p.1, p.2) (then-fails (called field.AuthdataCount (number_at w32)) (λ count. times count (λ index. in_part (parts.Authdata index) typed_at)) c.in_ok-count.count (g.F.FieldReader.held c.args.reader.now) (g.F.FieldReader.held c.field32.new.self) c.in_err-read_many.field-0.0 g.F.FieldReader.MayFail c.in_ok-count.ensures.read c.in_err-read_many.ensures.read)
+    rw (p.1, p.2) (then-fails (called field.AuthdataCount (number_at w32)) (λ count. times count (λ index. in_part (parts.Authdata index) typed_at)) c.in_ok-count.count (g.F.FieldReader.cursor c.args.reader.now) (g.F.FieldReader.cursor c.field32.new.self) c.in_err-read_many.field-0.0 g.F.FieldReader.MayFail c.in_ok-count.ensures.read c.in_err-read_many.ensures.read)

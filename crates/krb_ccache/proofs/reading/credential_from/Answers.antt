@@ -18,9 +18,9 @@ returns-clause-stays g c =
     then goes 4 (called field.TicketFlags (number_at w32)) (AtLeast-called 4 field.TicketFlags (number_at w32) (AtLeast-number w32)) c.in_ok-flags.ensures.read c.in_ok-flags.ensures.keeps.stays
     then goes 4 (typed_list_at field.AddressCount parts.Address) (AtLeast-typed_list field.AddressCount parts.Address) c.in_ok-addresses.ensures.read c.in_ok-addresses.ensures.keeps.stays
     then goes 4 (typed_list_at field.AuthdataCount parts.Authdata) (AtLeast-typed_list field.AuthdataCount parts.Authdata) c.in_ok-authdata.ensures.read c.in_ok-authdata.ensures.keeps.stays
-    then same_goes c.room-ticket.ensures.same
+    then same_goes c.spare_octets-ticket.ensures.same
     then goes 4 (called field.Ticket (counted_at w32)) (AtLeast-called 4 field.Ticket (counted_at w32) (AtLeast-counted w32)) c.in_ok-counted_field32-2.ensures.read c.in_ok-counted_field32-2.ensures.keeps.stays
-    then same_goes c.room-second_ticket.ensures.same
+    then same_goes c.spare_octets-second_ticket.ensures.same
     then goes 4 (called field.SecondTicket (counted_at w32)) (AtLeast-called 4 field.SecondTicket (counted_at w32) (AtLeast-counted w32)) c.in_ok-counted_field32-3.ensures.read c.in_ok-counted_field32-3.ensures.keeps.stays in
-    Stays-then (Stays-same c.room-key.ensures.same) (Stays-then c.in_ok-counted_field32.ensures.keeps.stays
-    (looked 37 (g.F.FieldReader.held c.counted_field32.new.self) (g.F.FieldReader.held c.look_ahead.new.self) (g.F.FieldReader.held c.counted_field32-3.new.self) c.look_ahead.ensures.looks after_key.stays after_key.on))
+    Stays-then (Stays-same c.spare_octets-key.ensures.same) (Stays-then c.in_ok-counted_field32.ensures.keeps.stays
+    (looked 37 (g.F.FieldReader.cursor c.counted_field32.new.self) (g.F.FieldReader.cursor c.look_ahead.new.self) (g.F.FieldReader.cursor c.counted_field32-3.new.self) c.look_ahead.ensures.looks after_key.stays after_key.on))

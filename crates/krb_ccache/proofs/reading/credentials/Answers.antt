@@ -9,7 +9,7 @@ use Rattle.krb_ccache.proofs.Followed.{IsNext, is_next, is_end}
 use Rattle.krb_ccache.proofs.reading.credentials.Given.{Over}
 use Rattle.krb_ccache.proofs.reading.credentials.Goals as goal
 
--- what the next credential was
+-- the next credential
 next : (g : Over) (c : goal.In_ok-push g) → IsNext g.K.Kept.kept c.args.version (limited None) (source_at c.credentials.reader.place c.credentials.reader.octets) (source_at c.next.new.reader.place c.next.new.reader.octets) c.in-Some.item
 next g c =
     let s = c.credentials.reader in

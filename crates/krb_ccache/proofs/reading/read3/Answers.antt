@@ -1,5 +1,5 @@
 use Rattle.krb_der.specs.inner.Numbers.{AreOctets-slice}
-use Rattle.krb_ccache.proofs.Answered.{found3, only3, refused3}
+use Rattle.krb_ccache.proofs.Results.{found3, only3, refused3}
 use Rattle.krb_ccache.proofs.reading.read3.Goals as goal
 
 pub returns-clause-found : goal.returns-clause-found

@@ -10,8 +10,8 @@ put-requires-clause-short g c =
       ap (λ value. length (g.T.Der.der value)) c.value-item.is,
     )
 
-pub put-requires-clause-room : goal.put-requires-clause-room
-put-requires-clause-room g c =
+pub put-requires-clause-capacity : goal.put-requires-clause-capacity
+put-requires-clause-capacity g c =
     omega (
       arith,
       length-flat_map-take g.T.Der.der c.args.values.now c.loop-value.value-index c.value-item.result (omega arith),

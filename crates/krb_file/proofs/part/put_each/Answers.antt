@@ -2,8 +2,8 @@ use Rattle.std.proofs.Common.{length, ap, arith}
 use Rattle.std.proofs.lemmas.List.Folds.{length-flat_map-take}
 use Rattle.krb_file.proofs.part.put_each.Goals as goal
 
-pub put-requires-clause-room : goal.put-requires-clause-room
-put-requires-clause-room g c =
+pub put-requires-clause-spare_capacity : goal.put-requires-clause-spare_capacity
+put-requires-clause-spare_capacity g c =
     omega (
       arith,
       length-flat_map-take g.K.Spelled.octets c.args.items.now c.loop-item.item-index c.item-item.result (omega arith),

@@ -12,7 +12,7 @@ overflow_sub-first c = omega (arith, c.len.ensures, c.in-Some.run'.now.ok.0, (fi
 pub returns-then-first-place : goal.returns-then-first-place
 returns-then-first-place c =
     let run = first (goal.at.returns-then-first-place c).In-Some in
-    (omega (arith, run.past), run.held (omega (arith, c.if-first-place.true, c.len.ensures, c.in-Some.run'.now.ok.0)))
+    (omega (arith, run.past), run.occupied (omega (arith, c.if-first-place.true, c.len.ensures, c.in-Some.run'.now.ok.0)))
 
 pub returns-else-first-place : goal.returns-else-first-place
 returns-else-first-place c =

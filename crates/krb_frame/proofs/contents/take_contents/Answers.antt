@@ -1,6 +1,6 @@
 use Rattle.std.proofs.Common.{◌≡◌, ◌+◌, ◌++◌, length, take, ◌∙◌, ap, arith}
 use Rattle.krb_scan.specs.Scanner.{profile_of}
-use Rattle.krb_frame.proofs.Takes.{extended, took, took-cut, took-at, took-early, took-taken, not_memory}
+use Rattle.krb_frame.proofs.FrameContents.{extended, took, took-cut, took-at, took-early, took-taken, not_memory}
 use Rattle.krb_frame.proofs.contents.take_contents.Goals as goal
 
 pub status_after-requires : goal.status_after-requires
@@ -19,4 +19,4 @@ returns c =
     let before : c.len-before.result ≡ length c.args.contents.now.items = omega arith in
     let cut : c.truncate.new.self.items ≡ c.args.contents.now.items ++ take c.take-taken.result.used c.args.piece.now =
     c.truncate.ensures.items ∙ ap (λ n. take (n + c.take-taken.result.used) c.extend_from_slice.new.self.items) before ∙ took-cut _ _ _ _ _ _ _ _ t c.extend_from_slice.new.self.items held in
-    rw (cut, c.status_after.ensures) (record { taken = took-taken _ _ _ _ _ _ _ _ t; scanned = took-at _ _ _ _ _ _ _ _ t; profile = e.profile; looks = e.ledger; room = record { octets = omega (arith, c.extend_from_slice.ensures.capacity, c.truncate.ensures.capacity); marks = e.room }; enough = λ octets marks. not_memory c.take-taken.result.verdict (e.enough _ _ _ r.scanned marks) })
+    rw (cut, c.status_after.ensures) (record { taken = took-taken _ _ _ _ _ _ _ _ t; scanned = took-at _ _ _ _ _ _ _ _ t; profile = e.profile; looks = e.ledger; capacity = record { octets = omega (arith, c.extend_from_slice.ensures.capacity, c.truncate.ensures.capacity); marks = e.capacity }; enough = λ octets marks. not_memory c.take-taken.result.verdict (e.enough _ _ _ r.scanned marks) })

@@ -9,8 +9,8 @@ returns-in-Ok c = record {
   scanned = c.clear.ensures.at;
   profile = c.clear.ensures.profile;
   looks = c.clear.ensures.ledger;
-  room = c.clear.ensures.room;
+  capacity = c.clear.ensures.capacity;
 }
 
 pub returns-in-Err : goal.returns-in-Err
-returns-in-Err c = record { judged = record { at = c.in-Err.ensures (messages (profile_of c.args.scanner.now)); all = refl }; scanned = inl refl; profile = refl; looks = refl; room = omega arith }
+returns-in-Err c = record { judged = record { at = c.in-Err.ensures (messages (profile_of c.args.scanner.now)); all = refl }; scanned = inl refl; profile = refl; looks = refl; capacity = omega arith }

@@ -1,5 +1,5 @@
 use Rattle.std.proofs.Common.{sym, ◌∙◌, subst, arith}
-use Rattle.krb_frame.proofs.Founds.{Announces, from_be_bytes-number, high, long, empty}
+use Rattle.krb_frame.proofs.DecoderFrames.{Announces, from_be_bytes-number, high, long, empty}
 use Rattle.krb_frame.proofs.length.accepted_size.Goals as goal
 
 pub returns-then-size : goal.returns-then-size

@@ -23,29 +23,29 @@ contents-returns-in-Items t c =
 pub contents-returns-in-Item : goal.contents-returns-in-Item
 contents-returns-in-Item t c = c.only.ensures ∙ sym (only_of c.in-Item.node (term_at c.args.node) c.in-Item.ensures c.args.before c.args.size c.args.octets.now)
 
-pub front_item-overflow_add-result : goal.front_item-overflow_add-result
-front_item-overflow_add-result t c =
+pub leading_item-overflow_add-result : goal.leading_item-overflow_add-result
+leading_item-overflow_add-result t c =
     let left = c.requires.left in
     omega (arith, left.present, left.short, refused (term_at c.args.node) c.args.left.room false c.args.left.octets.now c.in-Bad.offset c.in-Bad.why left.present c.in-Bad.ensures)
 
-pub front_item-overflow_add-result-in-Done : goal.front_item-overflow_add-result-in-Done
-front_item-overflow_add-result-in-Done t c =
+pub leading_item-overflow_add-result-in-Done : goal.leading_item-overflow_add-result-in-Done
+leading_item-overflow_add-result-in-Done t c =
     let left = c.requires.left in
     omega (arith, left.present, left.short, taken (term_at c.args.node) c.args.left.room false c.args.left.octets.now c.in-Done.count left.present c.in-Done.ensures)
 
-pub front_item-overflow_sub-result : goal.front_item-overflow_sub-result
-front_item-overflow_sub-result t c =
+pub leading_item-overflow_sub-result : goal.leading_item-overflow_sub-result
+leading_item-overflow_sub-result t c =
     let left = c.requires.left in
     omega (arith, left.present, taken (term_at c.args.node) c.args.left.room false c.args.left.octets.now c.in-Done.count left.present c.in-Done.ensures)
 
-pub front_item-slice_bounds-result-count : goal.front_item-slice_bounds-result-count
-front_item-slice_bounds-result-count t c = taken (term_at c.args.node) c.args.left.room false c.args.left.octets.now c.in-Done.count c.requires.left.present c.in-Done.ensures
+pub leading_item-slice_bounds-result-count : goal.leading_item-slice_bounds-result-count
+leading_item-slice_bounds-result-count t c = taken (term_at c.args.node) c.args.left.room false c.args.left.octets.now c.in-Done.count c.requires.left.present c.in-Done.ensures
 
-pub front_item-slice_bounds-result-start : goal.front_item-slice_bounds-result-start
-front_item-slice_bounds-result-start t c = taken (term_at c.args.node) c.args.left.room false c.args.left.octets.now c.in-Done.count c.requires.left.present c.in-Done.ensures
+pub leading_item-slice_bounds-result-start : goal.leading_item-slice_bounds-result-start
+leading_item-slice_bounds-result-start t c = taken (term_at c.args.node) c.args.left.room false c.args.left.octets.now c.in-Done.count c.requires.left.present c.in-Done.ensures
 
-pub front_item-returns-in-Done : goal.front_item-returns-in-Done
-front_item-returns-in-Done t c = next_of (term_at c.args.node) c.args.left _ c.in-Done.count c.requires.left c.in-Done.ensures refl refl refl
+pub leading_item-returns-in-Done : goal.leading_item-returns-in-Done
+leading_item-returns-in-Done t c = next_of (term_at c.args.node) c.args.left _ c.in-Done.count c.requires.left c.in-Done.ensures refl refl refl
 
 pub items-loop-left-preserved : goal.items-loop-left-preserved
 items-loop-left-preserved t c =

@@ -6,15 +6,15 @@ use Rattle.krb_msg.specs.Table.{fields_from}
 use Rattle.krb_judge.specs.inner.Outcomes.{IsLeft, outcome_in}
 use Rattle.krb_judge.proofs.judging.+judge.Given as goal
 
--- how deep items still stand in one another
+-- how deep items may still be nested
 abbrev pub decreases-item : goal.decreases-item
 decreases-item l = 8 * depth (term_at l.node) + 2
 
 abbrev pub decreases-contents : goal.decreases-contents
 decreases-contents l = 8 * depth (term_at l.node) + 1
 
-abbrev pub decreases-front_item : goal.decreases-front_item
-decreases-front_item l = 8 * depth (term_at l.node) + 3
+abbrev pub decreases-leading_item : goal.decreases-leading_item
+decreases-leading_item l = 8 * depth (term_at l.node) + 3
 
 abbrev pub decreases-only : goal.decreases-only
 decreases-only l = 8 * depth (term_at l.node) + 3

@@ -1,5 +1,5 @@
 use Rattle.krb_der.specs.inner.Numbers.{AreOctets-slice}
-use Rattle.krb_keytab.proofs.Answered.{found, only, refused}
+use Rattle.krb_keytab.proofs.Results.{found, only, refused}
 use Rattle.krb_keytab.proofs.reading.read.Goals as goal
 
 pub returns-clause-found : goal.returns-clause-found

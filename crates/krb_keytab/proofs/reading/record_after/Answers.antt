@@ -1,4 +1,4 @@
-use Rattle.krb_file.specs.Fields.{named}
+use Rattle.krb_file.specs.Fields.{with_name}
 use Rattle.krb_file.specs.FieldReaders.{skipped_at}
 use Rattle.krb_file.specs.declared.field_name.FieldName.TheVariants as fields
 use Rattle.krb_file.proofs.FieldReaders.{is_read}
@@ -8,10 +8,10 @@ use Rattle.krb_keytab.proofs.reading.record_after.Goals as goal
 
 pub returns-in_ok-clean-clause-read : goal.returns-in_ok-clean-clause-read
 returns-in_ok-clean-clause-read g c =
-    hole_read c.args.length c.unsigned_abs-size.result c.from-else-length-gt0.result c.of.result c.in_ok-clean.clean (g.F.FieldReader.held c.args.reader.now) (g.F.FieldReader.held c.skip_field.new.self)
-    c.ranges.length c.if-length-eq0.false c.if-length-gt0.false c.unsigned_abs-size.ensures.value c.from-else-length-gt0.ensures c.of.ensures (is_read (named fields.Hole) (skipped_at c.from-else-length-gt0.result) c.in_ok-clean.ensures.read)
+    hole_read c.args.length c.unsigned_abs-size.result c.from-else-length-gt0.result c.of.result c.in_ok-clean.clean (g.F.FieldReader.cursor c.args.reader.now) (g.F.FieldReader.cursor c.skip_field.new.self)
+    c.ranges.length c.if-length-eq0.false c.if-length-gt0.false c.unsigned_abs-size.ensures.value c.from-else-length-gt0.ensures c.of.ensures (is_read (with_name fields.Hole) (skipped_at c.from-else-length-gt0.result) c.in_ok-clean.ensures.read)
 
 pub returns-in_ok-entry-clause-stays : goal.returns-in_ok-entry-clause-stays
 returns-in_ok-entry-clause-stays g c =
-    entry_stays c.unsigned_abs-size.result c.from.result c.in_ok-entry.entry (g.F.FieldReader.held c.args.reader.now) (g.F.FieldReader.held c.look_ahead.new.self) (g.F.FieldReader.held c.entry_within.new.reader)
+    entry_stays c.unsigned_abs-size.result c.from.result c.in_ok-entry.entry (g.F.FieldReader.cursor c.args.reader.now) (g.F.FieldReader.cursor c.look_ahead.new.self) (g.F.FieldReader.cursor c.entry_within.new.reader)
     c.from.ensures c.in_ok-look_ahead.ensures.looks c.in_ok-entry.ensures.read c.in_ok-entry.ensures.stays

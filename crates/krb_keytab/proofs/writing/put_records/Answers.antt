@@ -7,8 +7,8 @@ use Rattle.krb_keytab.proofs.writing.put_records.Goals as goal
 pub put_record-requires-clause-fault : goal.put_record-requires-clause-fault
 put_record-requires-clause-fault c = fault-none c.args.records.now c.loop-record.record-index c.record-item.result c.loop-record-test.true c.record-item.is c.requires.fault
 
-pub put_record-requires-clause-room : goal.put_record-requires-clause-room
-put_record-requires-clause-room c =
+pub put_record-requires-clause-spare_capacity : goal.put_record-requires-clause-spare_capacity
+put_record-requires-clause-spare_capacity c =
     omega (
       arith,
       length-flat_map-take written_record c.args.records.now c.loop-record.record-index c.record-item.result (omega arith),

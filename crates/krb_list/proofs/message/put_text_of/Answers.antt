@@ -2,11 +2,11 @@ use Rattle.std.proofs.Common.{◌≡◌, ◌++◌, length, string_bytes, ap, sub
 use Rattle.krb_der.specs.declared.profile.Profile.TheVariants.{Lenient}
 use Rattle.krb_der.specs.declared.verdict.Verdict.TheVariants.{Whole}
 use Rattle.krb_msg.specs.Judgement.{judgement}
-use Rattle.krb_msg.specs.Reading.{message_read}
-use Rattle.krb_msg.specs.Seen.{message_seen}
+use Rattle.krb_msg.specs.ValueOfDer.{message_of_der}
+use Rattle.krb_msg.specs.ViewValues.{message_of_view}
 use Rattle.krb_msg.specs.Views.{message_der}
 use Rattle.krb_msg.proofs.Judged.{message_is_whole}
-use Rattle.krb_msg.proofs.MessageRead.{message_is_read}
+use Rattle.krb_msg.proofs.MessageOfDer.{message_of_der_is_message}
 use Rattle.krb_list.specs.Messages.{message_text}
 use Rattle.krb_list.proofs.message.put_text_of.Goals as goal
 
@@ -20,5 +20,5 @@ unreachable-requires c =
 pub returns : goal.returns
 returns c =
     let octets : c.as_slice.result.now ≡ message_der c.args.message.now = c.as_slice.ensures.value ∙ c.in-Ok.ensures.octets in
-    let same : message_seen c.in-Some.view ≡ c.args.message.now = c.in-Some.ensures.read ∙ ap message_read octets ∙ message_is_read Lenient c.args.message.now c.in-Ok.ensures.in_profile in
+    let same : message_of_view c.in-Some.view ≡ c.args.message.now = c.in-Some.ensures.read ∙ ap message_of_der octets ∙ message_of_der_is_message Lenient c.args.message.now c.in-Ok.ensures.in_profile in
     subst (λ m. string_bytes c.put_text.new.text ≡ string_bytes c.args.text.now ++ message_text c.args.form m) same c.in_ok-put_text.ensures

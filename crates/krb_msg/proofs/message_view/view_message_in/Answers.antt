@@ -2,7 +2,7 @@ use Rattle.std.proofs.Common.{◌≡◌, length, sym, subst}
 use Rattle.std.specs.Prelude.{MatchOption}
 use Rattle.krb_der.specs.declared.verdict.Verdict.TheVariants.{Whole}
 use Rattle.krb_msg.specs.Judgement.{judgement}
-use Rattle.krb_msg.specs.Seen.{IsMessageView}
+use Rattle.krb_msg.specs.ViewValues.{IsMessageView}
 use Rattle.krb_msg.proofs.FieldViews.{match_map}
 use Rattle.krb_msg.proofs.message_view.view_message_in.Goals as goal
 

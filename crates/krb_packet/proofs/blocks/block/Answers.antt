@@ -1,6 +1,6 @@
 use Rattle.std.proofs.Common.{ℕ, ◌+◌, ap}
 use Rattle.std.proofs.lemmas.Result.{err_from_is_err_and}
-use Rattle.krb_packet.proofs.Told.{end_fails}
+use Rattle.krb_packet.proofs.BodyContents.{end_fails}
 use Rattle.krb_packet.proofs.blocks.block.Goals as goal
 
 pub returns-in_err-end-clause-read : goal.returns-in_err-end-clause-read
@@ -8,5 +8,5 @@ returns-in_err-end-clause-read g c =
     let p = err_from_is_err_and c.from_residual-in_err-end.result c.from_residual-in_err-end.ensures.1 in
     rw (p.1, p.2)
     (end_fails c.args.kind c.args.section.now c.args.count g.F.FieldReader.MayFail c.in_ok-head.head c.in_ok-content.content (c.place-place.result + 4) c.in_err-end.field-0.0.fault c.in_err-end.field-0.0.field
-    (g.F.FieldReader.held c.args.reader.now) (g.F.FieldReader.held c.head.new.reader) (g.F.FieldReader.held c.body.new.reader) (ap (λ (n : ℕ). n + 4) c.place-place.ensures.value)
+    (g.F.FieldReader.cursor c.args.reader.now) (g.F.FieldReader.cursor c.head.new.reader) (g.F.FieldReader.cursor c.body.new.reader) (ap (λ (n : ℕ). n + 4) c.place-place.ensures.value)
     c.in_ok-head.ensures.read c.in_ok-content.ensures.read c.in_err-end.ensures.read)

@@ -6,6 +6,6 @@ use Rattle.krb_packet.proofs.interface.read_options.Given as goal
 
 abbrev pub invariant-loop : goal.invariant-loop
 invariant-loop g l = record {
-  on : Continues (options_within l.most l.order no_options) (options_within (l.most - l.counter) l.order l.options) (g.F.FieldReader.held l.fn.reader) (g.F.FieldReader.held l.reader);
-  keeps : Keeps (g.F.FieldReader.held l.fn.reader) (g.F.FieldReader.held l.reader);
+  on : Continues (options_within l.most l.order no_options) (options_within (l.most - l.counter) l.order l.options) (g.F.FieldReader.cursor l.fn.reader) (g.F.FieldReader.cursor l.reader);
+  keeps : Keeps (g.F.FieldReader.cursor l.fn.reader) (g.F.FieldReader.cursor l.reader);
 }

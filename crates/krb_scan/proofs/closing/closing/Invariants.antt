@@ -1,4 +1,4 @@
-use Rattle.krb_scan.proofs.Frames.{Passes}
+use Rattle.krb_scan.proofs.Containers.{Passes}
 use Rattle.krb_scan.proofs.closing.closing.Given as goal
 
 -- the containers passed so far are full

@@ -10,4 +10,4 @@ unfolding refused_path
 returns-then-octets-gt-MOST_OCTETS-clause-path c = ap (path_in c.args.form) (rw (lt-ltb 2147483647 (length c.args.octets.now) (omega arith)) refl)
 
 pub returns-clause-path : goal.returns-clause-path
-returns-clause-path c = ap (path_in c.args.form) (c.in_ok-path.ensures ∙ short_path c.args.profile c.args.octets.now c.args.refusal (length c.args.octets.now) c.min-front.result (omega arith) refl c.min-front.ensures)
+returns-clause-path c = ap (path_in c.args.form) (c.in_ok-path.ensures ∙ short_path c.args.profile c.args.octets.now c.args.refusal (length c.args.octets.now) c.min-prefix.result (omega arith) refl c.min-prefix.ensures)

@@ -12,7 +12,7 @@ returns-in_err-write_early g c = λ left is_left.
     let p = err_from_is_err_and c.from_residual.result c.from_residual.ensures.1 in
     let listed = c.records.invariant left is_left in
     let all = after_line (string_bytes c.args.text.now) left in
-    rw (p.1, p.2) (write-fault all _ _ _ c.in_err-write_early.ensures.fault (write-fails _ _ _ _ _ listed _ c.in_err-write_early.ensures.front))
+    rw (p.1, p.2) (write-fault all _ _ _ c.in_err-write_early.ensures.fault (write-fails _ _ _ _ _ listed _ c.in_err-write_early.ensures.prefix))
 
 pub returns-in_err-ended : goal.returns-in_err-ended
 returns-in_err-ended g c = λ left is_left.
@@ -27,7 +27,7 @@ returns-in_err-write_all g c = λ left is_left.
     let after = g.L.RecordLines.IsLeft c.put_next.new.self (suc c.records.count) in
     let adds = rw c.in-Some.is at (c.in_ok-ended.ensures.line listed.left listed.is_left) in
     let all = after_line (string_bytes c.args.text.now) left in
-    rw (p.1, p.2) (write-fault all _ _ _ c.in_err-write_all.ensures.fault (last-fails _ _ _ _ _ listed after _ _ _ adds (rw c.as_bytes.ensures.value at c.in_err-write_all.ensures.front)))
+    rw (p.1, p.2) (write-fault all _ _ _ c.in_err-write_all.ensures.fault (last-fails _ _ _ _ _ listed after _ _ _ adds (rw c.as_bytes.ensures.value at c.in_err-write_all.ensures.prefix)))
 
 pub returns-in-Some : goal.returns-in-Some
 returns-in-Some g c = λ left is_left.

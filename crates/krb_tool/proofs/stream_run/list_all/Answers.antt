@@ -1,8 +1,8 @@
 use Rattle.std.proofs.Common.{◌∙◌, ◌^◌, ◌≤◌, refl, subst, arith, rules}
 use Rattle.std.specs.Io.KnownBytes.{Appends}
 use Rattle.std.proofs.lemmas.Result.{err_from_is_err_and}
-use Rattle.krb_tool.specs.Files.{AddsFront}
-use Rattle.krb_tool.proofs.StreamRuns.{runs_on, is_over, MayTake-runs, Runs-written, Fails-written, MayFinish-over, Fails-ended, Lists-made, Fails-last, Runs-start, Fails-start}
+use Rattle.krb_tool.specs.Files.{AppendsPrefix}
+use Rattle.krb_tool.proofs.StreamRuns.{runs_on, is_over, AcceptsPiece-runs, Runs-written, Fails-written, MayFinish-over, Fails-ended, Lists-made, Fails-last, Runs-start, Fails-start}
 use Rattle.krb_tool.proofs.stream_run.list_all.Goals as goal
 
 pub returns-in_err-buffer-clause-fault : goal.returns-in_err-buffer-clause-fault
@@ -17,7 +17,7 @@ pieces-init g c = record {
 }
 
 pub feed_next-requires-clause-waits : goal.feed_next-requires-clause-waits
-feed_next-requires-clause-waits g c = MayTake-runs c.pieces.invariant.runs c.pieces.asked.few
+feed_next-requires-clause-waits g c = AcceptsPiece-runs c.pieces.invariant.runs c.pieces.asked.few
 
 pub returns-in_err-feed_next-clause-fault : goal.returns-in_err-feed_next-clause-fault
 returns-in_err-feed_next-clause-fault g c =
@@ -27,8 +27,8 @@ returns-in_err-feed_next-clause-fault g c =
 pub returns-in_err-write_all-clause-fault : goal.returns-in_err-write_all-clause-fault
 returns-in_err-write_all-clause-fault g c =
     let runs = runs_on _ c.if-branch.true (c.in_ok-feed_next.ensures.fed _ _ _ _ c.pieces.invariant.runs) in
-    let front = subst (AddsFront _ _) (c.as_bytes.ensures.value ∙ c.text.ensures) c.in_err-write_all.ensures.front in
-    Fails-written _ _ runs (search rules) front
+    let prefix = subst (AppendsPrefix _ _) (c.as_bytes.ensures.value ∙ c.text.ensures) c.in_err-write_all.ensures.prefix in
+    Fails-written _ _ runs (search rules) prefix
 
 pub pieces-smaller : goal.pieces-smaller
 pieces-smaller g c =
@@ -58,8 +58,8 @@ returns-in_err-ended-clause-fault g c =
 pub returns-in_err-write_all-2-clause-fault : goal.returns-in_err-write_all-2-clause-fault
 returns-in_err-write_all-2-clause-fault g c =
     let over = is_over _ c.if-branch.false (c.in_ok-feed_next.ensures.fed _ _ _ _ c.pieces.invariant.runs) in
-    let front = subst (AddsFront _ _) (c.as_bytes-2.ensures.value ∙ c.text-2.ensures) c.in_err-write_all-2.ensures.front in
-    Fails-last g.L.ListStream.rules _ _ (g.L.ListStream.listing c.finish.new.self) _ over c.in_ok-ended.ensures.finished (search rules) front
+    let prefix = subst (AppendsPrefix _ _) (c.as_bytes-2.ensures.value ∙ c.text-2.ensures) c.in_err-write_all-2.ensures.prefix in
+    Fails-last g.L.ListStream.rules _ _ (g.L.ListStream.listing c.finish.new.self) _ over c.in_ok-ended.ensures.finished (search rules) prefix
 
 pub returns-clause-listed : goal.returns-clause-listed
 returns-clause-listed g c =

@@ -1,7 +1,7 @@
 use Rattle.std.specs.Int.{w8}
-use Rattle.krb_file.specs.Fields.{named, number_at}
+use Rattle.krb_file.specs.Fields.{with_name, number_at}
 use Rattle.krb_file.proofs.FieldReaders.{follows_so}
 use Rattle.krb_file.proofs.field_reader.FieldReader.field8.Goals as goal
 
 pub returns-clause-read : goal.returns-clause-read
-returns-clause-read g c = rw c.called.ensures (follows_so (named c.args.name) (number_at w8) (λ x. x) c.number8.result g.Self.FieldReader.MayFail (g.Self.FieldReader.held c.args.self.now) (g.Self.FieldReader.held c.number8.new.self) c.number8.ensures.read)
+returns-clause-read g c = rw c.called.ensures (follows_so (with_name c.args.name) (number_at w8) (λ x. x) c.number8.result g.Self.FieldReader.MayFail (g.Self.FieldReader.cursor c.args.self.now) (g.Self.FieldReader.cursor c.number8.new.self) c.number8.ensures.read)

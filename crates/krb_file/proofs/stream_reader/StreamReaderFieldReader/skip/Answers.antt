@@ -5,6 +5,6 @@ use Rattle.krb_file.proofs.stream_reader.StreamReaderFieldReader.skip.Goals as g
 
 pub pieces-preserved : goal.pieces-preserved
 pieces-preserved g c = record {
-  passes = Passes-more c.args.self.now c.pieces.self c.take_all.new.self c.pieces.zeros c.are_zero-more.result c.pieces.left c.min-room.result c.args.size c.take_all.new.octets c.pieces.invariant.passes c.in_ok-take_all.ensures.taken (omega (arith, c.take_all.auto.octets, c.min-room.ensures, length-take c.min-room.result c.pieces.buffer, c.min-room.array_long)) (omega (arith, c.min-room.ensures)) c.are_zero-more.ensures;
+  passes = Passes-more c.args.self.now c.pieces.self c.take_all.new.self c.pieces.zeros c.are_zero-more.result c.pieces.left c.min-count.result c.args.size c.take_all.new.octets c.pieces.invariant.passes c.in_ok-take_all.ensures.taken (omega (arith, c.take_all.auto.octets, c.min-count.ensures, length-take c.min-count.result c.pieces.buffer, c.min-count.array_long)) (omega (arith, c.min-count.ensures)) c.are_zero-more.ensures;
   stays = Stays-then c.pieces.invariant.stays c.take_all.ensures.stays;
 }

@@ -8,31 +8,31 @@ use Rattle.krb_flow.proofs.waiting.Runs.pass.Goals as goal
 use Rattle.krb_flow.proofs.waiting.Runs.pass.Goals.{In_ok-release}
 
 whole : (c : In_ok-release) → c.split_at.result.0.now ++ c.split_at.result.1.now ≡ c.args.octets.now
-whole c = rw (c.split_at.ensures.front, c.split_at.ensures.back) (take-append-drop c.front.result c.args.octets.now)
+whole c = rw (c.split_at.ensures.front, c.split_at.ensures.back) (take-append-drop c.prefix.result c.args.octets.now)
 
-kept : (c : In_ok-release) → c.keep.new.self ≡ keep (c.args.due + length c.split_at.result.0.now + c.args.ahead) c.split_at.result.1.now c.args.self.now
-kept c = subst (λ (n : ℕ). c.keep.new.self ≡ keep (c.args.due + length c.split_at.result.0.now + n) c.split_at.result.1.now c.args.self.now) c.from.ensures c.in_ok-keep.ensures
+kept : (c : In_ok-release) → c.keep.new.self ≡ keep (c.args.expected + length c.split_at.result.0.now + c.args.ahead) c.split_at.result.1.now c.args.self.now
+kept c = subst (λ (n : ℕ). c.keep.new.self ≡ keep (c.args.expected + length c.split_at.result.0.now + n) c.split_at.result.1.now c.args.self.now) c.from.ensures c.in_ok-keep.ensures
 
-goes_first : (c : In_ok-release) → GoesFirst c.args.due c.args.ahead c.split_at.result.0.now c.args.self.now
+goes_first : (c : In_ok-release) → GoesFirst c.args.expected c.args.ahead c.split_at.result.0.now c.args.self.now
 goes_first c =
-    let same : length c.split_at.result.0.now ≡ c.front.result = omega arith in
+    let same : length c.split_at.result.0.now ≡ c.prefix.result = omega arith in
     record {
-      here = λ some. c.front.ensures.here (omega arith);
-      before = λ some. subst (λ (n : ℕ). All (λ place. c.args.due + n ≤ place) (keys_of c.args.self.now)) (sym same) (c.front.ensures.before (omega arith));
+      here = λ some. c.prefix.ensures.here (omega arith);
+      before = λ some. subst (λ (n : ℕ). All (λ place. c.args.expected + n ≤ place) (keys_of c.args.self.now)) (sym same) (c.prefix.ensures.before (omega arith));
     }
 
 pub returns-clause-octets : goal.returns-clause-octets
 returns-clause-octets c =
-    let front = c.split_at.result.0.now in
-    let due = c.args.due + length front in
-    ap (λ (octets : List ℕ). front ++ octets) (c.in_ok-release.ensures.octets ∙ ap (ready due) (kept c))
-    ∙ sym (first_are_ready c.args.due c.args.ahead front c.split_at.result.1.now c.args.self.now (goes_first c))
-    ∙ ap (λ (octets : List ℕ). ready c.args.due (keep (c.args.due + c.args.ahead) octets c.args.self.now)) (whole c)
+    let prefix = c.split_at.result.0.now in
+    let expected = c.args.expected + length prefix in
+    ap (λ (octets : List ℕ). prefix ++ octets) (c.in_ok-release.ensures.octets ∙ ap (ready expected) (kept c))
+    ∙ sym (first_are_ready c.args.expected c.args.ahead prefix c.split_at.result.1.now c.args.self.now (goes_first c))
+    ∙ ap (λ (octets : List ℕ). ready c.args.expected (keep (c.args.expected + c.args.ahead) octets c.args.self.now)) (whole c)
 
 pub returns-clause-waiting : goal.returns-clause-waiting
 returns-clause-waiting c =
-    let front = c.split_at.result.0.now in
+    let prefix = c.split_at.result.0.now in
     c.in_ok-release.ensures.waiting
-    ∙ ap (early (c.args.due + length front)) (kept c)
-    ∙ sym (first_leave c.args.due c.args.ahead front c.split_at.result.1.now c.args.self.now (goes_first c))
-    ∙ ap (λ (octets : List ℕ). early c.args.due (keep (c.args.due + c.args.ahead) octets c.args.self.now)) (whole c)
+    ∙ ap (early (c.args.expected + length prefix)) (kept c)
+    ∙ sym (first_leave c.args.expected c.args.ahead prefix c.split_at.result.1.now c.args.self.now (goes_first c))
+    ∙ ap (λ (octets : List ℕ). early c.args.expected (keep (c.args.expected + c.args.ahead) octets c.args.self.now)) (whole c)

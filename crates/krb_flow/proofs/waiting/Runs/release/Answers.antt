@@ -8,12 +8,12 @@ use Rattle.krb_flow.proofs.waiting.Runs.release.Goals.{After-pop_first, Then-end
 pub overflow_sub-end : goal.overflow_sub-end
 overflow_sub-end c = omega (arith, c.len-count.ensures, c.in-Some.run'.now.ok.0, first_fits 0 c.loop-end.self-inside.runs.entries _ c.loop-end.invariant.apart c.in-Some.ensures.first)
 
--- the first run is due
-goes : (c : After-pop_first) → GoesOut (c.args.due + length c.loop-end.released.items) c.in-Some.run'.now c.loop-end.self-inside.runs.entries c.pop_first.new.self.entries
+-- the first run is at the place expected
+goes : (c : After-pop_first) → GoesOut (c.args.expected + length c.loop-end.released.items) c.in-Some.run'.now c.loop-end.self-inside.runs.entries c.pop_first.new.self.entries
 goes c =
-    let due = c.args.due + length c.loop-end.released.items in
-    let here : c.in-Some.field-0-0.now - length c.in-Some.run'.now.items ≡ due = omega (arith, c.if-end-count.false, c.len-count.ensures, c.in-Some.run'.now.ok.0, c.len.ensures, c.loop-end.released.ok.0) in
-    pops_out due c.loop-end.self-inside.runs.entries c.pop_first.new.self.entries c.pop_first.result (c.in-Some.field-0-0.now, c.in-Some.run'.now) c.loop-end.invariant.apart c.in-Some.ensures.first c.pop_first.ensures.variant.1 c.pop_first.ensures.removal here
+    let expected = c.args.expected + length c.loop-end.released.items in
+    let here : c.in-Some.field-0-0.now - length c.in-Some.run'.now.items ≡ expected = omega (arith, c.if-end-count.false, c.len-count.ensures, c.in-Some.run'.now.ok.0, c.len.ensures, c.loop-end.released.ok.0) in
+    pops_out expected c.loop-end.self-inside.runs.entries c.pop_first.new.self.entries c.pop_first.result (c.in-Some.field-0-0.now, c.in-Some.run'.now) c.loop-end.invariant.apart c.in-Some.ensures.first c.pop_first.ensures.variant.1 c.pop_first.ensures.removal here
 
 pub overflow_sub-self : goal.overflow_sub-self
 overflow_sub-self c = omega (arith, (goes (goal.at.overflow_sub-self c).After-pop_first).count, c.loop-end.invariant.counted, c.len-count.ensures, c.in-Some.run'.now.ok.0)
@@ -21,7 +21,7 @@ overflow_sub-self c = omega (arith, (goes (goal.at.overflow_sub-self c).After-po
 pub loop-end-preserved : goal.loop-end-preserved
 loop-end-preserved c =
     let out = goes (goal.at.loop-end-preserved c).After-pop_first in
-    let more = released_more c.args.due c.loop-end.released.items c.as_slice.result.now c.extend_from_slice.new.self.items c.loop-end.self-inside.runs.entries c.pop_first.new.self.entries c.in-Some.run'.now (sym c.as_slice.ensures.value) c.in_ok-extend_from_slice.ensures.items out in
+    let more = released_more c.args.expected c.loop-end.released.items c.as_slice.result.now c.extend_from_slice.new.self.items c.loop-end.self-inside.runs.entries c.pop_first.new.self.entries c.in-Some.run'.now (sym c.as_slice.ensures.value) c.in_ok-extend_from_slice.ensures.items out in
     record {
       ready = more.0 ∙ c.loop-end.invariant.ready;
       early = more.1 ∙ c.loop-end.invariant.early;
@@ -29,9 +29,9 @@ loop-end-preserved c =
       apart = out.apart;
     }
 
--- the first run is not due
-stays : (c : Then-end-count) → let due = c.args.due + length c.loop-end.released.items in let left = waiting_in c.loop-end.self-inside.runs.entries in (ready due left ≡ []) × (early due left ≡ left)
-stays c = goes_on_waiting (c.args.due + length c.loop-end.released.items) 0 c.loop-end.self-inside.runs.entries (c.in-Some.field-0-0.now, c.in-Some.run'.now) c.loop-end.invariant.apart c.in-Some.ensures.first (λ same. c.if-end-count.true (omega (arith, c.len-count.ensures, c.in-Some.run'.now.ok.0, c.len.ensures, c.loop-end.released.ok.0)))
+-- the first run is at a later place
+stays : (c : Then-end-count) → let expected = c.args.expected + length c.loop-end.released.items in let left = waiting_in c.loop-end.self-inside.runs.entries in (ready expected left ≡ []) × (early expected left ≡ left)
+stays c = goes_on_waiting (c.args.expected + length c.loop-end.released.items) 0 c.loop-end.self-inside.runs.entries (c.in-Some.field-0-0.now, c.in-Some.run'.now) c.loop-end.invariant.apart c.in-Some.ensures.first (λ same. c.if-end-count.true (omega (arith, c.len-count.ensures, c.in-Some.run'.now.ok.0, c.len.ensures, c.loop-end.released.ok.0)))
 
 pub returns-then-end-count-clause-octets : goal.returns-then-end-count-clause-octets
 returns-then-end-count-clause-octets c =

@@ -1,7 +1,7 @@
 use Rattle.krb_scan.specs.Scanner.{profile_of}
 use Rattle.krb_msg.specs.Grammar.{messages}
 use Rattle.std.proofs.Common.{◌≡◌, length, sym, ◌∙◌, ap, arith}
-use Rattle.krb_frame.proofs.Founds.{contents-at}
+use Rattle.krb_frame.proofs.DecoderFrames.{contents-at}
 use Rattle.krb_frame.proofs.decoder.Decoder.kept.Goals as goal
 
 pub returns-clause-value : goal.returns-clause-value

@@ -7,5 +7,5 @@ use Rattle.krb_frame.proofs.skipping.SkippingDecoder.feed.Goals as goal
 pub returns : goal.returns
 returns c =
     let d = c.self.inside in
-    let given = rw (take_rest c.args.piece.now c.min-count.result) at c.feed-fed.ensures in
-    rw (← c.self.view_is) (feeds-after_count (messages d.decoder.profile) (record { current = d.decoder; skipped = d.skipped }) (record { current = c.feed-fed.new.self; skipped = d.skipped - c.min-count.result }) c.args.piece.now c.feed-fed.result c.min-count.result c.min-count.ensures refl given)
+    let feeds = rw (take_rest c.args.piece.now c.min-count.result) at c.feed-fed.ensures in
+    rw (← c.self.view_is) (feeds-after_count (messages d.decoder.profile) (record { current = d.decoder; skipped = d.skipped }) (record { current = c.feed-fed.new.self; skipped = d.skipped - c.min-count.result }) c.args.piece.now c.feed-fed.result c.min-count.result c.min-count.ensures refl feeds)

@@ -1,6 +1,5 @@
-use Rattle.std.proofs.Common.{refl, subst, ap, sym, ◌∙◌}
+use Rattle.std.proofs.Common.{refl}
 use Rattle.krb_msg.specs.Grammar.{messages}
-use Rattle.krb_frame.specs.GoingOn.{ClearsEntry}
 use Rattle.krb_frame.proofs.Skips.{clears-entry}
 use Rattle.krb_frame.proofs.skipping.SkippingDecoder.next.Goals as goal
 

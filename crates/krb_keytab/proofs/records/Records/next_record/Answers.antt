@@ -1,7 +1,7 @@
 use Rattle.std.proofs.Common.{Some, Err, subst}
 use Rattle.krb_keytab.specs.declared.records.State.{State}
 use Rattle.krb_keytab.specs.declared.records.State.TheVariants as states
-use Rattle.krb_keytab.proofs.Streams.{opens, version_refused, not_done, not_failed, stands_in}
+use Rattle.krb_keytab.proofs.Streams.{opens, version_refused, not_done, not_failed, refusal_in_file}
 use Rattle.krb_keytab.specs.Streaming.{Reads, announced_in}
 use Rattle.krb_keytab.proofs.Reaching.{version_keeps, same_keeps}
 use Rattle.krb_keytab.proofs.records.Records.next_record.Goals as goal
@@ -20,16 +20,16 @@ returns-in-Failed-clause-refused g c = λ file limit count reads.
 
 pub returns-in-Ok-clause-refused : goal.returns-in-Ok-clause-refused
 returns-in-Ok-clause-refused g c = λ file limit count reads.
-    c.next_open.ensures.refused file limit count (opens (Some limit) file count c.in-Ok.field-0 c.args.self.now.reader c.version.new.self (subst (λ (s : State). Reads (Some limit) c.args.self.now.reader s file count) c.in-Start.is reads) c.in-Ok.ensures.read)
+    c.read_next.ensures.refused file limit count (opens (Some limit) file count c.in-Ok.field-0 c.args.self.now.reader c.version.new.self (subst (λ (s : State). Reads (Some limit) c.args.self.now.reader s file count) c.in-Start.is reads) c.in-Ok.ensures.read)
 
 pub returns-in-Err-clause-refused : goal.returns-in-Err-clause-refused
 returns-in-Err-clause-refused g c = λ file limit count reads.
-    stands_in (Some limit) file count (Err c.in-Err.fault) c.version.new.self (states.Failed c.in-Err.fault)
+    refusal_in_file (Some limit) file count (Err c.in-Err.fault) c.version.new.self (states.Failed c.in-Err.fault)
     (version_refused (Some limit) file count c.in-Err.fault (Unit {0}) (states.Failed c.in-Err.fault) c.args.self.now.reader c.version.new.self (subst (λ (s : State). Reads (Some limit) c.args.self.now.reader s file count) c.in-Start.is reads) c.in-Err.ensures.read)
 
 pub returns-in-Open-clause-refused : goal.returns-in-Open-clause-refused
 returns-in-Open-clause-refused g c = λ file limit count reads.
-    c.next_open-in-Open.ensures.refused file limit count (subst (λ (s : State). Reads (Some limit) c.args.self.now.reader s file count) c.in-Open.is reads)
+    c.read_next-in-Open.ensures.refused file limit count (subst (λ (s : State). Reads (Some limit) c.args.self.now.reader s file count) c.in-Open.is reads)
 
 pub returns-in-Err-clause-announced : goal.returns-in-Err-clause-announced
 returns-in-Err-clause-announced g c = rw c.in-Start.is (version_keeps c.args.self.now.reader c.version.new.self c.version.ensures.within)

@@ -1,10 +1,10 @@
 use Rattle.std.proofs.Common.{refl, arith}
 use Rattle.krb_msg.specs.Grammar.{ap_req}
-use Rattle.krb_msg.proofs.Puts.{has_room, is_put}
+use Rattle.krb_msg.proofs.Puts.{has_capacity, is_put}
 use Rattle.krb_msg.proofs.ap_req.ApReqDer.put.Goals as goal
 
 pub put-requires : goal.put-requires
-put-requires c = (omega arith, (refl, has_room ap_req c.args.out.now c.layout.ensures c.requires.short c.requires.room))
+put-requires c = (omega arith, (refl, has_capacity ap_req c.args.out.now c.layout.ensures c.requires.short c.requires.capacity))
 
 pub returns : goal.returns
 returns c = is_put ap_req c.layout.ensures c.put.ensures

@@ -1,11 +1,11 @@
 use Rattle.std.proofs.Common.{arith}
 use Rattle.krb_msg.specs.Term.{Application}
 use Rattle.krb_msg.specs.Grammar.{kdc_rep}
-use Rattle.krb_msg.proofs.Puts.{has_room, is_put}
+use Rattle.krb_msg.proofs.Puts.{has_capacity, is_put}
 use Rattle.krb_msg.proofs.kdc_rep.KdcRep.put.Goals as goal
 
 pub put-requires : goal.put-requires
-put-requires g c = (omega (arith, g.N.fits), (c.requires.tags, has_room (Application g.row.N (kdc_rep g.row.N)) c.args.out.now c.layout.ensures c.requires.short c.requires.room))
+put-requires g c = (omega (arith, g.N.fits), (c.requires.tags, has_capacity (Application g.row.N (kdc_rep g.row.N)) c.args.out.now c.layout.ensures c.requires.short c.requires.capacity))
 
 pub returns : goal.returns
 returns g c = is_put (Application g.row.N (kdc_rep g.row.N)) c.layout.ensures c.put.ensures

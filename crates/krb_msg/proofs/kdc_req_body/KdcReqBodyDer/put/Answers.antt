@@ -1,12 +1,12 @@
 use Rattle.krb_msg.specs.Grammar.{kdc_req_body}
-use Rattle.krb_msg.proofs.Puts.{has_room, is_put}
+use Rattle.krb_msg.proofs.Puts.{has_capacity, is_put}
 use Rattle.krb_msg.proofs.kdc_req_body.KdcReqBodyDer.put.Goals as goal
 
 pub put-requires-clause-short : goal.put-requires-clause-short
-put-requires-clause-short c = (has_room kdc_req_body c.args.out.now c.layout.ensures c.requires.short c.requires.room).0
+put-requires-clause-short c = (has_capacity kdc_req_body c.args.out.now c.layout.ensures c.requires.short c.requires.capacity).0
 
-pub put-requires-clause-room : goal.put-requires-clause-room
-put-requires-clause-room c = (has_room kdc_req_body c.args.out.now c.layout.ensures c.requires.short c.requires.room).1
+pub put-requires-clause-capacity : goal.put-requires-clause-capacity
+put-requires-clause-capacity c = (has_capacity kdc_req_body c.args.out.now c.layout.ensures c.requires.short c.requires.capacity).1
 
 pub returns : goal.returns
 returns c = is_put kdc_req_body c.layout.ensures c.put.ensures

@@ -1,10 +1,10 @@
 use Rattle.std.proofs.Common.{refl, arith}
 use Rattle.krb_msg.specs.Grammar.{krb_cred}
-use Rattle.krb_msg.proofs.Puts.{has_room, is_put}
+use Rattle.krb_msg.proofs.Puts.{has_capacity, is_put}
 use Rattle.krb_msg.proofs.krb_cred.KrbCredDer.put.Goals as goal
 
 pub put-requires : goal.put-requires
-put-requires c = (omega arith, (refl, has_room krb_cred c.args.out.now c.layout.ensures c.requires.short c.requires.room))
+put-requires c = (omega arith, (refl, has_capacity krb_cred c.args.out.now c.layout.ensures c.requires.short c.requires.capacity))
 
 pub returns : goal.returns
 returns c = is_put krb_cred c.layout.ensures c.put.ensures

@@ -1,5 +1,5 @@
 use Rattle.krb_msg.specs.declared.message_view.MessageView.TheVariants as view
-use Rattle.krb_msg.proofs.SeenFits.{fits_as}
+use Rattle.krb_msg.proofs.ViewValuesFit.{fits_as}
 use Rattle.krb_msg.proofs.message_view.MessageView.to_message.Goals as goal
 
 pub copy_kdc_req-requires-clause-fits : goal.copy_kdc_req-requires-clause-fits

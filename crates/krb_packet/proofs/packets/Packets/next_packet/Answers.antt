@@ -1,7 +1,7 @@
 use Rattle.std.proofs.Common.{◌≡◌, sym, ◌∙◌, subst}
 use Rattle.krb_packet.specs.declared.packets.State.{State}
 use Rattle.krb_packet.specs.declared.packets.State.TheVariants as states
-use Rattle.krb_packet.specs.Streaming.{Reading, Reads}
+use Rattle.krb_packet.specs.Streaming.{PacketsModel, Reads}
 use Rattle.krb_packet.proofs.Streams.{not_done, not_failed}
 use Rattle.krb_packet.proofs.packets.Packets.next_packet.Goals as goal
 
@@ -11,7 +11,7 @@ returns-in-Done-clause-next g c =
     let is : s.state ≡ states.Done = sym c.replace.ensures.value ∙ c.in-Done.is in
     rw (sym c.self.view_is)
     (λ file given reads. absurd (not_done file given s.count s.reader
-    (subst (λ (state : State). let reading : Reading = record { held = s.reader; state = state; count = s.count } in Reads reading file given) is reads)))
+    (subst (λ (state : State). let model : PacketsModel = record { cursor = s.reader; state = state; count = s.count } in Reads model file given) is reads)))
 
 pub returns-in-Failed-clause-next : goal.returns-in-Failed-clause-next
 returns-in-Failed-clause-next g c =
@@ -19,4 +19,4 @@ returns-in-Failed-clause-next g c =
     let is : s.state ≡ states.Failed c.in-Failed.fault = sym c.replace.ensures.value ∙ c.in-Failed.is in
     rw (sym c.self.view_is)
     (λ file given reads. absurd (not_failed file given s.count c.in-Failed.fault s.reader
-    (subst (λ (state : State). let reading : Reading = record { held = s.reader; state = state; count = s.count } in Reads reading file given) is reads)))
+    (subst (λ (state : State). let model : PacketsModel = record { cursor = s.reader; state = state; count = s.count } in Reads model file given) is reads)))

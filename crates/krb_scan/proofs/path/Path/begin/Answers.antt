@@ -1,15 +1,15 @@
 use Rattle.std.proofs.Common.{refl}
-use Rattle.krb_scan.proofs.Frames.{known_due}
+use Rattle.krb_scan.proofs.Containers.{known_expected}
 use Rattle.krb_scan.proofs.Picking.{none_begins, some_begins}
 use Rattle.krb_scan.proofs.path.Path.begin.Goals as goal
 
 pub pick-requires : goal.pick-requires
-pick-requires c = known_due c.args.self.now.inner c.args.self.now.outer.items c.requires.frames
+pick-requires c = known_expected c.args.self.now.inner c.args.self.now.outer.items c.requires.containers
 
-pub returns-in-None-clause-taken : goal.returns-in-None-clause-taken
-returns-in-None-clause-taken c = λ stack marks frames e.
-    none_begins c.args.self.now _ c.args.octet _ stack marks frames c.in-None.ensures c.refused.ensures (record { tip = refl; inner = refl; outer = refl; marks = refl })
+pub returns-in-None-clause-step : goal.returns-in-None-clause-step
+returns-in-None-clause-step c = λ stack marks containers e.
+    none_begins c.args.self.now _ c.args.octet _ stack marks containers c.in-None.ensures c.refused.ensures (record { tip = refl; inner = refl; outer = refl; marks = refl })
 
-pub returns-in-Some-2-clause-taken : goal.returns-in-Some-2-clause-taken
-returns-in-Some-2-clause-taken c = λ stack marks frames e.
-    some_begins c.args.self.now _ c.args.octet c.in-Some.field-0 _ stack marks frames e c.in-Some.ensures c.place_at.ensures c.if-self.false refl refl refl refl
+pub returns-in-Some-2-clause-step : goal.returns-in-Some-2-clause-step
+returns-in-Some-2-clause-step c = λ stack marks containers e.
+    some_begins c.args.self.now _ c.args.octet c.in-Some.field-0 _ stack marks containers e c.in-Some.ensures c.position_at.ensures c.if-self.false refl refl refl refl

@@ -1,5 +1,5 @@
 use Rattle.std.proofs.Common.{◌*◌, ◌≤◌, length, sym, subst}
-use Rattle.krb_scan.proofs.Reaching.{marks_few}
+use Rattle.krb_scan.proofs.ScannerSteps.{marks_few}
 use Rattle.krb_scan.proofs.scanner.Scanner.marks.Goals as goal
 
 pub returns-clause-few : goal.returns-clause-few

@@ -1,6 +1,6 @@
 use Rattle.std.proofs.Common.{◌+◌, ◌≤◌, length, ap, sym, ◌∙◌, subst}
 use Rattle.krb_scan.specs.State.{lengths_at}
-use Rattle.krb_scan.proofs.Reaching.{lengths_few}
+use Rattle.krb_scan.proofs.ScannerSteps.{lengths_few}
 use Rattle.krb_scan.proofs.scanner.Scanner.open_lengths.Goals as goal
 
 pub returns-in-Leaf-clause-few : goal.returns-in-Leaf-clause-few

@@ -1,4 +1,4 @@
-use Rattle.krb_scan.proofs.Reaching.{some_unchanged}
+use Rattle.krb_scan.proofs.ScannerSteps.{some_unchanged}
 use Rattle.krb_scan.proofs.scanner.Scanner.reserve.Goals as goal
 
 pub invariant_of-self : goal.invariant_of-self

@@ -1,8 +1,8 @@
 use Rattle.std.proofs.Common.{[], subst, sym}
 use Rattle.krb_der.specs.declared.verdict.Verdict.TheVariants as verdict
-use Rattle.krb_scan.specs.At.{IsAt}
+use Rattle.krb_scan.specs.Scanned.{IsScanOf}
 use Rattle.krb_scan.specs.declared.path.Path.{Path}
-use Rattle.krb_scan.proofs.Reaching.{none_at}
+use Rattle.krb_scan.proofs.ScannerSteps.{none_at}
 use Rattle.krb_scan.proofs.scanner.Scanner.restart.Goals as goal
 
 pub invariant_of-self : goal.invariant_of-self
@@ -12,7 +12,7 @@ invariant_of-self c =
       reached = ∣ (
         [],
         c.args.self.now.profile,
-        subst (λ n. IsAt c.args.self.now.profile path verdict.Open n []) (sym c.clear.ensures.kept.0)
+        subst (λ n. IsScanOf c.args.self.now.profile path verdict.Open n []) (sym c.clear.ensures.kept.0)
             (none_at path c.args.n c.requires.some c.requires.short c.clear.ensures.kept.0 c.clear.ensures.kept.1 c.clear.ensures.kept.2 c.clear.ensures.message.0 c.clear.ensures.message.1 c.clear.ensures.message.2 c.clear.ensures.none.0 c.new.ensures.items),
       ) ∣₁;
     }

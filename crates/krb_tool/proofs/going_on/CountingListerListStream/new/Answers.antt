@@ -2,7 +2,7 @@ use Rattle.std.proofs.Common.{◌≡◌, [], refl, sym, ◌∙◌, ap, subst, ar
 use Rattle.krb_msg.specs.Grammar.{messages}
 use Rattle.krb_frame.specs.Decoding.{status_of}
 use Rattle.krb_frame.specs.GoingOn.{GoesOn}
-use Rattle.krb_frame.proofs.Founds.{more-nothing}
+use Rattle.krb_frame.proofs.DecoderFrames.{more-nothing}
 use Rattle.krb_tool.specs.inner.Pieces.{request_of}
 use Rattle.krb_tool.specs.inner.CountingListers.{counting}
 use Rattle.krb_tool.proofs.KnownLengths.{none_unknown}

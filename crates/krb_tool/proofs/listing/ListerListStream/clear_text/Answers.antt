@@ -8,7 +8,7 @@ returns c =
     Clears-made stopping c.clear.ensures.bytes refl refl refl
     (λ stream written h. record {
       messages = h.messages;
-      stands = h.stands;
+      decoded = h.decoded;
       lines = ap (λ l. (written ++ string_bytes c.args.self.now.text) ++ l) c.clear.ensures.bytes ∙ append-nil (written ++ string_bytes c.args.self.now.text) ∙ h.lines;
       counted = h.counted;
     })

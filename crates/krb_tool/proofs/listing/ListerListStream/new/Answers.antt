@@ -1,8 +1,8 @@
 use Rattle.std.proofs.Common.{◌≡◌, [], refl, sym, ◌∙◌, ap, subst, arith}
 use Rattle.krb_msg.specs.Grammar.{messages}
 use Rattle.krb_frame.specs.Decoding.{status_of}
-use Rattle.krb_frame.specs.Stands.{Stands}
-use Rattle.krb_frame.proofs.Founds.{more-nothing}
+use Rattle.krb_frame.specs.Decoded.{HasDecoded}
+use Rattle.krb_frame.proofs.DecoderFrames.{more-nothing}
 use Rattle.krb_tool.specs.inner.Pieces.{request_of}
 use Rattle.krb_tool.specs.inner.Listers.{stopping}
 use Rattle.krb_tool.proofs.Pieces.{IsNew-made}
@@ -15,7 +15,7 @@ returns c =
     let profile : c.with_profile.result.profile ≡ c.args.profile = ap (λ d. d.profile) nothing in
     IsNew-made stopping Begins-waits (ap (request_of c.args.form) nothing)
     (record {
-      listed = record { messages = []; stands = subst (λ p. Stands (messages p) c.with_profile.result [] []) (sym profile) c.with_profile.ensures.stands; lines = c.new.ensures.bytes; counted = refl };
+      listed = record { messages = []; decoded = subst (λ p. HasDecoded (messages p) c.with_profile.result [] []) (sym profile) c.with_profile.ensures.decoded; lines = c.new.ensures.bytes; counted = refl };
       waits = ap (λ d. status_of (messages d.profile) d) nothing ∙ more-nothing (messages c.args.profile) c.args.profile c.args.limit _ _;
       few = omega arith;
     })

@@ -1,6 +1,6 @@
 use Rattle.std.proofs.Common.{refl, ◌∙◌}
 use Rattle.std.proofs.lemmas.List.{map-id}
-use Rattle.krb_msg.specs.Seen.{principal_name_view_value, encrypted_data_view_value}
+use Rattle.krb_msg.specs.ViewValues.{principal_name_view_value, encrypted_data_view_value}
 use Rattle.krb_msg.specs.Views.{encrypted_data_of, host_address_of, principal_name_of, ticket_of}
 use Rattle.krb_msg.proofs.Copies.{option_seen}
 use Rattle.krb_msg.proofs.copying.parts.KdcReqBodyFromView.from_view.Goals as goal

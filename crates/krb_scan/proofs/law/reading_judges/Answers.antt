@@ -1,5 +1,0 @@
-use Rattle.krb_scan.proofs.Outcome.{reading_judges}
-use Rattle.krb_scan.proofs.law.reading_judges.Goals as goal
-
-pub returns : goal.returns
-returns c = reading_judges
