@@ -62,3 +62,12 @@ took-extends (frames.Passwords taker) limit stream t more = passwords-extend tak
 -- and then what is found with others
 pub took-append : (a b : Frames) (limit : ℕ) (stream xs ys : List ℕ) → Took a limit stream → Took b limit (stream ++ xs) → service_of b ≡ service_of a → found_with (service_of a) limit stream (xs ++ ys) ≡ found_with (service_of a) limit stream xs ++ found_with (service_of a) limit (stream ++ xs) ys
 took-append a b limit stream xs ys t u e = found_with-append (service_of a) limit stream xs ys (took-extends a limit stream t xs) (subst (λ s. Extends s limit (stream ++ xs) ys) e (took-extends b limit (stream ++ xs) u ys))
+
+-- ---- with no octets nothing is found
+pub took-none : (taker : Frames) (limit : ℕ) (stream octets : List ℕ) → octets ≡ [] → Took taker limit stream → Took taker limit (stream ++ octets)
+took-none taker limit stream octets e t = subst (Took taker limit) (sym (ap (λ o. stream ++ o) e ∙ append-nil stream)) t
+
+pub found-none : (service : Service) (limit : ℕ) (stream octets : List ℕ) → octets ≡ [] → found_with service limit stream octets ≡ []
+found-none service limit stream octets e =
+    found_with-of service limit stream octets (framed service limit stream).found [] refl
+    (ap (λ s. (framed service limit s).found) (ap (λ o. stream ++ o) e ∙ append-nil stream) ∙ sym (append-nil (framed service limit stream).found))

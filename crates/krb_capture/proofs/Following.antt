@@ -1,5 +1,5 @@
 -- What a capture keeps after what is found is listed.
-use Rattle.std.proofs.Common.{◌≡◌, ℕ, List, ◌++◌, Option, Some, None, refl, sym, ◌∙◌, ap, subst, append_assoc}
+use Rattle.std.proofs.Common.{◌≡◌, List, ◌++◌, Some, sym, ◌∙◌, ap, subst, append_assoc}
 use Rattle.krb_packet.specs.Fragments.{unread}
 use Rattle.krb_packet.specs.declared.contents.Datagram.{Datagram}
 use Rattle.krb_packet.specs.declared.contents.Segment.{Segment}
@@ -13,7 +13,6 @@ use Rattle.krb_capture.specs.Directions.{HoldsTable, Table, followed, last_of}
 use Rattle.krb_capture.specs.Flows.{origin_of, service_of}
 use Rattle.krb_capture.specs.Found.{Written, totals, with_all}
 use Rattle.krb_capture.specs.declared.capture.Capture.{Capture}
-use Rattle.krb_capture.specs.declared.directions.Directions.{Directions}
 use Rattle.krb_capture.specs.declared.flow.Service.{Service}
 use Rattle.krb_capture.proofs.Written.{counts-each, form-each, text-each, with_each-datagram}
 

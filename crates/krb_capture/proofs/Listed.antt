@@ -1,5 +1,5 @@
 -- Frames listed one after another.
-use Rattle.std.proofs.Common.{◌≡◌, ℕ, ◌+◌, ◌^◌, ◌≤◌, inl, inr, Bool, true, false, List, [], ◌∷◌, ◌++◌, length, map, take, drop, Some, None, refl, sym, ◌∙◌, ap, subst, arith, append_assoc, append-nil, take-append-drop}
+use Rattle.std.proofs.Common.{◌≡◌, ℕ, ◌+◌, ◌^◌, ◌<◌, ◌≤◌, inl, inr, Bool, true, false, List, [], ◌∷◌, ◌++◌, length, map, take, drop, Some, None, refl, sym, ◌∙◌, ap, subst, arith, append_assoc, append-nil, take-append-drop, length-append}
 use Rattle.std.specs.Prelude.{Option, is_some, ◌&&◌, nat_le, nat_lt, if◌then◌else◌}
 use Rattle.std.proofs.lemmas.Bool.{cases_lt, lt-leb, le-leb}
 use Rattle.std.proofs.lemmas.List.{drop_all, map-append}
@@ -10,9 +10,12 @@ use Rattle.krb_msg.specs.ViewValues.{IsMessageView, message_of_view}
 use Rattle.krb_msg.specs.Stream.{Refused}
 use Rattle.krb_msg.specs.declared.message_view.MessageView.{MessageView}
 use Rattle.krb_frame.specs.Decoding.{AreOfOne, Decoding, borrowed, found, status_of}
-use Rattle.krb_frame.specs.GoingOn.{Entry, Contents, Fault, Skipping, GoesOn, FeedsAfter, ClearsEntry, GivesUp, Skips, rest_of, rest_at, rest_to_come}
+use Rattle.krb_frame.specs.Frame.{framed}
+use Rattle.krb_frame.specs.GoingOn.{Entry, Contents, Fault, Skipping, GoesOn, FeedsAfter, PassesEntry, ClearsEntry, GivesUp, Skips, rest_of, rest_at, rest_to_come}
+use Rattle.krb_frame.specs.Passes.{contents_of}
 use Rattle.krb_frame.specs.declared.decoder.Fed.{Fed}
 use Rattle.krb_frame.specs.declared.decoder.Status.TheVariants as status
+use Rattle.krb_frame.specs.declared.pass.Passed.{Passed}
 use Rattle.krb_frame.proofs.Ends.{refused_end}
 use Rattle.krb_frame.proofs.DecoderFrames.{more-nothing}
 use Rattle.krb_list.specs.declared.origin.Origin.{Origin}
@@ -75,6 +78,17 @@ front-more a b c piece rest n origin u v w l m = record {
   lists = lists-both a b c l.used (take n rest) origin u v w l.lists m;
 }
 
+-- what is at the front of the rest, and then the rest of that
+pub front-both : (a b c : Skipping) (piece rest others : List ℕ) (origin : Origin) (u v w : Written) → ListsFront a b piece rest origin u v → ListsFront b c rest others origin v w → ListsFront a c piece others origin u w
+front-both a b c piece rest others origin u v w l m = record {
+  used = l.used ++ m.used;
+  parts = l.parts ∙ ap (λ x. l.used ++ x) m.parts ∙ sym (append_assoc l.used m.used others);
+  lists = lists-both a b c l.used m.used origin u v w l.lists m.lists;
+}
+
+pub front_shorter : (a b : Skipping) (piece rest : List ℕ) (origin : Origin) (u v : Written) → ListsFront a b piece rest origin u v → length rest ≤ length piece
+front_shorter a b piece rest origin u v l = omega (arith, ap length l.parts, length-append l.used rest)
+
 -- one frame after octets
 pub front-one : (a b c : Skipping) (piece rest : List ℕ) (origin : Origin) (u v w : Written) → ListsFront a b piece rest origin u v → ListsOne b c origin v w → ListsFront a c piece rest origin u w
 front-one a b c piece rest origin u v w l m = record {
@@ -86,6 +100,24 @@ front-one a b c piece rest origin u v w l m = record {
 -- all of a piece
 pub front-all : (a b : Skipping) (piece rest : List ℕ) (n : ℕ) (origin : Origin) (u v : Written) → ListsFront a b piece (drop n rest) origin u v → length rest ≤ n → Lists a b piece origin u v
 front-all a b piece rest n origin u v l h = subst (λ x. Lists a b x origin u v) (sym (l.parts ∙ ap (λ x. l.used ++ x) (drop_all n rest h) ∙ append-nil l.used)) l.lists
+
+-- ---- the frame that is passed
+pub front-passed : (s : Skipping) (piece : List ℕ) (passed : Passed) (origin : Origin) (before after : Written) → PassesEntry (messages s.current.profile) s piece passed → after ≡ with_found origin (Whole (message_of_view passed.message)) before → ListsFront s s piece passed.rest.now origin before after
+front-passed s piece passed origin before after p l = record {
+  used = framed (contents_of passed);
+  parts = p.passes.parts;
+  lists = record {
+    frames = Contents (contents_of passed) ∷ [];
+    done = λ stream first g. ((refl, refl), tt);
+    listed = l ∙ ap (λ m. with_found origin (Whole m) before) p.passes.view.read;
+    profile = refl;
+    limit = refl;
+    goes_on = p.goes_on;
+  };
+}
+
+pub passed_shorter : (s : Skipping) (piece : List ℕ) (passed : Passed) → PassesEntry (messages s.current.profile) s piece passed → length passed.rest.now < length piece
+passed_shorter s piece passed p = omega (arith, ap length p.passes.parts, length-append (framed (contents_of passed)) passed.rest.now)
 
 -- ---- the frame that is ready
 cleared_is : (old new : Skipping) (answer : Bool) (contents : List ℕ) → ClearsEntry (messages old.current.profile) old new answer → borrowed (messages old.current.profile) old.current ≡ Some contents → new.current ≡ record old.current { octets = []; capacity = new.current.capacity }

@@ -1,6 +1,7 @@
 -- Directions that are kept by their numbers, and what they stand for.
-use Rattle.std.proofs.Common.{◌≡◌, ℕ, Bool, true, false, List, [], ◌∷◌, ◌++◌, length, Option, Some, None, ◌<◌, arith, refl, sym, ◌∙◌, ap, subst}
-use Rattle.std.specs.Prelude.{cond, not, ◌&&◌, ◌||◌, if◌then◌else◌, nat_lt}
+use Rattle.std.proofs.Common.{◌≡◌, ℕ, Bool, true, false, List, [], ◌∷◌, length, Option, Some, None, Box, ◌<◌, arith, refl, sym, ◌∙◌, ap, subst}
+use Rattle.std.specs.Prelude.{cond, not, ◌&&◌, if◌then◌else◌, nat_lt}
+use Rattle.std.specs.declared.alloc.Global.{Global}
 use Rattle.std.specs.declared.cmp.Ordering.{Ordering}
 use Rattle.std.specs.declared.cmp.Ordering.TheVariants.{Less, Equal, Greater}
 use Rattle.std.specs.Ordering.{match_ordering, nat_cmp}
@@ -9,11 +10,10 @@ use Rattle.std.specs.BTreeMap.{insert_entry, is_at}
 use Rattle.krb_capture.specs.Directions.{AllStand, HoldsTable, Table, after_found, begins, begun, by_number, flow_cmp, flow_of, followed, forgotten, in_flow, kept, last_of, nothing_found, of_known, with_room}
 use Rattle.krb_capture.specs.Sending.{Sent, StandsFor, last_found, nothing_sent}
 use Rattle.krb_packet.specs.declared.contents.Segment.{Segment}
-use Rattle.krb_list.specs.declared.origin.Origin.{Origin}
 use Rattle.krb_list.specs.declared.origin.Transport.TheVariants as transports
 use Rattle.krb_capture.specs.Captures.{over_tcp, with_each}
 use Rattle.krb_capture.specs.Flows.{origin_of}
-use Rattle.krb_capture.specs.Found.{Found, Written, with_all}
+use Rattle.krb_capture.specs.Found.{Written, with_all}
 use Rattle.krb_capture.specs.declared.flow.Due.{Due}
 use Rattle.krb_capture.proofs.Written.{flow-found, over_tcp-append, with_each-append}
 use Rattle.krb_capture.specs.declared.directions.Directions.{Directions}
@@ -22,13 +22,17 @@ use Rattle.krb_capture.specs.declared.flow.Service.{Service}
 use Rattle.krb_capture.specs.declared.sending.Sending.{Sending}
 use Rattle.krb_capture.specs.declared.sending.Step.{Step}
 
-abbrev pub BothStand : ℕ → Option Sending → Option Sent → Type 0
+-- a direction that is kept
+abbrev pub Kept : Type 0
+Kept = Box Sending Global
+
+abbrev pub BothStand : ℕ → Option Kept → Option Sent → Type 0
 BothStand limit None None = Unit {0}
-BothStand limit (Some kept) (Some sent) = StandsFor kept limit sent
+BothStand limit (Some kept) (Some sent) = StandsFor kept.value limit sent
 BothStand limit (Some kept) None = ⊥
 BothStand limit None (Some sent) = ⊥
 
-pub stand-lookup : (limit : ℕ) (test : ℕ → Bool) (ks : List (ℕ × Sending)) (ss : List (ℕ × Sent)) → AllStand limit ks ss → BothStand limit (lookup test ks) (lookup test ss)
+pub stand-lookup : (limit : ℕ) (test : ℕ → Bool) (ks : List (ℕ × Kept)) (ss : List (ℕ × Sent)) → AllStand limit ks ss → BothStand limit (lookup test ks) (lookup test ss)
 stand-lookup limit test [] [] a = tt
 stand-lookup limit test [] (s ∷ ss) a = absurd a
 stand-lookup limit test (k ∷ ks) [] a = absurd a
@@ -39,7 +43,7 @@ stand-lookup limit test (k ∷ ks) (s ∷ ss) a =
     by true rest = a.1
     by false rest = rest
 
-pub stand-remove : (limit : ℕ) (test : ℕ → Bool) (ks : List (ℕ × Sending)) (ss : List (ℕ × Sent)) → AllStand limit ks ss → AllStand limit (remove_entry test ks) (remove_entry test ss)
+pub stand-remove : (limit : ℕ) (test : ℕ → Bool) (ks : List (ℕ × Kept)) (ss : List (ℕ × Sent)) → AllStand limit ks ss → AllStand limit (remove_entry test ks) (remove_entry test ss)
 stand-remove limit test [] [] a = tt
 stand-remove limit test [] (s ∷ ss) a = absurd a
 stand-remove limit test (k ∷ ks) [] a = absurd a
@@ -50,7 +54,7 @@ stand-remove limit test (k ∷ ks) (s ∷ ss) a =
     by true rest = a.2
     by false rest = (a.0, a.1, rest)
 
-pub stand-insert : (limit number : ℕ) (ks : List (ℕ × Sending)) (ss : List (ℕ × Sent)) (kept : Sending) (sent : Sent) → StandsFor kept limit sent → AllStand limit ks ss → AllStand limit (insert_entry nat_cmp ks number kept) (insert_entry nat_cmp ss number sent)
+pub stand-insert : (limit number : ℕ) (ks : List (ℕ × Kept)) (ss : List (ℕ × Sent)) (kept : Kept) (sent : Sent) → StandsFor kept.value limit sent → AllStand limit ks ss → AllStand limit (insert_entry nat_cmp ks number kept) (insert_entry nat_cmp ss number sent)
 stand-insert limit number [] [] kept sent one a = (refl, one, tt)
 stand-insert limit number [] (s ∷ ss) kept sent one a = absurd a
 stand-insert limit number (k ∷ ks) [] kept sent one a = absurd a
@@ -63,7 +67,7 @@ stand-insert limit number (k ∷ ks) (s ∷ ss) kept sent one a =
     by Greater rest = (a.0, a.1, rest)
 
 -- a direction is kept by its number, or that it ended
-pub HoldsTable-kept : (old new : Directions) (limit number : ℕ) (flow : Flow) (step : Step) (table : Table) (one : Sending) (sent : Sent) → HoldsTable old limit table → StandsFor one limit sent → new.limit ≡ old.limit → new.numbers.entries ≡ (if step.began then insert_entry flow_cmp old.numbers.entries flow number else old.numbers.entries) → new.active.entries ≡ (if step.ended then old.active.entries else insert_entry nat_cmp old.active.entries number one) → new.ended.entries ≡ (if step.ended then insert_entry nat_cmp old.ended.entries number flow else old.ended.entries) → HoldsTable new limit (kept flow number step sent table)
+pub HoldsTable-kept : (old new : Directions) (limit number : ℕ) (flow : Flow) (step : Step) (table : Table) (one : Kept) (sent : Sent) → HoldsTable old limit table → StandsFor one.value limit sent → new.limit ≡ old.limit → new.numbers.entries ≡ (if step.began then insert_entry flow_cmp old.numbers.entries flow number else old.numbers.entries) → new.active.entries ≡ (if step.ended then old.active.entries else insert_entry nat_cmp old.active.entries number one) → new.ended.entries ≡ (if step.ended then insert_entry nat_cmp old.ended.entries number flow else old.ended.entries) → HoldsTable new limit (kept flow number step sent table)
 HoldsTable-kept old new limit number flow step table one sent h s l n a d = record {
   limit_is = l ∙ h.limit_is;
   numbers = n ∙ ap (λ es. if step.began then insert_entry flow_cmp es flow number else es) h.numbers;
@@ -81,17 +85,17 @@ both-none limit None b = refl
 both-none limit (Some s) b = absurd b
 
 -- a direction that was found
-pub record IsFound (limit : ℕ) (one : Sending) (m : Option Sent) : Type 0 where
+pub record IsFound (limit : ℕ) (one : Kept) (m : Option Sent) : Type 0 where
   pub sent : Sent
   pub is : m ≡ Some sent
-  pub stands : StandsFor one limit sent
+  pub stands : StandsFor one.value limit sent
 
-pub is-found : (limit : ℕ) (l : Option Sending) (m : Option Sent) (one : Sending) → BothStand limit l m → l ≡ Some one → IsFound limit one m
+pub is-found : (limit : ℕ) (l : Option Kept) (m : Option Sent) (one : Kept) → BothStand limit l m → l ≡ Some one → IsFound limit one m
 is-found limit None m one b e = absurd cc
 is-found limit (Some k) None one b e = absurd b
 is-found limit (Some k) (Some s) one b e =
     let k' : k ≡ one = cc in
-    record { sent = s; is = refl; stands = subst (λ x. StandsFor x limit s) k' b }
+    record { sent = s; is = refl; stands = subst (λ (x : Kept). StandsFor x.value limit s) k' b }
 
 pub kept-same : (d : Directions) (limit : ℕ) (flow flow' : Flow) (number number' : ℕ) (step step' : Step) (sent : Sent) (table : Table) → flow ≡ flow' → number ≡ number' → step ≡ step' → HoldsTable d limit (kept flow number step sent table) → HoldsTable d limit (kept flow' number' step' sent table)
 kept-same d limit flow flow' number number' step step' sent table f n e h =
@@ -105,14 +109,14 @@ stands-begun one limit limit' flow flow' service s l f =
     subst (λ x. StandsFor one limit' (nothing_sent x service)) f (subst (λ x. StandsFor one x (nothing_sent flow service)) l s)
 
 -- ---- room for one more
-pub record HasFirst (limit : ℕ) (table : Table) (first : ℕ × Sending) (others : List (ℕ × Sending)) : Type 0 where
+pub record HasFirst (limit : ℕ) (table : Table) (first : ℕ × Kept) (others : List (ℕ × Kept)) : Type 0 where
   pub sent : ℕ × Sent
   pub rest : List (ℕ × Sent)
   pub is : table.active ≡ sent ∷ rest
-  pub stands : StandsFor first.1 limit sent.1
+  pub stands : StandsFor first.1.value limit sent.1
   pub all : AllStand limit others rest
 
-pub has-first : (limit : ℕ) (table : Table) (ks : List (ℕ × Sending)) (first : ℕ × Sending) (others : List (ℕ × Sending)) → AllStand limit ks table.active → ks ≡ first ∷ others → HasFirst limit table first others
+pub has-first : (limit : ℕ) (table : Table) (ks : List (ℕ × Kept)) (first : ℕ × Kept) (others : List (ℕ × Kept)) → AllStand limit ks table.active → ks ≡ first ∷ others → HasFirst limit table first others
 has-first limit table ks first others a e = by table.active refl (subst (λ l. AllStand limit l table.active) e a)
   where
     by : (ss : List (ℕ × Sent)) → table.active ≡ ss → AllStand limit (first ∷ others) ss → HasFirst limit table first others
@@ -168,7 +172,7 @@ pub record EndsSome (old : Directions) (due : Due) (initial : Written) (now : Di
 pub EndsSome-start : (old : Directions) (due : Due) (initial : Written) → EndsSome old due initial old initial
 EndsSome-start old due initial = record { ends = λ limit table h. record { rest = table.active; all = h.active; listed = refl } }
 
-pub EndsSome-next : (old now next : Directions) (due : Due) (initial written more : Written) (number : ℕ) (one : Sending) → EndsSome old due initial now written → now.active.entries ≡ (number, one) ∷ next.active.entries → ((limit : ℕ) (sent : Sent) → StandsFor one limit sent → more ≡ with_all (origin_of due transports.Tcp one.flow.source one.flow.target) (last_found limit sent) written) → EndsSome old due initial next more
+pub EndsSome-next : (old now next : Directions) (due : Due) (initial written more : Written) (number : ℕ) (one : Kept) → EndsSome old due initial now written → now.active.entries ≡ (number, one) ∷ next.active.entries → ((limit : ℕ) (sent : Sent) → StandsFor one.value limit sent → more ≡ with_all (origin_of due transports.Tcp one.value.flow.source one.value.flow.target) (last_found limit sent) written) → EndsSome old due initial next more
 EndsSome-next old now next due initial written more number one e first found = record {
   ends = λ limit table h.
       let left = e.ends limit table h in
@@ -177,7 +181,7 @@ EndsSome-next old now next due initial written more number one e first found = r
         rest = one_less.rest;
         all = one_less.all;
         listed =
-            ap (λ l. with_each (over_tcp due (last_of limit one_less.rest)) l) (flow-found due one.flow one_less.sent.1.flow (last_found limit one_less.sent.1) more written (found limit one_less.sent.1 one_less.stands) one_less.stands.flow)
+            ap (λ l. with_each (over_tcp due (last_of limit one_less.rest)) l) (flow-found due one.value.flow one_less.sent.1.flow (last_found limit one_less.sent.1) more written (found limit one_less.sent.1 one_less.stands) one_less.stands.flow)
             ∙ sym (with_each-append (over_tcp due (in_flow one_less.sent.1.flow (last_found limit one_less.sent.1))) (over_tcp due (last_of limit one_less.rest)) written)
             ∙ ap (λ l. with_each l written) (sym (over_tcp-append due (in_flow one_less.sent.1.flow (last_found limit one_less.sent.1)) (last_of limit one_less.rest)))
             ∙ ap (λ l. with_each (over_tcp due (last_of limit l)) written) (sym one_less.is)

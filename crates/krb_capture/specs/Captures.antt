@@ -1,5 +1,5 @@
 -- What is found in the packets of a capture, one after another.
-use Rattle.std.specs.Prelude.{ℕ, ◌≡◌, ◌==◌, ◌&&◌, Bool, true, false, if◌then◌else◌, List, [], ◌∷◌, ◌++◌, length, map, max, Option, Some, None}
+use Rattle.std.specs.Prelude.{ℕ, ◌≡◌, ◌==◌, ◌&&◌, Bool, List, [], ◌∷◌, ◌++◌, length, map, max, Option, Some, None}
 use Rattle.krb_packet.specs.Contents.{contents_of}
 use Rattle.krb_packet.specs.declared.contents.Contents.{Contents}
 use Rattle.krb_packet.specs.declared.contents.Contents.TheVariants as contents
@@ -10,7 +10,7 @@ use Rattle.krb_packet.specs.Fragments.{contents_of_whole, no_fragments, step, un
 use Rattle.krb_packet.specs.Table.{Table as Fragments}
 use Rattle.krb_packet.specs.declared.contents.Segment.{Segment}
 use Rattle.krb_packet.specs.declared.packet.Packet.{Packet}
-use Rattle.krb_list.specs.Captures.{capture_end_line, capture_refused_line}
+use Rattle.krb_list.specs.Captures.{capture_end_line}
 use Rattle.krb_list.specs.declared.capture.CaptureCounts.{CaptureCounts}
 use Rattle.krb_list.specs.declared.form.Form.{Form}
 use Rattle.krb_list.specs.declared.origin.Origin.{Origin}

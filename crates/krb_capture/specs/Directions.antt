@@ -1,11 +1,13 @@
 -- The directions of TCP connections that are kept, by their flows. Each has the number of the packet that began it, so that they are in the order in which they began.
-use Rattle.std.specs.Prelude.{ℕ, ◌≡◌, ◌&&◌, ◌||◌, not, nat_lt, Bool, if◌then◌else◌, List, [], ◌∷◌, ◌++◌, length, map, Option, Some, None}
+use Rattle.std.specs.Prelude.{ℕ, ◌≡◌, ◌&&◌, ◌||◌, not, nat_lt, Bool, if◌then◌else◌, List, [], ◌∷◌, ◌++◌, length, map, Option, Some, None, Box}
 use Rattle.std.specs.Ordering.{nat_cmp}
 use Rattle.std.specs.Map.{lookup, remove_entry}
 use Rattle.std.specs.BTreeMap.{insert_entry, is_at}
+use Rattle.std.specs.declared.alloc.Global.{Global}
 use Rattle.std.specs.declared.cmp.Ordering.{Ordering}
 use Rattle.krb_packet.specs.declared.contents.Segment.{Segment}
 use Rattle.krb_capture.specs.contracts.flow.FlowOrd.TheImpl as flow_order
+use Rattle.krb_capture.specs.Flows.{flow_between}
 use Rattle.krb_capture.specs.Found.{Found}
 use Rattle.krb_capture.specs.Sending.{Sent, StandsFor, after_segment, last_found, nothing_sent, segment_found, step_of}
 use Rattle.krb_capture.specs.declared.directions.Directions.{Directions}
@@ -14,7 +16,7 @@ use Rattle.krb_capture.specs.declared.flow.Service.{Service}
 use Rattle.krb_capture.specs.declared.sending.Sending.{Sending}
 use Rattle.krb_capture.specs.declared.sending.Step.{Step}
 
--- flows are ordered by their source and then by their target
+-- flows are ordered by their ports, then by their source and then by their target
 abbrev pub flow_cmp : Flow → Flow → Ordering
 flow_cmp = flow_order.ghosts.cmp
 
@@ -39,7 +41,7 @@ abbrev pub in_flow : Flow → List Found → List (Flow × Found)
 in_flow flow found = map (λ one. (flow, one)) found
 
 abbrev pub flow_of : Segment → Flow
-flow_of segment = record { source = segment.source; target = segment.target }
+flow_of segment = flow_between segment.source segment.target
 
 -- ---- a direction is kept by its number, or that it ended
 abbrev pub kept : Flow → ℕ → Step → Sent → Table → Table
@@ -122,11 +124,11 @@ last_of limit [] = []
 last_of limit (first ∷ others) = in_flow first.1.flow (last_found limit first.1) ++ last_of limit others
 
 -- ---- what is kept stands for a table, with frames of at most n octets
-abbrev pub AllStand : ℕ → List (ℕ × Sending) → List (ℕ × Sent) → Type 0
+abbrev pub AllStand : ℕ → List (ℕ × Box Sending Global) → List (ℕ × Sent) → Type 0
 AllStand limit [] [] = Unit {0}
 AllStand limit [] (first ∷ others) = ⊥
 AllStand limit (first ∷ others) [] = ⊥
-AllStand limit (first ∷ others) (sent ∷ rest) = (first.0 ≡ sent.0) × StandsFor first.1 limit sent.1 × AllStand limit others rest
+AllStand limit (first ∷ others) (sent ∷ rest) = (first.0 ≡ sent.0) × StandsFor first.1.value limit sent.1 × AllStand limit others rest
 
 pub record HoldsTable (directions : Directions) (limit : ℕ) (table : Table) : Type 0 where
   pub limit_is : directions.limit ≡ limit

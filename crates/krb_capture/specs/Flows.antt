@@ -1,10 +1,11 @@
 -- Flows, what they carry, and the packets with which records are due.
-use Rattle.std.specs.Prelude.{ℕ, ◌||◌, ◌==◌, if◌then◌else◌, Option, Some, None}
+use Rattle.std.specs.Prelude.{ℕ, ◌+◌, ◌*◌, ◌^◌, ◌||◌, ◌==◌, if◌then◌else◌, Option, Some, None}
 use Rattle.krb_packet.specs.declared.contents.Endpoint.{Endpoint}
 use Rattle.krb_packet.specs.declared.packet.Packet.{Packet}
 use Rattle.krb_list.specs.declared.origin.Origin.{Origin}
 use Rattle.krb_list.specs.declared.origin.Transport.{Transport}
 use Rattle.krb_capture.specs.declared.flow.Due.{Due}
+use Rattle.krb_capture.specs.declared.flow.Flow.{Flow}
 use Rattle.krb_capture.specs.declared.flow.Service.{Service}
 use Rattle.krb_capture.specs.declared.flow.Service.TheVariants as services
 
@@ -14,6 +15,10 @@ service_of port source target =
     if source.port == port || target.port == port then Some services.Kerberos
     else if source.port == 464 || target.port == 464 then Some services.Passwords
     else None
+
+-- the flow from one end to another, with the number of both ports
+abbrev pub flow_between : Endpoint → Endpoint → Flow
+flow_between source target = record { ports = source.port * 2 ^ 16 + target.port; source = source; target = target }
 
 abbrev pub due_with : Packet → Due
 due_with packet = record { packet = packet.number; time = packet.time }

@@ -1,5 +1,5 @@
 -- What is found with the segments of one direction of a TCP connection, and what is kept of it.
-use Rattle.std.specs.Prelude.{ℕ, ◌≡◌, Bool, List, [], ◌∷◌, ◌++◌, Option, Some, None, is_some, if◌then◌else◌}
+use Rattle.std.specs.Prelude.{ℕ, ◌≡◌, List, [], ◌∷◌, ◌++◌, Option, Some, None, is_some}
 use Rattle.krb_packet.specs.declared.contents.Segment.{Segment}
 use Rattle.krb_flow.specs.Directions.{Outcome, end_of, step}
 use Rattle.krb_flow.specs.declared.direction.Beginning.{Beginning}

@@ -28,8 +28,8 @@ pub(crate) struct Directions {
     limit: Limit,
     /// The number of the direction of each flow.
     numbers: BTreeMap<Flow, u64>,
-    /// The directions that have not ended.
-    active: BTreeMap<u64, Sending>,
+    /// The directions that have not ended. A direction has some 400 octets, so the map moves boxes.
+    active: BTreeMap<u64, Box<Sending>>,
     /// The flows of those that ended.
     ended: BTreeMap<u64, Flow>,
     /// Octets that waited.
@@ -76,10 +76,7 @@ impl Directions {
         ensures table { OnOk result ((limit : ℕ) (table : Table) → HoldsTable self.old limit table → HoldsTable self.new limit (followed limit due.packet service segment.now table).table) }
         ensures found { OnOk result ((limit : ℕ) (table : Table) → HoldsTable self.old limit table → listing.new ≡ with_each (over_tcp due (followed limit due.packet service segment.now table).found) listing.old) }
     {
-        let flow = Flow {
-            source: segment.source,
-            target: segment.target,
-        };
+        let flow = Flow::between(segment.source, segment.target);
         match self.numbers.get(&flow).copied() {
             Some(number) => self.take_known(flow, number, segment, service, due, listing),
             None if begins(segment) => {
@@ -137,13 +134,13 @@ impl Directions {
     fn go_on(
         &mut self,
         number: u64,
-        sending: Sending,
+        sending: Box<Sending>,
         segment: &Segment<'_>,
         due: Due,
         listing: &mut Listing,
     ) -> Result<(), Memory>
-        ensures table { OnOk result ((limit : ℕ) (table : Table) (sent : Sent) → HoldsTable self.old limit (without number table) → StandsFor sending limit sent → HoldsTable self.new limit (gone_on limit due.packet number sent segment.now table).table) }
-        ensures found { OnOk result ((limit : ℕ) (table : Table) (sent : Sent) → StandsFor sending limit sent → listing.new ≡ with_each (over_tcp due (gone_on limit due.packet number sent segment.now table).found) listing.old) }
+        ensures table { OnOk result ((limit : ℕ) (table : Table) (sent : Sent) → HoldsTable self.old limit (without number table) → StandsFor sending.value limit sent → HoldsTable self.new limit (gone_on limit due.packet number sent segment.now table).table) }
+        ensures found { OnOk result ((limit : ℕ) (table : Table) (sent : Sent) → StandsFor sending.value limit sent → listing.new ≡ with_each (over_tcp due (gone_on limit due.packet number sent segment.now table).found) listing.old) }
     {
         let mut sending = sending;
         let step = sending.take(segment, due, &mut self.waited, listing)?;
@@ -166,12 +163,18 @@ impl Directions {
     {
         let mut sending = Sending::new(self.alloc, self.limit, flow, service);
         let step = sending.take(segment, due, &mut self.waited, listing)?;
-        self.keep(flow, due.packet, sending, step)
+        self.keep(flow, due.packet, Box::new(self.alloc, sending)?, step)
     }
 
     /// Keeps a direction by its number, or that it ended.
-    fn keep(&mut self, flow: Flow, number: u64, sending: Sending, step: Step) -> Result<(), Memory>
-        ensures { OnOk result ((limit : ℕ) (table : Table) (sent : Sent) → HoldsTable self.old limit table → StandsFor sending limit sent → HoldsTable self.new limit (kept flow number step sent table)) }
+    fn keep(
+        &mut self,
+        flow: Flow,
+        number: u64,
+        sending: Box<Sending>,
+        step: Step,
+    ) -> Result<(), Memory>
+        ensures { OnOk result ((limit : ℕ) (table : Table) (sent : Sent) → HoldsTable self.old limit table → StandsFor sending.value limit sent → HoldsTable self.new limit (kept flow number step sent table)) }
     {
         self.keep_number(flow, number, step.began)?;
         if step.ended {

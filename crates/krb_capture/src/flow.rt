@@ -2,7 +2,7 @@
 
 ghost use Rattle.std.specs.Prelude.{◌≡◌};
 ghost use Rattle.krb_list.specs.declared.origin.Transport.TheVariants as transports;
-ghost use Rattle.krb_capture.specs.Flows.{due_with, origin_of, service_of};
+ghost use Rattle.krb_capture.specs.Flows.{due_with, flow_between, origin_of, service_of};
 
 use krb_list::{Origin, Transport};
 use krb_packet::{Endpoint, Packet};
@@ -13,8 +13,24 @@ const PASSWORD_PORT: u16 = 464;
 /// A flow of TCP: what one end of a connection sends to the other.
 #[derive(Clone, Copy, PartialEq, Eq, PartialOrd, Ord, Debug)]
 pub(crate) struct Flow {
+    /// The number of both ports. It comes first, since it tells most flows apart by itself, and flows are
+    /// compared often.
+    pub(crate) ports: u32,
     pub(crate) source: Endpoint,
     pub(crate) target: Endpoint,
+}
+
+impl Flow {
+    /// Returns the flow between two ends.
+    pub(crate) fn between(source: Endpoint, target: Endpoint) -> Flow
+        ensures { result ≡ flow_between source target }
+    {
+        Flow {
+            ports: u32::from(source.port) * (1 << 16) + u32::from(target.port),
+            source,
+            target,
+        }
+    }
 }
 
 /// What a flow carries.

@@ -26,6 +26,7 @@ pub(crate) enum Frames {
 
 impl Frames {
     /// Creates those of a direction of which nothing came.
+    #[inline(always)]
     pub(crate) fn new(alloc: Global, limit: Limit, service: Service) -> Frames
         ensures took { Took result limit [] }
         ensures service { service_of result ≡ service }
@@ -49,6 +50,9 @@ impl Frames {
         ensures took { OnOk result ((limit : ℕ) (stream : List ℕ) → Took self.old limit stream → Took self.new limit (stream ++ octets.now)) }
         ensures listed { OnOk result ((limit : ℕ) (stream : List ℕ) → Took self.old limit stream → listing.new ≡ with_all origin.now (found_with (service_of self.old) limit stream octets.now) listing.old) }
     {
+        if octets.is_empty() {
+            return Ok(());
+        }
         match self {
             Frames::Messages(frames) => frames.take(octets, origin, listing),
             Frames::Passwords(frames) => frames.take(octets, origin, listing),

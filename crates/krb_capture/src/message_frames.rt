@@ -5,7 +5,7 @@ ghost use Rattle.std.specs.Option.{option_map};
 ghost use Rattle.krb_list.specs.Refusals.{path_in};
 ghost use Rattle.krb_frame.specs.declared.decoder.Status.TheVariants as status;
 ghost use Rattle.krb_capture.specs.Found.{with_all};
-ghost use Rattle.krb_capture.specs.Listed.{ListsOne, ListsPiece, ListsRefused, status_in};
+ghost use Rattle.krb_capture.specs.Listed.{ListsFront, ListsOne, ListsPiece, ListsRefused, status_in};
 ghost use Rattle.krb_capture.specs.Streams.{cut_refusal, found_with, framed, frame_path};
 ghost use Rattle.krb_capture.specs.Taken.{TookMessages};
 ghost use Rattle.krb_capture.specs.declared.flow.Service.TheVariants as services;
@@ -27,6 +27,7 @@ pub(crate) struct MessageFrames {
 
 impl MessageFrames {
     /// Creates those of a direction of which nothing came.
+    #[inline(always)]
     pub(crate) fn new(alloc: Global, limit: Limit) -> MessageFrames
         ensures { TookMessages result limit [] }
     {
@@ -76,6 +77,24 @@ impl MessageFrames {
     }
 }
 
+/// Lists the frames that lie whole at the front of octets, where they lie, and returns the octets after
+/// them. The decoder stays as it is.
+fn list_passed<'a>(
+    decoder: &SkippingDecoder,
+    octets: &'a [u8],
+    origin: &Origin,
+    listing: &mut Listing,
+) -> Result<&'a [u8], Memory>
+    ensures { IfOk result (λ rest. ListsFront decoder.now decoder.now octets.now rest.now origin.now listing.old listing.new) }
+{
+    let mut rest = octets;
+    while let Some(passed) = decoder.pass(rest) {
+        listing.put_message(origin, &passed.message)?;
+        rest = passed.rest;
+    }
+    Ok(rest)
+}
+
 /// Lists the frames that are whole with the next octets or refused, and returns whether more can
 /// follow: none does after a frame whose length is not known.
 fn list_frames(
@@ -88,8 +107,9 @@ fn list_frames(
 {
     let mut rest = octets;
     'frames: loop {
-        let fed = decoder.feed(rest);
-        rest = &rest[fed.used..];
+        let after = list_passed(decoder, rest, origin, listing)?;
+        let fed = decoder.feed(after);
+        rest = &after[fed.used..];
         match fed.status {
             Status::More => return Ok(true),
             Status::Memory => return Err(Memory),

@@ -39,6 +39,7 @@ pub(crate) struct Sending {
 
 impl Sending {
     /// Creates a direction of which nothing came.
+    #[inline(always)]
     pub(crate) fn new(alloc: Global, limit: Limit, flow: Flow, service: Service) -> Sending
         ensures { StandsFor result limit (nothing_sent flow service) }
     {
@@ -100,6 +101,7 @@ impl Sending {
     }
 
     /// Begins the frames anew, if the direction begins, and lists that it does so without a SYN.
+    #[inline(always)]
     fn begin(
         &mut self,
         begins: Option<Beginning>,

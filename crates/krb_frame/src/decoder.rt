@@ -101,6 +101,7 @@ ghost use Rattle.krb_frame.specs.declared.decoder.Phase.TheVariants as phase;
 impl Decoder {
     /// Creates a decoder of a stream of which nothing came yet, by the lenient profile. It
     /// allocates nothing.
+    #[inline(always)]
     pub fn new(alloc: Global, limit: Limit) -> Decoder
         ensures nothing { result ≡ record { profile = Profile.Lenient; limit = limit; octets = []; looks = result.looks; capacity = result.capacity } }
         ensures decoded { HasDecoded (messages Profile.Lenient) result [] [] }
@@ -109,6 +110,7 @@ impl Decoder {
     }
 
     /// Creates a decoder of a stream of which nothing came yet, by a profile. It allocates nothing.
+    #[inline(always)]
     pub fn with_profile(alloc: Global, limit: Limit, profile: Profile) -> Decoder
         ensures nothing { result ≡ record { profile = profile; limit = limit; octets = []; looks = result.looks; capacity = result.capacity } }
         ensures decoded { HasDecoded (messages profile) result [] [] }
@@ -147,6 +149,7 @@ impl Decoder {
 
     /// Creates a decoder of a stream of which nothing came yet, with the memory of contents and a
     /// scanner.
+    #[inline(always)]
     fn over(alloc: Global, limit: Limit, contents: Vec<u8>, scanner: Scanner) -> Decoder
         requires { contents.items ≡ [] }
         ensures { result ≡ record { profile = profile_of scanner; limit = limit; octets = []; looks = ledger_of scanner; capacity = capacity_for (vec_capacity contents) (capacity_of scanner) } }

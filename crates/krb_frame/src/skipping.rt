@@ -32,6 +32,7 @@ ghost use Rattle.krb_frame.specs.Passes.{contents_of};
 
 impl SkippingDecoder {
     /// Goes on with the stream of a decoder.
+    #[inline(always)]
     pub fn new(decoder: Decoder) -> SkippingDecoder
         ensures decoder { result ≡ record { current = decoder; skipped = 0 } }
         ensures goes_on { decoder.octets ≡ [] → GoesOn (messages decoder.profile) result [] [] }

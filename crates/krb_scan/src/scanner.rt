@@ -45,6 +45,7 @@ impl Scanner {
 
     /// Creates a scanner of a message of `n` octets, of which none is scanned, by a profile. It
     /// allocates nothing.
+    #[inline(always)]
     pub fn with_profile(alloc: Global, profile: Profile, n: u32) -> Scanner
         requires some { 0 < n }
         requires short { n < 2 ^ 31 }

@@ -1,6 +1,6 @@
-use Rattle.std.proofs.Common.{refl, ◌∙◌, ap}
+use Rattle.std.proofs.Common.{refl, sym, ◌∙◌, ap, subst}
 use Rattle.krb_capture.specs.Directions.{flow_of}
-use Rattle.krb_capture.specs.Sending.{after_segment, nothing_sent, segment_found, step_of}
+use Rattle.krb_capture.specs.Sending.{StandsFor, after_segment, nothing_sent, segment_found, step_of}
 use Rattle.krb_capture.proofs.Tables.{kept-same, stands-begun}
 use Rattle.krb_capture.proofs.Written.{flow-found, on_ok-map}
 use Rattle.krb_capture.proofs.directions.Directions.begin.Goals as goal
@@ -13,7 +13,7 @@ returns-clause-table c = on_ok-map c.keep.result
     let sent = after_segment (nothing_sent flow c.args.service) c.args.segment.now in
     kept-same c.keep.new.self limit c.args.flow flow c.args.due.packet c.args.due.packet c.in_ok-step.step (step_of (nothing_sent flow c.args.service).state c.args.segment.now) sent table c.requires refl
     (c.in_ok-step.ensures.step ∙ ap (λ s. step_of s c.args.segment.now) stands.state)
-    (k limit table sent (record { limit_is = h.limit_is; numbers = h.numbers; active = h.active; ended = h.ended }) (c.in_ok-step.ensures.stands limit (nothing_sent flow c.args.service) stands)))
+    (k limit table sent (record { limit_is = h.limit_is; numbers = h.numbers; active = h.active; ended = h.ended }) (subst (λ x. StandsFor x limit sent) (sym c.in_ok-new.ensures.ok) (c.in_ok-step.ensures.stands limit (nothing_sent flow c.args.service) stands))))
     c.keep.ensures
 
 pub returns-clause-found : goal.returns-clause-found

@@ -1,4 +1,4 @@
-use Rattle.std.proofs.Common.{refl, sym, ◌∙◌, ap}
+use Rattle.std.proofs.Common.{refl, ◌∙◌, ap}
 use Rattle.krb_capture.proofs.Tables.{HoldsTable-kept}
 use Rattle.krb_capture.proofs.directions.Directions.keep.Goals as goal
 

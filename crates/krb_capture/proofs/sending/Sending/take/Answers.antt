@@ -1,7 +1,5 @@
-use Rattle.std.proofs.Common.{◌≡◌, ◌++◌, refl, sym, ◌∙◌, ap, subst, append_assoc}
-use Rattle.krb_list.specs.declared.origin.Transport.TheVariants as transports
+use Rattle.std.proofs.Common.{◌++◌, sym, ◌∙◌, ap, subst, append_assoc}
 use Rattle.krb_flow.specs.Directions.{step}
-use Rattle.krb_capture.specs.Flows.{origin_of}
 use Rattle.krb_capture.specs.Found.{with_all}
 use Rattle.krb_capture.specs.Sending.{outcome_found, segment_found, stream_at}
 use Rattle.krb_capture.specs.Taken.{Took}
