@@ -1,3 +1,4 @@
+mod Directed
 mod Ends
 mod Extends
 mod Feeding
@@ -10,6 +11,7 @@ mod Over
 mod Parts
 mod Passed
 mod PasswordEnds
+mod Prefixes
 mod Sendings
 mod Tables
 mod Taken

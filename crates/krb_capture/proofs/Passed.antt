@@ -49,23 +49,23 @@ module _ (limit : ℕ) where
 
   -- ---- a frame, by its length
   module _ (n : ℕ) (octets : List ℕ) (f : List ℕ → Framed) where
-    frame-high : 2 ^ 31 ≤ n → password_frame limit n octets f ≡ record { found = length_found why.HighBit ∷ []; partial = []; over = true }
+    pub frame-high : 2 ^ 31 ≤ n → password_frame limit n octets f ≡ record { found = length_found why.HighBit ∷ []; partial = []; over = true }
     frame-high h = rw (le-leb (2 ^ 31) n h) refl
 
-    frame-long : n < 2 ^ 31 → limit < n → password_frame limit n octets f ≡ before_frames (length_found why.TooLong ∷ []) (f (drop (4 + n) octets))
+    pub frame-long : n < 2 ^ 31 → limit < n → password_frame limit n octets f ≡ before_frames (length_found why.TooLong ∷ []) (f (drop (4 + n) octets))
     frame-long s h = rw (lt-leb (2 ^ 31) n s, lt-ltb limit n h) refl
 
-    frame-empty : n ≡ 0 → password_frame limit n octets f ≡ before_frames (length_found why.Empty ∷ []) (f (drop (4 + n) octets))
+    pub frame-empty : n ≡ 0 → password_frame limit n octets f ≡ before_frames (length_found why.Empty ∷ []) (f (drop (4 + n) octets))
     frame-empty z = rw (lt-leb (2 ^ 31) n (omega (arith, z)), le-ltb limit n (omega (arith, z)), eq-eqb n 0 z) refl
 
     module _ (a : IsAllowed limit n) where
       some : n ≡ 0 → ⊥
       some z = absurd (omega (arith, a.some, z))
 
-      frame-open : length octets < 4 + n → password_frame limit n octets f ≡ no_frames octets
+      pub frame-open : length octets < 4 + n → password_frame limit n octets f ≡ no_frames octets
       frame-open h = rw (lt-leb (2 ^ 31) n a.short, le-ltb limit n a.within, ne_eqb n 0 some, lt-ltb (length octets) (4 + n) h) refl
 
-      frame-whole : 4 + n ≤ length octets → password_frame limit n octets f ≡ before_frames (password_found 4 (take n (drop 4 octets))) (f (drop (4 + n) octets))
+      pub frame-whole : 4 + n ≤ length octets → password_frame limit n octets f ≡ before_frames (password_found 4 (take n (drop 4 octets))) (f (drop (4 + n) octets))
       frame-whole h = rw (lt-leb (2 ^ 31) n a.short, le-ltb limit n a.within, ne_eqb n 0 some, le-ltb (length octets) (4 + n) h) refl
 
   -- ---- octets that are kept, and others

@@ -10,3 +10,4 @@ pub mod Passed
 pub mod Sending
 pub mod Directions
 pub mod Captures
+pub mod Laws

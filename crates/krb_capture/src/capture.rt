@@ -1,6 +1,6 @@
 //! A capture, followed packet by packet.
 
-ghost use Rattle.std.specs.Prelude.{◌≡◌, ℕ, ◌++◌, IfOk, OnOk, string_bytes};
+ghost use Rattle.std.specs.Prelude.{◌≡◌, ℕ, ◌++◌, true, IfOk, IsErr, OnErr, OnOk, string_bytes};
 ghost use Rattle.std.specs.Option.{option_copied};
 ghost use Rattle.krb_list.specs.Captures.{capture_refused_line};
 ghost use Rattle.krb_packet.specs.Fragments.{unread};
@@ -21,6 +21,8 @@ use std::alloc::Global;
 
 /// What was found in the packets of a capture so far. It takes memory for the fragments of datagrams that
 /// are not whole, and of each direction of a connection for its last frame and the octets that came early.
+/// Once a call was out of memory, what was found is not known any more: each later call is out of memory,
+/// too, and changes nothing.
 #[derive(Drop)]
 pub struct Capture {
     port: u16,
@@ -29,6 +31,8 @@ pub struct Capture {
     listing: Listing,
     /// The packet that came last.
     last: Due,
+    /// A call was out of memory.
+    has_failed: bool,
 }
 
 impl Capture {
@@ -46,11 +50,28 @@ impl Capture {
                 packet: 0,
                 time: None,
             },
+            has_failed: false,
         }
     }
 
-    /// Takes the next packet, and appends the records that are due with it to a text.
+    /// Takes the next packet, and appends the records that are due with it to a text. Out of memory, the
+    /// text may have some of them.
     pub fn take(&mut self, packet: &Packet, text: &mut String) -> Result<(), Memory>
+        ensures followed { OnOk result ((settings : Settings) (progress : Progress) → HasFollowed self.old settings progress → HasFollowed self.new settings (packet_taken settings packet.now progress).progress) }
+        ensures listed { OnOk result ((settings : Settings) (progress : Progress) → HasFollowed self.old settings progress → string_bytes text.new ≡ string_bytes text.old ++ lines_of settings.form (packet_taken settings packet.now progress).found) }
+        ensures failed { OnErr result (self.new.has_failed ≡ true) }
+        ensures again { self.old.has_failed ≡ true → IsErr result × (self.new ≡ self.old) × (text.new ≡ text.old) }
+    {
+        if self.has_failed {
+            return Err(Memory);
+        }
+        let taken = self.take_packet(packet, text);
+        self.has_failed = taken.is_err();
+        taken
+    }
+
+    /// Takes the next packet, and appends the records that are due with it to a text.
+    fn take_packet(&mut self, packet: &Packet, text: &mut String) -> Result<(), Memory>
         ensures followed { OnOk result ((settings : Settings) (progress : Progress) → HasFollowed self.old settings progress → HasFollowed self.new settings (packet_taken settings packet.now progress).progress) }
         ensures listed { OnOk result ((settings : Settings) (progress : Progress) → HasFollowed self.old settings progress → string_bytes text.new ≡ string_bytes text.old ++ lines_of settings.form (packet_taken settings packet.now progress).found) }
     {
@@ -132,8 +153,23 @@ impl Capture {
     }
 
     /// Appends the records that are due at the end of the file to a text, and the last one. Returns whether
-    /// nothing is refused, lost or unread.
+    /// nothing is refused, lost or unread. Out of memory, the text may have some of the records.
     pub fn finish(&mut self, text: &mut String) -> Result<bool, Memory>
+        ensures listed { OnOk result ((settings : Settings) (progress : Progress) → HasFollowed self.old settings progress → string_bytes text.new ≡ string_bytes text.old ++ end_text settings progress) }
+        ensures clean { IfOk result (λ clean. (settings : Settings) (progress : Progress) → HasFollowed self.old settings progress → clean ≡ is_clean (all_counts (end_taken settings progress).progress)) }
+        ensures failed { OnErr result (self.new.has_failed ≡ true) }
+        ensures again { self.old.has_failed ≡ true → IsErr result × (self.new ≡ self.old) × (text.new ≡ text.old) }
+    {
+        if self.has_failed {
+            return Err(Memory);
+        }
+        let finished = self.list_end(text);
+        self.has_failed = finished.is_err();
+        finished
+    }
+
+    /// Appends the records that are due at the end of the file to a text.
+    fn list_end(&mut self, text: &mut String) -> Result<bool, Memory>
         ensures listed { OnOk result ((settings : Settings) (progress : Progress) → HasFollowed self.old settings progress → string_bytes text.new ≡ string_bytes text.old ++ end_text settings progress) }
         ensures clean { IfOk result (λ clean. (settings : Settings) (progress : Progress) → HasFollowed self.old settings progress → clean ≡ is_clean (all_counts (end_taken settings progress).progress)) }
     {
@@ -155,8 +191,28 @@ impl Capture {
     }
 
     /// Appends the last record of a file that is itself at fault to a text: why and at which place it is
-    /// refused, and the path of the field at fault.
+    /// refused, and the path of the field at fault. Out of memory, the text may have a part of it.
     pub fn refuse(
+        &mut self,
+        place: u64,
+        why: FileWhy,
+        path: Option<&str>,
+        text: &mut String,
+    ) -> Result<(), Memory>
+        ensures listed { OnOk result ((settings : Settings) (progress : Progress) → HasFollowed self.old settings progress → string_bytes text.new ≡ string_bytes text.old ++ capture_refused_line settings.form (all_counts progress) place why (option_copied path.entry)) }
+        ensures failed { OnErr result (self.new.has_failed ≡ true) }
+        ensures again { self.old.has_failed ≡ true → IsErr result × (self.new ≡ self.old) × (text.new ≡ text.old) }
+    {
+        if self.has_failed {
+            return Err(Memory);
+        }
+        let refused = self.list_refusal(place, why, path, text);
+        self.has_failed = refused.is_err();
+        refused
+    }
+
+    /// Appends the record of a file that is itself at fault to a text.
+    fn list_refusal(
         &mut self,
         place: u64,
         why: FileWhy,

@@ -11,6 +11,9 @@
 //! passwords (RFC 3244) if one of them is 464. A UDP datagram is a message; what one end of a TCP
 //! connection sends is a stream of frames (RFC 4120, 7.2.2), in which one goes on after refusals.
 //! Nothing here reads a file: `krb_packet` does, and `krb_tool` runs over both.
+//!
+//! The law of [`law`] says that the records of a direction are those of its stream, whatever way that was
+//! cut into segments.
 #![tactic(auto)]
 
 mod capture;
@@ -18,6 +21,7 @@ mod datagram;
 mod directions;
 mod flow;
 mod frames;
+pub mod law;
 mod listing;
 mod message;
 mod message_frames;

@@ -1,6 +1,7 @@
 //! Calls that are out of memory.
 
 mod calls;
+mod captures;
 mod decoders;
 mod octets;
 mod readers;

@@ -7,6 +7,7 @@
 #![tactic(auto)]
 
 use anyhow::Result;
+use krb_capture::Capture;
 use krb_ccache::{Ccache, Credentials, TicketStateView, read3, ticket_view_of, upgrade};
 use krb_der::{Int32, KString, Many, Memory, Octets, Profile, Refusal, Verdict};
 use krb_file::{Field, FieldLimit, FieldReader, FileFault, SliceReader, String16};
@@ -15,6 +16,7 @@ use krb_judge::{ParseFault, judge, parse, read_ticket};
 use krb_keytab::{Next, Record, Records};
 use krb_list::{Form, message_line, principal_text};
 use krb_msg::{ApRep, EncodeFault, EncryptedData, Kind, Message, PrincipalName, encode};
+use krb_packet::Packets;
 use krb_registry::{Registry, name_of};
 use krb_scan::Scanner;
 use krb_tool::{run_keytab, status};
@@ -174,6 +176,41 @@ fn etype_name(number: i64) -> &'static str {
     name_of(Registry::EncryptionTypes, number).unwrap_or("-")
 }
 
+/// Appends the records of a capture, as `krbls capture` prints them, and returns whether nothing of it is
+/// refused, lost or unread.
+fn put_capture(
+    alloc: Global,
+    packets: &mut Packets<&[u8]>,
+    capture: &mut Capture,
+    text: &mut String,
+) -> Result<bool, FileFault> {
+    for _ in 0..u64::MAX {
+        match packets.next_packet(alloc) {
+            Ok(Some(packet)) => {
+                if capture.take(&packet, text).is_err() {
+                    return Err(FileFault::Memory);
+                }
+                packets.give_back(packet);
+            }
+            Ok(None) => return capture.finish(text).or(Err(FileFault::Memory)),
+            Err(fault) => return Err(fault.fault),
+        }
+    }
+    Ok(false)
+}
+
+/// Returns the records of a capture.
+fn capture_records(alloc: Global, file: &[u8]) -> Result<String, FileFault> {
+    let mut packets = Packets::new(file);
+    let mut capture = Capture::new(alloc, Form::Lines, Limit::DEFAULT, 88);
+    let mut text = String::new(alloc);
+    let clean = put_capture(alloc, &mut packets, &mut capture, &mut text);
+    drop(capture);
+    drop(packets);
+    clean?;
+    Ok(text)
+}
+
 /// Returns what `krbls keytab` prints of a file, and its status.
 fn listed(alloc: Global, file: &[u8]) -> (Vec<u8>, u8) {
     let mut text = Vec::new(alloc);
@@ -197,6 +234,10 @@ const KEYTAB: &[u8] = b"\x05\x02\xFF\xFF\xFF\xFE\x00\x00";
 
 /// A cache of version 3 of u@A, with no credentials.
 const CACHE3: &[u8] = b"\x05\x03\x00\x00\x00\x01\x00\x00\x00\x01\x00\x00\x00\x01A\x00\x00\x00\x01u";
+
+/// A capture of a datagram that is an AP-REP.
+const CAPTURE: &[u8] =
+    b"\xD4\xC3\xB2\xA1\x02\x00\x04\x00\x00\x00\x00\x00\x00\x00\x00\x00\xFF\xFF\x00\x00\x65\x00\x00\x00\x81\x43\x6D\x38\x05\x00\x00\x00\x3B\x00\x00\x00\x3B\x00\x00\x00\x45\x00\x00\x3B\x00\x01\x00\x00\x40\x11\x00\x00\x7F\x00\x00\x01\x7F\x00\x00\x01\x9C\x40\x00\x58\x00\x27\x00\x00\x6F\x1D\x30\x1B\xA0\x03\x02\x01\x05\xA1\x03\x02\x01\x0F\xA2\x0F\x30\x0D\xA0\x03\x02\x01\x12\xA2\x06\x04\x04\xDE\xAD\xBE\xEF";
 
 /// Shows what is done with messages.
 fn show_messages(rt: &HostRuntime) -> Result<()> {
@@ -248,6 +289,7 @@ fn show_files(rt: &HostRuntime) -> Result<()> {
     println!(rt; "credentials: {count}")?;
     let (text, status) = listed(alloc, KEYTAB);
     println!(rt; "{} octets of lines, status {status}", text.len())?;
+    print!(rt; "{}", capture_records(alloc, CAPTURE)?)?;
     Ok(())
 }
 

@@ -28,7 +28,7 @@ use Rattle.krb_flow.proofs.Pieces.{delivers_the_stream, when_both, number_of, sa
 
 -- ---- which places wait
 
-Waits : ℕ → Waiting → Type 0
+unfoldable pub Waits : ℕ → Waiting → Type 0
 Waits place [] = ⊥
 Waits place (entry ∷ entries) = (place ≡ entry.0) ⊎ Waits place entries
 
@@ -110,7 +110,7 @@ ready_or_early place expected (entry ∷ entries) waits =
 
 -- ---- the places that wait ascend
 
-Sorted : ℕ → Waiting → Type 0
+unfoldable pub Sorted : ℕ → Waiting → Type 0
 Sorted from [] = Unit {0}
 Sorted from (entry ∷ entries) = (from ≤ entry.0) × Sorted (suc entry.0) entries
 
@@ -156,7 +156,7 @@ early_sorted expected (entry ∷ entries) sorted =
           (omega arith, sorted.1)
     ] refl
 
-not_waiting : (place : ℕ) (waiting : Waiting) → Sorted (suc place) waiting → Waits place waiting → ⊥
+pub not_waiting : (place : ℕ) (waiting : Waiting) → Sorted (suc place) waiting → Waits place waiting → ⊥
 unfolding Sorted Waits
 not_waiting place [] sorted waits = waits
 not_waiting place (entry ∷ entries) sorted waits =
@@ -168,19 +168,19 @@ not_waiting place (entry ∷ entries) sorted waits =
 
 -- ---- a segment
 
-abbrev Clear : Progress → Type 0
+abbrev pub Clear : Progress → Type 0
 Clear progress = Sorted (suc progress.expected) progress.waiting
 
-abbrev Was : ℕ → Progress → Type 0
+abbrev pub Was : ℕ → Progress → Type 0
 Was place progress = (place < progress.expected) ⊎ Waits place progress.waiting
 
-onward_clear : (progress : Progress) (segment : Segment) → Clear progress → Clear (advanced progress segment)
+pub onward_clear : (progress : Progress) (segment : Segment) → Clear progress → Clear (advanced progress segment)
 onward_clear progress segment clear =
     let by = distance_to progress segment in
     early_sorted progress.expected (kept progress segment)
     (kept_sorted progress.expected (start progress.expected by) (drop (behind by) segment.payload.octets) progress.waiting (omega arith) (sorted_lower (suc progress.expected) progress.expected progress.waiting (omega arith) clear))
 
-onward_was : (place : ℕ) (progress : Progress) (segment : Segment) → Was place progress → Was place (advanced progress segment)
+pub onward_was : (place : ℕ) (progress : Progress) (segment : Segment) → Was place progress → Was place (advanced progress segment)
 onward_was place progress segment (inl before) = inl (omega arith)
 onward_was place progress segment (inr waits) =
     let by = distance_to progress segment in
@@ -198,7 +198,7 @@ covers_by first expected from place octets after before low high later =
       | inr not_sooner ↦ subst (Covers place expected octets) (ahead_by first expected from not_sooner before) (omega arith, omega arith)
     ]
 
-onward_captures : (stream : List ℕ) (place : ℕ) (progress : Progress) (piece : Piece) → IsPiece stream progress piece → piece.0 ≤ place → place < piece.0 + length piece.1.payload.octets → Was place (advanced progress piece.1)
+pub onward_captures : (stream : List ℕ) (place : ℕ) (progress : Progress) (piece : Piece) → IsPiece stream progress piece → piece.0 ≤ place → place < piece.0 + length piece.1.payload.octets → Was place (advanced progress piece.1)
 onward_captures stream place progress piece is low high =
     elim (cases_lt place progress.expected) [
       | inl before ↦ inl (omega arith)
@@ -211,11 +211,11 @@ onward_captures stream place progress piece is low high =
 
 -- ---- a FIN
 
-AtEnd : ℕ → Option ℕ → Type 0
+unfoldable pub AtEnd : ℕ → Option ℕ → Type 0
 AtEnd size None = Unit {0}
 AtEnd size (Some place) = place ≡ size
 
-earlier_at_end : (size : ℕ) (one other : Option ℕ) → AtEnd size one → AtEnd size other → AtEnd size (earlier one other)
+pub earlier_at_end : (size : ℕ) (one other : Option ℕ) → AtEnd size one → AtEnd size other → AtEnd size (earlier one other)
 unfolding AtEnd
 earlier_at_end size None other at more = more
 earlier_at_end size (Some one) None at more = at
@@ -226,14 +226,14 @@ unfolding AtEnd
 end_at size expected by count is =
     when_both (AtEnd size) (nat_lt (start expected by + count) (behind by)) (λ _. None) (λ _. Some (start expected by + count - behind by)) tt (omega arith)
 
-end_is : (size first expected place count : ℕ) → expected ≤ place + 2 ^ 31 → place < expected + 2 ^ 31 → place + count ≡ size → AtEnd size (end_place expected (distance (number_of first expected) (number_of first place)) count)
+pub end_is : (size first expected place count : ℕ) → expected ≤ place + 2 ^ 31 → place < expected + 2 ^ 31 → place + count ≡ size → AtEnd size (end_place expected (distance (number_of first expected) (number_of first place)) count)
 end_is size first expected place count after before is =
     elim (cases_lt place expected) [
       | inl sooner ↦ subst (λ (by : Distance). AtEnd size (end_place expected by count)) (behind_by first expected place sooner after) (end_at size expected (Behind (expected - place)) count (omega arith))
       | inr later ↦ subst (λ (by : Distance). AtEnd size (end_place expected by count)) (ahead_by first expected place later before) (end_at size expected (Ahead (place - expected)) count (omega arith))
     ]
 
-fin_at_end : (stream : List ℕ) (progress : Progress) (piece : Piece) → IsPiece stream progress piece → IsFair stream progress piece → AtEnd (length stream) progress.fin → AtEnd (length stream) (advanced progress piece.1).fin
+pub fin_at_end : (stream : List ℕ) (progress : Progress) (piece : Piece) → IsPiece stream progress piece → IsFair stream progress piece → AtEnd (length stream) progress.fin → AtEnd (length stream) (advanced progress piece.1).fin
 fin_at_end stream progress piece is fair at =
     let count = piece.1.payload.size in
     let number : number_of progress.first piece.0 ≡ first_number piece.1 = sym (same_number progress.first piece.0) ∙ sym is.number in
@@ -246,12 +246,12 @@ fin_at_end stream progress piece is fair at =
       | false ↦ λ there. at
     ] refl
 
-reached : (size : ℕ) (fin : Option ℕ) (expected : ℕ) → AtEnd size fin → is_reached fin expected ≡ true → size ≤ expected
+pub reached : (size : ℕ) (fin : Option ℕ) (expected : ℕ) → AtEnd size fin → is_reached fin expected ≡ true → size ≤ expected
 unfolding AtEnd
 reached size None expected at is = cc
 reached size (Some place) expected at is = let le : place ≤ expected = leb-true place expected is in omega arith
 
-by_fin : (fin many : Bool) → (fin || many) ≡ true → many ≡ false → fin ≡ true
+pub by_fin : (fin many : Bool) → (fin || many) ≡ true → many ≡ false → fin ≡ true
 by_fin true many over few = refl
 by_fin false many over few = cc
 
@@ -368,7 +368,7 @@ reach stream Ended pieces first of fair captured = absurd first
 
 -- ---- octets that fill the stream
 
-got : (stream : List ℕ) (place octet : ℕ) → slice_get stream place ≡ Some octet → drop place stream ≡ octet ∷ drop (place + 1) stream
+pub got : (stream : List ℕ) (place octet : ℕ) → slice_get stream place ≡ Some octet → drop place stream ≡ octet ∷ drop (place + 1) stream
 got [] place octet is = cc
 got (first ∷ stream) zero octet is = let same : first ≡ octet = cc in ap (λ (o : ℕ). o ∷ stream) same
 got (first ∷ stream) (suc place) octet is =

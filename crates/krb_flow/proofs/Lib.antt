@@ -3,3 +3,4 @@ pub mod Runs
 pub mod Distances
 pub mod Pieces
 pub mod Captured
+pub mod Arriving

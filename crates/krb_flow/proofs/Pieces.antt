@@ -26,7 +26,7 @@ use Rattle.krb_flow.proofs.Distances.{only_one}
 
 -- ---- octets that wait are those of the stream
 
-pub Agree : List ℕ → Waiting → Type 0
+unfoldable pub Agree : List ℕ → Waiting → Type 0
 Agree stream [] = Unit {0}
 Agree stream (entry ∷ entries) = (slice_get stream entry.0 ≡ Some entry.1) × Agree stream entries
 
@@ -134,7 +134,7 @@ pub record GoesTo (stream : List ℕ) (expected : ℕ) (octets : List ℕ) (prog
   pub agree : Agree stream progress.waiting
   pub next : expected + length octets ≡ progress.expected
 
-taking_goes : (stream : List ℕ) (progress : Progress) (piece : Piece) → Agree stream progress.waiting → IsPiece stream progress piece → GoesTo stream progress.expected (deliver progress piece.1).0 (deliver progress piece.1).1
+pub taking_goes : (stream : List ℕ) (progress : Progress) (piece : Piece) → Agree stream progress.waiting → IsPiece stream progress piece → GoesTo stream progress.expected (deliver progress piece.1).0 (deliver progress piece.1).1
 taking_goes stream progress piece agree is =
     let segment = piece.1 in
     let all = kept_agree stream _ _ progress.waiting (has_piece stream progress piece is) agree in

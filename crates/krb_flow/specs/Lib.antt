@@ -4,3 +4,4 @@ pub mod Progress
 pub mod Directions
 pub mod inner
 pub mod Laws
+pub mod Arrivals

@@ -10,6 +10,8 @@
 #![tactic(auto)]
 
 #[cfg(test)]
+mod capture;
+#[cfg(test)]
 mod ccache;
 #[cfg(test)]
 mod der;

@@ -1,6 +1,7 @@
 //! The calls that allocate, and what each has to return.
 
 use super::Outcome;
+use super::captures::{CUT, FRAGMENTS, OUT_OF_ORDER, goes_on, lists, puts_together};
 use super::decoders::{fed_twice, reserved_answers, reserved_feeds, reserves, stepped_over};
 use super::octets::{AP_REP, CACHE, KEYTAB, KRB_ERROR, METHOD_DATA, TICKET, message_of};
 use super::readers::{credentials, records, upgrades};
@@ -78,10 +79,13 @@ pub(super) enum Call {
     Upgrade,
     Records,
     Credentials,
+    Capture(Form, &'static [u8], &'static str),
+    Fragments,
+    Direction,
 }
 
 /// Each call with its name, and with what it has to return.
-pub(super) const CALLS: [(&str, Call); 37] = [
+pub(super) const CALLS: [(&str, Call); 42] = [
     ("feed", Call::Feed(1)),
     ("feed", Call::Feed(7)),
     ("feed", Call::Feed(100)),
@@ -190,6 +194,32 @@ pub(super) const CALLS: [(&str, Call); 37] = [
     ("read3 and upgrade", Call::Upgrade),
     ("next_record", Call::Records),
     ("start and next_credential", Call::Credentials),
+    (
+        "next_packet, Capture::take and Capture::finish",
+        Call::Capture(
+            Form::Lines,
+            OUT_OF_ORDER,
+            "packet=4 t=2000-01-01T00:00:04.000005000Z flow=tcp/127.0.0.1:40000>127.0.0.1:88 AP-REP enc=18:-:4 notes=[]\nend packets=7 messages=1 refused=0 lost=0 unread=0\n",
+        ),
+    ),
+    (
+        "next_packet, Capture::take and Capture::finish",
+        Call::Capture(
+            Form::Json,
+            FRAGMENTS,
+            "{\"kind\":\"AP-REP\",\"packet\":4,\"t\":\"2000-01-01T00:00:04.000005000Z\",\"flow\":{\"over\":\"udp\",\"source\":{\"address\":\"127.0.0.1\",\"port\":40000},\"target\":{\"address\":\"127.0.0.1\",\"port\":88}},\"enc\":{\"etype\":18,\"etype_name\":\"aes256-cts-hmac-sha1-96\",\"kvno\":null,\"size\":4},\"notes\":[],\"notes_names\":[]}\n{\"kind\":\"end\",\"packets\":8,\"messages\":1,\"refused\":0,\"lost\":0,\"unread\":4}\n",
+        ),
+    ),
+    (
+        "next_packet, Capture::take and Capture::refuse",
+        Call::Capture(
+            Form::NamedLines,
+            CUT,
+            "packet=1 t=2000-01-01T00:00:01.000005000Z flow=udp/127.0.0.1:40000>127.0.0.1:88 AP-REP enc=18:aes256-cts-hmac-sha1-96:-:4 notes=[]\nrefused packets=1 messages=1 refused=0 lost=0 unread=0 place=115 why=3 Truncated in=packet\n",
+        ),
+    ),
+    ("Fragments::take", Call::Fragments),
+    ("Direction::take", Call::Direction),
 ];
 
 /// Returns what a call returned, `None` for a refusal, or `Memory` if its fault is `memory`.
@@ -340,6 +370,9 @@ impl Call {
             Call::Upgrade => upgrades(alloc),
             Call::Records => records(alloc),
             Call::Credentials => credentials(alloc),
+            Call::Capture(form, octets, wanted) => lists(alloc, form, octets, wanted),
+            Call::Fragments => puts_together(alloc),
+            Call::Direction => goes_on(alloc),
             _ => match self.make(alloc, given) {
                 Ok(true) => Outcome::Done,
                 Ok(false) => Outcome::Wrong,

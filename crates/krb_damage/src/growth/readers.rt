@@ -9,7 +9,7 @@ use std::alloc::Global;
 
 /// Returns how a call ended with a fault, `after` being the next answer of the same reader, if that
 /// is a fault.
-fn faulted(fault: FileFault, after: Option<FileFault>) -> Outcome {
+pub(super) fn faulted(fault: FileFault, after: Option<FileFault>) -> Outcome {
     if fault == FileFault::Memory && after == Some(fault) {
         Outcome::Memory
     } else {

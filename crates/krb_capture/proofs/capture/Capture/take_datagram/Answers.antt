@@ -10,5 +10,5 @@ returns-clause-followed c = on_ok-map c.list_datagram.result
 
 pub returns-clause-listed : goal.returns-clause-listed
 returns-clause-listed c = on_ok-map c.list_datagram.result
-    (λ k settings progress h. (datagram-steps c.args.self.now (record { port = c.args.self.now.port; fragments = c.args.self.now.fragments; directions = c.args.self.now.directions; listing = c.list_datagram.new.listing; last = c.args.self.now.last }) settings progress c.in-Some.service c.args.datagram.now c.over_udp-origin.result h (sym c.between.ensures ∙ c.in-Some.is) c.over_udp-origin.ensures k refl refl refl refl).listed)
+    (λ k settings progress h. (datagram-steps c.args.self.now (record c.args.self.now { listing = c.list_datagram.new.listing }) settings progress c.in-Some.service c.args.datagram.now c.over_udp-origin.result h (sym c.between.ensures ∙ c.in-Some.is) c.over_udp-origin.ensures k refl refl refl refl).listed)
     c.list_datagram.ensures

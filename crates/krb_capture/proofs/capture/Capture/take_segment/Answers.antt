@@ -10,5 +10,5 @@ returns-clause-followed c = on_ok-both c.take.result
 
 pub returns-clause-listed : goal.returns-clause-listed
 returns-clause-listed c = on_ok-both c.take.result
-    (λ t f settings progress h. (segment-steps c.args.self.now (record { port = c.args.self.now.port; fragments = c.args.self.now.fragments; directions = c.take.new.self; listing = c.take.new.listing; last = c.args.self.now.last }) settings progress c.in-Some.service c.args.segment.now h (sym c.between.ensures ∙ c.in-Some.is) (t settings.limit progress.table h.table) (f settings.limit progress.table h.table) refl refl refl).listed)
+    (λ t f settings progress h. (segment-steps c.args.self.now (record c.args.self.now { directions = c.take.new.self; listing = c.take.new.listing }) settings progress c.in-Some.service c.args.segment.now h (sym c.between.ensures ∙ c.in-Some.is) (t settings.limit progress.table h.table) (f settings.limit progress.table h.table) refl refl refl).listed)
     c.take.ensures.table c.take.ensures.found

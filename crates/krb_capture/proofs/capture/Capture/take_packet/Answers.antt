@@ -3,7 +3,7 @@ use Rattle.krb_list.specs.declared.capture.CaptureCounts.{CaptureCounts}
 use Rattle.krb_capture.specs.Captures.{HasFollowed, Progress, and_counted, contents_taken, lines_of, packet_taken, with_packet}
 use Rattle.krb_capture.specs.Found.{Written, and_more}
 use Rattle.krb_capture.proofs.Written.{on_ok-map}
-use Rattle.krb_capture.proofs.capture.Capture.take.Goals as goal
+use Rattle.krb_capture.proofs.capture.Capture.take_packet.Goals as goal
 
 pub returns-clause-followed : goal.returns-clause-followed
 unfolding packet_taken
