@@ -1,7 +1,8 @@
 """Times bin/krbls on streams of framed messages, beside cat, in 8 MiB of address space: real messages
-of six kinds, and AP-REPs; and on the real messages in turns with MIT's decoder, if its library is
-installed. Then what krb_roundtrip does with streams: to judge their messages, to scan them
-octet by octet and at once, to parse them, and to encode them again, beside a memcpy of the same octets."""
+of nine kinds, and AP-REPs; on both in turns with a walk in C that prints the same lines; and on the real
+messages in turns with MIT's decoder, if its library is installed. Then what krb_roundtrip does with streams: to
+judge their messages, to scan them octet by octet and at once, to parse them, and to encode them again, beside a
+memcpy of the same octets."""
 
 import ctypes
 import pathlib
@@ -11,7 +12,7 @@ import sys
 import tempfile
 
 from frames import real_frames, repeated
-from timing import best_of, best_run, best_runs, rate
+from timing import best_of, best_run, best_runs, output_of, rate
 
 KRBLS = ["bash", "-c", "ulimit -v 8192; exec bin/krbls stream"]
 AGAIN = "crates/krb_roundtrip/out/krb_roundtrip"
@@ -51,6 +52,25 @@ def time_mit(name, frames, messages, count):
     print(
         f"{messages} {name}, {size} octets: list {rate(size, listing)}; MIT's decoder, with names "
         f"{rate(size, decoding)}: {decoding / listing:.2f} times as long"
+    )
+
+
+def time_walk(name, frames, messages, count):
+    """Prints what listing some frames this many times costs, and listing them alike by a walk over them that is
+    written by hand in C. The two alternate."""
+    size, messages = count * len(frames), count * messages
+    with tempfile.TemporaryDirectory() as folder, repeated(frames, count) as stream:
+        walk = f"{folder}/walk"
+        compiling = [shutil.which("cc") or "false", "-O3", "-o", walk, "bench/walk.c"]
+        if subprocess.run(compiling, stderr=subprocess.DEVNULL).returncode != 0:
+            print(f"{name} by a walk in C: skipped, there is no cc")
+            return
+        if output_of(KRBLS, stream.name) != output_of([walk], stream.name):
+            sys.exit(f"{name}: the walk in C prints other lines")
+        listing, walking = best_runs([KRBLS, [walk]], stream.name, runs=21)
+    print(
+        f"{messages} {name}, {size} octets: list {rate(size, listing)}; walk in C {rate(size, walking)}: "
+        f"listing takes {listing / walking:.2f} times the time of the walk"
     )
 
 
@@ -94,6 +114,8 @@ def main():
     time_listing(*mixed)
     time_listing("AP-REPs", ap_rep, 1, messages)
     time_listing("AP-REPs", ap_rep, 1, 2 * messages)
+    time_walk("mixed messages", octets, len(frames), MIXED_OCTETS // 4 // len(octets))
+    time_walk("AP-REPs", ap_rep, 1, max(messages // 5, 1))
     time_mit(*mixed)
     time_judging(*mixed)
     time_again(*mixed)

@@ -22,6 +22,12 @@ def run_on(command, path):
         subprocess.run(command, stdin=octets, stdout=null, check=True)
 
 
+def output_of(command, path):
+    """What a command prints of a file."""
+    with open(path, "rb") as octets:
+        return subprocess.run(command, stdin=octets, stdout=subprocess.PIPE, check=True).stdout
+
+
 def best_run(command, path):
     """The least of the seconds that runs of a command took on a file."""
     return best_of(5, lambda: run_on(command, path))

@@ -1,6 +1,6 @@
 //! A capture, followed packet by packet.
 
-ghost use Rattle.std.specs.Prelude.{◌≡◌, ℕ, ◌++◌, true, IfOk, IsErr, OnErr, OnOk, string_bytes};
+ghost use Rattle.std.specs.Prelude.{◌≡◌, ℕ, ◌++◌, true, IfOk, IsErr, OnErr, OnOk};
 ghost use Rattle.std.specs.Option.{option_copied};
 ghost use Rattle.krb_list.specs.Captures.{capture_refused_line};
 ghost use Rattle.krb_packet.specs.Fragments.{unread};
@@ -15,7 +15,7 @@ use crate::listing::Listing;
 use krb_der::Memory;
 use krb_file::FileWhy;
 use krb_frame::Limit;
-use krb_list::{CaptureCounts, Form};
+use krb_list::{CaptureCounts, Form, TextBuffer};
 use krb_packet::{Contents, Datagram, Fragment, Fragments, Packet, Segment, contents_of};
 use std::alloc::Global;
 
@@ -56,9 +56,9 @@ impl Capture {
 
     /// Takes the next packet, and appends the records that are due with it to a text. Out of memory, the
     /// text may have some of them.
-    pub fn take(&mut self, packet: &Packet, text: &mut String) -> Result<(), Memory>
+    pub fn take(&mut self, packet: &Packet, text: &mut TextBuffer) -> Result<(), Memory>
         ensures followed { OnOk result ((settings : Settings) (progress : Progress) → HasFollowed self.old settings progress → HasFollowed self.new settings (packet_taken settings packet.now progress).progress) }
-        ensures listed { OnOk result ((settings : Settings) (progress : Progress) → HasFollowed self.old settings progress → string_bytes text.new ≡ string_bytes text.old ++ lines_of settings.form (packet_taken settings packet.now progress).found) }
+        ensures listed { OnOk result ((settings : Settings) (progress : Progress) → HasFollowed self.old settings progress → text.new ≡ text.old ++ lines_of settings.form (packet_taken settings packet.now progress).found) }
         ensures failed { OnErr result (self.new.has_failed ≡ true) }
         ensures again { self.old.has_failed ≡ true → IsErr result × (self.new ≡ self.old) × (text.new ≡ text.old) }
     {
@@ -71,9 +71,9 @@ impl Capture {
     }
 
     /// Takes the next packet, and appends the records that are due with it to a text.
-    fn take_packet(&mut self, packet: &Packet, text: &mut String) -> Result<(), Memory>
+    fn take_packet(&mut self, packet: &Packet, text: &mut TextBuffer) -> Result<(), Memory>
         ensures followed { OnOk result ((settings : Settings) (progress : Progress) → HasFollowed self.old settings progress → HasFollowed self.new settings (packet_taken settings packet.now progress).progress) }
-        ensures listed { OnOk result ((settings : Settings) (progress : Progress) → HasFollowed self.old settings progress → string_bytes text.new ≡ string_bytes text.old ++ lines_of settings.form (packet_taken settings packet.now progress).found) }
+        ensures listed { OnOk result ((settings : Settings) (progress : Progress) → HasFollowed self.old settings progress → text.new ≡ text.old ++ lines_of settings.form (packet_taken settings packet.now progress).found) }
     {
         self.listing.swap_text(text);
         self.last = Due::with(packet);
@@ -154,8 +154,8 @@ impl Capture {
 
     /// Appends the records that are due at the end of the file to a text, and the last one. Returns whether
     /// nothing is refused, lost or unread. Out of memory, the text may have some of the records.
-    pub fn finish(&mut self, text: &mut String) -> Result<bool, Memory>
-        ensures listed { OnOk result ((settings : Settings) (progress : Progress) → HasFollowed self.old settings progress → string_bytes text.new ≡ string_bytes text.old ++ end_text settings progress) }
+    pub fn finish(&mut self, text: &mut TextBuffer) -> Result<bool, Memory>
+        ensures listed { OnOk result ((settings : Settings) (progress : Progress) → HasFollowed self.old settings progress → text.new ≡ text.old ++ end_text settings progress) }
         ensures clean { IfOk result (λ clean. (settings : Settings) (progress : Progress) → HasFollowed self.old settings progress → clean ≡ is_clean (all_counts (end_taken settings progress).progress)) }
         ensures failed { OnErr result (self.new.has_failed ≡ true) }
         ensures again { self.old.has_failed ≡ true → IsErr result × (self.new ≡ self.old) × (text.new ≡ text.old) }
@@ -169,8 +169,8 @@ impl Capture {
     }
 
     /// Appends the records that are due at the end of the file to a text.
-    fn list_end(&mut self, text: &mut String) -> Result<bool, Memory>
-        ensures listed { OnOk result ((settings : Settings) (progress : Progress) → HasFollowed self.old settings progress → string_bytes text.new ≡ string_bytes text.old ++ end_text settings progress) }
+    fn list_end(&mut self, text: &mut TextBuffer) -> Result<bool, Memory>
+        ensures listed { OnOk result ((settings : Settings) (progress : Progress) → HasFollowed self.old settings progress → text.new ≡ text.old ++ end_text settings progress) }
         ensures clean { IfOk result (λ clean. (settings : Settings) (progress : Progress) → HasFollowed self.old settings progress → clean ≡ is_clean (all_counts (end_taken settings progress).progress)) }
     {
         self.listing.swap_text(text);
@@ -197,9 +197,9 @@ impl Capture {
         place: u64,
         why: FileWhy,
         path: Option<&str>,
-        text: &mut String,
+        text: &mut TextBuffer,
     ) -> Result<(), Memory>
-        ensures listed { OnOk result ((settings : Settings) (progress : Progress) → HasFollowed self.old settings progress → string_bytes text.new ≡ string_bytes text.old ++ capture_refused_line settings.form (all_counts progress) place why (option_copied path.entry)) }
+        ensures listed { OnOk result ((settings : Settings) (progress : Progress) → HasFollowed self.old settings progress → text.new ≡ text.old ++ capture_refused_line settings.form (all_counts progress) place why (option_copied path.entry)) }
         ensures failed { OnErr result (self.new.has_failed ≡ true) }
         ensures again { self.old.has_failed ≡ true → IsErr result × (self.new ≡ self.old) × (text.new ≡ text.old) }
     {
@@ -217,9 +217,9 @@ impl Capture {
         place: u64,
         why: FileWhy,
         path: Option<&str>,
-        text: &mut String,
+        text: &mut TextBuffer,
     ) -> Result<(), Memory>
-        ensures { OnOk result ((settings : Settings) (progress : Progress) → HasFollowed self.old settings progress → string_bytes text.new ≡ string_bytes text.old ++ capture_refused_line settings.form (all_counts progress) place why (option_copied path.entry)) }
+        ensures { OnOk result ((settings : Settings) (progress : Progress) → HasFollowed self.old settings progress → text.new ≡ text.old ++ capture_refused_line settings.form (all_counts progress) place why (option_copied path.entry)) }
     {
         let totals = self.totals();
         self.listing.swap_text(text);

@@ -10,8 +10,8 @@ use krb_der::{Memory, Refusal};
 use krb_file::FileWhy;
 use krb_flow::Lost;
 use krb_list::{
-    CaptureCounts, Form, Origin, put_capture_end, put_capture_refusal, put_captured_message,
-    put_captured_refusal, put_joined, put_lost, put_password,
+    CaptureCounts, Form, Origin, TextBuffer, put_capture_end, put_capture_refusal,
+    put_captured_message, put_captured_refusal, put_joined, put_lost, put_password,
 };
 use krb_msg::MessageView;
 use std::alloc::Global;
@@ -24,7 +24,7 @@ use std::mem::swap;
 pub(crate) struct Listing {
     pub(crate) alloc: Global,
     pub(crate) form: Form,
-    text: String,
+    text: TextBuffer,
     counts: CaptureCounts,
 }
 
@@ -34,7 +34,7 @@ impl Model for Listing {
 
     ghost Value = { Written };
 
-    ghost view = { λ listing. record { form = listing.form; text = string_bytes listing.text; counts = listing.counts } };
+    ghost view = { λ listing. record { form = listing.form; text = listing.text; counts = listing.counts } };
 }
 
 /// Returns a count with more, or the greatest one that there is.
@@ -62,7 +62,7 @@ impl Listing {
         Listing {
             alloc,
             form,
-            text: String::new(alloc),
+            text: TextBuffer::new(alloc),
             counts: CaptureCounts {
                 packets: 0,
                 messages: 0,
@@ -86,9 +86,9 @@ impl Listing {
     }
 
     /// Exchanges the text of the records and another one.
-    pub(crate) fn swap_text(&mut self, text: &mut String)
-        ensures listing { self.new ≡ record self.old { text = string_bytes text.old } }
-        ensures text { string_bytes text.new ≡ self.old.text }
+    pub(crate) fn swap_text(&mut self, text: &mut TextBuffer)
+        ensures listing { self.new ≡ record self.old { text = text.old } }
+        ensures text { text.new ≡ self.old.text }
     {
         swap(&mut self.text, text);
     }

@@ -14,7 +14,7 @@ use krb_file::{Field, FieldLimit, FieldReader, FileFault, SliceReader, String16}
 use krb_frame::{Decoder, Limit, SkippingDecoder, Status, frame};
 use krb_judge::{ParseFault, judge, parse, read_ticket};
 use krb_keytab::{Next, Record, Records};
-use krb_list::{Form, message_line, principal_text};
+use krb_list::{Form, TextBuffer, message_line, principal_text};
 use krb_msg::{ApRep, EncodeFault, EncryptedData, Kind, Message, PrincipalName, encode};
 use krb_packet::Packets;
 use krb_registry::{Registry, name_of};
@@ -182,7 +182,7 @@ fn put_capture(
     alloc: Global,
     packets: &mut Packets<&[u8]>,
     capture: &mut Capture,
-    text: &mut String,
+    text: &mut TextBuffer,
 ) -> Result<bool, FileFault> {
     for _ in 0..u64::MAX {
         match packets.next_packet(alloc) {
@@ -203,12 +203,12 @@ fn put_capture(
 fn capture_records(alloc: Global, file: &[u8]) -> Result<String, FileFault> {
     let mut packets = Packets::new(file);
     let mut capture = Capture::new(alloc, Form::Lines, Limit::DEFAULT, 88);
-    let mut text = String::new(alloc);
+    let mut text = TextBuffer::new(alloc);
     let clean = put_capture(alloc, &mut packets, &mut capture, &mut text);
     drop(capture);
     drop(packets);
     clean?;
-    Ok(text)
+    Ok(text.into_string())
 }
 
 /// Returns what `krbls keytab` prints of a file, and its status.

@@ -1,4 +1,5 @@
 pub mod Ascii
+pub mod Copies
 pub mod Escapes
 pub mod Hexadecimal
 pub mod Strings

@@ -6,7 +6,7 @@ use Rattle.std.proofs.lemmas.List.Elements.{filter_more}
 use Rattle.std.specs.List.{filter}
 use Rattle.krb_list.specs.Text.{joined}
 
--- what stands between these values and one more
+-- what is between these values and one more
 abbrev pub separator_after : {A : Type 0} → List A → List ℕ
 separator_after [] = []
 separator_after (value ∷ values) = codes ","
@@ -37,7 +37,7 @@ listed_none holds values i d within e =
     let more : filter holds (take (i + 1) values) ≡ filter holds (take i values) ++ [] = rw e at (filter_more holds values i d within) in
     more ∙ append-nil _
 
--- if nothing stands before the next there is no value, and so the other text
+-- if nothing precedes the next there is no value, and so the other text
 pub none_listed : {A : Type 0} (none : List ℕ) (text : A → List ℕ) (values : List A) → (length (separator_after values) == 0) ≡ true → joined none (codes ",") text values ≡ listed text values ++ none
 none_listed none text [] e = refl
 none_listed none text (first ∷ others) e = cc

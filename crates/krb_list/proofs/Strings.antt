@@ -17,7 +17,7 @@ quoted_object octets = flat-flat json_character shown_octet octets
 pub quoted_line : (octets : List ℕ) → flat_map json_character (escape octets) ≡ quoted escapes.Line octets
 quoted_line octets = flat-flat json_character _ octets
 
--- a principal as it stands in a string: what stands between its parts needs no escape
+-- a principal as it is in a string: what is between its parts needs no escape
 others_part : (separator : List ℕ) (components : List (List ℕ)) → flat_map json_character (flat_map (λ c. separator ++ escape c) components) ≡ flat_map (λ c. flat_map json_character separator ++ quoted escapes.Line c) components
 others_part separator [] = refl
 others_part separator (c ∷ cs) =

@@ -1,4 +1,4 @@
--- What stands before the listing of each of several files.
+-- What precedes the listing of each of several files.
 use Rattle.std.specs.Prelude.{ℕ, List, [], ◌∷◌, codes}
 use Rattle.krb_list.specs.declared.form.Form.{Form}
 use Rattle.krb_list.specs.Forms.{record_line}

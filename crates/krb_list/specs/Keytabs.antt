@@ -15,7 +15,7 @@ use Rattle.krb_list.specs.Forms.{record_line}
 use Rattle.krb_list.specs.Time.{file_time}
 use Rattle.krb_list.specs.Values.{Value, Number, Named, Principal, YesNo, Field, Printed, the, printed, count}
 
--- the principal and how its name is meant, the version of its key; of the key and of what stands after it, the number of octets alone
+-- the principal and how its name is meant, the version of its key; of the key and of what follows it, the number of octets alone
 abbrev pub entry_fields : Entry → List Field
 entry_fields e =
     the (codes "principal") (Principal e.name_type e.components e.realm)

@@ -1,6 +1,6 @@
 //! Records of captures.
 
-ghost use Rattle.std.specs.Prelude.{◌≡◌, ◌++◌, OnOk, string_bytes};
+ghost use Rattle.std.specs.Prelude.{◌≡◌, ◌++◌, OnOk};
 ghost use Rattle.std.specs.Option.{option_copied};
 ghost use Rattle.krb_msg.specs.ViewValues.{MessageLists, message_of_view};
 ghost use Rattle.krb_list.specs.Captures.{capture_end_line, capture_refused_line, captured_message_line, captured_refused_line, count_fields, joined_line, lost_line, password_line};
@@ -11,26 +11,26 @@ use crate::form::Form;
 use crate::message::put_rest;
 use crate::origin::{Origin, put_captured_opening};
 use crate::refusal::{Reason, put_fault_rest, put_path};
+use crate::text_buffer::TextBuffer;
 use krb_der::{Memory, Refusal};
 use krb_file::FileWhy;
 use krb_msg::MessageView;
 use std::alloc::AllocError;
 
-/// Appends a message of a capture, which is viewed where it stands, as a line or an object with its
-/// line feed.
+/// Appends a message of a capture by a view of it, as a line or an object with its line feed.
 #[tactic(auto, unfolding(crate::specs::Captures::captured_text, crate::specs::Messages::message_record))]
 pub fn put_captured_message(
-    text: &mut String,
+    text: &mut TextBuffer,
     form: Form,
     origin: &Origin,
     view: &MessageView<'_>,
 ) -> Result<(), Memory>
     requires { MessageLists view.now }
-    ensures { OnOk result (string_bytes text.new ≡ string_bytes text.old ++ captured_message_line form origin.now (message_of_view view.now)) }
+    ensures { OnOk result (text.new ≡ text.old ++ captured_message_line form origin.now (message_of_view view.now)) }
 {
     put_captured_opening(text, form, origin, view.kind().name())?;
     put_rest(text, form, view)?;
-    text.push('\n')?;
+    text.push_str("\n")?;
     Ok(())
 }
 
@@ -38,13 +38,13 @@ pub fn put_captured_message(
 /// with it, and the path of the field at fault, which a line has only if numbers have their names.
 #[tactic(auto, unfolding(crate::specs::Captures::captured_text))]
 pub fn put_captured_refusal(
-    text: &mut String,
+    text: &mut TextBuffer,
     form: Form,
     origin: &Origin,
     refusal: Refusal,
     path: Option<&str>,
 ) -> Result<(), AllocError>
-    ensures { OnOk result (string_bytes text.new ≡ string_bytes text.old ++ captured_refused_line form origin.now refusal (option_copied path.entry)) }
+    ensures { OnOk result (text.new ≡ text.old ++ captured_refused_line form origin.now refusal (option_copied path.entry)) }
 {
     let reason = Reason::of(refusal.why);
     put_captured_opening(text, form, origin, "refused")?;
@@ -54,26 +54,26 @@ pub fn put_captured_refusal(
 /// Appends the line of a direction whose first octets come without a SYN: what follows may begin
 /// within a message.
 #[tactic(auto, unfolding(crate::specs::Captures::captured_text))]
-pub fn put_joined(text: &mut String, form: Form, origin: &Origin) -> Result<(), AllocError>
-    ensures { OnOk result (string_bytes text.new ≡ string_bytes text.old ++ joined_line form origin.now) }
+pub fn put_joined(text: &mut TextBuffer, form: Form, origin: &Origin) -> Result<(), AllocError>
+    ensures { OnOk result (text.new ≡ text.old ++ joined_line form origin.now) }
 {
     put_captured_opening(text, form, origin, "joined")?;
     put_end(text, form)
 }
 
 /// Appends the line of octets that are not in the capture: their place in the direction or in the
-/// datagram, how many they are, and the path of the field in which the first one stands, which a line
+/// datagram, how many they are, and the path of the field that has the first one, which a line
 /// has only if numbers have their names.
 #[tactic(auto, unfolding(crate::specs::Captures::captured_text))]
 pub fn put_lost(
-    text: &mut String,
+    text: &mut TextBuffer,
     form: Form,
     origin: &Origin,
     place: u64,
     octets: u64,
     path: Option<&str>,
 ) -> Result<(), AllocError>
-    ensures { OnOk result (string_bytes text.new ≡ string_bytes text.old ++ lost_line form origin.now place octets (option_copied path.entry)) }
+    ensures { OnOk result (text.new ≡ text.old ++ lost_line form origin.now place octets (option_copied path.entry)) }
 {
     put_captured_opening(text, form, origin, "lost")?;
     put_field(text, form, " place=", ",\"place", &place)?;
@@ -83,17 +83,17 @@ pub fn put_lost(
 }
 
 /// Appends the line of a message that changes a password (RFC 3244, section 2): its version, how many
-/// octets its AP-REQ or AP-REP has, and how many stand after that.
+/// octets its AP-REQ or AP-REP has, and how many follow it.
 #[tactic(auto, unfolding(crate::specs::Captures::captured_text))]
 pub fn put_password(
-    text: &mut String,
+    text: &mut TextBuffer,
     form: Form,
     origin: &Origin,
     version: u16,
     ap: u16,
     rest: u64,
 ) -> Result<(), AllocError>
-    ensures { OnOk result (string_bytes text.new ≡ string_bytes text.old ++ password_line form origin.now version ap rest) }
+    ensures { OnOk result (text.new ≡ text.old ++ password_line form origin.now version ap rest) }
 {
     put_captured_opening(text, form, origin, "KPASSWD")?;
     put_field(text, form, " version=", ",\"version", &u64::from(version))?;
@@ -118,8 +118,8 @@ pub struct CaptureCounts {
 }
 
 /// Appends the fields of the counts.
-fn put_counts(text: &mut String, form: Form, counts: &CaptureCounts) -> Result<(), AllocError>
-    ensures { OnOk result (string_bytes text.new ≡ string_bytes text.old ++ fields_text form (count_fields counts.now)) }
+fn put_counts(text: &mut TextBuffer, form: Form, counts: &CaptureCounts) -> Result<(), AllocError>
+    ensures { OnOk result (text.new ≡ text.old ++ fields_text form (count_fields counts.now)) }
 {
     put_field(text, form, " packets=", ",\"packets", &counts.packets)?;
     put_field(text, form, " messages=", ",\"messages", &counts.messages)?;
@@ -131,11 +131,11 @@ fn put_counts(text: &mut String, form: Form, counts: &CaptureCounts) -> Result<(
 /// Appends the last line of a capture that is read to its end.
 #[tactic(auto, unfolding(crate::specs::Forms::record_text))]
 pub fn put_capture_end(
-    text: &mut String,
+    text: &mut TextBuffer,
     form: Form,
     counts: &CaptureCounts,
 ) -> Result<(), AllocError>
-    ensures { OnOk result (string_bytes text.new ≡ string_bytes text.old ++ capture_end_line form counts.now) }
+    ensures { OnOk result (text.new ≡ text.old ++ capture_end_line form counts.now) }
 {
     put_opening(text, form, "end")?;
     put_counts(text, form, counts)?;
@@ -146,14 +146,14 @@ pub fn put_capture_end(
 /// at fault, what is wrong with it, and its path, which a line has only if numbers have their names.
 #[tactic(auto, unfolding(crate::specs::Forms::record_text))]
 pub fn put_capture_refusal(
-    text: &mut String,
+    text: &mut TextBuffer,
     form: Form,
     counts: &CaptureCounts,
     place: u64,
     why: FileWhy,
     path: Option<&str>,
 ) -> Result<(), AllocError>
-    ensures { OnOk result (string_bytes text.new ≡ string_bytes text.old ++ capture_refused_line form counts.now place why (option_copied path.entry)) }
+    ensures { OnOk result (text.new ≡ text.old ++ capture_refused_line form counts.now place why (option_copied path.entry)) }
 {
     put_opening(text, form, "refused")?;
     put_counts(text, form, counts)?;

@@ -13,7 +13,8 @@ use crate::field::{put_closing, put_field, put_opening};
 use crate::form::Form;
 use crate::number::Numbered;
 use crate::principal::{Principal, Strings};
-use crate::shown::{Shown, put_begin, put_number};
+use crate::shown::{Shown, put_begin};
+use crate::text_buffer::TextBuffer;
 use krb_ccache::{Ccache, Credential, FilePrincipal, Header};
 use krb_der::Memory;
 use krb_registry::Registry;
@@ -44,22 +45,22 @@ fn name_type_of(principal: &FilePrincipal) -> Numbered
     }
 }
 
-/// Appends what stands before the microseconds in an object.
-fn put_seconds(object: &mut String, seconds: i32) -> Result<(), AllocError>
-    ensures { OnOk result (string_bytes object.new ≡ string_bytes object.old ++ codes "{\"seconds\":" ++ signed_decimal seconds ++ codes ",\"microseconds\":") }
+/// Appends what precedes the microseconds in an object.
+fn put_seconds(object: &mut TextBuffer, seconds: i32) -> Result<(), AllocError>
+    ensures { OnOk result (object.new ≡ object.old ++ codes "{\"seconds\":" ++ signed_decimal seconds ++ codes ",\"microseconds\":") }
 {
     object.push_str("{\"seconds\":")?;
-    put_number(object, seconds)?;
+    object.push_integer(seconds)?;
     object.push_str(",\"microseconds\":")
 }
 
 /// Appends what an object has of the offset of a clock.
-fn put_offset_object(object: &mut String, offset: (i32, i32)) -> Result<(), AllocError>
-    ensures { OnOk result (string_bytes object.new ≡ string_bytes object.old ++ offset_object offset.0 offset.1) }
+fn put_offset_object(object: &mut TextBuffer, offset: (i32, i32)) -> Result<(), AllocError>
+    ensures { OnOk result (object.new ≡ object.old ++ offset_object offset.0 offset.1) }
 {
     put_seconds(object, offset.0)?;
-    put_number(object, offset.1)?;
-    object.push('}')
+    object.push_integer(offset.1)?;
+    object.push_str("}")
 }
 
 /// The offset of a clock: seconds and microseconds, with `:` between.
@@ -67,22 +68,22 @@ impl Shown for (i32, i32) {
     ghost shown = { offset_value };
 
     #[tactic(auto, unfolding(crate::specs::Forms::value_text))]
-    fn put_text(&self, line: &mut String, _names: bool) -> Result<(), AllocError> {
-        put_number(line, self.0)?;
-        line.push(':')?;
-        put_number(line, self.1)
+    fn put_text(&self, line: &mut TextBuffer, _names: bool) -> Result<(), AllocError> {
+        line.push_integer(self.0)?;
+        line.push_str(":")?;
+        line.push_integer(self.1)
     }
 
     #[tactic(auto, unfolding(crate::specs::Forms::members, crate::specs::Forms::json_value, crate::specs::Forms::names_member))]
-    fn put_members(&self, object: &mut String, begin: &str) -> Result<(), AllocError> {
+    fn put_members(&self, object: &mut TextBuffer, begin: &str) -> Result<(), AllocError> {
         put_begin(object, begin)?;
         put_offset_object(object, *self)
     }
 }
 
 /// Appends the fields of the default principal.
-fn put_who(text: &mut String, form: Form, principal: &FilePrincipal) -> Result<(), AllocError>
-    ensures { OnOk result (string_bytes text.new ≡ string_bytes text.old ++ fields_text form (
+fn put_who(text: &mut TextBuffer, form: Form, principal: &FilePrincipal) -> Result<(), AllocError>
+    ensures { OnOk result (text.new ≡ text.old ++ fields_text form (
         the (codes "principal") (file_principal principal.now)
         ∷ the (codes "type") (Named NameTypes principal.now.name_type)
         ∷ [])) }
@@ -98,8 +99,8 @@ fn put_who(text: &mut String, form: Form, principal: &FilePrincipal) -> Result<(
 }
 
 /// Appends the fields of a header: the offset of the clock, and how many fields it has.
-fn put_header(text: &mut String, form: Form, header: &Header) -> Result<(), AllocError>
-    ensures { OnOk result (string_bytes text.new ≡ string_bytes text.old ++ fields_text form (
+fn put_header(text: &mut TextBuffer, form: Form, header: &Header) -> Result<(), AllocError>
+    ensures { OnOk result (text.new ≡ text.old ++ fields_text form (
         the (codes "offset") (if_there offset_value (offset header.now))
         ∷ the (codes "fields") (count header.now.fields)
         ∷ [])) }
@@ -112,12 +113,12 @@ fn put_header(text: &mut String, form: Form, header: &Header) -> Result<(), Allo
 /// Appends the line of a cache without its line feed.
 #[tactic(auto, unfolding(crate::specs::Forms::record_text, crate::specs::Ccaches::cache_record))]
 fn put_cache_text(
-    text: &mut String,
+    text: &mut TextBuffer,
     form: Form,
     header: &Header,
     principal: &FilePrincipal,
 ) -> Result<(), AllocError>
-    ensures { OnOk result (string_bytes text.new ≡ string_bytes text.old ++ record_text form (cache_record header.now principal.now)) }
+    ensures { OnOk result (text.new ≡ text.old ++ record_text form (cache_record header.now principal.now)) }
 {
     put_opening(text, form, "cache")?;
     put_who(text, form, principal)?;
@@ -127,15 +128,15 @@ fn put_cache_text(
 
 /// Appends the line of a cache, which is [`cache_line`]'s.
 pub fn put_cache(
-    text: &mut String,
+    text: &mut TextBuffer,
     form: Form,
     header: &Header,
     principal: &FilePrincipal,
 ) -> Result<(), AllocError>
-    ensures { OnOk result (string_bytes text.new ≡ string_bytes text.old ++ record_line form (cache_record header.now principal.now)) }
+    ensures { OnOk result (text.new ≡ text.old ++ record_line form (cache_record header.now principal.now)) }
 {
     put_cache_text(text, form, header, principal)?;
-    text.push('\n')
+    text.push_str("\n")
 }
 
 /// Returns the line of a cache with this header and this default principal, without its line feed.
@@ -147,18 +148,18 @@ pub fn cache_line(
 ) -> Result<String, Memory>
     ensures { IfOk result (λ line. string_bytes line ≡ record_text form (cache_record header.now principal.now)) }
 {
-    let mut line = String::new(alloc);
+    let mut line = TextBuffer::new(alloc);
     put_cache_text(&mut line, form, header, principal)?;
-    Ok(line)
+    Ok(line.into_string())
 }
 
 fn put_credentials(
-    text: &mut String,
+    text: &mut TextBuffer,
     form: Form,
     now: Option<u32>,
     credentials: &[Credential],
 ) -> Result<(), AllocError>
-    ensures { OnOk result (string_bytes text.new ≡ string_bytes text.old ++ credential_lines form now credentials.now) }
+    ensures { OnOk result (text.new ≡ text.old ++ credential_lines form now credentials.now) }
 {
     for credential in credentials {
         put_credential(text, form, credential, now)?;
@@ -168,8 +169,8 @@ fn put_credentials(
 
 /// Appends the line of the end of a cache without its line feed.
 #[tactic(auto, unfolding(crate::specs::Forms::record_text, crate::specs::Ccaches::cache_end))]
-fn put_end_text(text: &mut String, form: Form, credentials: u64) -> Result<(), AllocError>
-    ensures { OnOk result (string_bytes text.new ≡ string_bytes text.old ++ record_text form (cache_end credentials)) }
+fn put_end_text(text: &mut TextBuffer, form: Form, credentials: u64) -> Result<(), AllocError>
+    ensures { OnOk result (text.new ≡ text.old ++ record_text form (cache_end credentials)) }
 {
     put_opening(text, form, "end")?;
     put_field(text, form, " credentials=", ",\"credentials", &credentials)?;
@@ -177,31 +178,31 @@ fn put_end_text(text: &mut String, form: Form, credentials: u64) -> Result<(), A
 }
 
 /// Appends the line of the end of a cache, which is [`cache_end_line`]'s.
-pub fn put_cache_end(text: &mut String, form: Form, credentials: u64) -> Result<(), AllocError>
-    ensures { OnOk result (string_bytes text.new ≡ string_bytes text.old ++ record_line form (cache_end credentials)) }
+pub fn put_cache_end(text: &mut TextBuffer, form: Form, credentials: u64) -> Result<(), AllocError>
+    ensures { OnOk result (text.new ≡ text.old ++ record_line form (cache_end credentials)) }
 {
     put_end_text(text, form, credentials)?;
-    text.push('\n')
+    text.push_str("\n")
 }
 
 /// Returns the line of the end of a cache of this many credentials, without its line feed.
 pub fn cache_end_line(alloc: Global, form: Form, credentials: u64) -> Result<String, Memory>
     ensures { IfOk result (λ line. string_bytes line ≡ record_text form (cache_end credentials)) }
 {
-    let mut line = String::new(alloc);
+    let mut line = TextBuffer::new(alloc);
     put_end_text(&mut line, form, credentials)?;
-    Ok(line)
+    Ok(line.into_string())
 }
 
 /// Appends the lines of a cache, those of [`ccache_lines`].
 #[tactic(auto, unfolding(crate::specs::Ccaches::ccache_lines))]
 pub fn put_ccache(
-    text: &mut String,
+    text: &mut TextBuffer,
     form: Form,
     ccache: &Ccache,
     now: Option<u32>,
 ) -> Result<(), AllocError>
-    ensures { OnOk result (string_bytes text.new ≡ string_bytes text.old ++ ccache_lines form now ccache.now) }
+    ensures { OnOk result (text.new ≡ text.old ++ ccache_lines form now ccache.now) }
 {
     let credentials = ccache.credentials.as_slice();
     put_cache(text, form, &ccache.header, &ccache.principal)?;
@@ -221,7 +222,7 @@ pub fn ccache_lines(
 ) -> Result<String, Memory>
     ensures { IfOk result (λ text. string_bytes text ≡ ccache_lines form now ccache.now) }
 {
-    let mut text = String::new(alloc);
+    let mut text = TextBuffer::new(alloc);
     put_ccache(&mut text, form, ccache, now)?;
-    Ok(text)
+    Ok(text.into_string())
 }

@@ -15,7 +15,8 @@ use crate::form::Form;
 use crate::json::put_string;
 use crate::number::{Numbered, Sealed};
 use crate::principal::{Principal, ViewedStrings};
-use crate::shown::{Plain, Shown, put_begin, put_number};
+use crate::shown::{Plain, Shown, put_begin};
+use crate::text_buffer::TextBuffer;
 use crate::ticket_flags::TicketFlags;
 use crate::time::FileTime;
 use krb_ccache::{Credential, TicketStateView, ticket_view_of};
@@ -25,8 +26,8 @@ use krb_registry::Registry;
 use std::alloc::{AllocError, Global};
 
 /// Appends the fields of the client and the server.
-fn put_who(text: &mut String, form: Form, credential: &Credential) -> Result<(), AllocError>
-    ensures { OnOk result (string_bytes text.new ≡ string_bytes text.old ++ fields_text form (who_fields credential.now)) }
+fn put_who(text: &mut TextBuffer, form: Form, credential: &Credential) -> Result<(), AllocError>
+    ensures { OnOk result (text.new ≡ text.old ++ fields_text form (who_fields credential.now)) }
 {
     put_field(
         text,
@@ -55,8 +56,8 @@ fn enctype_of(credential: &Credential) -> Numbered
 }
 
 /// Appends the fields of the session key, of which there is the number of octets.
-fn put_key(text: &mut String, form: Form, credential: &Credential) -> Result<(), AllocError>
-    ensures { OnOk result (string_bytes text.new ≡ string_bytes text.old ++ fields_text form (key_fields credential.now)) }
+fn put_key(text: &mut TextBuffer, form: Form, credential: &Credential) -> Result<(), AllocError>
+    ensures { OnOk result (text.new ≡ text.old ++ fields_text form (key_fields credential.now)) }
 {
     let key = credential.key.as_slice().len() as u64;
     put_field(
@@ -70,8 +71,8 @@ fn put_key(text: &mut String, form: Form, credential: &Credential) -> Result<(),
 }
 
 /// Appends the fields of the times.
-fn put_times(text: &mut String, form: Form, credential: &Credential) -> Result<(), AllocError>
-    ensures { OnOk result (string_bytes text.new ≡ string_bytes text.old ++ fields_text form (times_fields credential.now)) }
+fn put_times(text: &mut TextBuffer, form: Form, credential: &Credential) -> Result<(), AllocError>
+    ensures { OnOk result (text.new ≡ text.old ++ fields_text form (times_fields credential.now)) }
 {
     put_field(
         text,
@@ -110,12 +111,12 @@ fn state_of(now: Option<u32>, endtime: u32) -> Option<Plain<'static>>
 
 /// Appends the fields of the flags, and of the state.
 fn put_flags(
-    text: &mut String,
+    text: &mut TextBuffer,
     form: Form,
     now: Option<u32>,
     credential: &Credential,
 ) -> Result<(), AllocError>
-    ensures { OnOk result (string_bytes text.new ≡ string_bytes text.old ++ fields_text form (flags_fields now credential.now)) }
+    ensures { OnOk result (text.new ≡ text.old ++ fields_text form (flags_fields now credential.now)) }
 {
     put_field(
         text,
@@ -155,8 +156,8 @@ fn authdata_count(credential: &Credential) -> u64
 }
 
 /// Appends the fields of how many addresses and how much authorization data there are.
-fn put_counts(text: &mut String, form: Form, credential: &Credential) -> Result<(), AllocError>
-    ensures { OnOk result (string_bytes text.new ≡ string_bytes text.old ++ fields_text form (counts_fields credential.now)) }
+fn put_counts(text: &mut TextBuffer, form: Form, credential: &Credential) -> Result<(), AllocError>
+    ensures { OnOk result (text.new ≡ text.old ++ fields_text form (counts_fields credential.now)) }
 {
     put_field(
         text,
@@ -176,13 +177,13 @@ fn put_counts(text: &mut String, form: Form, credential: &Credential) -> Result<
 
 /// Appends the fields of the ticket, of its server, and of the second ticket.
 fn put_tickets<T: Shown, S: Shown>(
-    text: &mut String,
+    text: &mut TextBuffer,
     form: Form,
     credential: &Credential,
     ticket: &T,
     server: &S,
 ) -> Result<(), AllocError>
-    ensures { OnOk result (string_bytes text.new ≡ string_bytes text.old ++ fields_text form (tickets_fields credential.now (T.shown ticket.now) (S.shown server.now))) }
+    ensures { OnOk result (text.new ≡ text.old ++ fields_text form (tickets_fields credential.now (T.shown ticket.now) (S.shown server.now))) }
 {
     let second = credential.second_ticket.as_slice().len() as u64;
     put_field(text, form, " ticket=", ",\"ticket", ticket)?;
@@ -191,8 +192,12 @@ fn put_tickets<T: Shown, S: Shown>(
 }
 
 /// Appends the fields up to the flags.
-fn put_front(text: &mut String, form: Form, credential: &Credential) -> Result<(), AllocError>
-    ensures { OnOk result (string_bytes text.new ≡ string_bytes text.old ++ fields_text form (who_fields credential.now ++ key_fields credential.now ++ times_fields credential.now)) }
+fn put_first_fields(
+    text: &mut TextBuffer,
+    form: Form,
+    credential: &Credential,
+) -> Result<(), AllocError>
+    ensures { OnOk result (text.new ≡ text.old ++ fields_text form (who_fields credential.now ++ key_fields credential.now ++ times_fields credential.now)) }
 {
     put_who(text, form, credential)?;
     put_key(text, form, credential)?;
@@ -201,17 +206,17 @@ fn put_front(text: &mut String, form: Form, credential: &Credential) -> Result<(
 
 #[tactic(auto, unfolding(crate::specs::Forms::record_text, crate::specs::Ccaches::ticketed_record))]
 fn put_ticketed<T: Shown, S: Shown>(
-    text: &mut String,
+    text: &mut TextBuffer,
     form: Form,
     now: Option<u32>,
     credential: &Credential,
     ticket: &T,
     server: &S,
 ) -> Result<(), AllocError>
-    ensures { OnOk result (string_bytes text.new ≡ string_bytes text.old ++ record_text form (ticketed_record now credential.now (T.shown ticket.now) (S.shown server.now))) }
+    ensures { OnOk result (text.new ≡ text.old ++ record_text form (ticketed_record now credential.now (T.shown ticket.now) (S.shown server.now))) }
 {
     put_opening(text, form, "cred")?;
-    put_front(text, form, credential)?;
+    put_first_fields(text, form, credential)?;
     put_flags(text, form, now, credential)?;
     put_counts(text, form, credential)?;
     put_tickets(text, form, credential, ticket, server)?;
@@ -219,8 +224,8 @@ fn put_ticketed<T: Shown, S: Shown>(
 }
 
 #[tactic(auto, unfolding(crate::specs::Forms::record_text, crate::specs::Ccaches::config_record))]
-fn put_config(text: &mut String, form: Form, credential: &Credential) -> Result<(), AllocError>
-    ensures { OnOk result (string_bytes text.new ≡ string_bytes text.old ++ record_text form (config_record credential.now)) }
+fn put_config(text: &mut TextBuffer, form: Form, credential: &Credential) -> Result<(), AllocError>
+    ensures { OnOk result (text.new ≡ text.old ++ record_text form (config_record credential.now)) }
 {
     let size = credential.ticket.as_slice().len() as u64;
     put_opening(text, form, "config")?;
@@ -237,39 +242,39 @@ impl Shown for WithoutTicket {
     ghost shown = { λ without. NoTicket };
 
     #[tactic(auto, unfolding(crate::specs::Forms::value_text))]
-    fn put_text(&self, line: &mut String, _names: bool) -> Result<(), AllocError> {
+    fn put_text(&self, line: &mut TextBuffer, _names: bool) -> Result<(), AllocError> {
         line.push_str("absent")
     }
 
     #[tactic(auto, unfolding(crate::specs::Forms::members, crate::specs::Forms::json_value, crate::specs::Forms::names_member))]
-    fn put_members(&self, object: &mut String, begin: &str) -> Result<(), AllocError> {
+    fn put_members(&self, object: &mut TextBuffer, begin: &str) -> Result<(), AllocError> {
         put_begin(object, begin)?;
         object.push_str("null")
     }
 }
 
 /// Appends `refused`, the place and the number of the reason, with `:` between.
-fn put_refused(line: &mut String, refusal: Refusal) -> Result<(), AllocError>
-    ensures { OnOk result (string_bytes line.new ≡ string_bytes line.old ++ refused_ticket_text false refusal) }
+fn put_refused(line: &mut TextBuffer, refusal: Refusal) -> Result<(), AllocError>
+    ensures { OnOk result (line.new ≡ line.old ++ refused_ticket_text false refusal) }
 {
     line.push_str("refused:")?;
-    put_number(line, refusal.place)?;
-    line.push(':')?;
-    put_number(line, why_number(refusal.why))
+    line.push_integer(refusal.place)?;
+    line.push_str(":")?;
+    line.push_integer(why_number(refusal.why))
 }
 
 /// Appends the place and the number of the reason in an object.
-fn put_refused_numbers(object: &mut String, refusal: Refusal) -> Result<(), AllocError>
-    ensures { OnOk result (string_bytes object.new ≡ string_bytes object.old ++ decimal refusal.place ++ codes ",\"why\":" ++ decimal (reason_number refusal.why)) }
+fn put_refused_numbers(object: &mut TextBuffer, refusal: Refusal) -> Result<(), AllocError>
+    ensures { OnOk result (object.new ≡ object.old ++ decimal refusal.place ++ codes ",\"why\":" ++ decimal (reason_number refusal.why)) }
 {
-    put_number(object, refusal.place)?;
+    object.push_integer(refusal.place)?;
     object.push_str(",\"why\":")?;
-    put_number(object, why_number(refusal.why))
+    object.push_integer(why_number(refusal.why))
 }
 
-/// Appends what stands before the name of the reason in an object.
-fn put_refused_front(object: &mut String, refusal: Refusal) -> Result<(), AllocError>
-    ensures { OnOk result (string_bytes object.new ≡ string_bytes object.old ++ codes "{\"refused\":{\"place\":" ++ decimal refusal.place ++ codes ",\"why\":" ++ decimal (reason_number refusal.why) ++ codes ",\"why_name\":") }
+/// Appends what precedes the name of the reason in an object.
+fn put_refused_start(object: &mut TextBuffer, refusal: Refusal) -> Result<(), AllocError>
+    ensures { OnOk result (object.new ≡ object.old ++ codes "{\"refused\":{\"place\":" ++ decimal refusal.place ++ codes ",\"why\":" ++ decimal (reason_number refusal.why) ++ codes ",\"why_name\":") }
 {
     object.push_str("{\"refused\":{\"place\":")?;
     put_refused_numbers(object, refusal)?;
@@ -277,18 +282,18 @@ fn put_refused_front(object: &mut String, refusal: Refusal) -> Result<(), AllocE
 }
 
 /// Appends what an object has of a ticket that is refused.
-fn put_refused_object(object: &mut String, refusal: Refusal) -> Result<(), AllocError>
-    ensures { OnOk result (string_bytes object.new ≡ string_bytes object.old ++ refused_object refusal) }
+fn put_refused_object(object: &mut TextBuffer, refusal: Refusal) -> Result<(), AllocError>
+    ensures { OnOk result (object.new ≡ object.old ++ refused_object refusal) }
 {
-    put_refused_front(object, refusal)?;
+    put_refused_start(object, refusal)?;
     put_reason_name(object, refusal.why)?;
     object.push_str("}}")
 }
 
 /// Appends the name of a reason as a string.
 #[tactic(auto, using(crate::proofs::Reasons::reason_is_ascii))]
-fn put_reason_name(object: &mut String, why: Why) -> Result<(), AllocError>
-    ensures { OnOk result (string_bytes object.new ≡ string_bytes object.old ++ json_string (reason_name why)) }
+fn put_reason_name(object: &mut TextBuffer, why: Why) -> Result<(), AllocError>
+    ensures { OnOk result (object.new ≡ object.old ++ json_string (reason_name why)) }
 {
     put_string(object, why_text(why).as_bytes())
 }
@@ -298,10 +303,10 @@ impl Shown for Refusal {
     ghost shown = { λ refusal. RefusedTicket refusal };
 
     #[tactic(auto, unfolding(crate::specs::Forms::value_text))]
-    fn put_text(&self, line: &mut String, names: bool) -> Result<(), AllocError> {
+    fn put_text(&self, line: &mut TextBuffer, names: bool) -> Result<(), AllocError> {
         put_refused(line, *self)?;
         if names {
-            line.push(':')?;
+            line.push_str(":")?;
             line.push_str(why_text(self.why))
         } else {
             Ok(())
@@ -309,7 +314,7 @@ impl Shown for Refusal {
     }
 
     #[tactic(auto, unfolding(crate::specs::Forms::members, crate::specs::Forms::json_value, crate::specs::Forms::names_member))]
-    fn put_members(&self, object: &mut String, begin: &str) -> Result<(), AllocError> {
+    fn put_members(&self, object: &mut TextBuffer, begin: &str) -> Result<(), AllocError> {
         put_begin(object, begin)?;
         put_refused_object(object, *self)
     }
@@ -332,14 +337,14 @@ const NONE: Option<Plain<'static>> = None;
 
 /// Appends the line of a credential whose ticket field holds this, without its line feed.
 fn put_with_state(
-    text: &mut String,
+    text: &mut TextBuffer,
     form: Form,
     now: Option<u32>,
     credential: &Credential,
     state: &TicketStateView<'_>,
 ) -> Result<(), AllocError>
     requires { StateLists state.now }
-    ensures { OnOk result (string_bytes text.new ≡ string_bytes text.old ++ record_text form (state_record now credential.now (state_viewed state.now))) }
+    ensures { OnOk result (text.new ≡ text.old ++ record_text form (state_record now credential.now (state_viewed state.now))) }
 {
     match state {
         TicketStateView::Config => put_config(text, form, credential),
@@ -359,27 +364,27 @@ fn put_with_state(
 /// Appends the line of a credential without its line feed.
 #[tactic(auto, unfolding(crate::specs::Ccaches::credential_record))]
 fn put_credential_text(
-    text: &mut String,
+    text: &mut TextBuffer,
     form: Form,
     credential: &Credential,
     now: Option<u32>,
 ) -> Result<(), AllocError>
-    ensures { OnOk result (string_bytes text.new ≡ string_bytes text.old ++ record_text form (credential_record now credential.now)) }
+    ensures { OnOk result (text.new ≡ text.old ++ record_text form (credential_record now credential.now)) }
 {
     put_with_state(text, form, now, credential, &ticket_view_of(credential))
 }
 
 /// Appends the line of a credential, which is [`credential_line`]'s.
 pub fn put_credential(
-    text: &mut String,
+    text: &mut TextBuffer,
     form: Form,
     credential: &Credential,
     now: Option<u32>,
 ) -> Result<(), AllocError>
-    ensures { OnOk result (string_bytes text.new ≡ string_bytes text.old ++ record_line form (credential_record now credential.now)) }
+    ensures { OnOk result (text.new ≡ text.old ++ record_line form (credential_record now credential.now)) }
 {
     put_credential_text(text, form, credential, now)?;
-    text.push('\n')
+    text.push_str("\n")
 }
 
 /// Returns the line of a credential, without its line feed. If a now is given, in seconds since
@@ -393,7 +398,7 @@ pub fn credential_line(
 ) -> Result<String, Memory>
     ensures { IfOk result (λ line. string_bytes line ≡ record_text form (credential_record now credential.now)) }
 {
-    let mut line = String::new(alloc);
+    let mut line = TextBuffer::new(alloc);
     put_credential_text(&mut line, form, credential, now)?;
-    Ok(line)
+    Ok(line.into_string())
 }

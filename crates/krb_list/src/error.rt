@@ -1,6 +1,6 @@
 //! What is printed of a KRB-ERROR.
 
-ghost use Rattle.std.specs.Prelude.{◌≡◌, ◌++◌, ◌^◌, ◌<◌, Some, None, codes, length, pos, MatchOption, OnOk, string_bytes};
+ghost use Rattle.std.specs.Prelude.{◌≡◌, ◌++◌, ◌^◌, ◌<◌, Some, None, codes, length, pos, MatchOption, OnOk};
 ghost use Rattle.krb_msg.specs.Grammar.{pa_data};
 ghost use Rattle.krb_msg.specs.ViewValues.{KrbErrorLists, krb_error_of_view};
 ghost use Rattle.krb_msg.specs.Viewed.{AreViewed, items_of};
@@ -14,7 +14,8 @@ use crate::field::put_field;
 use crate::form::Form;
 use crate::item::{put_name_member, put_named};
 use crate::list::PaDataTypes;
-use crate::shown::{Shown, put_begin, put_number};
+use crate::shown::{Shown, put_begin};
+use crate::text_buffer::TextBuffer;
 use crate::view_field::{
     put_absent_field, put_client_field, put_micros_field, put_optional_micros_field,
     put_optional_size_field, put_optional_time_field, put_principal_field, put_quoted_field,
@@ -54,10 +55,10 @@ fn code_suffix<'a>(code: i64) -> &'a str
 
 /// Appends a code, and `:` and its name if it has one in any line.
 #[tactic(auto, unfolding(crate::specs::Errors::code_text))]
-fn put_code(line: &mut String, code: i64) -> Result<(), AllocError>
-    ensures { OnOk result (string_bytes line.new ≡ string_bytes line.old ++ code_text code) }
+fn put_code(line: &mut TextBuffer, code: i64) -> Result<(), AllocError>
+    ensures { OnOk result (line.new ≡ line.old ++ code_text code) }
 {
-    put_number(line, code)?;
+    line.push_signed(code)?;
     line.push_str(code_suffix(code))
 }
 
@@ -66,7 +67,7 @@ impl Shown for Code {
 
     #[inline(always)]
     #[tactic(auto, unfolding(crate::specs::Forms::value_text))]
-    fn put_text(&self, line: &mut String, names: bool) -> Result<(), AllocError> {
+    fn put_text(&self, line: &mut TextBuffer, names: bool) -> Result<(), AllocError> {
         if names {
             put_named(line, true, Registry::ErrorCodes, self.0)
         } else {
@@ -75,9 +76,9 @@ impl Shown for Code {
     }
 
     #[tactic(auto, unfolding(crate::specs::Forms::members, crate::specs::Forms::json_value, crate::specs::Forms::names_member))]
-    fn put_members(&self, object: &mut String, begin: &str) -> Result<(), AllocError> {
+    fn put_members(&self, object: &mut TextBuffer, begin: &str) -> Result<(), AllocError> {
         put_begin(object, begin)?;
-        put_number(object, self.0)?;
+        object.push_signed(self.0)?;
         put_name_member(object, begin, Registry::ErrorCodes, self.0)
     }
 }
@@ -104,14 +105,14 @@ fn methods_of<'a>(error: &KrbErrorView<'a>) -> Option<ItemsView<'a>>
 
 /// Appends the field of the types of the METHOD-DATA of an error.
 fn put_methods_field(
-    text: &mut String,
+    text: &mut TextBuffer,
     form: Form,
     label: &str,
     begin: &str,
     error: &KrbErrorView<'_>,
 ) -> Result<(), AllocError>
     requires { KrbErrorLists error.now }
-    ensures { let seen = krb_error_of_view error.now in OnOk result (string_bytes text.new ≡ string_bytes text.old ++ labelled form label.now begin.now (methods seen.error_code seen.e_data)) }
+    ensures { let seen = krb_error_of_view error.now in OnOk result (text.new ≡ text.old ++ labelled form label.now begin.now (methods seen.error_code seen.e_data)) }
 {
     match methods_of(error) {
         None => put_absent_field(text, form, label, begin),
@@ -120,9 +121,13 @@ fn put_methods_field(
 }
 
 /// Appends the fields of a KRB-ERROR up to the time of the client.
-fn put_front(text: &mut String, form: Form, error: &KrbErrorView<'_>) -> Result<(), AllocError>
+fn put_first_fields(
+    text: &mut TextBuffer,
+    form: Form,
+    error: &KrbErrorView<'_>,
+) -> Result<(), AllocError>
     requires { KrbErrorLists error.now }
-    ensures { let seen = krb_error_of_view error.now in OnOk result (string_bytes text.new ≡ string_bytes text.old
+    ensures { let seen = krb_error_of_view error.now in OnOk result (text.new ≡ text.old
         ++ field form (codes "code") (ErrorCode seen.error_code)
         ++ field form (codes "client") (client seen.cname seen.crealm)
         ++ field form (codes "server") (principal seen.realm seen.sname)
@@ -151,9 +156,13 @@ fn put_front(text: &mut String, form: Form, error: &KrbErrorView<'_>) -> Result<
 }
 
 /// Appends the fields of a KRB-ERROR from the time of the server on.
-fn put_rest(text: &mut String, form: Form, error: &KrbErrorView<'_>) -> Result<(), AllocError>
+fn put_last_fields(
+    text: &mut TextBuffer,
+    form: Form,
+    error: &KrbErrorView<'_>,
+) -> Result<(), AllocError>
     requires { KrbErrorLists error.now }
-    ensures { let seen = krb_error_of_view error.now in OnOk result (string_bytes text.new ≡ string_bytes text.old
+    ensures { let seen = krb_error_of_view error.now in OnOk result (text.new ≡ text.old
         ++ field form (codes "stime") (Word seen.stime)
         ++ field form (codes "susec") (Number (pos seen.susec))
         ++ field form (codes "text") (if_there Quoted seen.e_text)
@@ -169,13 +178,13 @@ fn put_rest(text: &mut String, form: Form, error: &KrbErrorView<'_>) -> Result<(
 
 /// Appends the fields of a KRB-ERROR.
 pub(crate) fn put_krb_error(
-    text: &mut String,
+    text: &mut TextBuffer,
     form: Form,
     error: &KrbErrorView<'_>,
 ) -> Result<(), AllocError>
     requires { KrbErrorLists error.now }
-    ensures { OnOk result (string_bytes text.new ≡ string_bytes text.old ++ fields_text form (krb_error_fields (krb_error_of_view error.now))) }
+    ensures { OnOk result (text.new ≡ text.old ++ fields_text form (krb_error_fields (krb_error_of_view error.now))) }
 {
-    put_front(text, form, error)?;
-    put_rest(text, form, error)
+    put_first_fields(text, form, error)?;
+    put_last_fields(text, form, error)
 }

@@ -1,6 +1,6 @@
 //! Names of files.
 
-ghost use Rattle.std.specs.Prelude.{◌≡◌, ◌++◌, ◌<◌, OnOk, Some, false, string_bytes};
+ghost use Rattle.std.specs.Prelude.{◌≡◌, ◌++◌, ◌<◌, OnOk, Some, false};
 ghost use Rattle.std.specs.Fmt.{digit_glyph};
 ghost use Rattle.krb_list.specs.FileNames.{is_plain_in_name, name_octet, name_text};
 ghost use Rattle.krb_list.specs.Files.{file_line};
@@ -11,10 +11,11 @@ use crate::field::{put_end, put_field, put_opening};
 use crate::form::Form;
 use crate::json::put_octets_string;
 use crate::shown::{Shown, put_begin};
+use crate::text_buffer::TextBuffer;
 use std::alloc::AllocError;
 use std::fmt;
 
-/// Returns whether an octet of a name stands for itself.
+/// Returns whether an octet of a name is not escaped.
 fn is_plain_in_name(octet: u8) -> bool
     ensures { result ≡ is_plain_in_name octet }
 {
@@ -71,21 +72,21 @@ impl<'a> Shown for FileName<'a> {
     ghost shown = { λ name. IsFileName name.0.now };
 
     #[tactic(auto, unfolding(crate::specs::Forms::value_text))]
-    fn put_text(&self, line: &mut String, _names: bool) -> Result<(), AllocError> {
+    fn put_text(&self, line: &mut TextBuffer, _names: bool) -> Result<(), AllocError> {
         write!(line, "{}", *self)
     }
 
     #[tactic(auto, unfolding(crate::specs::Forms::members, crate::specs::Forms::json_value, crate::specs::Forms::names_member))]
-    fn put_members(&self, object: &mut String, begin: &str) -> Result<(), AllocError> {
+    fn put_members(&self, object: &mut TextBuffer, begin: &str) -> Result<(), AllocError> {
         put_begin(object, begin)?;
         put_octets_string(object, self.0.as_bytes())
     }
 }
 
-/// Appends the line that stands before the listing of the file of a name, if several are listed.
+/// Appends the line that precedes the listing of the file of a name, if several are listed.
 #[tactic(auto, unfolding(crate::specs::Forms::record_text))]
-pub fn put_file(text: &mut String, form: Form, name: &str) -> Result<(), AllocError>
-    ensures { OnOk result (string_bytes text.new ≡ string_bytes text.old ++ file_line form name.now) }
+pub fn put_file(text: &mut TextBuffer, form: Form, name: &str) -> Result<(), AllocError>
+    ensures { OnOk result (text.new ≡ text.old ++ file_line form name.now) }
 {
     put_opening(text, form, "file")?;
     put_field(text, form, " name=", ",\"name", &FileName(name))?;

@@ -1,6 +1,6 @@
 //! Flags, and the names of their bits.
 
-ghost use Rattle.std.specs.Prelude.{◌≡◌, ◌++◌, ◌-◌, ◌*◌, ◌==◌, [], ◌∷◌, decimal, length, not, map, codes, true, MatchOption, OnOk, string_bytes};
+ghost use Rattle.std.specs.Prelude.{◌≡◌, ◌++◌, ◌-◌, ◌*◌, ◌==◌, [], ◌∷◌, decimal, length, not, map, codes, true, MatchOption, OnOk};
 ghost use Rattle.std.specs.List.{flat_map, list_all};
 ghost use Rattle.std.specs.Str.{IsAscii};
 ghost use Rattle.krb_registry.specs.Rows.{number_and_name, rows};
@@ -11,7 +11,8 @@ ghost use Rattle.krb_list.specs.inner.Flags.{are_plain, name_item, names_set};
 
 use crate::escape::put_hex;
 use crate::json::put_string;
-use crate::shown::{Shown, put_begin, put_number};
+use crate::shown::{Shown, put_begin};
+use crate::text_buffer::TextBuffer;
 use krb_registry::{Registry, Row, rows};
 use std::alloc::AllocError;
 
@@ -60,9 +61,9 @@ fn first_set(octets: &[u8], table: &'static [Row]) -> Option<(&'static str, &'st
 }
 
 /// Appends the name of a bit.
-fn put_name(text: &mut String, form: NameForm, name: &str) -> Result<(), AllocError>
+fn put_name(text: &mut TextBuffer, form: NameForm, name: &str) -> Result<(), AllocError>
     requires { IsAscii name.now }
-    ensures { OnOk result (string_bytes text.new ≡ string_bytes text.old ++ name_item form name.now) }
+    ensures { OnOk result (text.new ≡ text.old ++ name_item form name.now) }
 {
     match form {
         NameForm::Word => text.push_str(name),
@@ -72,17 +73,17 @@ fn put_name(text: &mut String, form: NameForm, name: &str) -> Result<(), AllocEr
 
 /// Appends a comma and the name of a bit, for each bit that is set and has a name in the table.
 fn put_other_names(
-    text: &mut String,
+    text: &mut TextBuffer,
     form: NameForm,
     octets: &[u8],
     table: &'static [Row],
 ) -> Result<(), AllocError>
     requires { are_plain (map number_and_name table.now) ≡ true }
-    ensures { OnOk result (string_bytes text.new ≡ string_bytes text.old ++ flat_map (λ name. codes "," ++ name_item form name) (names_set octets.now (map number_and_name table.now))) }
+    ensures { OnOk result (text.new ≡ text.old ++ flat_map (λ name. codes "," ++ name_item form name) (names_set octets.now (map number_and_name table.now))) }
 {
     let mut others = table;
     'others: while let Some((name, rest)) = first_set(octets, others) {
-        text.push(',')?;
+        text.push_str(",")?;
         put_name(text, form, name)?;
         others = rest;
     }
@@ -93,13 +94,13 @@ fn put_other_names(
 /// between them, or another text if there are none.
 #[tactic(auto, unfolding(crate::specs::Forms::set_names))]
 fn put_names(
-    text: &mut String,
+    text: &mut TextBuffer,
     form: NameForm,
     none: &str,
     registry: Registry,
     octets: &[u8],
 ) -> Result<(), AllocError>
-    ensures { OnOk result (string_bytes text.new ≡ string_bytes text.old ++ joined none.now (codes ",") (name_item form) (set_names registry octets.now)) }
+    ensures { OnOk result (text.new ≡ text.old ++ joined none.now (codes ",") (name_item form) (set_names registry octets.now)) }
 {
     match first_set(octets, rows(registry)) {
         None => text.push_str(none),
@@ -145,8 +146,8 @@ fn has_unnamed(registry: Registry, octets: &[u8]) -> bool
 
 /// Appends the octets without the bits that have names, in hexadecimal.
 #[tactic(auto, unfolding(crate::specs::Forms::unnamed))]
-fn put_unnamed(text: &mut String, registry: Registry, octets: &[u8]) -> Result<(), AllocError>
-    ensures { OnOk result (string_bytes text.new ≡ string_bytes text.old ++ hex (unnamed registry octets.now)) }
+fn put_unnamed(text: &mut TextBuffer, registry: Registry, octets: &[u8]) -> Result<(), AllocError>
+    ensures { OnOk result (text.new ≡ text.old ++ hex (unnamed registry octets.now)) }
 {
     let mut k = 0u64;
     let mut others = octets;
@@ -159,11 +160,11 @@ fn put_unnamed(text: &mut String, registry: Registry, octets: &[u8]) -> Result<(
 }
 
 /// Appends `+` and the octets without the bits that have names, unless all are 00.
-fn put_plus(text: &mut String, registry: Registry, octets: &[u8]) -> Result<(), AllocError>
-    ensures { OnOk result (string_bytes text.new ≡ string_bytes text.old ++ plus_text (unnamed registry octets.now)) }
+fn put_plus(text: &mut TextBuffer, registry: Registry, octets: &[u8]) -> Result<(), AllocError>
+    ensures { OnOk result (text.new ≡ text.old ++ plus_text (unnamed registry octets.now)) }
 {
     if has_unnamed(registry, octets) {
-        text.push('+')?;
+        text.push_str("+")?;
         put_unnamed(text, registry, octets)
     } else {
         Ok(())
@@ -173,23 +174,27 @@ fn put_plus(text: &mut String, registry: Registry, octets: &[u8]) -> Result<(), 
 /// Appends the names of the bits that are set, or `-`, and then the bits without a name.
 #[tactic(auto, unfolding(crate::specs::Forms::named_flags_text))]
 pub(crate) fn put_named_flags(
-    line: &mut String,
+    line: &mut TextBuffer,
     registry: Registry,
     octets: &[u8],
 ) -> Result<(), AllocError>
-    ensures { OnOk result (string_bytes line.new ≡ string_bytes line.old ++ named_flags_text registry octets.now) }
+    ensures { OnOk result (line.new ≡ line.old ++ named_flags_text registry octets.now) }
 {
     put_names(line, NameForm::Word, "-", registry, octets)?;
     put_plus(line, registry, octets)
 }
 
 /// Appends a list of the names of the bits that are set, as strings.
-fn put_name_list(object: &mut String, registry: Registry, octets: &[u8]) -> Result<(), AllocError>
-    ensures { OnOk result (string_bytes object.new ≡ string_bytes object.old ++ list_text (name_item NameForm.String) (set_names registry octets.now)) }
+fn put_name_list(
+    object: &mut TextBuffer,
+    registry: Registry,
+    octets: &[u8],
+) -> Result<(), AllocError>
+    ensures { OnOk result (object.new ≡ object.old ++ list_text (name_item NameForm.String) (set_names registry octets.now)) }
 {
-    object.push('[')?;
+    object.push_str("[")?;
     put_names(object, NameForm::String, "", registry, octets)?;
-    object.push(']')
+    object.push_str("]")
 }
 
 /// Flags of a registry: their octets, and how many low bits of the last octet are unused.
@@ -201,21 +206,25 @@ pub(crate) struct FlagBits<'a> {
 }
 
 /// Appends how many flags there are.
-fn put_count(text: &mut String, unused: u8, octets: &[u8]) -> Result<(), AllocError>
-    ensures { OnOk result (string_bytes text.new ≡ string_bytes text.old ++ decimal (8 * length octets.now - unused)) }
+fn put_count(text: &mut TextBuffer, unused: u8, octets: &[u8]) -> Result<(), AllocError>
+    ensures { OnOk result (text.new ≡ text.old ++ decimal (8 * length octets.now - unused)) }
 {
     let count = (8 * octets.len() as u128).saturating_sub(u128::from(unused));
-    put_number(text, count)
+    if count < 100 {
+        text.push_number(count as u64)
+    } else {
+        text.push_integer(count)
+    }
 }
 
 /// Appends what an object has of flags.
 pub(crate) fn put_flags_object(
-    object: &mut String,
+    object: &mut TextBuffer,
     registry: Registry,
     unused: u8,
     octets: &[u8],
 ) -> Result<(), AllocError>
-    ensures { OnOk result (string_bytes object.new ≡ string_bytes object.old ++ flags_object registry (unused, octets.now)) }
+    ensures { OnOk result (object.new ≡ object.old ++ flags_object registry (unused, octets.now)) }
 {
     object.push_str("{\"bits\":")?;
     put_count(object, unused, octets)?;
@@ -223,16 +232,16 @@ pub(crate) fn put_flags_object(
     put_hex(object, octets)?;
     object.push_str("\",\"names\":")?;
     put_name_list(object, registry, octets)?;
-    object.push('}')
+    object.push_str("}")
 }
 
 /// Appends the number of flags, `:` and their octets in hexadecimal.
 #[inline(always)]
-fn put_bits(line: &mut String, unused: u8, octets: &[u8]) -> Result<(), AllocError>
-    ensures { OnOk result (string_bytes line.new ≡ string_bytes line.old ++ decimal (8 * length octets.now - unused) ++ codes ":" ++ hex octets.now) }
+fn put_bits(line: &mut TextBuffer, unused: u8, octets: &[u8]) -> Result<(), AllocError>
+    ensures { OnOk result (line.new ≡ line.old ++ decimal (8 * length octets.now - unused) ++ codes ":" ++ hex octets.now) }
 {
     put_count(line, unused, octets)?;
-    line.push(':')?;
+    line.push_str(":")?;
     put_hex(line, octets)
 }
 
@@ -243,10 +252,10 @@ impl<'a> Shown for FlagBits<'a> {
 
     #[inline(always)]
     #[tactic(auto, unfolding(crate::specs::Forms::value_text))]
-    fn put_text(&self, line: &mut String, names: bool) -> Result<(), AllocError> {
+    fn put_text(&self, line: &mut TextBuffer, names: bool) -> Result<(), AllocError> {
         if names {
             put_bits(line, self.unused, self.octets)?;
-            line.push(':')?;
+            line.push_str(":")?;
             put_named_flags(line, self.registry, self.octets)
         } else {
             put_bits(line, self.unused, self.octets)
@@ -254,7 +263,7 @@ impl<'a> Shown for FlagBits<'a> {
     }
 
     #[tactic(auto, unfolding(crate::specs::Forms::members, crate::specs::Forms::json_value, crate::specs::Forms::names_member))]
-    fn put_members(&self, object: &mut String, begin: &str) -> Result<(), AllocError> {
+    fn put_members(&self, object: &mut TextBuffer, begin: &str) -> Result<(), AllocError> {
         put_begin(object, begin)?;
         put_flags_object(object, self.registry, self.unused, self.octets)
     }

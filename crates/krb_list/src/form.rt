@@ -3,7 +3,7 @@
 /// How a record is printed.
 #[derive(Clone, Copy, PartialEq, Eq, Debug)]
 pub enum Form {
-    /// A line, in which numbers stand by themselves.
+    /// A line, in which numbers have no names.
     Lines,
     /// A line, in which each number of a registry has its name after it.
     NamedLines,

@@ -1,6 +1,6 @@
 //! Numbers of registries and octets, as lists have them.
 
-ghost use Rattle.std.specs.Prelude.{◌≡◌, ◌++◌, OnOk, codes, string_bytes};
+ghost use Rattle.std.specs.Prelude.{◌≡◌, ◌++◌, OnOk, codes};
 ghost use Rattle.krb_registry.specs.Rows.{name_of};
 ghost use Rattle.krb_list.specs.Forms.{name_string, number_text};
 ghost use Rattle.krb_list.specs.Text.{or_dash};
@@ -8,7 +8,7 @@ ghost use Rattle.krb_list.specs.inner.Items.{number_item, octets_item};
 
 use crate::escape::put_escaped;
 use crate::json::{Escape, put_octets_string, put_quoted, put_string};
-use crate::shown::put_number;
+use crate::text_buffer::TextBuffer;
 use krb_registry::{Registry, name_of};
 use std::alloc::AllocError;
 
@@ -28,22 +28,22 @@ pub(crate) enum ItemForm {
 }
 
 /// Appends the name of a number, or `-` if it has none.
-fn put_name(line: &mut String, registry: Registry, number: i64) -> Result<(), AllocError>
-    ensures { OnOk result (string_bytes line.new ≡ string_bytes line.old ++ or_dash (λ name. name) (name_of registry number)) }
+fn put_name(line: &mut TextBuffer, registry: Registry, number: i64) -> Result<(), AllocError>
+    ensures { OnOk result (line.new ≡ line.old ++ or_dash (λ name. name) (name_of registry number)) }
 {
     match name_of(registry, number) {
-        None => line.push('-'),
+        None => line.push_str("-"),
         Some(name) => line.push_str(name),
     }
 }
 
 /// Appends the name of a number as a string, or null if it has none.
 pub(crate) fn put_name_string(
-    object: &mut String,
+    object: &mut TextBuffer,
     registry: Registry,
     number: i64,
 ) -> Result<(), AllocError>
-    ensures { OnOk result (string_bytes object.new ≡ string_bytes object.old ++ name_string registry number) }
+    ensures { OnOk result (object.new ≡ object.old ++ name_string registry number) }
 {
     match name_of(registry, number) {
         None => object.push_str("null"),
@@ -53,30 +53,30 @@ pub(crate) fn put_name_string(
 
 /// Appends a number, and with names `:` and its name, or `-` if it has none.
 pub(crate) fn put_named(
-    line: &mut String,
+    line: &mut TextBuffer,
     names: bool,
     registry: Registry,
     number: i64,
 ) -> Result<(), AllocError>
-    ensures { OnOk result (string_bytes line.new ≡ string_bytes line.old ++ number_text names registry number) }
+    ensures { OnOk result (line.new ≡ line.old ++ number_text names registry number) }
 {
     if names {
-        put_number(line, number)?;
-        line.push(':')?;
+        line.push_signed(number)?;
+        line.push_str(":")?;
         put_name(line, registry, number)
     } else {
-        put_number(line, number)
+        line.push_signed(number)
     }
 }
 
 /// Appends the member of the name of a number.
 pub(crate) fn put_name_member(
-    object: &mut String,
+    object: &mut TextBuffer,
     begin: &str,
     registry: Registry,
     number: i64,
 ) -> Result<(), AllocError>
-    ensures { OnOk result (string_bytes object.new ≡ string_bytes object.old ++ begin.now ++ codes "_name\":" ++ name_string registry number) }
+    ensures { OnOk result (object.new ≡ object.old ++ begin.now ++ codes "_name\":" ++ name_string registry number) }
 {
     object.push_str(begin)?;
     object.push_str("_name\":")?;
@@ -85,26 +85,26 @@ pub(crate) fn put_name_member(
 
 /// Appends a number.
 pub(crate) fn put_number_item(
-    text: &mut String,
+    text: &mut TextBuffer,
     form: ItemForm,
     number: i64,
 ) -> Result<(), AllocError>
-    ensures { OnOk result (string_bytes text.new ≡ string_bytes text.old ++ number_item form number) }
+    ensures { OnOk result (text.new ≡ text.old ++ number_item form number) }
 {
     match form {
         ItemForm::Named(registry) => put_named(text, true, registry, number),
         ItemForm::Name(registry) => put_name_string(text, registry, number),
-        ItemForm::Line | ItemForm::Part | ItemForm::Object => put_number(text, number),
+        ItemForm::Line | ItemForm::Part | ItemForm::Object => text.push_signed(number),
     }
 }
 
 /// Appends octets.
 pub(crate) fn put_octets_item(
-    text: &mut String,
+    text: &mut TextBuffer,
     form: ItemForm,
     octets: &[u8],
 ) -> Result<(), AllocError>
-    ensures { OnOk result (string_bytes text.new ≡ string_bytes text.old ++ octets_item form octets.now) }
+    ensures { OnOk result (text.new ≡ text.old ++ octets_item form octets.now) }
 {
     match form {
         ItemForm::Part => put_quoted(text, Escape::Line, octets),

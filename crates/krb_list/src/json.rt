@@ -1,15 +1,16 @@
 //! Strings of JSON (RFC 8259, section 7).
 
-ghost use Rattle.std.specs.Prelude.{◌≡◌, ◌++◌, ◌<◌, OnOk, codes, string_bytes};
+ghost use Rattle.std.specs.Prelude.{◌≡◌, ◌++◌, ◌<◌, OnOk, codes};
 ghost use Rattle.std.specs.List.{flat_map};
 ghost use Rattle.std.specs.Str.{IsAscii};
 ghost use Rattle.krb_list.specs.Forms.{json_character, json_string, octets_string, shown_octet};
-ghost use Rattle.krb_list.specs.inner.Strings.{escaped, quoted, stands};
+ghost use Rattle.krb_list.specs.inner.Strings.{escaped, is_unescaped, quoted};
 
 use crate::escape::{is_plain, put_hex};
+use crate::text_buffer::TextBuffer;
 use std::alloc::AllocError;
 
-/// Which octets of a string stand for themselves, where each other is `\x` and two hexadecimal digits.
+/// Which octets of a string are not escaped; each other is `\x` and two hexadecimal digits.
 #[derive(Clone, Copy)]
 pub(crate) enum Escape {
     /// Those that do in a line: 21 to 7E but `/`, `@` and `\`.
@@ -19,21 +20,21 @@ pub(crate) enum Escape {
 }
 
 /// Appends a character of ASCII.
-fn put_character(object: &mut String, character: u8) -> Result<(), AllocError>
+fn put_character(object: &mut TextBuffer, character: u8) -> Result<(), AllocError>
     requires { character < 128 }
-    ensures { OnOk result (string_bytes object.new ≡ string_bytes object.old ++ json_character character) }
+    ensures { OnOk result (object.new ≡ object.old ++ json_character character) }
 {
     match character {
         b'"' => object.push_str("\\\""),
         b'\\' => object.push_str("\\\\"),
-        _ => object.push(char::from(character)),
+        _ => object.push_octet(character),
     }
 }
 
 /// Appends the characters of a text of ASCII.
-fn put_characters(object: &mut String, text: &[u8]) -> Result<(), AllocError>
+fn put_characters(object: &mut TextBuffer, text: &[u8]) -> Result<(), AllocError>
     requires { IsAscii text.now }
-    ensures { OnOk result (string_bytes object.new ≡ string_bytes object.old ++ flat_map json_character text.now) }
+    ensures { OnOk result (object.new ≡ object.old ++ flat_map json_character text.now) }
 {
     for character in text {
         put_character(object, *character)?;
@@ -42,18 +43,18 @@ fn put_characters(object: &mut String, text: &[u8]) -> Result<(), AllocError>
 }
 
 /// Appends a text of ASCII as a string.
-pub(crate) fn put_string(object: &mut String, text: &[u8]) -> Result<(), AllocError>
+pub(crate) fn put_string(object: &mut TextBuffer, text: &[u8]) -> Result<(), AllocError>
     requires { IsAscii text.now }
-    ensures { OnOk result (string_bytes object.new ≡ string_bytes object.old ++ json_string text.now) }
+    ensures { OnOk result (object.new ≡ object.old ++ json_string text.now) }
 {
-    object.push('"')?;
+    object.push_str("\"")?;
     put_characters(object, text)?;
-    object.push('"')
+    object.push_str("\"")
 }
 
-/// Returns whether an octet stands for itself.
-fn stands(escape: Escape, octet: u8) -> bool
-    ensures { result ≡ stands escape octet }
+/// Returns whether an octet is not escaped.
+fn is_unescaped(escape: Escape, octet: u8) -> bool
+    ensures { result ≡ is_unescaped escape octet }
 {
     match escape {
         Escape::Line => is_plain(octet),
@@ -61,27 +62,27 @@ fn stands(escape: Escape, octet: u8) -> bool
     }
 }
 
-/// Appends an octet as it stands in a string.
-fn put_octet(object: &mut String, escape: Escape, octet: u8) -> Result<(), AllocError>
-    ensures { OnOk result (string_bytes object.new ≡ string_bytes object.old ++ flat_map json_character (escaped escape octet)) }
+/// Appends an octet of a string.
+fn put_octet(object: &mut TextBuffer, escape: Escape, octet: u8) -> Result<(), AllocError>
+    ensures { OnOk result (object.new ≡ object.old ++ flat_map json_character (escaped escape octet)) }
 {
     if octet == b'"' {
         object.push_str("\\\"")
-    } else if stands(escape, octet) {
-        object.push(char::from(octet))
+    } else if is_unescaped(escape, octet) {
+        object.push_octet(octet)
     } else {
         object.push_str("\\\\x")?;
         put_hex(object, &[octet])
     }
 }
 
-/// Appends octets as they stand in a string.
+/// Appends the octets of a string.
 pub(crate) fn put_quoted(
-    object: &mut String,
+    object: &mut TextBuffer,
     escape: Escape,
     octets: &[u8],
 ) -> Result<(), AllocError>
-    ensures { OnOk result (string_bytes object.new ≡ string_bytes object.old ++ quoted escape octets.now) }
+    ensures { OnOk result (object.new ≡ object.old ++ quoted escape octets.now) }
 {
     for octet in octets {
         put_octet(object, escape, *octet)?;
@@ -89,19 +90,19 @@ pub(crate) fn put_quoted(
     Ok(())
 }
 
-/// Appends octets as they stand in a string: 20 to 7E but `\` as they are, each other as `\x` and two
+/// Appends the octets of a string: 20 to 7E but `\` as they are, each other as `\x` and two
 /// hexadecimal digits in lower case.
-fn put_shown(object: &mut String, octets: &[u8]) -> Result<(), AllocError>
-    ensures { OnOk result (string_bytes object.new ≡ string_bytes object.old ++ flat_map json_character (flat_map shown_octet octets.now)) }
+fn put_shown(object: &mut TextBuffer, octets: &[u8]) -> Result<(), AllocError>
+    ensures { OnOk result (object.new ≡ object.old ++ flat_map json_character (flat_map shown_octet octets.now)) }
 {
     put_quoted(object, Escape::Object, octets)
 }
 
-/// Appends octets as a string, in which they stand as [`put_shown`] has them.
-pub(crate) fn put_octets_string(object: &mut String, octets: &[u8]) -> Result<(), AllocError>
-    ensures { OnOk result (string_bytes object.new ≡ string_bytes object.old ++ octets_string octets.now) }
+/// Appends octets as a string, in which they are as [`put_shown`] has them.
+pub(crate) fn put_octets_string(object: &mut TextBuffer, octets: &[u8]) -> Result<(), AllocError>
+    ensures { OnOk result (object.new ≡ object.old ++ octets_string octets.now) }
 {
-    object.push('"')?;
+    object.push_str("\"")?;
     put_shown(object, octets)?;
-    object.push('"')
+    object.push_str("\"")
 }

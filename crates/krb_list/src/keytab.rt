@@ -13,6 +13,7 @@ use crate::field::{put_closing, put_field, put_opening};
 use crate::form::Form;
 use crate::number::Numbered;
 use crate::principal::{Principal, Strings};
+use crate::text_buffer::TextBuffer;
 use crate::time::FileTime;
 use krb_der::Memory;
 use krb_keytab::{Entry, Hole, Keytab, Record, Stop};
@@ -57,8 +58,8 @@ fn enctype_of(entry: &Entry) -> Numbered
 }
 
 /// Appends the fields of the principal of an entry.
-fn put_who(text: &mut String, form: Form, entry: &Entry) -> Result<(), AllocError>
-    ensures { OnOk result (string_bytes text.new ≡ string_bytes text.old ++ fields_text form (
+fn put_who(text: &mut TextBuffer, form: Form, entry: &Entry) -> Result<(), AllocError>
+    ensures { OnOk result (text.new ≡ text.old ++ fields_text form (
         the (codes "principal") (IsPrincipal entry.now.name_type entry.now.components entry.now.realm)
         ∷ the (codes "type") (Named NameTypes entry.now.name_type)
         ∷ [])) }
@@ -74,8 +75,8 @@ fn put_who(text: &mut String, form: Form, entry: &Entry) -> Result<(), AllocErro
 }
 
 /// Appends the fields of the time and of the version of the key of an entry.
-fn put_version(text: &mut String, form: Form, entry: &Entry) -> Result<(), AllocError>
-    ensures { OnOk result (string_bytes text.new ≡ string_bytes text.old ++ fields_text form (
+fn put_version(text: &mut TextBuffer, form: Form, entry: &Entry) -> Result<(), AllocError>
+    ensures { OnOk result (text.new ≡ text.old ++ fields_text form (
         the (codes "time") (file_time entry.now.time)
         ∷ the (codes "kvno") (Number (pos (kvno entry.now)))
         ∷ [])) }
@@ -86,8 +87,8 @@ fn put_version(text: &mut String, form: Form, entry: &Entry) -> Result<(), Alloc
 
 /// Appends the fields of an entry from the encryption type on. Of the key itself there is the number of
 /// its octets.
-fn put_key(text: &mut String, form: Form, entry: &Entry) -> Result<(), AllocError>
-    ensures { OnOk result (string_bytes text.new ≡ string_bytes text.old ++ fields_text form (
+fn put_key(text: &mut TextBuffer, form: Form, entry: &Entry) -> Result<(), AllocError>
+    ensures { OnOk result (text.new ≡ text.old ++ fields_text form (
         the (codes "enctype") (Named EncryptionTypes (pos entry.now.enctype))
         ∷ the (codes "key") (count entry.now.key)
         ∷ the (codes "rest") (count entry.now.rest)
@@ -101,8 +102,8 @@ fn put_key(text: &mut String, form: Form, entry: &Entry) -> Result<(), AllocErro
 }
 
 #[tactic(auto, unfolding(crate::specs::Forms::record_text))]
-fn put_entry(text: &mut String, form: Form, entry: &Entry) -> Result<(), AllocError>
-    ensures { OnOk result (string_bytes text.new ≡ string_bytes text.old ++ record_text form (printed (codes "entry") (entry_fields entry.now))) }
+fn put_entry(text: &mut TextBuffer, form: Form, entry: &Entry) -> Result<(), AllocError>
+    ensures { OnOk result (text.new ≡ text.old ++ record_text form (printed (codes "entry") (entry_fields entry.now))) }
 {
     put_opening(text, form, "entry")?;
     put_who(text, form, entry)?;
@@ -112,8 +113,8 @@ fn put_entry(text: &mut String, form: Form, entry: &Entry) -> Result<(), AllocEr
 }
 
 #[tactic(auto, unfolding(crate::specs::Forms::record_text))]
-fn put_hole(text: &mut String, form: Form, hole: &Hole) -> Result<(), AllocError>
-    ensures { OnOk result (string_bytes text.new ≡ string_bytes text.old ++ record_text form (printed (codes "hole") (hole_fields hole.now))) }
+fn put_hole(text: &mut TextBuffer, form: Form, hole: &Hole) -> Result<(), AllocError>
+    ensures { OnOk result (text.new ≡ text.old ++ record_text form (printed (codes "hole") (hole_fields hole.now))) }
 {
     put_opening(text, form, "hole")?;
     put_field(text, form, " size=", ",\"size", &u64::from(hole.size()))?;
@@ -123,8 +124,8 @@ fn put_hole(text: &mut String, form: Form, hole: &Hole) -> Result<(), AllocError
 
 /// Appends what is printed of a record, without a line feed.
 #[tactic(auto, unfolding(crate::specs::Keytabs::printed_record))]
-fn put_record_text(text: &mut String, form: Form, record: &Record) -> Result<(), AllocError>
-    ensures { OnOk result (string_bytes text.new ≡ string_bytes text.old ++ record_text form (printed_record «record».now)) }
+fn put_record_text(text: &mut TextBuffer, form: Form, record: &Record) -> Result<(), AllocError>
+    ensures { OnOk result (text.new ≡ text.old ++ record_text form (printed_record «record».now)) }
 {
     match record {
         Record::Entry(entry) => put_entry(text, form, entry),
@@ -133,11 +134,11 @@ fn put_record_text(text: &mut String, form: Form, record: &Record) -> Result<(),
 }
 
 /// Appends the line of a record, which is [`record_line`]'s.
-pub fn put_record(text: &mut String, form: Form, record: &Record) -> Result<(), AllocError>
-    ensures { OnOk result (string_bytes text.new ≡ string_bytes text.old ++ record_line form (printed_record «record».now)) }
+pub fn put_record(text: &mut TextBuffer, form: Form, record: &Record) -> Result<(), AllocError>
+    ensures { OnOk result (text.new ≡ text.old ++ record_line form (printed_record «record».now)) }
 {
     put_record_text(text, form, record)?;
-    text.push('\n')
+    text.push_str("\n")
 }
 
 /// Returns the line of a record, without its line feed. It shows no octet of a key, which is a law:
@@ -145,9 +146,9 @@ pub fn put_record(text: &mut String, form: Form, record: &Record) -> Result<(), 
 pub fn record_line(alloc: Global, form: Form, record: &Record) -> Result<String, Memory>
     ensures { IfOk result (λ line. string_bytes line ≡ record_text form (printed_record «record».now)) }
 {
-    let mut line = String::new(alloc);
+    let mut line = TextBuffer::new(alloc);
     put_record_text(&mut line, form, record)?;
-    Ok(line)
+    Ok(line.into_string())
 }
 
 /// Returns whether a record of length 0 ends the keytab.
@@ -162,8 +163,13 @@ fn is_zero(stop: &Stop) -> bool
 
 /// Appends the line of the end of a keytab without its line feed.
 #[tactic(auto, unfolding(crate::specs::Forms::record_text, crate::specs::Keytabs::keytab_end))]
-fn put_end_text(text: &mut String, form: Form, records: u64, stop: &Stop) -> Result<(), AllocError>
-    ensures { OnOk result (string_bytes text.new ≡ string_bytes text.old ++ record_text form (keytab_end records stop.now)) }
+fn put_end_text(
+    text: &mut TextBuffer,
+    form: Form,
+    records: u64,
+    stop: &Stop,
+) -> Result<(), AllocError>
+    ensures { OnOk result (text.new ≡ text.old ++ record_text form (keytab_end records stop.now)) }
 {
     put_opening(text, form, "end")?;
     put_field(text, form, " records=", ",\"records", &records)?;
@@ -173,15 +179,15 @@ fn put_end_text(text: &mut String, form: Form, records: u64, stop: &Stop) -> Res
 
 /// Appends the line of the end of a keytab, which is [`keytab_end_line`]'s.
 pub fn put_keytab_end(
-    text: &mut String,
+    text: &mut TextBuffer,
     form: Form,
     records: u64,
     stop: &Stop,
 ) -> Result<(), AllocError>
-    ensures { OnOk result (string_bytes text.new ≡ string_bytes text.old ++ record_line form (keytab_end records stop.now)) }
+    ensures { OnOk result (text.new ≡ text.old ++ record_line form (keytab_end records stop.now)) }
 {
     put_end_text(text, form, records, stop)?;
-    text.push('\n')
+    text.push_str("\n")
 }
 
 /// Returns the line of the end of a keytab of this many records, without its line feed.
@@ -193,13 +199,13 @@ pub fn keytab_end_line(
 ) -> Result<String, Memory>
     ensures { IfOk result (λ line. string_bytes line ≡ record_text form (keytab_end records stop.now)) }
 {
-    let mut line = String::new(alloc);
+    let mut line = TextBuffer::new(alloc);
     put_end_text(&mut line, form, records, stop)?;
-    Ok(line)
+    Ok(line.into_string())
 }
 
-fn put_records(text: &mut String, form: Form, records: &[Record]) -> Result<(), AllocError>
-    ensures { OnOk result (string_bytes text.new ≡ string_bytes text.old ++ flat_map (λ r. record_line form (printed_record r)) records.now) }
+fn put_records(text: &mut TextBuffer, form: Form, records: &[Record]) -> Result<(), AllocError>
+    ensures { OnOk result (text.new ≡ text.old ++ flat_map (λ r. record_line form (printed_record r)) records.now) }
 {
     for record in records {
         put_record(text, form, record)?;
@@ -208,8 +214,8 @@ fn put_records(text: &mut String, form: Form, records: &[Record]) -> Result<(), 
 }
 
 /// Appends the lines of a keytab, which are [`keytab_lines`]'s.
-pub fn put_keytab(text: &mut String, form: Form, keytab: &Keytab) -> Result<(), AllocError>
-    ensures { OnOk result (string_bytes text.new ≡ string_bytes text.old ++ keytab_lines form keytab.now) }
+pub fn put_keytab(text: &mut TextBuffer, form: Form, keytab: &Keytab) -> Result<(), AllocError>
+    ensures { OnOk result (text.new ≡ text.old ++ keytab_lines form keytab.now) }
 {
     let records = keytab.records.as_slice();
     put_records(text, form, records)?;
@@ -222,7 +228,7 @@ pub fn put_keytab(text: &mut String, form: Form, keytab: &Keytab) -> Result<(), 
 pub fn keytab_lines(alloc: Global, form: Form, keytab: &Keytab) -> Result<String, Memory>
     ensures { IfOk result (λ text. string_bytes text ≡ keytab_lines form keytab.now) }
 {
-    let mut text = String::new(alloc);
+    let mut text = TextBuffer::new(alloc);
     put_keytab(&mut text, form, keytab)?;
-    Ok(text)
+    Ok(text.into_string())
 }

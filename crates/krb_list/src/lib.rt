@@ -2,7 +2,7 @@
 //!
 //! A record is a kind and fields, and a field is a name and a value. [`Form::Lines`] makes a line of it,
 //! [`Form::NamedLines`] a line in which the numbers of registries have their names, and [`Form::Json`]
-//! an object of JSON. What stands in a record is said once, whatever the form; each function appends to
+//! an object of JSON. What a record has is said once, whatever the form; each function appends to
 //! one text, and its contract says what was appended.
 //!
 //! The main calls are [`put_message_view`] and [`message_line`] for messages, [`put_record`] for keytabs,
@@ -33,6 +33,7 @@ mod principal;
 mod refusal;
 mod shown;
 mod stream;
+mod text_buffer;
 mod ticket_flags;
 mod time;
 mod view_field;
@@ -61,5 +62,6 @@ pub use principal::{principal_text, put_principal};
 pub use refusal::{InputFault, put_file_refusal, put_input_refusal, put_message_refusal};
 pub use shown::Shown;
 pub use stream::{put_counted_stream_end, put_stream_end, put_stream_refusal};
+pub use text_buffer::TextBuffer;
 pub use ticket_flags::TicketFlags;
 pub use time::{put_time, time_text};

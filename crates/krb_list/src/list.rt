@@ -1,6 +1,6 @@
-//! Lists that stand in octets, as records show them.
+//! Lists that are viewed in octets, as records show them.
 
-ghost use Rattle.std.specs.Prelude.{◌≡◌, ◌++◌, [], true, length, map, OnOk, codes, string_bytes};
+ghost use Rattle.std.specs.Prelude.{◌≡◌, ◌++◌, [], true, length, map, OnOk, codes};
 ghost use Rattle.std.specs.List.{flat_map};
 ghost use Rattle.krb_msg.specs.Grammar.{int32, pa_data};
 ghost use Rattle.krb_registry.specs.declared.registry.Registry.TheVariants.{EncryptionTypes, PreAuthenticationData};
@@ -16,6 +16,7 @@ ghost use Rattle.krb_list.specs.inner.Items.{item_number, number_item};
 
 use crate::item::{ItemForm, put_number_item};
 use crate::shown::{Shown, put_begin, put_names_begin};
+use crate::text_buffer::TextBuffer;
 use krb_der::Int32;
 use krb_msg::{ItemsView, PaData, PaDataView, View, next_item};
 use krb_registry::Registry;
@@ -47,11 +48,11 @@ impl<'a> Listed<'a> for PaData {
 /// Appends the number of an item.
 #[inline(always)]
 fn put_item<'a, T: Listed<'a>>(
-    text: &mut String,
+    text: &mut TextBuffer,
     form: ItemForm,
     seen: &T::Of,
 ) -> Result<(), AllocError>
-    ensures { OnOk result (string_bytes text.new ≡ string_bytes text.old ++ number_item form (item_number T.View.term (T.View.value seen.now))) }
+    ensures { OnOk result (text.new ≡ text.old ++ number_item form (item_number T.View.term (T.View.value seen.now))) }
 {
     put_number_item(text, form, T::number(seen))
 }
@@ -59,18 +60,18 @@ fn put_item<'a, T: Listed<'a>>(
 /// Appends a comma and the number of an item, for each of the items.
 #[inline(always)]
 fn put_other_numbers<'a, T: Listed<'a>>(
-    text: &mut String,
+    text: &mut TextBuffer,
     form: ItemForm,
     items: ItemsView<'a>,
 ) -> Result<(), AllocError>
     requires tags { has_octet_tags T.View.term ≡ true }
     requires unambiguous { is_unambiguous T.View.term ≡ true }
     requires viewed { AreViewed T.View.term items.octets.now }
-    ensures { OnOk result (string_bytes text.new ≡ string_bytes text.old ++ flat_map (λ item. codes "," ++ number_item form (item_number T.View.term item)) (items_of T.View.term items.entry.octets.now)) }
+    ensures { OnOk result (text.new ≡ text.old ++ flat_map (λ item. codes "," ++ number_item form (item_number T.View.term item)) (items_of T.View.term items.entry.octets.now)) }
 {
     let mut others = items;
     'others: while let Some((seen, rest)) = next_item::<T>(others) {
-        text.push(',')?;
+        text.push_str(",")?;
         put_item::<T>(text, form, &seen)?;
         others = rest;
     }
@@ -80,14 +81,14 @@ fn put_other_numbers<'a, T: Listed<'a>>(
 /// Appends the numbers of items with commas between them.
 #[inline(always)]
 fn put_numbers<'a, T: Listed<'a>>(
-    text: &mut String,
+    text: &mut TextBuffer,
     form: ItemForm,
     items: ItemsView<'a>,
 ) -> Result<(), AllocError>
     requires tags { has_octet_tags T.View.term ≡ true }
     requires unambiguous { is_unambiguous T.View.term ≡ true }
     requires viewed { AreViewed T.View.term items.octets.now }
-    ensures { OnOk result (string_bytes text.new ≡ string_bytes text.old ++ joined [] (codes ",") (λ item. number_item form (item_number T.View.term item)) (items_of T.View.term items.entry.octets.now)) }
+    ensures { OnOk result (text.new ≡ text.old ++ joined [] (codes ",") (λ item. number_item form (item_number T.View.term item)) (items_of T.View.term items.entry.octets.now)) }
 {
     match next_item::<T>(items) {
         None => Ok(()),
@@ -101,30 +102,30 @@ fn put_numbers<'a, T: Listed<'a>>(
 /// Appends the numbers of items in brackets, with commas between them.
 #[inline(always)]
 fn put_number_list<'a, T: Listed<'a>>(
-    text: &mut String,
+    text: &mut TextBuffer,
     form: ItemForm,
     items: ItemsView<'a>,
 ) -> Result<(), AllocError>
     requires tags { has_octet_tags T.View.term ≡ true }
     requires unambiguous { is_unambiguous T.View.term ≡ true }
     requires viewed { AreViewed T.View.term items.octets.now }
-    ensures { OnOk result (string_bytes text.new ≡ string_bytes text.old ++ list_text (λ item. number_item form (item_number T.View.term item)) (items_of T.View.term items.entry.octets.now)) }
+    ensures { OnOk result (text.new ≡ text.old ++ list_text (λ item. number_item form (item_number T.View.term item)) (items_of T.View.term items.entry.octets.now)) }
 {
-    text.push('[')?;
+    text.push_str("[")?;
     put_numbers::<T>(text, form, items)?;
-    text.push(']')
+    text.push_str("]")
 }
 
 /// Appends numbers in brackets.
 #[inline(always)]
 fn put_plain_list<'a, T: Listed<'a>>(
-    text: &mut String,
+    text: &mut TextBuffer,
     items: ItemsView<'a>,
 ) -> Result<(), AllocError>
     requires tags { has_octet_tags T.View.term ≡ true }
     requires unambiguous { is_unambiguous T.View.term ≡ true }
     requires viewed { AreViewed T.View.term items.octets.now }
-    ensures { OnOk result (string_bytes text.new ≡ string_bytes text.old ++ list_text signed_decimal (map (item_number T.View.term) (items_of T.View.term items.entry.octets.now))) }
+    ensures { OnOk result (text.new ≡ text.old ++ list_text signed_decimal (map (item_number T.View.term) (items_of T.View.term items.entry.octets.now))) }
 {
     put_number_list::<T>(text, ItemForm::Line, items)
 }
@@ -132,14 +133,14 @@ fn put_plain_list<'a, T: Listed<'a>>(
 /// Appends numbers in brackets, each with `:` and its name, or `-` if it has none.
 #[inline(always)]
 fn put_named_list<'a, T: Listed<'a>>(
-    text: &mut String,
+    text: &mut TextBuffer,
     registry: Registry,
     items: ItemsView<'a>,
 ) -> Result<(), AllocError>
     requires tags { has_octet_tags T.View.term ≡ true }
     requires unambiguous { is_unambiguous T.View.term ≡ true }
     requires viewed { AreViewed T.View.term items.octets.now }
-    ensures { OnOk result (string_bytes text.new ≡ string_bytes text.old ++ list_text (number_text true registry) (map (item_number T.View.term) (items_of T.View.term items.entry.octets.now))) }
+    ensures { OnOk result (text.new ≡ text.old ++ list_text (number_text true registry) (map (item_number T.View.term) (items_of T.View.term items.entry.octets.now))) }
 {
     put_number_list::<T>(text, ItemForm::Named(registry), items)
 }
@@ -147,14 +148,14 @@ fn put_named_list<'a, T: Listed<'a>>(
 /// Appends the names of numbers in brackets, each a string, or null if there is none.
 #[inline(always)]
 fn put_name_list<'a, T: Listed<'a>>(
-    text: &mut String,
+    text: &mut TextBuffer,
     registry: Registry,
     items: ItemsView<'a>,
 ) -> Result<(), AllocError>
     requires tags { has_octet_tags T.View.term ≡ true }
     requires unambiguous { is_unambiguous T.View.term ≡ true }
     requires viewed { AreViewed T.View.term items.octets.now }
-    ensures { OnOk result (string_bytes text.new ≡ string_bytes text.old ++ list_text (name_string registry) (map (item_number T.View.term) (items_of T.View.term items.entry.octets.now))) }
+    ensures { OnOk result (text.new ≡ text.old ++ list_text (name_string registry) (map (item_number T.View.term) (items_of T.View.term items.entry.octets.now))) }
 {
     put_number_list::<T>(text, ItemForm::Name(registry), items)
 }
@@ -163,7 +164,7 @@ fn put_name_list<'a, T: Listed<'a>>(
 #[inline(always)]
 #[tactic(auto, unfolding(crate::specs::Forms::value_text))]
 fn put_numbers_text<'a, T: Listed<'a>>(
-    line: &mut String,
+    line: &mut TextBuffer,
     names: bool,
     registry: Registry,
     items: ItemsView<'a>,
@@ -171,7 +172,7 @@ fn put_numbers_text<'a, T: Listed<'a>>(
     requires tags { has_octet_tags T.View.term ≡ true }
     requires unambiguous { is_unambiguous T.View.term ≡ true }
     requires viewed { AreViewed T.View.term items.octets.now }
-    ensures { OnOk result (string_bytes line.new ≡ string_bytes line.old ++ value_text names (Numbers registry (map (item_number T.View.term) (items_of T.View.term items.entry.octets.now)))) }
+    ensures { OnOk result (line.new ≡ line.old ++ value_text names (Numbers registry (map (item_number T.View.term) (items_of T.View.term items.entry.octets.now)))) }
 {
     if names {
         put_named_list::<T>(line, registry, items)
@@ -183,7 +184,7 @@ fn put_numbers_text<'a, T: Listed<'a>>(
 /// Appends the members of numbers of a registry.
 #[tactic(auto, unfolding(crate::specs::Forms::members, crate::specs::Forms::json_value, crate::specs::Forms::names_member))]
 fn put_numbers_members<'a, T: Listed<'a>>(
-    object: &mut String,
+    object: &mut TextBuffer,
     begin: &str,
     registry: Registry,
     items: ItemsView<'a>,
@@ -191,7 +192,7 @@ fn put_numbers_members<'a, T: Listed<'a>>(
     requires tags { has_octet_tags T.View.term ≡ true }
     requires unambiguous { is_unambiguous T.View.term ≡ true }
     requires viewed { AreViewed T.View.term items.octets.now }
-    ensures { OnOk result (string_bytes object.new ≡ string_bytes object.old ++ members begin.now (Numbers registry (map (item_number T.View.term) (items_of T.View.term items.entry.octets.now)))) }
+    ensures { OnOk result (object.new ≡ object.old ++ members begin.now (Numbers registry (map (item_number T.View.term) (items_of T.View.term items.entry.octets.now)))) }
 {
     put_begin(object, begin)?;
     put_plain_list::<T>(object, items)?;
@@ -215,7 +216,7 @@ pub(crate) fn count_items<'a, T: View<'a>>(items: ItemsView<'a>) -> usize
     count
 }
 
-/// Encryption types that stand in octets. Contracts see the numbers.
+/// Encryption types that are viewed in octets. Contracts see the numbers.
 #[derive(Drop)]
 pub(crate) struct EncryptionTypes<'a>(ItemsView<'a>);
 
@@ -247,16 +248,16 @@ impl<'a> EncryptionTypes<'a> {
 impl<'a> Shown for EncryptionTypes<'a> {
     ghost shown = { λ numbers. Numbers EncryptionTypes numbers };
 
-    fn put_text(&self, line: &mut String, names: bool) -> Result<(), AllocError> {
+    fn put_text(&self, line: &mut TextBuffer, names: bool) -> Result<(), AllocError> {
         put_numbers_text::<Int32>(line, names, Registry::EncryptionTypes, self.0)
     }
 
-    fn put_members(&self, object: &mut String, begin: &str) -> Result<(), AllocError> {
+    fn put_members(&self, object: &mut TextBuffer, begin: &str) -> Result<(), AllocError> {
         put_numbers_members::<Int32>(object, begin, Registry::EncryptionTypes, self.0)
     }
 }
 
-/// The types of pre-authentication data that stand in octets. Contracts see the numbers.
+/// The types of pre-authentication data that are viewed in octets. Contracts see the numbers.
 #[derive(Drop)]
 pub(crate) struct PaDataTypes<'a>(ItemsView<'a>);
 
@@ -288,11 +289,11 @@ impl<'a> PaDataTypes<'a> {
 impl<'a> Shown for PaDataTypes<'a> {
     ghost shown = { λ numbers. Numbers PreAuthenticationData numbers };
 
-    fn put_text(&self, line: &mut String, names: bool) -> Result<(), AllocError> {
+    fn put_text(&self, line: &mut TextBuffer, names: bool) -> Result<(), AllocError> {
         put_numbers_text::<PaData>(line, names, Registry::PreAuthenticationData, self.0)
     }
 
-    fn put_members(&self, object: &mut String, begin: &str) -> Result<(), AllocError> {
+    fn put_members(&self, object: &mut TextBuffer, begin: &str) -> Result<(), AllocError> {
         put_numbers_members::<PaData>(object, begin, Registry::PreAuthenticationData, self.0)
     }
 }

@@ -10,6 +10,7 @@ ghost use Rattle.krb_list.specs.Values.{Flags, Number, Numbers, String as Escape
 use crate::error::put_krb_error;
 use crate::field::{put_closing, put_field, put_opening};
 use crate::form::Form;
+use crate::text_buffer::TextBuffer;
 use crate::view_field::{
     put_address_field, put_addresses_field, put_checksum_field, put_etypes_field, put_flags_field,
     put_optional_address_field, put_optional_micros_field, put_optional_principal_field,
@@ -26,13 +27,13 @@ use krb_registry::Registry;
 use std::alloc::{AllocError, Global};
 
 /// Appends the fields of a KDC-REQ up to the end of the renewable life.
-fn put_kdc_req_front(
-    text: &mut String,
+fn put_kdc_req_first_fields(
+    text: &mut TextBuffer,
     form: Form,
     body: &KdcReqBodyView<'_>,
 ) -> Result<(), AllocError>
     requires { KdcReqBodyLists body.now }
-    ensures { let seen = kdc_req_body_of_view body.now in OnOk result (string_bytes text.new ≡ string_bytes text.old
+    ensures { let seen = kdc_req_body_of_view body.now in OnOk result (text.new ≡ text.old
         ++ field form (codes "realm") (Escaped seen.realm)
         ++ field form (codes "client") (if_there (principal seen.realm) seen.cname)
         ++ field form (codes "server") (if_there (principal seen.realm) seen.sname)
@@ -59,9 +60,13 @@ fn put_kdc_req_front(
 }
 
 /// Appends the fields of a KDC-REQ from the nonce on.
-fn put_kdc_req_rest(text: &mut String, form: Form, req: &KdcReqView<'_>) -> Result<(), AllocError>
+fn put_kdc_req_last_fields(
+    text: &mut TextBuffer,
+    form: Form,
+    req: &KdcReqView<'_>,
+) -> Result<(), AllocError>
     requires { KdcReqLists req.now }
-    ensures { let seen = kdc_req_of_view req.now in OnOk result (string_bytes text.new ≡ string_bytes text.old
+    ensures { let seen = kdc_req_of_view req.now in OnOk result (text.new ≡ text.old
         ++ field form (codes "nonce") (Number seen.body.nonce)
         ++ field form (codes "etypes") (Numbers registries.EncryptionTypes seen.body.etype)
         ++ field form (codes "padata") (if_there padata seen.padata)
@@ -85,17 +90,17 @@ fn put_kdc_req_rest(text: &mut String, form: Form, req: &KdcReqView<'_>) -> Resu
     )
 }
 
-fn put_kdc_req(text: &mut String, form: Form, req: &KdcReqView<'_>) -> Result<(), AllocError>
+fn put_kdc_req(text: &mut TextBuffer, form: Form, req: &KdcReqView<'_>) -> Result<(), AllocError>
     requires { KdcReqLists req.now }
-    ensures { OnOk result (string_bytes text.new ≡ string_bytes text.old ++ fields_text form (kdc_req_fields (kdc_req_of_view req.now))) }
+    ensures { OnOk result (text.new ≡ text.old ++ fields_text form (kdc_req_fields (kdc_req_of_view req.now))) }
 {
-    put_kdc_req_front(text, form, &req.body)?;
-    put_kdc_req_rest(text, form, req)
+    put_kdc_req_first_fields(text, form, &req.body)?;
+    put_kdc_req_last_fields(text, form, req)
 }
 
-fn put_kdc_rep(text: &mut String, form: Form, rep: &KdcRepView<'_>) -> Result<(), AllocError>
+fn put_kdc_rep(text: &mut TextBuffer, form: Form, rep: &KdcRepView<'_>) -> Result<(), AllocError>
     requires { KdcRepLists rep.now }
-    ensures { OnOk result (string_bytes text.new ≡ string_bytes text.old ++ fields_text form (kdc_rep_fields (kdc_rep_of_view rep.now))) }
+    ensures { OnOk result (text.new ≡ text.old ++ fields_text form (kdc_rep_fields (kdc_rep_of_view rep.now))) }
 {
     let ticket = &rep.ticket;
     put_principal_field(text, form, " client=", ",\"client", &rep.cname, rep.crealm)?;
@@ -112,9 +117,9 @@ fn put_kdc_rep(text: &mut String, form: Form, rep: &KdcRepView<'_>) -> Result<()
     put_sealed_field(text, form, " enc=", ",\"enc", &rep.enc_part)
 }
 
-fn put_ap_req(text: &mut String, form: Form, req: &ApReqView<'_>) -> Result<(), AllocError>
+fn put_ap_req(text: &mut TextBuffer, form: Form, req: &ApReqView<'_>) -> Result<(), AllocError>
     requires { ApReqLists req.now }
-    ensures { OnOk result (string_bytes text.new ≡ string_bytes text.old ++ fields_text form (ap_req_fields (ap_req_of_view req.now))) }
+    ensures { OnOk result (text.new ≡ text.old ++ fields_text form (ap_req_fields (ap_req_of_view req.now))) }
 {
     let ticket = &req.ticket;
     let options = Registry::ApOptions;
@@ -138,15 +143,15 @@ fn put_ap_req(text: &mut String, form: Form, req: &ApReqView<'_>) -> Result<(), 
     put_sealed_field(text, form, " auth=", ",\"auth", &req.authenticator)
 }
 
-fn put_ap_rep(text: &mut String, form: Form, rep: &ApRepView<'_>) -> Result<(), AllocError>
-    ensures { OnOk result (string_bytes text.new ≡ string_bytes text.old ++ fields_text form (ap_rep_fields (ap_rep_of_view rep.now))) }
+fn put_ap_rep(text: &mut TextBuffer, form: Form, rep: &ApRepView<'_>) -> Result<(), AllocError>
+    ensures { OnOk result (text.new ≡ text.old ++ fields_text form (ap_rep_fields (ap_rep_of_view rep.now))) }
 {
     put_sealed_field(text, form, " enc=", ",\"enc", &rep.enc_part)
 }
 
-fn put_krb_safe(text: &mut String, form: Form, safe: &KrbSafeView<'_>) -> Result<(), AllocError>
+fn put_krb_safe(text: &mut TextBuffer, form: Form, safe: &KrbSafeView<'_>) -> Result<(), AllocError>
     requires { KrbSafeLists safe.now }
-    ensures { OnOk result (string_bytes text.new ≡ string_bytes text.old ++ fields_text form (krb_safe_fields (krb_safe_of_view safe.now))) }
+    ensures { OnOk result (text.new ≡ text.old ++ fields_text form (krb_safe_fields (krb_safe_of_view safe.now))) }
 {
     let body = &safe.body;
     put_size_field(text, form, " size=", ",\"size", body.user_data)?;
@@ -158,24 +163,28 @@ fn put_krb_safe(text: &mut String, form: Form, safe: &KrbSafeView<'_>) -> Result
     put_checksum_field(text, form, " cksum=", ",\"cksum", &safe.cksum)
 }
 
-fn put_krb_priv(text: &mut String, form: Form, private: &KrbPrivView<'_>) -> Result<(), AllocError>
-    ensures { OnOk result (string_bytes text.new ≡ string_bytes text.old ++ fields_text form (krb_priv_fields (krb_priv_of_view private.now))) }
+fn put_krb_priv(
+    text: &mut TextBuffer,
+    form: Form,
+    private: &KrbPrivView<'_>,
+) -> Result<(), AllocError>
+    ensures { OnOk result (text.new ≡ text.old ++ fields_text form (krb_priv_fields (krb_priv_of_view private.now))) }
 {
     put_sealed_field(text, form, " enc=", ",\"enc", &private.enc_part)
 }
 
-fn put_krb_cred(text: &mut String, form: Form, cred: &KrbCredView<'_>) -> Result<(), AllocError>
+fn put_krb_cred(text: &mut TextBuffer, form: Form, cred: &KrbCredView<'_>) -> Result<(), AllocError>
     requires { KrbCredLists cred.now }
-    ensures { OnOk result (string_bytes text.new ≡ string_bytes text.old ++ fields_text form (krb_cred_fields (krb_cred_of_view cred.now))) }
+    ensures { OnOk result (text.new ≡ text.old ++ fields_text form (krb_cred_fields (krb_cred_of_view cred.now))) }
 {
     put_tickets_field(text, form, " tickets=", ",\"tickets", cred.tickets)?;
     put_sealed_field(text, form, " enc=", ",\"enc", &cred.enc_part)
 }
 
 /// Appends the fields of a message but the notes.
-fn put_fields(text: &mut String, form: Form, view: &MessageView<'_>) -> Result<(), AllocError>
+fn put_fields(text: &mut TextBuffer, form: Form, view: &MessageView<'_>) -> Result<(), AllocError>
     requires { MessageLists view.now }
-    ensures { OnOk result (string_bytes text.new ≡ string_bytes text.old ++ fields_text form (fields_of (message_of_view view.now))) }
+    ensures { OnOk result (text.new ≡ text.old ++ fields_text form (fields_of (message_of_view view.now))) }
 {
     match view {
         MessageView::AsReq(req) => put_kdc_req(text, form, req),
@@ -193,12 +202,12 @@ fn put_fields(text: &mut String, form: Form, view: &MessageView<'_>) -> Result<(
 
 /// Appends what a message has after its kind, without its line feed.
 pub(crate) fn put_rest(
-    text: &mut String,
+    text: &mut TextBuffer,
     form: Form,
     view: &MessageView<'_>,
 ) -> Result<(), AllocError>
     requires { MessageLists view.now }
-    ensures { OnOk result (string_bytes text.new ≡ string_bytes text.old ++ fields_text form (message_record (message_of_view view.now)).fields ++ closing form) }
+    ensures { OnOk result (text.new ≡ text.old ++ fields_text form (message_record (message_of_view view.now)).fields ++ closing form) }
 {
     put_fields(text, form, view)?;
     put_field(text, form, " notes=", ",\"notes", &notes_of_view(view))?;
@@ -207,31 +216,34 @@ pub(crate) fn put_rest(
 
 /// Appends a message without its line feed.
 #[tactic(auto, unfolding(crate::specs::Forms::record_text, crate::specs::Messages::message_record))]
-fn put_text(text: &mut String, form: Form, view: &MessageView<'_>) -> Result<(), AllocError>
+fn put_text(text: &mut TextBuffer, form: Form, view: &MessageView<'_>) -> Result<(), AllocError>
     requires { MessageLists view.now }
-    ensures { OnOk result (string_bytes text.new ≡ string_bytes text.old ++ message_text form (message_of_view view.now)) }
+    ensures { OnOk result (text.new ≡ text.old ++ message_text form (message_of_view view.now)) }
 {
     put_opening(text, form, view.kind().name())?;
     put_rest(text, form, view)
 }
 
-/// Appends a message that is viewed where it stands, as a line or an object with its line feed. No
-/// message is made.
+/// Appends a message by a view of it, as a line or an object with its line feed. No `Message` is made.
 #[tactic(auto, unfolding(crate::specs::Messages::message_line))]
-pub fn put_message_view(text: &mut String, form: Form, view: &MessageView<'_>) -> Result<(), Memory>
+pub fn put_message_view(
+    text: &mut TextBuffer,
+    form: Form,
+    view: &MessageView<'_>,
+) -> Result<(), Memory>
     requires { MessageLists view.now }
-    ensures { OnOk result (string_bytes text.new ≡ string_bytes text.old ++ message_line form (message_of_view view.now)) }
+    ensures { OnOk result (text.new ≡ text.old ++ message_line form (message_of_view view.now)) }
 {
     put_text(text, form, view)?;
-    text.push('\n')?;
+    text.push_str("\n")?;
     Ok(())
 }
 
 /// Appends a message without its line feed, by a view of its DER octets.
-fn put_text_of(text: &mut String, form: Form, message: &Message) -> Result<(), Memory>
-    ensures { OnOk result (string_bytes text.new ≡ string_bytes text.old ++ message_text form message.now) }
+fn put_text_of(text: &mut TextBuffer, form: Form, message: &Message) -> Result<(), Memory>
+    ensures { OnOk result (text.new ≡ text.old ++ message_text form message.now) }
 {
-    let Ok(octets) = encode(*text.allocator(), message) else {
+    let Ok(octets) = encode(text.allocator(), message) else {
         return Err(Memory);
     };
     let Some(view) = view_message(octets.as_slice()) else {
@@ -244,11 +256,11 @@ fn put_text_of(text: &mut String, form: Form, message: &Message) -> Result<(), M
 /// Appends a message as a line or an object with its line feed. It takes memory for the DER octets,
 /// too, and answers `Memory` if these are more than a message may have, 2147483647.
 #[tactic(auto, unfolding(crate::specs::Messages::message_line))]
-pub fn put_message(text: &mut String, form: Form, message: &Message) -> Result<(), Memory>
-    ensures { OnOk result (string_bytes text.new ≡ string_bytes text.old ++ message_line form message.now) }
+pub fn put_message(text: &mut TextBuffer, form: Form, message: &Message) -> Result<(), Memory>
+    ensures { OnOk result (text.new ≡ text.old ++ message_line form message.now) }
 {
     put_text_of(text, form, message)?;
-    text.push('\n')?;
+    text.push_str("\n")?;
     Ok(())
 }
 
@@ -257,7 +269,7 @@ pub fn put_message(text: &mut String, form: Form, message: &Message) -> Result<(
 pub fn message_line(alloc: Global, form: Form, message: &Message) -> Result<String, Memory>
     ensures { IfOk result (λ text. string_bytes text ≡ message_text form message.now) }
 {
-    let mut text = String::new(alloc);
+    let mut text = TextBuffer::new(alloc);
     put_text_of(&mut text, form, message)?;
-    Ok(text)
+    Ok(text.into_string())
 }

@@ -1,6 +1,6 @@
 //! The notes of a message.
 
-ghost use Rattle.std.specs.Prelude.{◌≡◌, ◌++◌, ◌∷◌, [], map, pos, codes, OnOk, string_bytes};
+ghost use Rattle.std.specs.Prelude.{◌≡◌, ◌++◌, ◌∷◌, [], map, pos, codes, OnOk};
 ghost use Rattle.std.specs.List.{filter};
 ghost use Rattle.krb_msg.specs.Notes.{notes_have};
 ghost use Rattle.krb_list.specs.Messages.{notes};
@@ -9,22 +9,23 @@ ghost use Rattle.krb_list.specs.inner.Items.{number_item};
 
 use crate::item::{ItemForm, put_number_item};
 use crate::shown::{Shown, put_begin, put_names_begin};
+use crate::text_buffer::TextBuffer;
 use krb_msg::Notes;
 use krb_registry::Registry;
 use std::alloc::AllocError;
 
 /// Appends the number of a note.
 #[inline(always)]
-fn put_note(text: &mut String, form: ItemForm, number: u8) -> Result<(), AllocError>
-    ensures { OnOk result (string_bytes text.new ≡ string_bytes text.old ++ number_item form (pos number)) }
+fn put_note(text: &mut TextBuffer, form: ItemForm, number: u8) -> Result<(), AllocError>
+    ensures { OnOk result (text.new ≡ text.old ++ number_item form (pos number)) }
 {
     put_number_item(text, form, i64::from(number))
 }
 
 /// Appends the numbers of the notes, with commas between them.
 #[inline(always)]
-fn put_numbers(text: &mut String, form: ItemForm, notes: &Notes) -> Result<(), AllocError>
-    ensures { OnOk result (string_bytes text.new ≡ string_bytes text.old ++ joined [] (codes ",") (λ number. number_item form (pos number)) (filter (notes_have notes.now) (1 ∷ 2 ∷ 3 ∷ 4 ∷ []))) }
+fn put_numbers(text: &mut TextBuffer, form: ItemForm, notes: &Notes) -> Result<(), AllocError>
+    ensures { OnOk result (text.new ≡ text.old ++ joined [] (codes ",") (λ number. number_item form (pos number)) (filter (notes_have notes.now) (1 ∷ 2 ∷ 3 ∷ 4 ∷ []))) }
 {
     let mut separator = "";
     for number in [1u8, 2, 3, 4] {
@@ -40,12 +41,12 @@ fn put_numbers(text: &mut String, form: ItemForm, notes: &Notes) -> Result<(), A
 /// Appends the numbers of the notes in brackets, with commas between them.
 #[inline(always)]
 #[tactic(auto, using(crate::proofs::Items::list_text_map))]
-fn put_number_list(text: &mut String, form: ItemForm, notes: &Notes) -> Result<(), AllocError>
-    ensures { OnOk result (string_bytes text.new ≡ string_bytes text.old ++ list_text (number_item form) (map pos (filter (notes_have notes.now) (1 ∷ 2 ∷ 3 ∷ 4 ∷ [])))) }
+fn put_number_list(text: &mut TextBuffer, form: ItemForm, notes: &Notes) -> Result<(), AllocError>
+    ensures { OnOk result (text.new ≡ text.old ++ list_text (number_item form) (map pos (filter (notes_have notes.now) (1 ∷ 2 ∷ 3 ∷ 4 ∷ [])))) }
 {
-    text.push('[')?;
+    text.push_str("[")?;
     put_numbers(text, form, notes)?;
-    text.push(']')
+    text.push_str("]")
 }
 
 /// The numbers of the notes, in brackets, with commas between them.
@@ -54,7 +55,7 @@ impl Shown for Notes {
 
     #[inline(always)]
     #[tactic(auto, unfolding(crate::specs::Forms::value_text))]
-    fn put_text(&self, line: &mut String, names: bool) -> Result<(), AllocError> {
+    fn put_text(&self, line: &mut TextBuffer, names: bool) -> Result<(), AllocError> {
         if names {
             put_number_list(line, ItemForm::Named(Registry::Notes), self)
         } else {
@@ -63,7 +64,7 @@ impl Shown for Notes {
     }
 
     #[tactic(auto, unfolding(crate::specs::Forms::members, crate::specs::Forms::json_value, crate::specs::Forms::names_member))]
-    fn put_members(&self, object: &mut String, begin: &str) -> Result<(), AllocError> {
+    fn put_members(&self, object: &mut TextBuffer, begin: &str) -> Result<(), AllocError> {
         put_begin(object, begin)?;
         put_number_list(object, ItemForm::Line, self)?;
         put_names_begin(object, begin)?;

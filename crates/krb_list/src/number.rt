@@ -1,6 +1,6 @@
-//! Numbers of registries, alone and with what stands beside them.
+//! Numbers of registries, alone and with what is beside them.
 
-ghost use Rattle.std.specs.Prelude.{◌≡◌, ◌++◌, OnOk, codes, decimal, string_bytes};
+ghost use Rattle.std.specs.Prelude.{◌≡◌, ◌++◌, OnOk, codes, decimal};
 ghost use Rattle.std.specs.Fmt.{signed_decimal};
 ghost use Rattle.krb_msg.specs.ViewValues.{checksum_of_view, encrypted_data_of_view, host_address_of_view};
 ghost use Rattle.krb_registry.specs.declared.registry.Registry.TheVariants.{EncryptionTypes};
@@ -10,23 +10,24 @@ ghost use Rattle.krb_list.specs.Values.{Address as Addressed, Digest as Digested
 
 use crate::escape::put_hex;
 use crate::item::{put_name_member, put_name_string, put_named};
-use crate::shown::{Shown, put_begin, put_number};
+use crate::shown::{Shown, put_begin};
+use crate::text_buffer::TextBuffer;
 use krb_msg::{ChecksumView, EncryptedDataView, HostAddressView};
 use krb_registry::Registry;
 use std::alloc::AllocError;
 
-/// Appends a number and its name, or null, each after what stands before it in an object.
+/// Appends a number and its name, or null, each after what precedes it in an object.
 pub(crate) fn put_number_and_name(
-    object: &mut String,
+    object: &mut TextBuffer,
     before_number: &str,
     before_name: &str,
     registry: Registry,
     number: i64,
 ) -> Result<(), AllocError>
-    ensures { OnOk result (string_bytes object.new ≡ string_bytes object.old ++ before_number.now ++ signed_decimal number ++ before_name.now ++ name_string registry number) }
+    ensures { OnOk result (object.new ≡ object.old ++ before_number.now ++ signed_decimal number ++ before_name.now ++ name_string registry number) }
 {
     object.push_str(before_number)?;
-    put_number(object, number)?;
+    object.push_signed(number)?;
     object.push_str(before_name)?;
     put_name_string(object, registry, number)
 }
@@ -42,14 +43,14 @@ impl Shown for Numbered {
     ghost shown = { λ n. Named n.registry n.number };
 
     #[tactic(auto, unfolding(crate::specs::Forms::value_text))]
-    fn put_text(&self, line: &mut String, names: bool) -> Result<(), AllocError> {
+    fn put_text(&self, line: &mut TextBuffer, names: bool) -> Result<(), AllocError> {
         put_named(line, names, self.registry, self.number)
     }
 
     #[tactic(auto, unfolding(crate::specs::Forms::members, crate::specs::Forms::json_value, crate::specs::Forms::names_member))]
-    fn put_members(&self, object: &mut String, begin: &str) -> Result<(), AllocError> {
+    fn put_members(&self, object: &mut TextBuffer, begin: &str) -> Result<(), AllocError> {
         put_begin(object, begin)?;
-        put_number(object, self.number)?;
+        object.push_signed(self.number)?;
         put_name_member(object, begin, self.registry, self.number)
     }
 }
@@ -77,38 +78,38 @@ impl Sealed {
 }
 
 /// Appends the version of a key, or `-`.
-fn put_kvno(line: &mut String, kvno: Option<i64>) -> Result<(), AllocError>
-    ensures { OnOk result (string_bytes line.new ≡ string_bytes line.old ++ or_dash signed_decimal kvno) }
+fn put_kvno(line: &mut TextBuffer, kvno: Option<i64>) -> Result<(), AllocError>
+    ensures { OnOk result (line.new ≡ line.old ++ or_dash signed_decimal kvno) }
 {
     match kvno {
-        None => line.push('-'),
-        Some(kvno) => put_number(line, kvno),
+        None => line.push_str("-"),
+        Some(kvno) => line.push_signed(kvno),
     }
 }
 
 /// Appends the member of the version of a key, or of null.
-fn put_kvno_member(object: &mut String, kvno: Option<i64>) -> Result<(), AllocError>
-    ensures { OnOk result (string_bytes object.new ≡ string_bytes object.old ++ codes ",\"kvno\":" ++ or_null signed_decimal kvno) }
+fn put_kvno_member(object: &mut TextBuffer, kvno: Option<i64>) -> Result<(), AllocError>
+    ensures { OnOk result (object.new ≡ object.old ++ codes ",\"kvno\":" ++ or_null signed_decimal kvno) }
 {
     object.push_str(",\"kvno\":")?;
     match kvno {
         None => object.push_str("null"),
-        Some(kvno) => put_number(object, kvno),
+        Some(kvno) => object.push_signed(kvno),
     }
 }
 
 /// Appends the number of octets, with which an object ends.
-fn put_size_end(object: &mut String, size: u64) -> Result<(), AllocError>
-    ensures { OnOk result (string_bytes object.new ≡ string_bytes object.old ++ codes ",\"size\":" ++ decimal size ++ codes "}") }
+fn put_size_end(object: &mut TextBuffer, size: u64) -> Result<(), AllocError>
+    ensures { OnOk result (object.new ≡ object.old ++ codes ",\"size\":" ++ decimal size ++ codes "}") }
 {
     object.push_str(",\"size\":")?;
-    put_number(object, size)?;
-    object.push('}')
+    object.push_number(size)?;
+    object.push_str("}")
 }
 
 /// Appends what an object has of what is sealed, up to its size.
-fn put_sealed_front(object: &mut String, sealed: &Sealed) -> Result<(), AllocError>
-    ensures { OnOk result (string_bytes object.new ≡ string_bytes object.old ++ codes "{\"etype\":" ++ signed_decimal sealed.now.etype ++ codes ",\"etype_name\":" ++ name_string EncryptionTypes sealed.now.etype ++ codes ",\"kvno\":" ++ or_null signed_decimal sealed.now.kvno) }
+fn put_sealed_start(object: &mut TextBuffer, sealed: &Sealed) -> Result<(), AllocError>
+    ensures { OnOk result (object.new ≡ object.old ++ codes "{\"etype\":" ++ signed_decimal sealed.now.etype ++ codes ",\"etype_name\":" ++ name_string EncryptionTypes sealed.now.etype ++ codes ",\"kvno\":" ++ or_null signed_decimal sealed.now.kvno) }
 {
     let registry = Registry::EncryptionTypes;
     put_number_and_name(
@@ -122,10 +123,10 @@ fn put_sealed_front(object: &mut String, sealed: &Sealed) -> Result<(), AllocErr
 }
 
 /// Appends what an object has of what is sealed.
-fn put_sealed_object(object: &mut String, sealed: &Sealed) -> Result<(), AllocError>
-    ensures { OnOk result (string_bytes object.new ≡ string_bytes object.old ++ sealed_object sealed.now.etype sealed.now.kvno sealed.now.size) }
+fn put_sealed_object(object: &mut TextBuffer, sealed: &Sealed) -> Result<(), AllocError>
+    ensures { OnOk result (object.new ≡ object.old ++ sealed_object sealed.now.etype sealed.now.kvno sealed.now.size) }
 {
-    put_sealed_front(object, sealed)?;
+    put_sealed_start(object, sealed)?;
     put_size_end(object, sealed.size)
 }
 
@@ -134,16 +135,16 @@ impl Shown for Sealed {
     ghost shown = { λ s. IsSealed s.etype s.kvno s.size };
 
     #[tactic(auto, unfolding(crate::specs::Forms::value_text))]
-    fn put_text(&self, line: &mut String, names: bool) -> Result<(), AllocError> {
+    fn put_text(&self, line: &mut TextBuffer, names: bool) -> Result<(), AllocError> {
         put_named(line, names, Registry::EncryptionTypes, self.etype)?;
-        line.push(':')?;
+        line.push_str(":")?;
         put_kvno(line, self.kvno)?;
-        line.push(':')?;
-        put_number(line, self.size)
+        line.push_str(":")?;
+        line.push_number(self.size)
     }
 
     #[tactic(auto, unfolding(crate::specs::Forms::members, crate::specs::Forms::json_value, crate::specs::Forms::names_member))]
-    fn put_members(&self, object: &mut String, begin: &str) -> Result<(), AllocError> {
+    fn put_members(&self, object: &mut TextBuffer, begin: &str) -> Result<(), AllocError> {
         put_begin(object, begin)?;
         put_sealed_object(object, self)
     }
@@ -170,8 +171,8 @@ impl<'a> Address<'a> {
 }
 
 /// Appends what an object has of an address.
-fn put_address_object(object: &mut String, address: &Address<'_>) -> Result<(), AllocError>
-    ensures { OnOk result (string_bytes object.new ≡ string_bytes object.old ++ address_object address.now.addr_type address.now.octets.now) }
+fn put_address_object(object: &mut TextBuffer, address: &Address<'_>) -> Result<(), AllocError>
+    ensures { OnOk result (object.new ≡ object.old ++ address_object address.now.addr_type address.now.octets.now) }
 {
     let registry = Registry::AddressTypes;
     put_number_and_name(
@@ -191,14 +192,14 @@ impl<'a> Shown for Address<'a> {
     ghost shown = { λ a. Addressed a.addr_type a.octets.now };
 
     #[tactic(auto, unfolding(crate::specs::Forms::value_text))]
-    fn put_text(&self, line: &mut String, names: bool) -> Result<(), AllocError> {
+    fn put_text(&self, line: &mut TextBuffer, names: bool) -> Result<(), AllocError> {
         put_named(line, names, Registry::AddressTypes, self.addr_type)?;
-        line.push(':')?;
+        line.push_str(":")?;
         put_hex(line, self.octets)
     }
 
     #[tactic(auto, unfolding(crate::specs::Forms::members, crate::specs::Forms::json_value, crate::specs::Forms::names_member))]
-    fn put_members(&self, object: &mut String, begin: &str) -> Result<(), AllocError> {
+    fn put_members(&self, object: &mut TextBuffer, begin: &str) -> Result<(), AllocError> {
         put_begin(object, begin)?;
         put_address_object(object, self)
     }
@@ -225,8 +226,8 @@ impl Digest {
 }
 
 /// Appends what an object has of a checksum.
-fn put_digest_object(object: &mut String, digest: &Digest) -> Result<(), AllocError>
-    ensures { OnOk result (string_bytes object.new ≡ string_bytes object.old ++ digest_object digest.now.cksumtype digest.now.size) }
+fn put_digest_object(object: &mut TextBuffer, digest: &Digest) -> Result<(), AllocError>
+    ensures { OnOk result (object.new ≡ object.old ++ digest_object digest.now.cksumtype digest.now.size) }
 {
     let registry = Registry::ChecksumTypes;
     put_number_and_name(
@@ -244,14 +245,14 @@ impl Shown for Digest {
     ghost shown = { λ d. Digested d.cksumtype d.size };
 
     #[tactic(auto, unfolding(crate::specs::Forms::value_text))]
-    fn put_text(&self, line: &mut String, names: bool) -> Result<(), AllocError> {
+    fn put_text(&self, line: &mut TextBuffer, names: bool) -> Result<(), AllocError> {
         put_named(line, names, Registry::ChecksumTypes, self.cksumtype)?;
-        line.push(':')?;
-        put_number(line, self.size)
+        line.push_str(":")?;
+        line.push_number(self.size)
     }
 
     #[tactic(auto, unfolding(crate::specs::Forms::members, crate::specs::Forms::json_value, crate::specs::Forms::names_member))]
-    fn put_members(&self, object: &mut String, begin: &str) -> Result<(), AllocError> {
+    fn put_members(&self, object: &mut TextBuffer, begin: &str) -> Result<(), AllocError> {
         put_begin(object, begin)?;
         put_digest_object(object, self)
     }

@@ -1,12 +1,12 @@
 //! Where records of captures come from.
 
-ghost use Rattle.std.specs.Prelude.{◌≡◌, ◌++◌, OnOk, codes, decimal, string_bytes};
+ghost use Rattle.std.specs.Prelude.{◌≡◌, ◌++◌, OnOk, codes, decimal};
 ghost use Rattle.std.specs.Net.Text.{ip_text, ipv4_text};
 ghost use Rattle.krb_list.specs.Captures.{captured_opening, endpoint_object, endpoint_text, flow_field, flow_object, flow_text, host_text, origin_fields, transport_name};
 
 use crate::field::{put_field, put_opening};
 use crate::form::Form;
-use crate::shown::put_number;
+use crate::text_buffer::TextBuffer;
 use krb_packet::{Endpoint, Time};
 use std::alloc::AllocError;
 use std::net::IpAddr;
@@ -48,22 +48,22 @@ pub struct Origin {
 }
 
 /// Appends four octets in decimal, with dots between them.
-fn put_dotted(text: &mut String, octets: [u8; 4]) -> Result<(), AllocError>
-    ensures { OnOk result (string_bytes text.new ≡ string_bytes text.old ++ ipv4_text octets) }
+fn put_dotted(text: &mut TextBuffer, octets: [u8; 4]) -> Result<(), AllocError>
+    ensures { OnOk result (text.new ≡ text.old ++ ipv4_text octets) }
 {
     let [a, b, c, d] = octets;
-    put_number(text, a)?;
-    text.push('.')?;
-    put_number(text, b)?;
-    text.push('.')?;
-    put_number(text, c)?;
-    text.push('.')?;
-    put_number(text, d)
+    text.push_integer(a)?;
+    text.push_str(".")?;
+    text.push_integer(b)?;
+    text.push_str(".")?;
+    text.push_integer(c)?;
+    text.push_str(".")?;
+    text.push_integer(d)
 }
 
 /// Appends an address: one of IPv4 in decimal, one of IPv6 as RFC 5952 has it.
-fn put_address(text: &mut String, address: IpAddr) -> Result<(), AllocError>
-    ensures { OnOk result (string_bytes text.new ≡ string_bytes text.old ++ ip_text address) }
+fn put_address(text: &mut TextBuffer, address: IpAddr) -> Result<(), AllocError>
+    ensures { OnOk result (text.new ≡ text.old ++ ip_text address) }
 {
     match address {
         IpAddr::V4(address) => put_dotted(text, address.octets()),
@@ -72,40 +72,40 @@ fn put_address(text: &mut String, address: IpAddr) -> Result<(), AllocError>
 }
 
 /// Appends an address, in brackets if it is one of IPv6.
-fn put_host(text: &mut String, address: IpAddr) -> Result<(), AllocError>
-    ensures { OnOk result (string_bytes text.new ≡ string_bytes text.old ++ host_text address) }
+fn put_host(text: &mut TextBuffer, address: IpAddr) -> Result<(), AllocError>
+    ensures { OnOk result (text.new ≡ text.old ++ host_text address) }
 {
     match address {
         IpAddr::V4(_) => put_address(text, address),
         IpAddr::V6(_) => {
-            text.push('[')?;
+            text.push_str("[")?;
             put_address(text, address)?;
-            text.push(']')
+            text.push_str("]")
         }
     }
 }
 
 /// Appends an address, `:` and a port.
-fn put_endpoint(text: &mut String, endpoint: &Endpoint) -> Result<(), AllocError>
-    ensures { OnOk result (string_bytes text.new ≡ string_bytes text.old ++ endpoint_text endpoint.now) }
+fn put_endpoint(text: &mut TextBuffer, endpoint: &Endpoint) -> Result<(), AllocError>
+    ensures { OnOk result (text.new ≡ text.old ++ endpoint_text endpoint.now) }
 {
     put_host(text, endpoint.address)?;
-    text.push(':')?;
-    put_number(text, endpoint.port)
+    text.push_str(":")?;
+    text.push_integer(endpoint.port)
 }
 
 /// Appends what an object has after the text of its address: the port.
-fn put_port_end(object: &mut String, port: u16) -> Result<(), AllocError>
-    ensures { OnOk result (string_bytes object.new ≡ string_bytes object.old ++ codes "\",\"port\":" ++ decimal port ++ codes "}") }
+fn put_port_end(object: &mut TextBuffer, port: u16) -> Result<(), AllocError>
+    ensures { OnOk result (object.new ≡ object.old ++ codes "\",\"port\":" ++ decimal port ++ codes "}") }
 {
     object.push_str("\",\"port\":")?;
-    put_number(object, port)?;
-    object.push('}')
+    object.push_integer(port)?;
+    object.push_str("}")
 }
 
 /// Appends the object of an address and a port.
-fn put_endpoint_object(object: &mut String, endpoint: &Endpoint) -> Result<(), AllocError>
-    ensures { OnOk result (string_bytes object.new ≡ string_bytes object.old ++ endpoint_object endpoint.now) }
+fn put_endpoint_object(object: &mut TextBuffer, endpoint: &Endpoint) -> Result<(), AllocError>
+    ensures { OnOk result (object.new ≡ object.old ++ endpoint_object endpoint.now) }
 {
     object.push_str("{\"address\":\"")?;
     put_address(object, endpoint.address)?;
@@ -113,19 +113,19 @@ fn put_endpoint_object(object: &mut String, endpoint: &Endpoint) -> Result<(), A
 }
 
 /// Appends the flow as a line has it.
-fn put_flow_text(line: &mut String, origin: &Origin) -> Result<(), AllocError>
-    ensures { OnOk result (string_bytes line.new ≡ string_bytes line.old ++ flow_text origin.now) }
+fn put_flow_text(line: &mut TextBuffer, origin: &Origin) -> Result<(), AllocError>
+    ensures { OnOk result (line.new ≡ line.old ++ flow_text origin.now) }
 {
     line.push_str(origin.transport.name())?;
-    line.push('/')?;
+    line.push_str("/")?;
     put_endpoint(line, &origin.source)?;
-    line.push('>')?;
+    line.push_str(">")?;
     put_endpoint(line, &origin.target)
 }
 
 /// Appends the object of the flow.
-fn put_flow_object(object: &mut String, origin: &Origin) -> Result<(), AllocError>
-    ensures { OnOk result (string_bytes object.new ≡ string_bytes object.old ++ flow_object origin.now) }
+fn put_flow_object(object: &mut TextBuffer, origin: &Origin) -> Result<(), AllocError>
+    ensures { OnOk result (object.new ≡ object.old ++ flow_object origin.now) }
 {
     object.push_str("{\"over\":\"")?;
     object.push_str(origin.transport.name())?;
@@ -133,13 +133,13 @@ fn put_flow_object(object: &mut String, origin: &Origin) -> Result<(), AllocErro
     put_endpoint_object(object, &origin.source)?;
     object.push_str(",\"target\":")?;
     put_endpoint_object(object, &origin.target)?;
-    object.push('}')
+    object.push_str("}")
 }
 
 /// Appends the field of the flow.
 #[tactic(auto, unfolding(crate::specs::Captures::flow_field))]
-fn put_flow(text: &mut String, form: Form, origin: &Origin) -> Result<(), AllocError>
-    ensures { OnOk result (string_bytes text.new ≡ string_bytes text.old ++ flow_field form origin.now) }
+fn put_flow(text: &mut TextBuffer, form: Form, origin: &Origin) -> Result<(), AllocError>
+    ensures { OnOk result (text.new ≡ text.old ++ flow_field form origin.now) }
 {
     match form {
         Form::Lines | Form::NamedLines => {
@@ -154,29 +154,29 @@ fn put_flow(text: &mut String, form: Form, origin: &Origin) -> Result<(), AllocE
 }
 
 /// Appends the fields of an origin: the packet, its time and the flow.
-fn put_origin(text: &mut String, form: Form, origin: &Origin) -> Result<(), AllocError>
-    ensures { OnOk result (string_bytes text.new ≡ string_bytes text.old ++ origin_fields form origin.now) }
+fn put_origin(text: &mut TextBuffer, form: Form, origin: &Origin) -> Result<(), AllocError>
+    ensures { OnOk result (text.new ≡ text.old ++ origin_fields form origin.now) }
 {
     put_field(text, form, "packet=", ",\"packet", &origin.packet)?;
     put_field(text, form, " t=", ",\"t", &origin.time)?;
     put_flow(text, form, origin)
 }
 
-/// Appends what stands before the fields of a record of a capture: in a line its origin and then its
+/// Appends what precedes the fields of a record of a capture: in a line its origin and then its
 /// kind, in an object its kind and then its origin.
 #[tactic(auto, unfolding(crate::specs::Captures::captured_opening))]
 pub(crate) fn put_captured_opening(
-    text: &mut String,
+    text: &mut TextBuffer,
     form: Form,
     origin: &Origin,
     kind: &str,
 ) -> Result<(), AllocError>
-    ensures { OnOk result (string_bytes text.new ≡ string_bytes text.old ++ captured_opening form origin.now kind.now) }
+    ensures { OnOk result (text.new ≡ text.old ++ captured_opening form origin.now kind.now) }
 {
     match form {
         Form::Lines | Form::NamedLines => {
             put_origin(text, form, origin)?;
-            text.push(' ')?;
+            text.push_str(" ")?;
             text.push_str(kind)
         }
         Form::Json => {

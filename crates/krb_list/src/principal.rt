@@ -17,6 +17,7 @@ use crate::item::{ItemForm, put_octets_item};
 use crate::json::put_octets_string;
 use crate::number::put_number_and_name;
 use crate::shown::{Shown, put_begin};
+use crate::text_buffer::TextBuffer;
 use krb_der::{KString, Memory};
 use krb_msg::{ItemsView, next_item};
 use krb_registry::Registry;
@@ -30,22 +31,22 @@ pub(crate) trait Components {
     /// Appends the components, with the separator between two, or another text if there are none.
     fn put_components(
         &self,
-        text: &mut String,
+        text: &mut TextBuffer,
         form: ItemForm,
         none: &str,
         separator: &str,
     ) -> Result<(), AllocError>
-        ensures { OnOk result (string_bytes text.new ≡ string_bytes text.old ++ joined none.now separator.now (octets_item form) (components self.now)) };
+        ensures { OnOk result (text.new ≡ text.old ++ joined none.now separator.now (octets_item form) (components self.now)) };
 }
 
 /// Appends the separator and a component, for each of the components.
 fn put_others(
-    text: &mut String,
+    text: &mut TextBuffer,
     form: ItemForm,
     separator: &str,
     components: &[KString],
 ) -> Result<(), AllocError>
-    ensures { OnOk result (string_bytes text.new ≡ string_bytes text.old ++ flat_map (λ c. separator.now ++ octets_item form c) components.now) }
+    ensures { OnOk result (text.new ≡ text.old ++ flat_map (λ c. separator.now ++ octets_item form c) components.now) }
 {
     for component in components {
         text.push_str(separator)?;
@@ -63,7 +64,7 @@ impl<'a> Components for Strings<'a> {
 
     fn put_components(
         &self,
-        text: &mut String,
+        text: &mut TextBuffer,
         form: ItemForm,
         none: &str,
         separator: &str,
@@ -81,13 +82,13 @@ impl<'a> Components for Strings<'a> {
 /// Appends the separator and a component, for each of the components that are viewed.
 #[inline(always)]
 fn put_other_viewed(
-    text: &mut String,
+    text: &mut TextBuffer,
     form: ItemForm,
     separator: &str,
     components: ItemsView<'_>,
 ) -> Result<(), AllocError>
     requires { AreViewed kerberos_string components.octets.now }
-    ensures { OnOk result (string_bytes text.new ≡ string_bytes text.old ++ flat_map (λ c. separator.now ++ octets_item form c) (items_of kerberos_string components.entry.octets.now)) }
+    ensures { OnOk result (text.new ≡ text.old ++ flat_map (λ c. separator.now ++ octets_item form c) (items_of kerberos_string components.entry.octets.now)) }
 {
     let mut others = components;
     'others: while let Some((component, rest)) = next_item::<KString>(others) {
@@ -98,7 +99,7 @@ fn put_other_viewed(
     Ok(())
 }
 
-/// Components that are viewed where they stand. Contracts see the octets of each.
+/// Components that are viewed in octets. Contracts see the octets of each.
 #[derive(Drop)]
 pub(crate) struct ViewedStrings<'a>(ItemsView<'a>);
 
@@ -131,7 +132,7 @@ impl<'a> Components for ViewedStrings<'a> {
     #[inline(always)]
     fn put_components(
         &self,
-        text: &mut String,
+        text: &mut TextBuffer,
         form: ItemForm,
         none: &str,
         separator: &str,
@@ -154,49 +155,49 @@ pub(crate) struct Principal<'a, C> {
     pub(crate) realm: &'a [u8],
 }
 
-/// Appends the parts of the text of a principal, each as it stands in a string.
+/// Appends the parts of the text of a principal, each as it is in a string.
 fn put_text_parts<C: Components>(
-    object: &mut String,
+    object: &mut TextBuffer,
     components: &C,
     realm: &[u8],
 ) -> Result<(), AllocError>
-    ensures { OnOk result (string_bytes object.new ≡ string_bytes object.old ++ (joined (codes "\\\\-") (codes "/") (octets_item Part) (C.components components.now) ++ codes "@" ++ octets_item Part realm.now)) }
+    ensures { OnOk result (object.new ≡ object.old ++ (joined (codes "\\\\-") (codes "/") (octets_item Part) (C.components components.now) ++ codes "@" ++ octets_item Part realm.now)) }
 {
     components.put_components(object, ItemForm::Part, "\\\\-", "/")?;
-    object.push('@')?;
+    object.push_str("@")?;
     put_octets_item(object, ItemForm::Part, realm)
 }
 
-/// Appends the text of a principal as it stands in a string.
+/// Appends the text of a principal as it is in a string.
 fn put_principal_part<C: Components>(
-    object: &mut String,
+    object: &mut TextBuffer,
     components: &C,
     realm: &[u8],
 ) -> Result<(), AllocError>
-    ensures { OnOk result (string_bytes object.new ≡ string_bytes object.old ++ flat_map json_character (principal_text (C.components components.now) realm.now)) }
+    ensures { OnOk result (object.new ≡ object.old ++ flat_map json_character (principal_text (C.components components.now) realm.now)) }
 {
     put_text_parts(object, components, realm)
 }
 
 /// Appends the member of the text of a principal, the first of its object.
 fn put_text_member<C: Components>(
-    object: &mut String,
+    object: &mut TextBuffer,
     components: &C,
     realm: &[u8],
 ) -> Result<(), AllocError>
-    ensures { OnOk result (string_bytes object.new ≡ string_bytes object.old ++ codes "{\"text\":" ++ json_string (principal_text (C.components components.now) realm.now)) }
+    ensures { OnOk result (object.new ≡ object.old ++ codes "{\"text\":" ++ json_string (principal_text (C.components components.now) realm.now)) }
 {
     object.push_str("{\"text\":\"")?;
     put_principal_part(object, components, realm)?;
-    object.push('"')
+    object.push_str("\"")
 }
 
 /// Appends what an object has of a principal, up to its components.
-fn put_front<'a, C: Components>(
-    object: &mut String,
+fn put_text_and_type<'a, C: Components>(
+    object: &mut TextBuffer,
     principal: &Principal<'a, C>,
 ) -> Result<(), AllocError>
-    ensures { OnOk result (string_bytes object.new ≡ string_bytes object.old ++ codes "{\"text\":" ++ json_string (principal_text (C.components principal.now.components) principal.now.realm.now) ++ codes ",\"type\":" ++ signed_decimal principal.now.name_type ++ codes ",\"type_name\":" ++ name_string NameTypes principal.now.name_type) }
+    ensures { OnOk result (object.new ≡ object.old ++ codes "{\"text\":" ++ json_string (principal_text (C.components principal.now.components) principal.now.realm.now) ++ codes ",\"type\":" ++ signed_decimal principal.now.name_type ++ codes ",\"type_name\":" ++ name_string NameTypes principal.now.name_type) }
 {
     put_text_member(object, &principal.components, principal.realm)?;
     let registry = Registry::NameTypes;
@@ -210,37 +211,40 @@ fn put_front<'a, C: Components>(
 }
 
 /// Appends components as strings in brackets.
-fn put_component_list<C: Components>(object: &mut String, components: &C) -> Result<(), AllocError>
-    ensures { OnOk result (string_bytes object.new ≡ string_bytes object.old ++ list_text octets_string (C.components components.now)) }
+fn put_component_list<C: Components>(
+    object: &mut TextBuffer,
+    components: &C,
+) -> Result<(), AllocError>
+    ensures { OnOk result (object.new ≡ object.old ++ list_text octets_string (C.components components.now)) }
 {
-    object.push('[')?;
+    object.push_str("[")?;
     components.put_components(object, ItemForm::Object, "", ",")?;
-    object.push(']')
+    object.push_str("]")
 }
 
 /// Appends the members of the parts of a principal, the last of its object.
 fn put_parts<C: Components>(
-    object: &mut String,
+    object: &mut TextBuffer,
     components: &C,
     realm: &[u8],
 ) -> Result<(), AllocError>
-    ensures { OnOk result (string_bytes object.new ≡ string_bytes object.old ++ codes ",\"components\":" ++ list_text octets_string (C.components components.now) ++ codes ",\"realm\":" ++ octets_string realm.now ++ codes "}") }
+    ensures { OnOk result (object.new ≡ object.old ++ codes ",\"components\":" ++ list_text octets_string (C.components components.now) ++ codes ",\"realm\":" ++ octets_string realm.now ++ codes "}") }
 {
     object.push_str(",\"components\":")?;
     put_component_list(object, components)?;
     object.push_str(",\"realm\":")?;
     put_octets_string(object, realm)?;
-    object.push('}')
+    object.push_str("}")
 }
 
 /// Appends what an object has of a principal.
 fn put_principal_object<'a, C: Components>(
-    object: &mut String,
+    object: &mut TextBuffer,
     principal: &Principal<'a, C>,
 ) -> Result<(), AllocError>
-    ensures { OnOk result (string_bytes object.new ≡ string_bytes object.old ++ principal_object principal.now.name_type (C.components principal.now.components) principal.now.realm.now) }
+    ensures { OnOk result (object.new ≡ object.old ++ principal_object principal.now.name_type (C.components principal.now.components) principal.now.realm.now) }
 {
-    put_front(object, principal)?;
+    put_text_and_type(object, principal)?;
     put_parts(object, &principal.components, principal.realm)
 }
 
@@ -249,15 +253,15 @@ impl<'a, C: Components> Shown for Principal<'a, C> {
     ghost shown = { λ p. IsPrincipal p.name_type (C.components p.components) p.realm.now };
 
     #[tactic(auto, unfolding(crate::specs::Forms::value_text, crate::specs::Text::principal_text))]
-    fn put_text(&self, line: &mut String, _names: bool) -> Result<(), AllocError> {
+    fn put_text(&self, line: &mut TextBuffer, _names: bool) -> Result<(), AllocError> {
         self.components
             .put_components(line, ItemForm::Line, "\\-", "/")?;
-        line.push('@')?;
+        line.push_str("@")?;
         put_escaped(line, self.realm)
     }
 
     #[tactic(auto, unfolding(crate::specs::Forms::members, crate::specs::Forms::json_value, crate::specs::Forms::names_member))]
-    fn put_members(&self, object: &mut String, begin: &str) -> Result<(), AllocError> {
+    fn put_members(&self, object: &mut TextBuffer, begin: &str) -> Result<(), AllocError> {
         put_begin(object, begin)?;
         put_principal_object(object, self)
     }
@@ -266,19 +270,19 @@ impl<'a, C: Components> Shown for Principal<'a, C> {
 /// Appends the text of a principal, which is [`principal_text`]'s.
 #[tactic(auto, unfolding(crate::specs::Text::principal_text))]
 pub fn put_principal(
-    line: &mut String,
+    line: &mut TextBuffer,
     components: &[KString],
     realm: &KString,
 ) -> Result<(), AllocError>
-    ensures { OnOk result (string_bytes line.new ≡ string_bytes line.old ++ principal_text components.now realm.now) }
+    ensures { OnOk result (line.new ≡ line.old ++ principal_text components.now realm.now) }
 {
     Strings(components).put_components(line, ItemForm::Line, "\\-", "/")?;
-    line.push('@')?;
+    line.push_str("@")?;
     put_escaped(line, realm.octets())
 }
 
 /// Returns the text of a principal: its components with `/` between them, `@`, and the realm, each
-/// escaped. With no components, `\-` stands before the `@`. No two principals have the same text.
+/// escaped. With no components, `\-` precedes the `@`. No two principals have the same text.
 pub fn principal_text(
     alloc: Global,
     components: &[KString],
@@ -286,7 +290,7 @@ pub fn principal_text(
 ) -> Result<String, Memory>
     ensures { IfOk result (λ text. string_bytes text ≡ principal_text components.now realm.now) }
 {
-    let mut text = String::new(alloc);
+    let mut text = TextBuffer::new(alloc);
     put_principal(&mut text, components, realm)?;
-    Ok(text)
+    Ok(text.into_string())
 }

@@ -1,6 +1,6 @@
 //! Records of what is refused.
 
-ghost use Rattle.std.specs.Prelude.{◌≡◌, ◌++◌, OnOk, string_bytes};
+ghost use Rattle.std.specs.Prelude.{◌≡◌, ◌++◌, OnOk};
 ghost use Rattle.std.specs.Option.{option_copied};
 ghost use Rattle.krb_der.specs.Reasons.{reason_name, reason_number};
 ghost use Rattle.krb_file.specs.Faults.{file_reason_name, file_reason_number};
@@ -12,7 +12,8 @@ ghost use Rattle.krb_list.specs.Values.{Reason as IsReason};
 use crate::field::{put_end, put_field, put_opening};
 use crate::form::Form;
 use crate::json::put_string;
-use crate::shown::{Shown, Text, put_begin, put_number};
+use crate::shown::{Shown, Text, put_begin};
+use crate::text_buffer::TextBuffer;
 use krb_der::{Refusal, Why, why_number, why_text};
 use krb_file::{FileWhy, file_why_number, file_why_text};
 use std::alloc::AllocError;
@@ -65,16 +66,16 @@ impl Shown for Reason {
     ghost shown = { λ reason. IsReason reason.0 reason.1 };
 
     #[tactic(auto, unfolding(crate::specs::Forms::value_text))]
-    fn put_text(&self, line: &mut String, _names: bool) -> Result<(), AllocError> {
-        put_number(line, self.number)?;
-        line.push(' ')?;
+    fn put_text(&self, line: &mut TextBuffer, _names: bool) -> Result<(), AllocError> {
+        line.push_integer(self.number)?;
+        line.push_str(" ")?;
         line.push_str(self.name)
     }
 
     #[tactic(auto, unfolding(crate::specs::Forms::members, crate::specs::Forms::json_value, crate::specs::Forms::names_member))]
-    fn put_members(&self, object: &mut String, begin: &str) -> Result<(), AllocError> {
+    fn put_members(&self, object: &mut TextBuffer, begin: &str) -> Result<(), AllocError> {
         put_begin(object, begin)?;
-        put_number(object, self.number)?;
+        object.push_integer(self.number)?;
         object.push_str(begin)?;
         object.push_str("_name\":")?;
         put_string(object, self.name.as_bytes())
@@ -82,8 +83,12 @@ impl Shown for Reason {
 }
 
 /// Appends the path of the field at fault, if there is one; to a line only if numbers have their names.
-pub(crate) fn put_path(text: &mut String, form: Form, path: Option<&str>) -> Result<(), AllocError>
-    ensures { OnOk result (string_bytes text.new ≡ string_bytes text.old ++ fields_text form (path_in form (option_copied path.entry))) }
+pub(crate) fn put_path(
+    text: &mut TextBuffer,
+    form: Form,
+    path: Option<&str>,
+) -> Result<(), AllocError>
+    ensures { OnOk result (text.new ≡ text.old ++ fields_text form (path_in form (option_copied path.entry))) }
 {
     let shown = match path {
         None => None,
@@ -97,13 +102,13 @@ pub(crate) fn put_path(text: &mut String, form: Form, path: Option<&str>) -> Res
 
 /// Appends what the line of what is refused at a place has after its kind.
 pub(crate) fn put_fault_rest(
-    text: &mut String,
+    text: &mut TextBuffer,
     form: Form,
     place: u64,
     reason: &Reason,
     path: Option<&str>,
 ) -> Result<(), AllocError>
-    ensures { OnOk result (string_bytes text.new ≡ string_bytes text.old ++ fields_text form (fault_record form place reason.now.0 reason.now.1 (option_copied path.entry)).fields ++ closing form ++ line_feed) }
+    ensures { OnOk result (text.new ≡ text.old ++ fields_text form (fault_record form place reason.now.0 reason.now.1 (option_copied path.entry)).fields ++ closing form ++ line_feed) }
 {
     put_field(text, form, " place=", ",\"place", &place)?;
     put_field(text, form, " why=", ",\"why", reason)?;
@@ -114,13 +119,13 @@ pub(crate) fn put_fault_rest(
 /// Appends the line of what is refused at a place.
 #[tactic(auto, unfolding(crate::specs::Forms::record_text))]
 fn put_fault(
-    text: &mut String,
+    text: &mut TextBuffer,
     form: Form,
     place: u64,
     reason: &Reason,
     path: Option<&str>,
 ) -> Result<(), AllocError>
-    ensures { OnOk result (string_bytes text.new ≡ string_bytes text.old ++ record_line form (fault_record form place reason.now.0 reason.now.1 (option_copied path.entry))) }
+    ensures { OnOk result (text.new ≡ text.old ++ record_line form (fault_record form place reason.now.0 reason.now.1 (option_copied path.entry))) }
 {
     put_opening(text, form, "refused")?;
     put_fault_rest(text, form, place, reason, path)
@@ -129,13 +134,13 @@ fn put_fault(
 /// Appends the line of a refused file: the place of the field at fault, what is wrong with it, and its
 /// path, which a line has only if numbers have their names.
 pub fn put_file_refusal(
-    text: &mut String,
+    text: &mut TextBuffer,
     form: Form,
     place: u64,
     why: FileWhy,
     path: Option<&str>,
 ) -> Result<(), AllocError>
-    ensures { OnOk result (string_bytes text.new ≡ string_bytes text.old ++ file_refused_line form place why (option_copied path.entry)) }
+    ensures { OnOk result (text.new ≡ text.old ++ file_refused_line form place why (option_copied path.entry)) }
 {
     put_fault(text, form, place, &Reason::of_file(why), path)
 }
@@ -143,12 +148,12 @@ pub fn put_file_refusal(
 /// Appends the line of octets that are no message: the place of the octet at fault, what is wrong with
 /// it, and the path of the field at fault, which a line has only if numbers have their names.
 pub fn put_message_refusal(
-    text: &mut String,
+    text: &mut TextBuffer,
     form: Form,
     refusal: Refusal,
     path: Option<&str>,
 ) -> Result<(), AllocError>
-    ensures { OnOk result (string_bytes text.new ≡ string_bytes text.old ++ message_refused_line form refusal (option_copied path.entry)) }
+    ensures { OnOk result (text.new ≡ text.old ++ message_refused_line form refusal (option_copied path.entry)) }
 {
     put_fault(
         text,
@@ -181,8 +186,12 @@ fn input_line(form: Form, fault: InputFault) -> &'static str
 }
 
 /// Appends the line of input that is not looked at as a message.
-pub fn put_input_refusal(text: &mut String, form: Form, fault: InputFault) -> Result<(), AllocError>
-    ensures { OnOk result (string_bytes text.new ≡ string_bytes text.old ++ input_refused_line form fault) }
+pub fn put_input_refusal(
+    text: &mut TextBuffer,
+    form: Form,
+    fault: InputFault,
+) -> Result<(), AllocError>
+    ensures { OnOk result (text.new ≡ text.old ++ input_refused_line form fault) }
 {
     text.push_str(input_line(form, fault))
 }

@@ -1,14 +1,14 @@
 //! Values as records show them, appended to the text so far.
 
-ghost use Rattle.std.specs.Prelude.{◌≡◌, ◌++◌, ℕ, ℤ, pos, codes, OnOk, string_bytes};
+ghost use Rattle.std.specs.Prelude.{◌≡◌, ◌++◌, ℕ, ℤ, pos, codes, OnOk};
 ghost use Rattle.std.specs.Fmt.{signed_decimal};
 ghost use Rattle.std.specs.Str.{IsAscii};
 ghost use Rattle.krb_list.specs.Forms.{members, value_text};
 ghost use Rattle.krb_list.specs.Values.{Value, Absent, Number, Quoted, String as Escaped, Word, YesNo, if_there};
 
-use crate::escape::{put_ascii, put_escaped};
+use crate::escape::put_escaped;
 use crate::json::{put_octets_string, put_string};
-use itoa::{Buffer, Integer};
+use crate::text_buffer::TextBuffer;
 use std::alloc::AllocError;
 use std::marker::Model;
 
@@ -18,35 +18,27 @@ pub trait Shown {
 
     /// Appends what a line shows of the value, with the names of numbers or without, or a part of it
     /// when out of memory.
-    fn put_text(&self, line: &mut String, names: bool) -> Result<(), AllocError>
-        ensures { OnOk result (string_bytes line.new ≡ string_bytes line.old ++ value_text names (shown self.now)) };
+    fn put_text(&self, line: &mut TextBuffer, names: bool) -> Result<(), AllocError>
+        ensures { OnOk result (line.new ≡ line.old ++ value_text names (shown self.now)) };
 
     /// Appends the members of an object for the value: first that which `begin` and `":` begin, and
     /// then, if the value has names, that of the names. `begin` is `,"` and the name of the field.
-    fn put_members(&self, object: &mut String, begin: &str) -> Result<(), AllocError>
-        ensures { OnOk result (string_bytes object.new ≡ string_bytes object.old ++ members begin.now (shown self.now)) };
+    fn put_members(&self, object: &mut TextBuffer, begin: &str) -> Result<(), AllocError>
+        ensures { OnOk result (object.new ≡ object.old ++ members begin.now (shown self.now)) };
 }
 
-/// Appends a number in decimal.
-pub(crate) fn put_number<I: Integer>(line: &mut String, number: I) -> Result<(), AllocError>
-    ensures { OnOk result (string_bytes line.new ≡ string_bytes line.old ++ I.text number) }
-{
-    let mut buffer = Buffer::new();
-    line.push_str(buffer.format(number))
-}
-
-/// Appends what stands before a value in an object.
+/// Appends what precedes a value in an object.
 #[inline(always)]
-pub(crate) fn put_begin(object: &mut String, begin: &str) -> Result<(), AllocError>
-    ensures { OnOk result (string_bytes object.new ≡ string_bytes object.old ++ begin.now ++ codes "\":") }
+pub(crate) fn put_begin(object: &mut TextBuffer, begin: &str) -> Result<(), AllocError>
+    ensures { OnOk result (object.new ≡ object.old ++ begin.now ++ codes "\":") }
 {
     object.push_str(begin)?;
     object.push_str("\":")
 }
 
-/// Appends what stands before the names of a list in an object.
-pub(crate) fn put_names_begin(object: &mut String, begin: &str) -> Result<(), AllocError>
-    ensures { OnOk result (string_bytes object.new ≡ string_bytes object.old ++ begin.now ++ codes "_names\":") }
+/// Appends what precedes the names of a list in an object.
+pub(crate) fn put_names_begin(object: &mut TextBuffer, begin: &str) -> Result<(), AllocError>
+    ensures { OnOk result (object.new ≡ object.old ++ begin.now ++ codes "_names\":") }
 {
     object.push_str(begin)?;
     object.push_str("_names\":")
@@ -57,14 +49,14 @@ impl Shown for i64 {
     ghost shown = { λ number. Number number };
 
     #[tactic(auto, unfolding(crate::specs::Forms::value_text))]
-    fn put_text(&self, line: &mut String, _names: bool) -> Result<(), AllocError> {
-        put_number(line, *self)
+    fn put_text(&self, line: &mut TextBuffer, _names: bool) -> Result<(), AllocError> {
+        line.push_signed(*self)
     }
 
     #[tactic(auto, unfolding(crate::specs::Forms::members, crate::specs::Forms::json_value, crate::specs::Forms::names_member))]
-    fn put_members(&self, object: &mut String, begin: &str) -> Result<(), AllocError> {
+    fn put_members(&self, object: &mut TextBuffer, begin: &str) -> Result<(), AllocError> {
         put_begin(object, begin)?;
-        put_number(object, *self)
+        object.push_signed(*self)
     }
 }
 
@@ -73,14 +65,14 @@ impl Shown for u64 {
     ghost shown = { λ number. Number (pos number) };
 
     #[tactic(auto, unfolding(crate::specs::Forms::value_text))]
-    fn put_text(&self, line: &mut String, _names: bool) -> Result<(), AllocError> {
-        put_number(line, *self)
+    fn put_text(&self, line: &mut TextBuffer, _names: bool) -> Result<(), AllocError> {
+        line.push_number(*self)
     }
 
     #[tactic(auto, unfolding(crate::specs::Forms::members, crate::specs::Forms::json_value, crate::specs::Forms::names_member))]
-    fn put_members(&self, object: &mut String, begin: &str) -> Result<(), AllocError> {
+    fn put_members(&self, object: &mut TextBuffer, begin: &str) -> Result<(), AllocError> {
         put_begin(object, begin)?;
-        put_number(object, *self)
+        object.push_number(*self)
     }
 }
 
@@ -89,12 +81,12 @@ impl Shown for bool {
     ghost shown = { λ holds. YesNo holds };
 
     #[tactic(auto, unfolding(crate::specs::Forms::value_text))]
-    fn put_text(&self, line: &mut String, _names: bool) -> Result<(), AllocError> {
+    fn put_text(&self, line: &mut TextBuffer, _names: bool) -> Result<(), AllocError> {
         line.push_str(if *self { "yes" } else { "no" })
     }
 
     #[tactic(auto, unfolding(crate::specs::Forms::members, crate::specs::Forms::json_value, crate::specs::Forms::names_member))]
-    fn put_members(&self, object: &mut String, begin: &str) -> Result<(), AllocError> {
+    fn put_members(&self, object: &mut TextBuffer, begin: &str) -> Result<(), AllocError> {
         put_begin(object, begin)?;
         object.push_str(if *self { "true" } else { "false" })
     }
@@ -108,12 +100,12 @@ impl<'a> Shown for Text<'a> {
     ghost shown = { λ text. Escaped text.0.now };
 
     #[tactic(auto, unfolding(crate::specs::Forms::value_text))]
-    fn put_text(&self, line: &mut String, _names: bool) -> Result<(), AllocError> {
+    fn put_text(&self, line: &mut TextBuffer, _names: bool) -> Result<(), AllocError> {
         put_escaped(line, self.0)
     }
 
     #[tactic(auto, unfolding(crate::specs::Forms::members, crate::specs::Forms::json_value, crate::specs::Forms::names_member))]
-    fn put_members(&self, object: &mut String, begin: &str) -> Result<(), AllocError> {
+    fn put_members(&self, object: &mut TextBuffer, begin: &str) -> Result<(), AllocError> {
         put_begin(object, begin)?;
         put_octets_string(object, self.0)
     }
@@ -127,20 +119,20 @@ impl<'a> Shown for QuotedText<'a> {
     ghost shown = { λ text. Quoted text.0.now };
 
     #[tactic(auto, unfolding(crate::specs::Forms::value_text))]
-    fn put_text(&self, line: &mut String, _names: bool) -> Result<(), AllocError> {
-        line.push('"')?;
+    fn put_text(&self, line: &mut TextBuffer, _names: bool) -> Result<(), AllocError> {
+        line.push_str("\"")?;
         put_escaped(line, self.0)?;
-        line.push('"')
+        line.push_str("\"")
     }
 
     #[tactic(auto, unfolding(crate::specs::Forms::members, crate::specs::Forms::json_value, crate::specs::Forms::names_member))]
-    fn put_members(&self, object: &mut String, begin: &str) -> Result<(), AllocError> {
+    fn put_members(&self, object: &mut TextBuffer, begin: &str) -> Result<(), AllocError> {
         put_begin(object, begin)?;
         put_octets_string(object, self.0)
     }
 }
 
-/// Words and times, which are ASCII and stand as they are. Contracts see the octets.
+/// Words and times, which are ASCII and need no escape. Contracts see the octets.
 #[derive(Drop)]
 pub(crate) struct Plain<'a>(&'a [u8]);
 
@@ -170,12 +162,12 @@ impl<'a> Shown for Plain<'a> {
     ghost shown = { λ octets. Word octets };
 
     #[tactic(auto, unfolding(crate::specs::Forms::value_text))]
-    fn put_text(&self, line: &mut String, _names: bool) -> Result<(), AllocError> {
-        put_ascii(line, self.0)
+    fn put_text(&self, line: &mut TextBuffer, _names: bool) -> Result<(), AllocError> {
+        line.push_ascii(self.0)
     }
 
     #[tactic(auto, unfolding(crate::specs::Forms::members, crate::specs::Forms::json_value, crate::specs::Forms::names_member))]
-    fn put_members(&self, object: &mut String, begin: &str) -> Result<(), AllocError> {
+    fn put_members(&self, object: &mut TextBuffer, begin: &str) -> Result<(), AllocError> {
         put_begin(object, begin)?;
         put_string(object, self.0)
     }
@@ -186,15 +178,15 @@ impl<T: Shown> Shown for Option<T> {
     ghost shown = { if_there T.shown };
 
     #[tactic(auto, unfolding(crate::specs::Forms::value_text))]
-    fn put_text(&self, line: &mut String, names: bool) -> Result<(), AllocError> {
+    fn put_text(&self, line: &mut TextBuffer, names: bool) -> Result<(), AllocError> {
         match self {
-            None => line.push('-'),
+            None => line.push_str("-"),
             Some(value) => value.put_text(line, names),
         }
     }
 
     #[tactic(auto, unfolding(crate::specs::Forms::members, crate::specs::Forms::json_value, crate::specs::Forms::names_member))]
-    fn put_members(&self, object: &mut String, begin: &str) -> Result<(), AllocError> {
+    fn put_members(&self, object: &mut TextBuffer, begin: &str) -> Result<(), AllocError> {
         match self {
             None => {
                 put_begin(object, begin)?;

@@ -1,6 +1,6 @@
 //! The last records of streams, and those of their refusals.
 
-ghost use Rattle.std.specs.Prelude.{◌≡◌, ◌++◌, None, OnOk, string_bytes};
+ghost use Rattle.std.specs.Prelude.{◌≡◌, ◌++◌, None, OnOk};
 ghost use Rattle.std.specs.Option.{option_copied};
 ghost use Rattle.krb_msg.specs.Stream.{Boundary};
 ghost use Rattle.krb_list.specs.Streams.{refused_line, end_line, counted_end_line};
@@ -8,13 +8,14 @@ ghost use Rattle.krb_list.specs.Streams.{refused_line, end_line, counted_end_lin
 use crate::field::{put_end, put_field, put_opening};
 use crate::form::Form;
 use crate::refusal::{Reason, put_path};
+use crate::text_buffer::TextBuffer;
 use krb_der::Refusal;
 use std::alloc::AllocError;
 
 /// Appends the last line of a stream that ends between frames, after n messages.
 #[tactic(auto, unfolding(crate::specs::Forms::record_text))]
-pub fn put_stream_end(text: &mut String, form: Form, messages: u64) -> Result<(), AllocError>
-    ensures { OnOk result (string_bytes text.new ≡ string_bytes text.old ++ end_line form messages Boundary None) }
+pub fn put_stream_end(text: &mut TextBuffer, form: Form, messages: u64) -> Result<(), AllocError>
+    ensures { OnOk result (text.new ≡ text.old ++ end_line form messages Boundary None) }
 {
     put_opening(text, form, "end")?;
     put_field(text, form, " messages=", ",\"messages", &messages)?;
@@ -25,12 +26,12 @@ pub fn put_stream_end(text: &mut String, form: Form, messages: u64) -> Result<()
 /// how many refused frames it had.
 #[tactic(auto, unfolding(crate::specs::Forms::record_text))]
 pub fn put_counted_stream_end(
-    text: &mut String,
+    text: &mut TextBuffer,
     form: Form,
     messages: u64,
     refused: u64,
 ) -> Result<(), AllocError>
-    ensures { OnOk result (string_bytes text.new ≡ string_bytes text.old ++ counted_end_line form messages refused) }
+    ensures { OnOk result (text.new ≡ text.old ++ counted_end_line form messages refused) }
 {
     put_opening(text, form, "end")?;
     put_field(text, form, " messages=", ",\"messages", &messages)?;
@@ -43,13 +44,13 @@ pub fn put_counted_stream_end(
 /// of the stream.
 #[tactic(auto, unfolding(crate::specs::Forms::record_text))]
 pub fn put_stream_refusal(
-    text: &mut String,
+    text: &mut TextBuffer,
     form: Form,
     messages: u64,
     refusal: Refusal,
     path: Option<&str>,
 ) -> Result<(), AllocError>
-    ensures { OnOk result (string_bytes text.new ≡ string_bytes text.old ++ refused_line form messages refusal.place refusal.why (option_copied path.entry)) }
+    ensures { OnOk result (text.new ≡ text.old ++ refused_line form messages refusal.place refusal.why (option_copied path.entry)) }
 {
     put_opening(text, form, "refused")?;
     put_field(text, form, " messages=", ",\"messages", &messages)?;

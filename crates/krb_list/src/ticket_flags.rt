@@ -1,6 +1,6 @@
 //! The flags of a ticket by name.
 
-ghost use Rattle.std.specs.Prelude.{⊤, ◌≡◌, ◌∷◌, ◌++◌, [], OnOk, codes, string_bytes};
+ghost use Rattle.std.specs.Prelude.{⊤, ◌≡◌, ◌∷◌, ◌++◌, [], OnOk, codes};
 ghost use Rattle.krb_registry.specs.declared.registry.Registry.TheVariants as registries;
 ghost use Rattle.krb_list.specs.Forms.{flags_object, four_octets, named_flags_text};
 ghost use Rattle.krb_list.specs.Values.{TicketFlags as IsTicketFlags};
@@ -9,6 +9,7 @@ ghost use Rattle.krb_list.specs.TicketFlags.{eight_hex, flag_name, names_text, o
 use crate::escape::put_hex;
 use crate::flags::{put_flags_object, put_named_flags};
 use crate::shown::{Shown, put_begin};
+use crate::text_buffer::TextBuffer;
 use bitflags::{Flag, Flags, bitflag_items};
 use krb_registry::Registry;
 use std::alloc::AllocError;
@@ -105,8 +106,8 @@ fn flag_name(flag: u32) -> &'static str
 
 /// Appends the names of the flags that are set, in order of bit number, with `,` between them, or `-`
 /// if there is none.
-fn put_names(line: &mut String, flags: TicketFlags) -> Result<(), AllocError>
-    ensures { OnOk result (string_bytes line.new ≡ string_bytes line.old ++ names_text flags.0) }
+fn put_names(line: &mut TextBuffer, flags: TicketFlags) -> Result<(), AllocError>
+    ensures { OnOk result (line.new ≡ line.old ++ names_text flags.0) }
 {
     let mut separator = "";
     for flag in NAMED {
@@ -123,42 +124,42 @@ fn put_names(line: &mut String, flags: TicketFlags) -> Result<(), AllocError>
 }
 
 /// Appends a number in eight hexadecimal digits.
-fn put_eight_hex(line: &mut String, number: u32) -> Result<(), AllocError>
-    ensures { OnOk result (string_bytes line.new ≡ string_bytes line.old ++ eight_hex number) }
+fn put_eight_hex(line: &mut TextBuffer, number: u32) -> Result<(), AllocError>
+    ensures { OnOk result (line.new ≡ line.old ++ eight_hex number) }
 {
     put_hex(line, &number.to_be_bytes())
 }
 
-fn put_others(line: &mut String, others: u32) -> Result<(), AllocError>
-    ensures { OnOk result (string_bytes line.new ≡ string_bytes line.old ++ others_text others) }
+fn put_others(line: &mut TextBuffer, others: u32) -> Result<(), AllocError>
+    ensures { OnOk result (line.new ≡ line.old ++ others_text others) }
 {
     if others == 0 {
         Ok(())
     } else {
-        line.push('+')?;
+        line.push_str("+")?;
         put_eight_hex(line, others)
     }
 }
 
 /// Appends the names of the flags that are set, or `-`, and the bits without a name.
 #[tactic(auto, unfolding(crate::specs::TicketFlags::ticket_flags_text))]
-fn put_flags(line: &mut String, flags: TicketFlags) -> Result<(), AllocError>
-    ensures { OnOk result (string_bytes line.new ≡ string_bytes line.old ++ ticket_flags_text flags.0) }
+fn put_flags(line: &mut TextBuffer, flags: TicketFlags) -> Result<(), AllocError>
+    ensures { OnOk result (line.new ≡ line.old ++ ticket_flags_text flags.0) }
 {
     put_names(line, flags)?;
     put_others(line, flags.0 & NAMELESS)
 }
 
-/// Appends the same, where two more flags have names (RFC 6806, RFC 8062).
-fn put_all_names(line: &mut String, flags: u32) -> Result<(), AllocError>
-    ensures { OnOk result (string_bytes line.new ≡ string_bytes line.old ++ named_flags_text registries.TicketFlags (four_octets flags)) }
+/// Appends the same with the names of two more flags (RFC 6806, RFC 8062).
+fn put_all_names(line: &mut TextBuffer, flags: u32) -> Result<(), AllocError>
+    ensures { OnOk result (line.new ≡ line.old ++ named_flags_text registries.TicketFlags (four_octets flags)) }
 {
     put_named_flags(line, Registry::TicketFlags, &flags.to_be_bytes())
 }
 
 /// Appends what an object has of flags.
-fn put_object(object: &mut String, flags: u32) -> Result<(), AllocError>
-    ensures { OnOk result (string_bytes object.new ≡ string_bytes object.old ++ flags_object registries.TicketFlags (0, four_octets flags)) }
+fn put_object(object: &mut TextBuffer, flags: u32) -> Result<(), AllocError>
+    ensures { OnOk result (object.new ≡ object.old ++ flags_object registries.TicketFlags (0, four_octets flags)) }
 {
     put_flags_object(object, Registry::TicketFlags, 0, &flags.to_be_bytes())
 }
@@ -169,7 +170,7 @@ impl Shown for TicketFlags {
     ghost shown = { λ flags. IsTicketFlags flags.0 };
 
     #[tactic(auto, unfolding(crate::specs::Forms::value_text))]
-    fn put_text(&self, line: &mut String, names: bool) -> Result<(), AllocError> {
+    fn put_text(&self, line: &mut TextBuffer, names: bool) -> Result<(), AllocError> {
         if names {
             put_all_names(line, self.0)
         } else {
@@ -178,7 +179,7 @@ impl Shown for TicketFlags {
     }
 
     #[tactic(auto, unfolding(crate::specs::Forms::members, crate::specs::Forms::json_value, crate::specs::Forms::names_member))]
-    fn put_members(&self, object: &mut String, begin: &str) -> Result<(), AllocError> {
+    fn put_members(&self, object: &mut TextBuffer, begin: &str) -> Result<(), AllocError> {
         put_begin(object, begin)?;
         put_object(object, self.0)
     }

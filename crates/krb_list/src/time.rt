@@ -9,6 +9,7 @@ ghost use Rattle.jiff_core.specs.Time.{time_seconds};
 
 use crate::json::put_string;
 use crate::shown::{Shown, put_begin};
+use crate::text_buffer::TextBuffer;
 use arrayvec::ArrayString;
 use jiff_core::civil::{Date, DateTime, Time};
 use jiff_fmt::temporal::DateTimePrinter;
@@ -29,7 +30,7 @@ fn day_after(days: u32) -> Date
     }
 }
 
-/// Returns what a clock in UTC shows n seconds, and so many nanoseconds, after the beginning of 1970.
+/// Returns what a clock in UTC shows n seconds and some nanoseconds after the beginning of 1970.
 fn clock_after(seconds: u32, nanoseconds: u32) -> DateTime
     requires { nanoseconds < NANOSECONDS }
     ensures date { epoch_day result.date ≡ pos (seconds / 86400) }
@@ -67,11 +68,11 @@ fn instant(time: Instant) -> ArrayString<32>
 }
 
 /// Appends the moment n seconds after the beginning of 1970, or `-` at 0.
-pub fn put_time(line: &mut String, seconds: u32) -> Result<(), AllocError>
-    ensures { OnOk result (string_bytes line.new ≡ string_bytes line.old ++ time_text seconds) }
+pub fn put_time(line: &mut TextBuffer, seconds: u32) -> Result<(), AllocError>
+    ensures { OnOk result (line.new ≡ line.old ++ time_text seconds) }
 {
     if seconds == 0 {
-        line.push('-')
+        line.push_str("-")
     } else {
         line.push_str(moment(seconds).as_str())
     }
@@ -81,9 +82,9 @@ pub fn put_time(line: &mut String, seconds: u32) -> Result<(), AllocError>
 pub fn time_text(alloc: Global, seconds: u32) -> Result<String, Memory>
     ensures { IfOk result (λ text. string_bytes text ≡ time_text seconds) }
 {
-    let mut text = String::new(alloc);
+    let mut text = TextBuffer::new(alloc);
     put_time(&mut text, seconds)?;
-    Ok(text)
+    Ok(text.into_string())
 }
 
 /// A time of a file: seconds since the beginning of 1970, 0 if there is none.
@@ -95,12 +96,12 @@ impl Shown for FileTime {
     ghost shown = { λ time. file_time time.0 };
 
     #[tactic(auto, unfolding(crate::specs::Forms::value_text))]
-    fn put_text(&self, line: &mut String, _names: bool) -> Result<(), AllocError> {
+    fn put_text(&self, line: &mut TextBuffer, _names: bool) -> Result<(), AllocError> {
         put_time(line, self.0)
     }
 
     #[tactic(auto, unfolding(crate::specs::Forms::members, crate::specs::Forms::json_value, crate::specs::Forms::names_member))]
-    fn put_members(&self, object: &mut String, begin: &str) -> Result<(), AllocError> {
+    fn put_members(&self, object: &mut TextBuffer, begin: &str) -> Result<(), AllocError> {
         put_begin(object, begin)?;
         if self.0 == 0 {
             object.push_str("null")
@@ -115,12 +116,12 @@ impl Shown for Instant {
     ghost shown = { λ time. Word (instant_text time) };
 
     #[tactic(auto, unfolding(crate::specs::Forms::value_text))]
-    fn put_text(&self, line: &mut String, _names: bool) -> Result<(), AllocError> {
+    fn put_text(&self, line: &mut TextBuffer, _names: bool) -> Result<(), AllocError> {
         line.push_str(instant(*self).as_str())
     }
 
     #[tactic(auto, unfolding(crate::specs::Forms::members, crate::specs::Forms::json_value, crate::specs::Forms::names_member))]
-    fn put_members(&self, object: &mut String, begin: &str) -> Result<(), AllocError> {
+    fn put_members(&self, object: &mut TextBuffer, begin: &str) -> Result<(), AllocError> {
         put_begin(object, begin)?;
         put_string(object, instant(*self).as_str().as_bytes())
     }

@@ -1,6 +1,6 @@
-//! Fields of messages, which show what stands in a view.
+//! Fields of messages, which show what a view has.
 
-ghost use Rattle.std.specs.Prelude.{◌≡◌, ◌++◌, OnOk, map, pos, string_bytes};
+ghost use Rattle.std.specs.Prelude.{◌≡◌, ◌++◌, OnOk, map, pos};
 ghost use Rattle.std.specs.Option.{option_map};
 ghost use Rattle.krb_der.specs.Scalars.{IsTimeFrom};
 ghost use Rattle.krb_msg.specs.Grammar.{host_address, int32, pa_data, ticket};
@@ -19,6 +19,7 @@ use crate::list::{EncryptionTypes, PaDataTypes, count_items};
 use crate::number::{Address, Digest, Sealed};
 use crate::principal::{Principal, ViewedStrings};
 use crate::shown::{Plain, QuotedText, Text};
+use crate::text_buffer::TextBuffer;
 use krb_msg::{
     ChecksumView, EncryptedDataView, FlagsView, HostAddress, HostAddressView, ItemsView,
     PrincipalNameView, Ticket,
@@ -29,12 +30,12 @@ use std::alloc::AllocError;
 /// Appends a field of what is not there.
 #[inline(always)]
 pub(crate) fn put_absent_field(
-    text: &mut String,
+    text: &mut TextBuffer,
     form: Form,
     label: &str,
     begin: &str,
 ) -> Result<(), AllocError>
-    ensures { OnOk result (string_bytes text.new ≡ string_bytes text.old ++ labelled form label.now begin.now Absent) }
+    ensures { OnOk result (text.new ≡ text.old ++ labelled form label.now begin.now Absent) }
 {
     put_field(text, form, label, begin, &None::<u64>)
 }
@@ -42,13 +43,13 @@ pub(crate) fn put_absent_field(
 /// Appends a field of a string.
 #[inline(always)]
 pub(crate) fn put_text_field(
-    text: &mut String,
+    text: &mut TextBuffer,
     form: Form,
     label: &str,
     begin: &str,
     octets: &[u8],
 ) -> Result<(), AllocError>
-    ensures { OnOk result (string_bytes text.new ≡ string_bytes text.old ++ labelled form label.now begin.now (Escaped octets.now)) }
+    ensures { OnOk result (text.new ≡ text.old ++ labelled form label.now begin.now (Escaped octets.now)) }
 {
     put_field(text, form, label, begin, &Text(octets))
 }
@@ -56,7 +57,7 @@ pub(crate) fn put_text_field(
 /// Appends a field of a principal.
 #[inline(always)]
 pub(crate) fn put_principal_field(
-    text: &mut String,
+    text: &mut TextBuffer,
     form: Form,
     label: &str,
     begin: &str,
@@ -64,7 +65,7 @@ pub(crate) fn put_principal_field(
     realm: &[u8],
 ) -> Result<(), AllocError>
     requires { PrincipalNameLists name.now }
-    ensures { OnOk result (string_bytes text.new ≡ string_bytes text.old ++ labelled form label.now begin.now (principal realm.now (principal_name_of_view name.now))) }
+    ensures { OnOk result (text.new ≡ text.old ++ labelled form label.now begin.now (principal realm.now (principal_name_of_view name.now))) }
 {
     let shown = Principal {
         name_type: name.name_type,
@@ -77,7 +78,7 @@ pub(crate) fn put_principal_field(
 /// Appends a field of a principal of a realm, if it is there.
 #[inline(always)]
 pub(crate) fn put_optional_principal_field(
-    text: &mut String,
+    text: &mut TextBuffer,
     form: Form,
     label: &str,
     begin: &str,
@@ -85,7 +86,7 @@ pub(crate) fn put_optional_principal_field(
     realm: &[u8],
 ) -> Result<(), AllocError>
     requires { OfSome PrincipalNameLists name.now }
-    ensures { OnOk result (string_bytes text.new ≡ string_bytes text.old ++ labelled form label.now begin.now (if_there (principal realm.now) (option_map principal_name_of (option_map principal_name_view_value name.now)))) }
+    ensures { OnOk result (text.new ≡ text.old ++ labelled form label.now begin.now (if_there (principal realm.now) (option_map principal_name_of (option_map principal_name_view_value name.now)))) }
 {
     match name {
         None => put_absent_field(text, form, label, begin),
@@ -96,7 +97,7 @@ pub(crate) fn put_optional_principal_field(
 /// Appends a field of a principal, if its name and its realm are both there.
 #[inline(always)]
 pub(crate) fn put_client_field(
-    text: &mut String,
+    text: &mut TextBuffer,
     form: Form,
     label: &str,
     begin: &str,
@@ -104,7 +105,7 @@ pub(crate) fn put_client_field(
     realm: Option<&[u8]>,
 ) -> Result<(), AllocError>
     requires { OfSome PrincipalNameLists name.now }
-    ensures { OnOk result (string_bytes text.new ≡ string_bytes text.old ++ labelled form label.now begin.now (client (option_map principal_name_of (option_map principal_name_view_value name.now)) (option_map (λ octets. octets.now) realm.entry))) }
+    ensures { OnOk result (text.new ≡ text.old ++ labelled form label.now begin.now (client (option_map principal_name_of (option_map principal_name_view_value name.now)) (option_map (λ octets. octets.now) realm.entry))) }
 {
     match (name, realm) {
         (Some(name), Some(realm)) => put_principal_field(text, form, label, begin, name, realm),
@@ -115,14 +116,14 @@ pub(crate) fn put_client_field(
 /// Appends a field of flags.
 #[inline(always)]
 pub(crate) fn put_flags_field(
-    text: &mut String,
+    text: &mut TextBuffer,
     form: Form,
     label: &str,
     begin: &str,
     registry: Registry,
     flags: &FlagsView<'_>,
 ) -> Result<(), AllocError>
-    ensures { OnOk result (string_bytes text.new ≡ string_bytes text.old ++ labelled form label.now begin.now (Flags registry (flags_of_view flags.now))) }
+    ensures { OnOk result (text.new ≡ text.old ++ labelled form label.now begin.now (Flags registry (flags_of_view flags.now))) }
 {
     let shown = FlagBits {
         registry,
@@ -135,14 +136,14 @@ pub(crate) fn put_flags_field(
 /// Appends a field of a time.
 #[inline(always)]
 pub(crate) fn put_time_field(
-    text: &mut String,
+    text: &mut TextBuffer,
     form: Form,
     label: &str,
     begin: &str,
     time: &[u8],
 ) -> Result<(), AllocError>
     requires { IsTimeFrom 14 time.now }
-    ensures { OnOk result (string_bytes text.new ≡ string_bytes text.old ++ labelled form label.now begin.now (Word time.now)) }
+    ensures { OnOk result (text.new ≡ text.old ++ labelled form label.now begin.now (Word time.now)) }
 {
     put_field(text, form, label, begin, &Plain::new(time))
 }
@@ -150,14 +151,14 @@ pub(crate) fn put_time_field(
 /// Appends a field of a time, if it is there.
 #[inline(always)]
 pub(crate) fn put_optional_time_field(
-    text: &mut String,
+    text: &mut TextBuffer,
     form: Form,
     label: &str,
     begin: &str,
     time: Option<&[u8]>,
 ) -> Result<(), AllocError>
     requires { OfSome (λ time. IsTimeFrom 14 time.now) time }
-    ensures { OnOk result (string_bytes text.new ≡ string_bytes text.old ++ labelled form label.now begin.now (if_there Word (option_map (λ time. time.now) time.entry))) }
+    ensures { OnOk result (text.new ≡ text.old ++ labelled form label.now begin.now (if_there Word (option_map (λ time. time.now) time.entry))) }
 {
     match time {
         None => put_absent_field(text, form, label, begin),
@@ -168,13 +169,13 @@ pub(crate) fn put_optional_time_field(
 /// Appends a field of microseconds.
 #[inline(always)]
 pub(crate) fn put_micros_field(
-    text: &mut String,
+    text: &mut TextBuffer,
     form: Form,
     label: &str,
     begin: &str,
     micros: i64,
 ) -> Result<(), AllocError>
-    ensures { OnOk result (string_bytes text.new ≡ string_bytes text.old ++ labelled form label.now begin.now (Number (pos (micros_of micros)))) }
+    ensures { OnOk result (text.new ≡ text.old ++ labelled form label.now begin.now (Number (pos (micros_of micros)))) }
 {
     // They are not negative.
     let count = if micros < 0 { 0 } else { micros as u64 };
@@ -184,13 +185,13 @@ pub(crate) fn put_micros_field(
 /// Appends a field of microseconds, if they are there.
 #[inline(always)]
 pub(crate) fn put_optional_micros_field(
-    text: &mut String,
+    text: &mut TextBuffer,
     form: Form,
     label: &str,
     begin: &str,
     micros: Option<i64>,
 ) -> Result<(), AllocError>
-    ensures { OnOk result (string_bytes text.new ≡ string_bytes text.old ++ labelled form label.now begin.now (if_there (λ n. Number (pos n)) (option_map micros_of micros))) }
+    ensures { OnOk result (text.new ≡ text.old ++ labelled form label.now begin.now (if_there (λ n. Number (pos n)) (option_map micros_of micros))) }
 {
     match micros {
         None => put_absent_field(text, form, label, begin),
@@ -201,13 +202,13 @@ pub(crate) fn put_optional_micros_field(
 /// Appends a field of what is sealed.
 #[inline(always)]
 pub(crate) fn put_sealed_field(
-    text: &mut String,
+    text: &mut TextBuffer,
     form: Form,
     label: &str,
     begin: &str,
     data: &EncryptedDataView<'_>,
 ) -> Result<(), AllocError>
-    ensures { OnOk result (string_bytes text.new ≡ string_bytes text.old ++ labelled form label.now begin.now (sealed (encrypted_data_of_view data.now))) }
+    ensures { OnOk result (text.new ≡ text.old ++ labelled form label.now begin.now (sealed (encrypted_data_of_view data.now))) }
 {
     put_field(text, form, label, begin, &Sealed::of(data))
 }
@@ -215,13 +216,13 @@ pub(crate) fn put_sealed_field(
 /// Appends a field of what is sealed, if it is there.
 #[inline(always)]
 pub(crate) fn put_optional_sealed_field(
-    text: &mut String,
+    text: &mut TextBuffer,
     form: Form,
     label: &str,
     begin: &str,
     data: &Option<EncryptedDataView<'_>>,
 ) -> Result<(), AllocError>
-    ensures { OnOk result (string_bytes text.new ≡ string_bytes text.old ++ labelled form label.now begin.now (if_there sealed (option_map encrypted_data_of (option_map encrypted_data_view_value data.now)))) }
+    ensures { OnOk result (text.new ≡ text.old ++ labelled form label.now begin.now (if_there sealed (option_map encrypted_data_of (option_map encrypted_data_view_value data.now)))) }
 {
     match data {
         None => put_absent_field(text, form, label, begin),
@@ -232,13 +233,13 @@ pub(crate) fn put_optional_sealed_field(
 /// Appends a field of an address.
 #[inline(always)]
 pub(crate) fn put_address_field(
-    text: &mut String,
+    text: &mut TextBuffer,
     form: Form,
     label: &str,
     begin: &str,
     host: &HostAddressView<'_>,
 ) -> Result<(), AllocError>
-    ensures { OnOk result (string_bytes text.new ≡ string_bytes text.old ++ labelled form label.now begin.now (address (host_address_of_view host.now))) }
+    ensures { OnOk result (text.new ≡ text.old ++ labelled form label.now begin.now (address (host_address_of_view host.now))) }
 {
     put_field(text, form, label, begin, &Address::of(host))
 }
@@ -246,13 +247,13 @@ pub(crate) fn put_address_field(
 /// Appends a field of an address, if it is there.
 #[inline(always)]
 pub(crate) fn put_optional_address_field(
-    text: &mut String,
+    text: &mut TextBuffer,
     form: Form,
     label: &str,
     begin: &str,
     host: &Option<HostAddressView<'_>>,
 ) -> Result<(), AllocError>
-    ensures { OnOk result (string_bytes text.new ≡ string_bytes text.old ++ labelled form label.now begin.now (if_there address (option_map host_address_of (option_map host_address_view_value host.now)))) }
+    ensures { OnOk result (text.new ≡ text.old ++ labelled form label.now begin.now (if_there address (option_map host_address_of (option_map host_address_view_value host.now)))) }
 {
     match host {
         None => put_absent_field(text, form, label, begin),
@@ -263,13 +264,13 @@ pub(crate) fn put_optional_address_field(
 /// Appends a field of a checksum.
 #[inline(always)]
 pub(crate) fn put_checksum_field(
-    text: &mut String,
+    text: &mut TextBuffer,
     form: Form,
     label: &str,
     begin: &str,
     digest: &ChecksumView<'_>,
 ) -> Result<(), AllocError>
-    ensures { OnOk result (string_bytes text.new ≡ string_bytes text.old ++ labelled form label.now begin.now (checksum (checksum_of_view digest.now))) }
+    ensures { OnOk result (text.new ≡ text.old ++ labelled form label.now begin.now (checksum (checksum_of_view digest.now))) }
 {
     put_field(text, form, label, begin, &Digest::of(digest))
 }
@@ -277,14 +278,14 @@ pub(crate) fn put_checksum_field(
 /// Appends a field of encryption types.
 #[inline(always)]
 pub(crate) fn put_etypes_field(
-    text: &mut String,
+    text: &mut TextBuffer,
     form: Form,
     label: &str,
     begin: &str,
     etypes: ItemsView<'_>,
 ) -> Result<(), AllocError>
     requires { AreViewed int32 etypes.octets.now }
-    ensures { OnOk result (string_bytes text.new ≡ string_bytes text.old ++ labelled form label.now begin.now (Numbers EncryptionTypeNumbers (items_of int32 etypes.entry.octets.now))) }
+    ensures { OnOk result (text.new ≡ text.old ++ labelled form label.now begin.now (Numbers EncryptionTypeNumbers (items_of int32 etypes.entry.octets.now))) }
 {
     put_field(text, form, label, begin, &EncryptionTypes::new(etypes))
 }
@@ -292,14 +293,14 @@ pub(crate) fn put_etypes_field(
 /// Appends a field of the types of pre-authentication data.
 #[inline(always)]
 pub(crate) fn put_types_field(
-    text: &mut String,
+    text: &mut TextBuffer,
     form: Form,
     label: &str,
     begin: &str,
     items: ItemsView<'_>,
 ) -> Result<(), AllocError>
     requires { AreViewed pa_data items.octets.now }
-    ensures { OnOk result (string_bytes text.new ≡ string_bytes text.old ++ labelled form label.now begin.now (padata (map pa_data_of (items_of pa_data items.entry.octets.now)))) }
+    ensures { OnOk result (text.new ≡ text.old ++ labelled form label.now begin.now (padata (map pa_data_of (items_of pa_data items.entry.octets.now)))) }
 {
     put_field(text, form, label, begin, &PaDataTypes::new(items))
 }
@@ -307,14 +308,14 @@ pub(crate) fn put_types_field(
 /// Appends a field of the types of pre-authentication data, if it is there.
 #[inline(always)]
 pub(crate) fn put_padata_field(
-    text: &mut String,
+    text: &mut TextBuffer,
     form: Form,
     label: &str,
     begin: &str,
     items: Option<ItemsView<'_>>,
 ) -> Result<(), AllocError>
     requires { OfSome (λ items. AreViewed pa_data items.octets.now) items }
-    ensures { OnOk result (string_bytes text.new ≡ string_bytes text.old ++ labelled form label.now begin.now (if_there padata (option_map (map pa_data_of) (option_map (λ items. items_of pa_data items.octets.now) items.entry)))) }
+    ensures { OnOk result (text.new ≡ text.old ++ labelled form label.now begin.now (if_there padata (option_map (map pa_data_of) (option_map (λ items. items_of pa_data items.octets.now) items.entry)))) }
 {
     match items {
         None => put_absent_field(text, form, label, begin),
@@ -325,13 +326,13 @@ pub(crate) fn put_padata_field(
 /// Appends a field of how many octets there are.
 #[inline(always)]
 pub(crate) fn put_size_field(
-    text: &mut String,
+    text: &mut TextBuffer,
     form: Form,
     label: &str,
     begin: &str,
     octets: &[u8],
 ) -> Result<(), AllocError>
-    ensures { OnOk result (string_bytes text.new ≡ string_bytes text.old ++ labelled form label.now begin.now (count octets.now)) }
+    ensures { OnOk result (text.new ≡ text.old ++ labelled form label.now begin.now (count octets.now)) }
 {
     put_field(text, form, label, begin, &(octets.len() as u64))
 }
@@ -339,13 +340,13 @@ pub(crate) fn put_size_field(
 /// Appends a field of how many octets there are, if they are there.
 #[inline(always)]
 pub(crate) fn put_optional_size_field(
-    text: &mut String,
+    text: &mut TextBuffer,
     form: Form,
     label: &str,
     begin: &str,
     octets: Option<&[u8]>,
 ) -> Result<(), AllocError>
-    ensures { OnOk result (string_bytes text.new ≡ string_bytes text.old ++ labelled form label.now begin.now (if_there count (option_map (λ octets. octets.now) octets.entry))) }
+    ensures { OnOk result (text.new ≡ text.old ++ labelled form label.now begin.now (if_there count (option_map (λ octets. octets.now) octets.entry))) }
 {
     match octets {
         None => put_absent_field(text, form, label, begin),
@@ -356,14 +357,14 @@ pub(crate) fn put_optional_size_field(
 /// Appends a field of how many tickets there are.
 #[inline(always)]
 pub(crate) fn put_tickets_field(
-    text: &mut String,
+    text: &mut TextBuffer,
     form: Form,
     label: &str,
     begin: &str,
     items: ItemsView<'_>,
 ) -> Result<(), AllocError>
     requires { AreViewed ticket items.octets.now }
-    ensures { OnOk result (string_bytes text.new ≡ string_bytes text.old ++ labelled form label.now begin.now (count (map ticket_of (items_of ticket items.entry.octets.now)))) }
+    ensures { OnOk result (text.new ≡ text.old ++ labelled form label.now begin.now (count (map ticket_of (items_of ticket items.entry.octets.now)))) }
 {
     let tickets = count_items::<Ticket>(items);
     put_field(text, form, label, begin, &(tickets as u64))
@@ -372,14 +373,14 @@ pub(crate) fn put_tickets_field(
 /// Appends a field of how many tickets there are, if there are any.
 #[inline(always)]
 pub(crate) fn put_optional_tickets_field(
-    text: &mut String,
+    text: &mut TextBuffer,
     form: Form,
     label: &str,
     begin: &str,
     items: Option<ItemsView<'_>>,
 ) -> Result<(), AllocError>
     requires { OfSome (λ items. AreViewed ticket items.octets.now) items }
-    ensures { OnOk result (string_bytes text.new ≡ string_bytes text.old ++ labelled form label.now begin.now (if_there count (option_map (map ticket_of) (option_map (λ items. items_of ticket items.octets.now) items.entry)))) }
+    ensures { OnOk result (text.new ≡ text.old ++ labelled form label.now begin.now (if_there count (option_map (map ticket_of) (option_map (λ items. items_of ticket items.octets.now) items.entry)))) }
 {
     match items {
         None => put_absent_field(text, form, label, begin),
@@ -390,14 +391,14 @@ pub(crate) fn put_optional_tickets_field(
 /// Appends a field of how many addresses there are, if there are any.
 #[inline(always)]
 pub(crate) fn put_addresses_field(
-    text: &mut String,
+    text: &mut TextBuffer,
     form: Form,
     label: &str,
     begin: &str,
     items: Option<ItemsView<'_>>,
 ) -> Result<(), AllocError>
     requires { OfSome (λ items. AreViewed host_address items.octets.now) items }
-    ensures { OnOk result (string_bytes text.new ≡ string_bytes text.old ++ labelled form label.now begin.now (if_there count (option_map (map host_address_of) (option_map (λ items. items_of host_address items.octets.now) items.entry)))) }
+    ensures { OnOk result (text.new ≡ text.old ++ labelled form label.now begin.now (if_there count (option_map (map host_address_of) (option_map (λ items. items_of host_address items.octets.now) items.entry)))) }
 {
     match items {
         None => put_absent_field(text, form, label, begin),
@@ -411,13 +412,13 @@ pub(crate) fn put_addresses_field(
 /// Appends a field of a string that a line has between quotes, if it is there.
 #[inline(always)]
 pub(crate) fn put_quoted_field(
-    text: &mut String,
+    text: &mut TextBuffer,
     form: Form,
     label: &str,
     begin: &str,
     string: Option<&[u8]>,
 ) -> Result<(), AllocError>
-    ensures { OnOk result (string_bytes text.new ≡ string_bytes text.old ++ labelled form label.now begin.now (if_there Quoted (option_map (λ octets. octets.now) string.entry))) }
+    ensures { OnOk result (text.new ≡ text.old ++ labelled form label.now begin.now (if_there Quoted (option_map (λ octets. octets.now) string.entry))) }
 {
     match string {
         None => put_absent_field(text, form, label, begin),

@@ -1,6 +1,6 @@
 -- The places of the faults of the bodies of blocks, and how many octets the other parts of blocks have.
-use Rattle.std.proofs.Common.{◌≡◌, ℕ, zero, suc, ◌+◌, ◌*◌, ◌^◌, ◌≤◌, ◌&&◌, ◌==◌, min, max, Bool, true, false, Option, Some, None, Result, Ok, Err, IfErr, List, length, refl, sym, ap, subst, arith, rules}
-use Rattle.std.specs.Int.{w8, w16, w32, w64, from_be_bytes, cast_signed}
+use Rattle.std.proofs.Common.{◌≡◌, ℕ, zero, suc, ◌+◌, ◌*◌, ◌^◌, ◌≤◌, ◌&&◌, ◌==◌, min, max, Bool, true, false, Option, Some, None, Result, Ok, Err, IfErr, List, length, ap, subst, arith, rules}
+use Rattle.std.specs.Int.{w8, w16, w32, w64, cast_signed}
 use Rattle.krb_der.specs.Octets.{when}
 use Rattle.krb_file.specs.Fields.{Source, Fault, Bounds, ended, source_of, Reader, ◌>>=◌, succeed, next_octets_at, octets_at, number_at, octets_to_end, reaches, Fails, Agrees, IsStreamFaultIn}
 use Rattle.krb_file.specs.FieldReaders.{Cursor, skipped_at, Follows, Slice, of_slice}
@@ -8,7 +8,6 @@ use Rattle.krb_file.specs.declared.fault.FileFault.{FileFault}
 use Rattle.krb_file.specs.declared.fault.FileFault.TheVariants as faults
 use Rattle.krb_file.proofs.FieldReaders.{known, known_fault}
 use Rattle.krb_packet.specs.declared.order.ByteOrder.{ByteOrder}
-use Rattle.krb_packet.specs.declared.packet.Packet.{Packet}
 use Rattle.krb_packet.specs.declared.interface.Interface.{Interface}
 use Rattle.krb_packet.specs.declared.interface.Options.{Options}
 use Rattle.krb_packet.specs.declared.interface.Setting.{Setting}

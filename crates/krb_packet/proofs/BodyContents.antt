@@ -1,7 +1,7 @@
 -- A body that was read: its content, or the field of it that is refused.
-use Rattle.std.proofs.Common.{◌≡◌, ℕ, ◌+◌, ◌-◌, Option, Result, Ok, Err, List, refl, sym, ap, ◌∙◌, subst, arith}
-use Rattle.krb_file.specs.Fields.{Source, Fault, Bounds, octets_at, Fails}
-use Rattle.krb_file.specs.FieldReaders.{Cursor, source_at}
+use Rattle.std.proofs.Common.{◌≡◌, ℕ, ◌+◌, Option, Result, Ok, Err, List, refl, ap, ◌∙◌, subst, arith}
+use Rattle.krb_file.specs.Fields.{Fault, octets_at, Fails}
+use Rattle.krb_file.specs.FieldReaders.{Cursor}
 use Rattle.krb_file.specs.declared.fault.FileWhy.{FileWhy}
 use Rattle.krb_file.specs.declared.field_name.FileField.{FileField}
 use Rattle.krb_file.specs.declared.fault.FileFault.{FileFault}
@@ -15,7 +15,7 @@ use Rattle.krb_packet.specs.declared.field.CaptureField.{CaptureField}
 use Rattle.krb_packet.specs.declared.field.CaptureField.TheVariants as capture
 use Rattle.krb_packet.specs.declared.field.BlockField.TheVariants as fields
 use Rattle.krb_packet.specs.Numbers.{refused_at}
-use Rattle.krb_packet.specs.Parsers.{Refusal, Parser, ◌>>=◌, succeed, from_here, named, HasParsed, HasRefused, FailsIn, offset_of}
+use Rattle.krb_packet.specs.Parsers.{Parser, ◌>>=◌, succeed, from_here, named, HasParsed, HasRefused, FailsIn, offset_of}
 use Rattle.krb_packet.specs.Bodies.{content_at, in_body}
 use Rattle.krb_packet.specs.Blocks.{body_field, content_in_file, read_body, fault_from, head_in, body_in, end_in, block_in}
 use Rattle.krb_packet.proofs.Parsing.{then_parsed, first_fails, next_fails}

@@ -1,5 +1,5 @@
 -- Numbers of nanoseconds.
-use Rattle.std.proofs.Common.{◌≡◌, ℕ, ◌+◌, ◌-◌, ◌*◌, ◌/◌, ◌^◌, ◌<◌, ◌≤◌, Bool, true, false, ltb, arith}
+use Rattle.std.proofs.Common.{◌≡◌, ℕ, ◌-◌, ◌*◌, ◌^◌, ◌<◌, ◌≤◌, Bool, true, false, ltb, arith}
 use Rattle.std.proofs.lemmas.Nat.{div_below}
 use Rattle.std.proofs.Math.Nat.{one-le-pow, div-le_self}
 use Rattle.krb_der.specs.Octets.{when}

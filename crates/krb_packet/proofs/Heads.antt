@@ -1,5 +1,5 @@
 -- The head of a section header, whose length is refused after the byte-order magic was read.
-use Rattle.std.proofs.Common.{◌≡◌, ℕ, ◌+◌, None, Result, Ok, Err, List, refl, ap, ◌∙◌, subst}
+use Rattle.std.proofs.Common.{◌≡◌, ℕ, ◌+◌, None, Result, Ok, Err, List, refl, ap, subst}
 use Rattle.std.specs.Int.{w32}
 use Rattle.krb_file.specs.Fields.{Reader, ◌>>=◌, succeed, next_octets_at}
 use Rattle.krb_file.specs.FieldReaders.{Cursor, HasRead, FailsBy, source_at}

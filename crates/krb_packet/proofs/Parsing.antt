@@ -1,9 +1,9 @@
 -- Parsers: made of readers of fields, one after another, and how many octets they read.
-use Rattle.std.proofs.Common.{◌≡◌, ℕ, ◌+◌, ◌-◌, ◌≤◌, Option, Some, None, Result, Ok, Err, List, length, refl, ap, sym, ◌∙◌, subst, arith}
+use Rattle.std.proofs.Common.{◌≡◌, ℕ, ◌+◌, ◌-◌, ◌≤◌, None, Result, Ok, Err, length, refl, ap, sym, ◌∙◌, subst, arith}
 use Rattle.std.specs.Int.{Width}
 use Rattle.krb_file.specs.Fields.{Source, Fault, Bounds, Reader}
 use Rattle.krb_file.specs.Fields.{and_then as read_onward, ◌>>=◌ as ◌then◌}
-use Rattle.krb_file.specs.FieldReaders.{Cursor, MayRemain, HasRead, HasMet, FailsBy, Follows, source_at}
+use Rattle.krb_file.specs.FieldReaders.{Cursor, HasRead, FailsBy, Follows, source_at}
 use Rattle.krb_file.specs.declared.fault.FileWhy.{FileWhy}
 use Rattle.krb_file.specs.declared.fault.FileFault.{FileFault}
 use Rattle.krb_file.specs.declared.fault.FileFault.TheVariants as faults
@@ -14,7 +14,7 @@ use Rattle.krb_packet.specs.declared.fault.CaptureFault.{CaptureFault}
 use Rattle.krb_packet.specs.Numbers.{number_in, checked_at, checked_number, checked}
 use Rattle.krb_packet.specs.Numbers.{from_here as here}
 use Rattle.krb_packet.proofs.Options.{Continues}
-use Rattle.krb_packet.specs.Parsers.{Refusal, Parser, and_then, ◌>>=◌, succeed, from_here, naming, fields, named, HasParsed, HasRefused, FailsIn, Parses, in_field, offset_of}
+use Rattle.krb_packet.specs.Parsers.{Refusal, Parser, and_then, ◌>>=◌, succeed, from_here, naming, fields, named, HasParsed, FailsIn, Parses, in_field, offset_of}
 use Rattle.krb_packet.proofs.Reaching.{Passes}
 
 -- ---- a number that has a meaning, or is refused

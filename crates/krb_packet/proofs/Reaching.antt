@@ -1,8 +1,8 @@
 -- How many octets the fields of a capture file have, and the places of their faults.
-use Rattle.std.proofs.Common.{◌≡◌, ℕ, zero, suc, ◌+◌, ◌≤◌, ◌⊎◌, inl, inr, Bool, true, false, Option, Some, None, Result, Ok, Err, List, length, refl, ap, ◌∙◌, subst, arith, length-drop}
-use Rattle.std.specs.Int.{Width, w8, w16, w32, w64, byte_len, from_be_bytes, cast_signed}
+use Rattle.std.proofs.Common.{◌≡◌, ℕ, ◌+◌, ◌≤◌, inl, inr, Bool, true, false, Option, None, Result, Ok, Err, length, refl, ap, ◌∙◌, subst, arith, length-drop}
+use Rattle.std.specs.Int.{Width, byte_len, from_be_bytes}
 use Rattle.krb_der.specs.Octets.{when}
-use Rattle.krb_file.specs.Fields.{Source, Fault, Bounds, Reader, and_then, ◌>>=◌, succeed, are_zero, next_octets_at, octets_at, number_at, octets_to_end, is_at_end}
+use Rattle.krb_file.specs.Fields.{Source, Fault, Bounds, Reader, ◌>>=◌, succeed, are_zero, next_octets_at, octets_at, number_at}
 use Rattle.krb_file.specs.FieldReaders.{Cursor, HasRead, source_at, skipped_at}
 use Rattle.krb_file.specs.declared.fault.FileWhy.{FileWhy}
 use Rattle.krb_file.proofs.Fields.{ok_is, err_is, and_then-ok, and_then-err, piece-ok}

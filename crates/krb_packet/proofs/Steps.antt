@@ -2,7 +2,7 @@
 use Rattle.std.proofs.Common.{◌≡◌, ℕ, ◌+◌, ◌≤◌, Option, Some, None, Result, Ok, Err, List, [], ◌∷◌, length, refl, ap, ◌∙◌, subst, arith}
 use Rattle.std.specs.Int.{w32}
 use Rattle.krb_file.specs.Fields.{Source, Fault, Bounds, octets_at, next_octets_at}
-use Rattle.krb_file.specs.FieldReaders.{Cursor, source_at, skipped_at}
+use Rattle.krb_file.specs.FieldReaders.{Cursor, source_at}
 use Rattle.krb_file.proofs.Fields.{at, ok_is, and_then-ok}
 use Rattle.krb_file.proofs.FieldReaders.{some_rest}
 use Rattle.krb_packet.specs.declared.order.ByteOrder.{ByteOrder}
@@ -24,13 +24,13 @@ use Rattle.krb_packet.specs.declared.format.Next.{Next}
 use Rattle.krb_packet.specs.declared.format.Next.TheVariants as nexts
 use Rattle.krb_packet.specs.declared.field.CaptureField.TheVariants as capture
 use Rattle.krb_packet.specs.declared.field.BlockField.TheVariants as block
-use Rattle.krb_packet.specs.Numbers.{in_order, number_in, checked_at, checked_number, refused_at}
-use Rattle.krb_packet.specs.Parsers.{Refusal, Parser, and_then, ◌>>=◌, succeed, fields, named, HasParsed}
+use Rattle.krb_packet.specs.Numbers.{in_order, number_in, checked_at, checked_number}
+use Rattle.krb_packet.specs.Parsers.{succeed, named, HasParsed}
 use Rattle.krb_packet.specs.Pcaps.{magic_of, magic_at, version, header_at, captured, packet_at, next_at}
 use Rattle.krb_packet.specs.Bodies.{byte_order, body_size, after_byte_order, section_head_at, head_of, head_at, same_length, next_kind_at, content_at, in_body, block_kind}
-use Rattle.krb_packet.specs.Blocks.{head_in, skipped_body, content_in_file, read_body, body_in, block_in, after_content, block_after, after_kind, next_block}
-use Rattle.krb_packet.specs.Captures.{header_in, packet_in, after_magic, begin_in, after_packet, next_in, blocks_of}
-use Rattle.krb_packet.proofs.Reaching.{Passes, Passes-succeed, Passes-then, Passes-fewer, Passes-made, Passes-piece, Passes-octets, Passes-skipped, Passes-number_at, Passes-number, Passes-check, Passes-checked_at, Passes-from_here, Passes-refused}
+use Rattle.krb_packet.specs.Blocks.{head_in, content_in_file, read_body, body_in, block_in, after_content, block_after, after_kind}
+use Rattle.krb_packet.specs.Captures.{header_in, packet_in, after_magic, after_packet, next_in, blocks_of}
+use Rattle.krb_packet.proofs.Reaching.{Passes, Passes-then, Passes-fewer, Passes-made, Passes-piece, Passes-octets, Passes-skipped, Passes-number_at, Passes-number, Passes-check, Passes-checked_at, Passes-from_here, Passes-refused}
 use Rattle.krb_packet.proofs.Parsing.{Onward, Onward-fields, Onward-succeed, Onward-then, Onward-from_here, parsed_is, parsed-ok, naming-ok}
 
 -- ---- a pcap

@@ -1,15 +1,14 @@
 -- The packets of a file, one step at a time: those that follow depend only on what is left of the file.
-use Rattle.std.proofs.Common.{◌≡◌, ℕ, zero, suc, ◌+◌, ◌<◌, ◌≤◌, Option, Some, None, Result, Ok, Err, List, [], ◌∷◌, length, refl, ◌∙◌, ap, arith}
+use Rattle.std.proofs.Common.{◌≡◌, ℕ, zero, suc, ◌+◌, ◌<◌, Some, None, Result, Ok, Err, length, refl, ◌∙◌, ap, arith}
 use Rattle.krb_file.specs.Fields.{Source, limited}
-use Rattle.krb_file.proofs.Fields.{at}
 use Rattle.krb_packet.specs.declared.packet.Packet.{Packet}
 use Rattle.krb_packet.specs.declared.format.Format.{Format}
 use Rattle.krb_packet.specs.declared.format.Next.{Next}
 use Rattle.krb_packet.specs.declared.format.Next.TheVariants as nexts
 use Rattle.krb_packet.specs.Parsers.{Refusal}
 use Rattle.krb_packet.specs.Pcaps.{most_captured}
-use Rattle.krb_packet.specs.Captures.{next_in, Packets, no_packets, with_first, with_others, packets_from, packets_within, packets_after}
-use Rattle.krb_packet.proofs.Steps.{Goes, step_advances}
+use Rattle.krb_packet.specs.Captures.{next_in, Packets, no_packets, with_first, packets_from, packets_within, packets_after}
+use Rattle.krb_packet.proofs.Steps.{step_advances}
 
 abbrev step : Format → ℕ → Source → Result (Next × Source) Refusal
 step format count source = next_in format count (limited (Some most_captured)) source

@@ -1,6 +1,6 @@
 -- A capture file that is read one packet at a time: how each call changes the packets that are left.
 use Rattle.std.proofs.Common.{◌≡◌, ℕ, suc, ◌+◌, Option, Some, None, Ok, Err, List, [], ◌∷◌, ◌++◌, length, refl, sym, ◌∙◌, ap, subst, arith, append_assoc, append-nil, length-append}
-use Rattle.krb_file.specs.Fields.{Fault, Bounds, limited}
+use Rattle.krb_file.specs.Fields.{Bounds, limited}
 use Rattle.krb_file.specs.FieldReaders.{Cursor, source_at}
 use Rattle.krb_file.specs.declared.fault.FileFault.{FileFault}
 use Rattle.krb_file.specs.declared.fault.FileFault.TheVariants as faults

@@ -2,7 +2,7 @@
 use Rattle.std.specs.Prelude.{ℕ, ◌+◌, ◌-◌, ◌||◌, ◌==◌, Option, Some, None, Result, Ok, Err, List, [], ◌∷◌, ◌++◌}
 use Rattle.krb_der.specs.Octets.{when}
 use Rattle.std.specs.Int.{w32}
-use Rattle.krb_file.specs.Fields.{Source, Fault, octets_at}
+use Rattle.krb_file.specs.Fields.{Fault, octets_at}
 use Rattle.krb_file.specs.FieldReaders.{skipped_at}
 use Rattle.krb_file.specs.declared.fault.FileFault.{FileFault}
 use Rattle.krb_file.specs.declared.fault.FileFault.TheVariants as faults
@@ -16,12 +16,11 @@ use Rattle.krb_packet.specs.declared.body.Content.TheVariants as contents
 use Rattle.krb_packet.specs.declared.format.Format.TheVariants as formats
 use Rattle.krb_packet.specs.declared.format.Next.{Next}
 use Rattle.krb_packet.specs.declared.format.Next.TheVariants as nexts
-use Rattle.krb_packet.specs.declared.field.CaptureField.{CaptureField}
 use Rattle.krb_packet.specs.declared.field.CaptureField.TheVariants as capture
 use Rattle.krb_packet.specs.declared.field.BlockField.{BlockField}
 use Rattle.krb_packet.specs.declared.field.BlockField.TheVariants as block
 use Rattle.krb_packet.specs.Numbers.{checked_number, refused_at}
-use Rattle.krb_packet.specs.Parsers.{Parser, ◌>>=◌, succeed, from_here, fields, named, naming, Refusal}
+use Rattle.krb_packet.specs.Parsers.{Parser, ◌>>=◌, succeed, from_here, fields, named}
 use Rattle.krb_packet.specs.Bodies.{next_kind_at, head_at, content_at, in_body, same_length}
 
 -- ---- the field at an offset: of what is between the type and the body, and of a body

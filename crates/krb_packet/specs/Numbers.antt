@@ -1,7 +1,7 @@
 -- Numbers in either byte order, and fields that are refused if their number has no meaning.
-use Rattle.std.specs.Prelude.{ℕ, Option, Some, None, Result, Ok, Err, List, reverse}
+use Rattle.std.specs.Prelude.{ℕ, None, Result, Ok, Err, List, reverse}
 use Rattle.std.specs.Int.{Width, byte_len, from_be_bytes}
-use Rattle.krb_file.specs.Fields.{Source, Fault, Reader, ◌>>=◌, succeed, next_octets_at}
+use Rattle.krb_file.specs.Fields.{Fault, Reader, ◌>>=◌, succeed, next_octets_at}
 use Rattle.krb_file.specs.declared.fault.FileWhy.{FileWhy}
 use Rattle.krb_file.specs.declared.fault.FileFault.{FileFault}
 use Rattle.krb_file.specs.declared.fault.FileFault.TheVariants as faults

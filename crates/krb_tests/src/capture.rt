@@ -5,7 +5,7 @@ use crate::examples::octets_of;
 use krb_capture::Capture;
 use krb_file::FileFault;
 use krb_frame::Limit;
-use krb_list::Form;
+use krb_list::{Form, TextBuffer};
 use krb_packet::Packets;
 use std::alloc::Global;
 use std::test::Fail;
@@ -49,7 +49,7 @@ fn put_records(
     alloc: Global,
     packets: &mut Packets<&[u8]>,
     capture: &mut Capture,
-    text: &mut String,
+    text: &mut TextBuffer,
 ) -> Result<bool, Fail> {
     // no capture here has more packets
     for _ in 0..16 {
@@ -73,7 +73,7 @@ fn put_records(
 }
 
 /// Appends the listing of a capture. Returns whether nothing is refused, lost or unread.
-fn put_listing(alloc: Global, octets: &[u8], text: &mut String) -> Result<bool, Fail> {
+fn put_listing(alloc: Global, octets: &[u8], text: &mut TextBuffer) -> Result<bool, Fail> {
     let mut packets = Packets::new(octets);
     let mut capture = Capture::new(alloc, Form::Lines, Limit::DEFAULT, 88);
     let clean = put_records(alloc, &mut packets, &mut capture, text);
@@ -87,9 +87,9 @@ fn captures_are_listed(rt: HostRuntime) -> Result<(), Fail> {
     let alloc = rt.alloc();
     for Row(digits, lines, clean) in &ROWS {
         let octets = octets_of(alloc, digits)?;
-        let mut text = String::new(alloc);
+        let mut text = TextBuffer::new(alloc);
         let is_clean = put_listing(alloc, octets.as_slice(), &mut text)?;
-        assert_eq!(rt; text.as_str(), *lines);
+        assert!(rt; text.octets() == lines.as_bytes());
         assert_eq!(rt; is_clean, *clean);
     }
     Ok(())

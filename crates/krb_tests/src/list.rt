@@ -4,9 +4,9 @@ use krb_der::{Refusal, Why};
 use krb_file::FileWhy;
 use krb_keytab::{Hole, Record};
 use krb_list::{
-    CaptureCounts, Form, InputFault, Origin, Transport, put_capture_end, put_capture_refusal,
-    put_captured_refusal, put_file, put_file_refusal, put_input_refusal, put_joined, put_lost,
-    put_password, record_line,
+    CaptureCounts, Form, InputFault, Origin, TextBuffer, Transport, put_capture_end,
+    put_capture_refusal, put_captured_refusal, put_file, put_file_refusal, put_input_refusal,
+    put_joined, put_lost, put_password, record_line,
 };
 use krb_packet::{Endpoint, Time};
 use std::net::{IpAddr, Ipv4Addr, Ipv6Addr};
@@ -25,7 +25,7 @@ const REFUSALS: [&str; 3] = [
 #[test]
 fn shows_refusals(rt: HostRuntime) -> Result<(), Fail> {
     for (form, expected) in FORMS.into_iter().zip(REFUSALS) {
-        let mut text = String::new(rt.alloc());
+        let mut text = TextBuffer::new(rt.alloc());
         put_file(&mut text, form, "a \"")?;
         put_file_refusal(
             &mut text,
@@ -36,7 +36,8 @@ fn shows_refusals(rt: HostRuntime) -> Result<(), Fail> {
         )?;
         put_input_refusal(&mut text, form, InputFault::Hex)?;
         put_input_refusal(&mut text, form, InputFault::Length)?;
-        assert_eq!(rt; text.as_str(), expected);
+        let shown = text.into_string();
+        assert_eq!(rt; shown.as_str(), expected);
     }
     Ok(())
 }
@@ -117,14 +118,15 @@ fn shows_captures(rt: HostRuntime) -> Result<(), Fail> {
         unread: 5,
     };
     for (form, expected) in FORMS.into_iter().zip(CAPTURES) {
-        let mut text = String::new(rt.alloc());
+        let mut text = TextBuffer::new(rt.alloc());
         put_joined(&mut text, form, &sent)?;
         put_captured_refusal(&mut text, form, &sent, refusal, Some("AP-REP.pvno"))?;
         put_lost(&mut text, form, &answered, 78, 114, None)?;
         put_password(&mut text, form, &answered, 65408, 509, 135)?;
         put_capture_end(&mut text, form, &counts)?;
         put_capture_refusal(&mut text, form, &counts, 0, FileWhy::Magic, Some("magic"))?;
-        assert_eq!(rt; text.as_str(), expected);
+        let shown = text.into_string();
+        assert_eq!(rt; shown.as_str(), expected);
     }
     Ok(())
 }

@@ -1,11 +1,11 @@
 //! The first two packets of a real capture, `no-kdc`, in which a client of MIT krb5 asks for a connection
 //! to port 88 and is refused; and what Wireshark shows of them.
 
+use krb_file::{FileFault, FileWhy};
 use krb_packet::{
     CaptureFault, CaptureField, Contents, Endpoint, LinkType, Packet, PacketField, Packets,
     Segment, contents_of,
 };
-use krb_file::{FileFault, FileWhy};
 use std::alloc::Global;
 use std::net::{IpAddr, Ipv4Addr};
 use std::process::Abort;

@@ -1,8 +1,8 @@
 //! The segment of the first packet of a real capture, `no-kdc`, cut into fragments as RFC 791, 3.2, and
 //! RFC 8200, 4.5, say; and what Wireshark shows of the segment.
 
-use krb_packet::{Contents, Fragment, Fragments, LinkType, Packet, Reassembled, contents_of};
 use krb_der::Octets;
+use krb_packet::{Contents, Fragment, Fragments, LinkType, Packet, Reassembled, contents_of};
 use std::alloc::Global;
 use std::process::Abort;
 

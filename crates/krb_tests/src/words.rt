@@ -1,7 +1,7 @@
 //! Command lines.
 
 use krb_der::Profile;
-use krb_words::{AfterRefusal, CommandLine, Form, Job, Source, WordsFault, read_words};
+use krb_words::{AfterRefusal, Form, Job, Order, Source, WordsFault, read_words};
 use std::alloc::Global;
 use std::test::Fail;
 
@@ -71,18 +71,18 @@ fn form_name(form: Form) -> &'static str {
 }
 
 /// Returns a short name of an order.
-fn shown_command_line(alloc: Global, command_line: &CommandLine) -> Result<String, Fail> {
-    let (name, number) = named(&command_line.job);
+fn shown_order(alloc: Global, order: &Order) -> Result<String, Fail> {
+    let (name, number) = named(&order.job);
     let mut shown = match number {
         Some(number) => format!(in alloc; "{name} {number}")?,
         None => String::from_str(alloc, name)?,
     };
-    if let Some(port) = port_of(&command_line.job) {
+    if let Some(port) = port_of(&order.job) {
         let text = format!(in alloc; " {port}")?;
         shown.push_str(text.as_str())?;
     }
-    shown.push_str(form_name(command_line.form))?;
-    for source in &command_line.sources {
+    shown.push_str(form_name(order.form))?;
+    for source in &order.sources {
         shown.push_str(", ")?;
         shown.push_str(source_name(source))?;
     }
@@ -93,9 +93,9 @@ fn shown_command_line(alloc: Global, command_line: &CommandLine) -> Result<Strin
 fn shown(alloc: Global, line: &str) -> Result<String, Fail> {
     let words = words(alloc, line)?;
     match read_words(alloc, words.as_slice()) {
-        Ok(command_line) => {
-            let text = shown_command_line(alloc, &command_line);
-            drop(command_line);
+        Ok(order) => {
+            let text = shown_order(alloc, &order);
+            drop(order);
             text
         }
         Err(WordsFault::Wrong(text)) => Ok(text),

@@ -1,5 +1,5 @@
 -- Frames listed one after another, also after refusals.
-use Rattle.std.proofs.Common.{◌≡◌, ℕ, ◌+◌, ◌-◌, ◌<◌, ◌≤◌, min, true, false, Bool, List, [], ◌∷◌, ◌++◌, length, take, drop, map, Option, Some, None, string_bytes, refl, sym, ◌∙◌, ap, ap₂, subst, arith, append_assoc, append-nil, length-drop}
+use Rattle.std.proofs.Common.{◌≡◌, ℕ, ◌+◌, ◌-◌, ◌<◌, ◌≤◌, min, true, false, Bool, List, [], ◌∷◌, ◌++◌, length, take, drop, map, Option, Some, None, refl, sym, ◌∙◌, ap, ap₂, subst, arith, append_assoc, append-nil, length-drop}
 use Rattle.std.specs.Prelude.{IsSome, is_some}
 use Rattle.std.proofs.lemmas.List.{map-append}
 use Rattle.krb_der.specs.declared.why.Why.TheVariants.{HighBit}
@@ -56,7 +56,7 @@ lines_after-append form profile n (Faulty place reason prefix ∷ xs) ys =
     ∙ sym (append_assoc (refused_line form n place reason (frame_path profile prefix)) (lines_after form profile n xs) (lines_after form profile (n + messages_in xs) ys))
 
 -- one frame more
-HasCounted-more : (old new : CountingLister) (x : Listed) (stream grown written : List ℕ) (h : HasCounted old stream written) → ((prefix : List ℕ) → entry_of x ≡ Fault 3 HighBit prefix → ⊥) → new.decoder.current.profile ≡ old.decoder.current.profile → new.form ≡ old.form → string_bytes new.text ≡ string_bytes old.text ++ lines_after old.form old.decoder.current.profile old.messages (x ∷ []) → new.messages ≡ old.messages + messages_in (x ∷ []) → new.refused ≡ old.refused + refused_in (x ∷ []) → GoesOn (messages old.decoder.current.profile) new.decoder grown (map entry_of h.listed ++ entry_of x ∷ []) → HasCounted new grown written
+HasCounted-more : (old new : CountingLister) (x : Listed) (stream grown written : List ℕ) (h : HasCounted old stream written) → ((prefix : List ℕ) → entry_of x ≡ Fault 3 HighBit prefix → ⊥) → new.decoder.current.profile ≡ old.decoder.current.profile → new.form ≡ old.form → new.text ≡ old.text ++ lines_after old.form old.decoder.current.profile old.messages (x ∷ []) → new.messages ≡ old.messages + messages_in (x ∷ []) → new.refused ≡ old.refused + refused_in (x ∷ []) → GoesOn (messages old.decoder.current.profile) new.decoder grown (map entry_of h.listed ++ entry_of x ∷ []) → HasCounted new grown written
 HasCounted-more old new x stream grown written h known p o t m r g =
     let all : List Listed = h.listed ++ x ∷ [] in
     record {
@@ -65,7 +65,7 @@ HasCounted-more old new x stream grown written h known p o t m r g =
       known = subst (λ l. EndsUnknown l → ⊥) (sym (map-append entry_of h.listed (x ∷ []))) (known_last (map entry_of h.listed) (entry_of x) known);
       lines =
           ap (λ l. written ++ l) t
-          ∙ sym (append_assoc written (string_bytes old.text) (lines_after old.form old.decoder.current.profile old.messages (x ∷ [])))
+          ∙ sym (append_assoc written old.text (lines_after old.form old.decoder.current.profile old.messages (x ∷ [])))
           ∙ ap (λ l. l ++ lines_after old.form old.decoder.current.profile old.messages (x ∷ [])) h.lines
           ∙ ap (λ n. lines_after old.form old.decoder.current.profile 0 h.listed ++ lines_after old.form old.decoder.current.profile n (x ∷ [])) (let e : old.messages ≡ 0 + messages_in h.listed = omega (arith, h.messages) in e)
           ∙ sym (lines_after-append old.form old.decoder.current.profile 0 h.listed (x ∷ []))
@@ -121,7 +121,7 @@ module _ (old new : CountingLister) (piece : List ℕ) (fed : Fed) (f : FeedsAft
       listed = h.listed;
       goes_on = subst (λ p. GoesOn (messages p) new.decoder (stream ++ take fed.used piece) (map entry_of h.listed)) (sym f.others.same_profile) (f.goes_on stream (map entry_of h.listed) h.goes_on);
       known = h.known;
-      lines = ap (λ x. written ++ string_bytes x) t ∙ h.lines ∙ ap₂ (λ form profile. lines_after form profile 0 h.listed) (sym o) (sym f.others.same_profile);
+      lines = ap (λ x. written ++ x) t ∙ h.lines ∙ ap₂ (λ form profile. lines_after form profile 0 h.listed) (sym o) (sym f.others.same_profile);
       messages = m ∙ h.messages;
       refused = r ∙ h.refused;
     }
@@ -151,7 +151,7 @@ module _ (old new : CountingLister) (piece : List ℕ) (fed : Fed) (f : FeedsAft
         (omega (arith, fed_some status.Ready w e more_ready memory_ready, m, r, l.messages, l.refused))
         (λ stream written h.
         let u = HasCounted-used stream written h in
-        HasCounted-more new next (Whole l.message) (stream ++ take fed.used piece) (stream ++ take fed.used piece) written u (whole_known (message_der l.message)) profile l.same_form (l.line ∙ ap (λ t. string_bytes new.text ++ t) (sym (append-nil (message_line new.form l.message)))) (omega (arith, l.messages)) (omega (arith, l.refused))
+        HasCounted-more new next (Whole l.message) (stream ++ take fed.used piece) (stream ++ take fed.used piece) written u (whole_known (message_der l.message)) profile l.same_form (l.line ∙ ap (λ t. new.text ++ t) (sym (append-nil (message_line new.form l.message)))) (omega (arith, l.messages)) (omega (arith, l.refused))
         (subst (λ o. GoesOn (messages new.decoder.current.profile) next.decoder (stream ++ take fed.used piece) (map entry_of u.listed ++ Contents o ∷ [])) (sym l.form) (l.cleared.goes_on (stream ++ take fed.used piece) l.contents (map entry_of u.listed) u.goes_on l.is_ready)))
 
     -- a frame is refused, and is skipped
@@ -167,7 +167,7 @@ module _ (old new : CountingLister) (piece : List ℕ) (fed : Fed) (f : FeedsAft
         (omega (arith, fed_some (status.Refused refusal) w e (more_refused refusal) (memory_refused refusal), m, r, l.messages, l.refused))
         (λ stream written h.
         let u = HasCounted-used stream written h in
-        HasCounted-more new next (Faulty refusal.place refusal.why new.decoder.current.octets) (stream ++ take fed.used piece) (stream ++ take fed.used piece) written u (refused_known (messages new.decoder.current.profile) new.decoder.current refusal rest.0 refused rest.1) profile l.same_form (l.line ∙ ap (λ t. string_bytes new.text ++ t) (sym (append-nil (refused_line new.form new.messages refusal.place refusal.why (frame_path new.decoder.current.profile new.decoder.current.octets))))) (omega (arith, l.messages)) (omega (arith, l.refused))
+        HasCounted-more new next (Faulty refusal.place refusal.why new.decoder.current.octets) (stream ++ take fed.used piece) (stream ++ take fed.used piece) written u (refused_known (messages new.decoder.current.profile) new.decoder.current refusal rest.0 refused rest.1) profile l.same_form (l.line ∙ ap (λ t. new.text ++ t) (sym (append-nil (refused_line new.form new.messages refusal.place refusal.why (frame_path new.decoder.current.profile new.decoder.current.octets))))) (omega (arith, l.messages)) (omega (arith, l.refused))
         (l.skipped.goes_on (stream ++ take fed.used piece) (map entry_of u.listed) refusal.place refusal.why u.goes_on refused refl))
 
 -- ---- a frame that is passed
@@ -176,7 +176,7 @@ module _ (old new : CountingLister) (octets : List ℕ) (passed : Passed) (p : P
   HasCounted-passed stream written h =
       let message : Message = message_of_view passed.message in
       let grown : List ℕ = stream ++ framed (contents_of passed) in
-      HasCounted-more old new (Whole message) stream grown written h (whole_known (message_der message)) (ap (λ s. s.current.profile) l.same_decoder) l.same_form (l.line ∙ ap (λ t. string_bytes old.text ++ t) (sym (append-nil (message_line old.form message)))) (omega (arith, l.messages)) (omega (arith, l.refused))
+      HasCounted-more old new (Whole message) stream grown written h (whole_known (message_der message)) (ap (λ s. s.current.profile) l.same_decoder) l.same_form (l.line ∙ ap (λ t. old.text ++ t) (sym (append-nil (message_line old.form message)))) (omega (arith, l.messages)) (omega (arith, l.refused))
       (subst (λ s. GoesOn (messages old.decoder.current.profile) s grown (map entry_of h.listed ++ Contents (message_der message) ∷ [])) (sym l.same_decoder)
       (subst (λ o. GoesOn (messages old.decoder.current.profile) old.decoder grown (map entry_of h.listed ++ Contents o ∷ [])) (contents_is passed)
       (p.goes_on stream (map entry_of h.listed) h.goes_on)))

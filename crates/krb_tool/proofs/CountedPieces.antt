@@ -1,5 +1,5 @@
 -- A stream that is listed piece by piece, also after refusals.
-use Rattle.std.proofs.Common.{◌≡◌, ℕ, ◌+◌, ◌*◌, ◌^◌, ◌<◌, ◌≤◌, ◌⊎◌, inl, inr, false, List, [], ◌∷◌, ◌++◌, length, map, take, drop, Option, Result, Ok, Err, string_bytes, refl, sym, ◌∙◌, ap, ap₂, subst, arith, append-nil, append_assoc, take-append-drop}
+use Rattle.std.proofs.Common.{◌≡◌, ℕ, ◌+◌, ◌*◌, ◌^◌, ◌<◌, ◌≤◌, ◌⊎◌, inl, inr, false, List, [], ◌∷◌, ◌++◌, length, map, take, drop, Option, Result, Ok, Err, refl, sym, ◌∙◌, ap, ap₂, subst, arith, append-nil, append_assoc, take-append-drop}
 use Rattle.std.proofs.lemmas.List.{map-append}
 use Rattle.std.specs.Io.KnownBytes.{IsAtEnd}
 use Rattle.krb_der.specs.declared.profile.Profile.{Profile}
@@ -58,8 +58,8 @@ CountsEnd-count old new ended done e p =
     record {
       lines =
           p.line
-          ∙ ap (λ k. string_bytes old.text ++ counted_end_line old.form old.messages k) z
-          ∙ ap (λ l. string_bytes old.text ++ (lines_after old.form old.decoder.current.profile old.messages l ++ counted_end_line old.form old.messages (old.refused + refused_in l))) (sym none);
+          ∙ ap (λ k. old.text ++ counted_end_line old.form old.messages k) z
+          ∙ ap (λ l. old.text ++ (lines_after old.form old.decoder.current.profile old.messages l ++ counted_end_line old.form old.messages (old.refused + refused_in l))) (sym none);
       ended_so = p.ended_so ∙ ap counted_run_end z ∙ ap (λ l. counted_run_end (old.refused + refused_in l)) (sym none);
     }
 
@@ -70,9 +70,9 @@ CountsEnd-last old new ended refusal e p =
     record {
       lines =
           p.lines
-          ∙ ap (λ l. string_bytes old.text ++ (l ++ counted_end_line old.form old.messages (old.refused + 1))) (sym (append-nil (refused_line old.form old.messages refusal.place refusal.why (frame_path old.decoder.current.profile old.decoder.current.octets))))
-          ∙ ap (λ k. string_bytes old.text ++ ((refused_line old.form old.messages refusal.place refusal.why (frame_path old.decoder.current.profile old.decoder.current.octets) ++ []) ++ counted_end_line old.form old.messages k)) z
-          ∙ ap (λ l. string_bytes old.text ++ (lines_after old.form old.decoder.current.profile old.messages l ++ counted_end_line old.form old.messages (old.refused + refused_in l))) (sym one);
+          ∙ ap (λ l. old.text ++ (l ++ counted_end_line old.form old.messages (old.refused + 1))) (sym (append-nil (refused_line old.form old.messages refusal.place refusal.why (frame_path old.decoder.current.profile old.decoder.current.octets))))
+          ∙ ap (λ k. old.text ++ ((refused_line old.form old.messages refusal.place refusal.why (frame_path old.decoder.current.profile old.decoder.current.octets) ++ []) ++ counted_end_line old.form old.messages k)) z
+          ∙ ap (λ l. old.text ++ (lines_after old.form old.decoder.current.profile old.messages l ++ counted_end_line old.form old.messages (old.refused + refused_in l))) (sym one);
       ended_so = p.ended_so ∙ ap counted_run_end z ∙ ap (λ l. counted_run_end (old.refused + refused_in l)) (sym one);
     }
 
@@ -141,7 +141,7 @@ module _ (lister : CountingLister) (taken : Taken) (w : WaitsAfter counting list
   known = subst (λ l. EndsUnknown l → ⊥) (sym entries_read) (waiting_known (map entry_of w.listed.listed) w.listed.known (end_of lister) lister.decoder.current.octets not_refused)
 
   -- the lines so far begin the listing
-  pub Begins-waits : Begins (counting_rules (counting.request lister)) taken (string_bytes lister.text)
+  pub Begins-waits : Begins (counting_rules (counting.request lister)) taken lister.text
   Begins-waits =
       let last : List ℕ = lines_after lister.form lister.decoder.current.profile (messages_in w.listed.listed) (last_of lister) ++ counted_end_line lister.form (messages_in w.listed.listed) (refused_in w.listed.listed + refused_in (last_of lister)) in
       record {
@@ -153,7 +153,7 @@ module _ (lister : CountingLister) (taken : Taken) (w : WaitsAfter counting list
         };
         rest = last;
         listing =
-            counted-listing lister.form lister.decoder.current.profile lister.decoder.current.limit taken.octets w.listed.listed (end_of lister) lister.decoder.current.octets entries_read ((taken.written ++ string_bytes lister.text) ++ last)
+            counted-listing lister.form lister.decoder.current.profile lister.decoder.current.limit taken.octets w.listed.listed (end_of lister) lister.decoder.current.octets entries_read ((taken.written ++ lister.text) ++ last)
             (ap (λ l. l ++ last) w.listed.lines ∙ sym (both-lines lister.form lister.decoder.current.profile lister.decoder.current.limit taken.octets w.listed.listed (end_of lister) lister.decoder.current.octets entries_read));
       }
 
@@ -161,7 +161,7 @@ module _ (lister : CountingLister) (taken : Taken) (w : WaitsAfter counting list
 -- No piece follows: the octets have ended, or there is a frame whose length is not known. Then the end is the last frame, if it is one.
 record IsDone (lister : CountingLister) (taken : Taken) (left : Option (List ℕ)) : Type 0 where
   listed : List Listed
-  lines : taken.written ++ string_bytes lister.text ≡ lines_after lister.form lister.decoder.current.profile 0 listed
+  lines : taken.written ++ lister.text ≡ lines_after lister.form lister.decoder.current.profile 0 listed
   counted : lister.messages ≡ messages_in listed
   refused : lister.refused ≡ refused_in listed
   all : entries_of lister taken.octets ≡ map entry_of listed ++ map entry_of (last_of lister)
@@ -204,15 +204,15 @@ all_is_read lister taken left d (inl e) = inl e
 all_is_read lister taken left d (inr e) = inr (record { before = map entry_of d.listed; length_octets = lister.decoder.current.octets; parts = d.all ∙ ap (λ x. map entry_of d.listed ++ map entry_of (last_listed x lister.decoder.current.octets)) e })
 
 -- the lines of the end were added
-pub EndsListing-made : (lister new : CountingLister) (ended : RunEnd) → CountsEnd lister new ended → (taken : Taken) (left : Option (List ℕ)) → IsLastOf counting lister taken left → EndsListing (counting_rules (counting.request lister)) taken.octets (taken.written ++ string_bytes new.text) left ended
+pub EndsListing-made : (lister new : CountingLister) (ended : RunEnd) → CountsEnd lister new ended → (taken : Taken) (left : Option (List ℕ)) → IsLastOf counting lister taken left → EndsListing (counting_rules (counting.request lister)) taken.octets (taken.written ++ new.text) left ended
 unfolding counted-listing
 EndsListing-made lister new ended f taken left last =
     let d : IsDone lister taken left = done lister taken left last in
     record {
       listing =
-          counted-listing lister.form lister.decoder.current.profile lister.decoder.current.limit taken.octets d.listed (end_of lister) lister.decoder.current.octets d.all (taken.written ++ string_bytes new.text)
+          counted-listing lister.form lister.decoder.current.profile lister.decoder.current.limit taken.octets d.listed (end_of lister) lister.decoder.current.octets d.all (taken.written ++ new.text)
           (ap (λ l. taken.written ++ l) f.lines
-          ∙ sym (append_assoc taken.written (string_bytes lister.text) _)
+          ∙ sym (append_assoc taken.written lister.text _)
           ∙ ap (λ l. l ++ (lines_after lister.form lister.decoder.current.profile lister.messages (last_of lister) ++ counted_end_line lister.form lister.messages (lister.refused + refused_in (last_of lister)))) d.lines
           ∙ ap₂ (λ n k. lines_after lister.form lister.decoder.current.profile 0 d.listed ++ (lines_after lister.form lister.decoder.current.profile n (last_of lister) ++ counted_end_line lister.form n (k + refused_in (last_of lister)))) d.counted d.refused
           ∙ sym (both-lines lister.form lister.decoder.current.profile lister.decoder.current.limit taken.octets d.listed (end_of lister) lister.decoder.current.octets d.all));
@@ -224,7 +224,7 @@ EndsListing-made lister new ended f taken left last =
     }
 
 -- ---- the length of a frame in a piece is not known
-pub stops-unknown : (old new : CountingLister) (piece : List ℕ) (taken : Taken) → length piece ≤ 65536 → WaitsAfter counting old taken → TakesPiece counting old piece new false → IsUnknownAfter new (with_piece taken piece) × AreCountedLines new.form new.decoder.current.profile new.decoder.current.limit (taken.octets ++ piece) (taken.written ++ string_bytes new.text)
+pub stops-unknown : (old new : CountingLister) (piece : List ℕ) (taken : Taken) → length piece ≤ 65536 → WaitsAfter counting old taken → TakesPiece counting old piece new false → IsUnknownAfter new (with_piece taken piece) × AreCountedLines new.form new.decoder.current.profile new.decoder.current.limit (taken.octets ++ piece) (taken.written ++ new.text)
 stops-unknown old new piece taken short w f =
     let used : List ℕ = take f.used piece in
     let h : HasCounted new (taken.octets ++ used) taken.written = f.listed taken.octets taken.written w.listed in

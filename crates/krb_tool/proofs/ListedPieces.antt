@@ -1,5 +1,5 @@
 -- A stream that is listed piece by piece, up to its end or the first refusal.
-use Rattle.std.proofs.Common.{◌≡◌, ℕ, ◌≤◌, inl, inr, false, List, [], ◌∷◌, ◌++◌, length, map, take, drop, Option, string_bytes, refl, sym, ◌∙◌, ap, subst, arith, append-nil, append_assoc, take-append-drop, drop_at, ap₂, ◌+◌}
+use Rattle.std.proofs.Common.{◌≡◌, ℕ, ◌≤◌, inl, inr, false, List, [], ◌∷◌, ◌++◌, length, map, take, drop, Option, refl, sym, ◌∙◌, ap, subst, arith, append-nil, append_assoc, take-append-drop, drop_at, ap₂, ◌+◌}
 use Rattle.std.proofs.lemmas.List.{take_at}
 use Rattle.std.specs.List.{flat_map}
 use Rattle.std.specs.Io.KnownBytes.{IsAtEnd}
@@ -57,7 +57,7 @@ module _ (lister : Lister) (taken : Taken) (w : WaitsAfter stopping lister taken
   goes_on = subst IsNotRefused (sym (ap (λ f. f.end) found_read)) not_refused
 
   -- the lines so far begin the listing
-  pub Begins-waits : Begins (stopping_rules (stopping.request lister)) taken (string_bytes lister.text)
+  pub Begins-waits : Begins (stopping_rules (stopping.request lister)) taken lister.text
   Begins-waits =
       let last : List ℕ = end_line lister.form (length w.listed.messages) (frames_of lister taken.octets).end (end_path lister.decoder.profile lister.decoder.limit taken.octets) in
       record {
@@ -140,7 +140,7 @@ done lister taken left (inr r) = record {
 }
 
 -- the line of the end was added
-pub EndsListing-made : (lister new : Lister) (ended : RunEnd) → AddsEnd lister new ended → (taken : Taken) (left : Option (List ℕ)) → IsLastOf stopping lister taken left → EndsListing (stopping_rules (stopping.request lister)) taken.octets (taken.written ++ string_bytes new.text) left ended
+pub EndsListing-made : (lister new : Lister) (ended : RunEnd) → AddsEnd lister new ended → (taken : Taken) (left : Option (List ℕ)) → IsLastOf stopping lister taken left → EndsListing (stopping_rules (stopping.request lister)) taken.octets (taken.written ++ new.text) left ended
 EndsListing-made lister new ended f taken left last =
     let d : IsDone lister taken left = done lister taken left last in
     let read : frames_of lister taken.octets ≡ after_frames (map message_der d.listed.messages) (current_of lister) = d.same_frames ∙ frames-listed lister d.stream taken.written d.listed in
@@ -152,7 +152,7 @@ EndsListing-made lister new ended f taken left last =
         in_frames = sym (ap (λ f. f.contents) read ∙ ap (λ c. map message_der d.listed.messages ++ c) d.none ∙ append-nil (map message_der d.listed.messages));
         lines =
             ap (λ l. taken.written ++ l) f.line
-            ∙ sym (append_assoc taken.written (string_bytes lister.text) (end_line lister.form lister.messages (current_of lister).end path))
+            ∙ sym (append_assoc taken.written lister.text (end_line lister.form lister.messages (current_of lister).end path))
             ∙ ap (λ l. l ++ end_line lister.form lister.messages (current_of lister).end path) d.listed.lines
             ∙ ap (λ n. flat_map (message_line lister.form) d.listed.messages ++ end_line lister.form n (current_of lister).end path) d.listed.counted
             ∙ ap₂ (λ e p. flat_map (message_line lister.form) d.listed.messages ++ end_line lister.form (length d.listed.messages) e p) (sym end_is) (sym d.path);
@@ -165,7 +165,7 @@ EndsListing-made lister new ended f taken left last =
     }
 
 -- ---- an octet of a piece is refused
-pub stops-refused : (old new : Lister) (piece : List ℕ) (taken : Taken) → length piece ≤ 65536 → WaitsAfter stopping old taken → TakesPiece stopping old piece new false → IsRefusedAfter new (with_piece taken piece) × AreLines new.form new.decoder.profile new.decoder.limit (taken.octets ++ piece) (taken.written ++ string_bytes new.text)
+pub stops-refused : (old new : Lister) (piece : List ℕ) (taken : Taken) → length piece ≤ 65536 → WaitsAfter stopping old taken → TakesPiece stopping old piece new false → IsRefusedAfter new (with_piece taken piece) × AreLines new.form new.decoder.profile new.decoder.limit (taken.octets ++ piece) (taken.written ++ new.text)
 stops-refused old new piece taken short w f =
     let stream : List ℕ = taken.octets ++ take f.used piece in
     let h : HasListed new (taken.octets ++ take f.used piece) taken.written = f.listed taken.octets taken.written w.listed in

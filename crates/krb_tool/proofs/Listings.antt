@@ -1,5 +1,5 @@
 -- Frames listed one after another.
-use Rattle.std.proofs.Common.{◌≡◌, ℕ, zero, suc, ◌+◌, ◌^◌, ◌<◌, ◌⊎◌, inl, inr, Bool, true, false, List, [], ◌∷◌, ◌++◌, length, take, drop, map, Some, string_bytes, refl, sym, ◌∙◌, ap, subst, arith, append_assoc, append-nil, length-append}
+use Rattle.std.proofs.Common.{◌≡◌, ℕ, zero, suc, ◌+◌, ◌^◌, ◌<◌, ◌⊎◌, inl, inr, Bool, true, false, List, [], ◌∷◌, ◌++◌, length, take, drop, map, Some, refl, sym, ◌∙◌, ap, subst, arith, append_assoc, append-nil, length-append}
 use Rattle.std.specs.Prelude.{IsSome, if◌then◌else◌, is_some}
 use Rattle.std.proofs.lemmas.List.{map-append}
 use Rattle.std.proofs.lemmas.Grind.{flat_map-append}
@@ -85,10 +85,10 @@ cleared_waits profile old new contents c e =
     ap (λ d. status_of (messages d.profile) d) (cleared_is profile old new contents c e) ∙ more-nothing (messages old.profile) old.profile old.limit old.looks new.room
 
 -- ---- a frame that is listed
-line_added : (old new : Lister) (message : Message) (listed : List Message) (written : List ℕ) → string_bytes new.text ≡ string_bytes old.text ++ message_line old.form message → new.form ≡ old.form → written ++ string_bytes old.text ≡ flat_map (message_line old.form) listed → written ++ string_bytes new.text ≡ flat_map (message_line new.form) (listed ++ message ∷ [])
+line_added : (old new : Lister) (message : Message) (listed : List Message) (written : List ℕ) → new.text ≡ old.text ++ message_line old.form message → new.form ≡ old.form → written ++ old.text ≡ flat_map (message_line old.form) listed → written ++ new.text ≡ flat_map (message_line new.form) (listed ++ message ∷ [])
 line_added old new message listed written line same lines =
     ap (λ t. written ++ t) line
-    ∙ sym (append_assoc written (string_bytes old.text) (message_line old.form message))
+    ∙ sym (append_assoc written old.text (message_line old.form message))
     ∙ ap (λ t. t ++ message_line old.form message) lines
     ∙ sym (flat_map-append (message_line old.form) listed (message ∷ []) ∙ ap (λ t. flat_map (message_line old.form) listed ++ t) (append-nil (message_line old.form message)))
     ∙ ap (λ form. flat_map (message_line form) (listed ++ message ∷ [])) (sym same)
@@ -117,7 +117,7 @@ module _ (old new : Lister) (piece : List ℕ) (fed : Fed) (f : Uses (messages o
   HasListed-used stream written h = record {
     messages = h.messages;
     decoded = subst (λ p. HasDecoded (messages p) new.decoder (stream ++ take fed.used piece) (map message_der h.messages)) (sym f.same_profile) (f.decoded stream (map message_der h.messages) h.decoded);
-    lines = ap (λ x. written ++ string_bytes x) t ∙ h.lines ∙ ap (λ form. flat_map (message_line form) h.messages) (sym o);
+    lines = ap (λ x. written ++ x) t ∙ h.lines ∙ ap (λ form. flat_map (message_line form) h.messages) (sym o);
     counted = n ∙ h.counted;
   }
 

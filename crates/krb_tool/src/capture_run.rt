@@ -14,7 +14,7 @@ use crate::run::{RunEnd, RunFault};
 use krb_capture::Capture;
 use krb_file::FileFault;
 use krb_frame::Limit;
-use krb_list::Form;
+use krb_list::{Form, TextBuffer};
 use krb_packet::{CaptureFault, CaptureField, Packets};
 use std::alloc::Global;
 use std::io::{Read, Write};
@@ -40,8 +40,8 @@ fn path_of(alloc: Global, form: Form, field: CaptureField) -> Result<Option<Stri
 }
 
 /// Appends the records of the end of a file.
-fn put_end(capture: &mut Capture, text: &mut String) -> Result<Option<RunEnd>, RunFault>
-    ensures put { IfOk result (AddsCaptureEnd capture.old (string_bytes text.old) (string_bytes text.new)) }
+fn put_end(capture: &mut Capture, text: &mut TextBuffer) -> Result<Option<RunEnd>, RunFault>
+    ensures put { IfOk result (AddsCaptureEnd capture.old text.old text.new) }
     ensures fault { IfErr result (λ e. e ≡ RunFault.Memory) }
 {
     if capture.finish(text)? {
@@ -57,9 +57,9 @@ impl<R: Read> CaptureLines<'_, R> {
         &mut self,
         alloc: Global,
         fault: CaptureFault,
-        text: &mut String,
+        text: &mut TextBuffer,
     ) -> Result<Option<RunEnd>, RunFault>
-        ensures put { IfOk result (AddsFileRefusal fault.fault fault.field self.old.capture self.old.form (string_bytes text.old) (string_bytes text.new)) }
+        ensures put { IfOk result (AddsFileRefusal fault.fault fault.field self.old.capture self.old.form text.old text.new) }
         ensures fault { IfErr result (λ e. IsWrite e → ⊥) }
     {
         match fault.fault {
@@ -85,7 +85,7 @@ impl<R: Read> RecordLines for CaptureLines<'_, R> {
         &mut self,
         alloc: Global,
         _count: u64,
-        text: &mut String,
+        text: &mut TextBuffer,
     ) -> Result<Option<RunEnd>, RunFault> {
         match self.packets.next_packet(alloc) {
             Ok(Some(packet)) => {
@@ -117,7 +117,7 @@ pub fn run_capture<R: Read, W: Write>(
     let reader = in_pieces(alloc, Watched { reader, watch })?;
     let packets = Packets::new(reader);
     let capture = Capture::new(alloc, form, limit, port);
-    let mut text = String::new(alloc);
+    let mut text = TextBuffer::new(alloc);
     list_records(
         alloc,
         &mut CaptureLines {

@@ -10,7 +10,7 @@ use crate::run::RunFault;
 use krb_der::{Profile, Refusal};
 use krb_frame::Decoder;
 use krb_judge::path;
-use krb_list::{Form, put_message_refusal, put_stream_refusal};
+use krb_list::{Form, TextBuffer, put_message_refusal, put_stream_refusal};
 use std::alloc::{AllocError, Global};
 
 /// The greatest number of octets of a message.
@@ -58,13 +58,13 @@ pub(crate) fn refused_path(
 
 /// Appends the line of a frame that is refused, after a number of messages.
 pub(crate) fn put_refused_frame(
-    text: &mut String,
+    text: &mut TextBuffer,
     form: Form,
     messages: u64,
     refusal: Refusal,
     path: &Option<String>,
 ) -> Result<(), AllocError>
-    ensures { OnOk result (string_bytes text.new ≡ string_bytes text.old ++ refused_line form messages refusal.place refusal.why (option_map string_bytes path.now)) }
+    ensures { OnOk result (text.new ≡ text.old ++ refused_line form messages refusal.place refusal.why (option_map string_bytes path.now)) }
 {
     match path {
         None => put_stream_refusal(text, form, messages, refusal, None),
@@ -74,12 +74,12 @@ pub(crate) fn put_refused_frame(
 
 /// Appends the line of octets that are no message.
 pub(crate) fn put_refused_message(
-    text: &mut String,
+    text: &mut TextBuffer,
     form: Form,
     refusal: Refusal,
     path: &Option<String>,
 ) -> Result<(), AllocError>
-    ensures { OnOk result (string_bytes text.new ≡ string_bytes text.old ++ message_refused_line form refusal (option_map string_bytes path.now)) }
+    ensures { OnOk result (text.new ≡ text.old ++ message_refused_line form refusal (option_map string_bytes path.now)) }
 {
     match path {
         None => put_message_refusal(text, form, refusal, None),

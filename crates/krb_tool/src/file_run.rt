@@ -7,13 +7,14 @@ ghost use Rattle.krb_tool.specs.inner.FileRuns.{ReadsPrefix, IsOfReading, IsDeci
 
 use crate::run::{PIECE_OCTETS, RunEnd, RunFault};
 use crate::transfer::{Asked, write_all};
+use krb_list::TextBuffer;
 use std::alloc::Global;
 use std::io::{Read, Write};
 
 /// What is written of a file, and how its run ends.
 #[derive(Drop)]
 pub(crate) struct FileText {
-    pub text: String,
+    pub text: TextBuffer,
     pub end: RunEnd,
 }
 
@@ -90,6 +91,6 @@ pub(crate) fn run_file<R: Read, W: Write, F: FileFormat>(
 {
     let file = read_all(alloc, asked, format.most())?;
     let listed = format.list(alloc, file.as_slice())?;
-    write_all(writer, listed.text.as_bytes())?;
+    write_all(writer, listed.text.octets())?;
     Ok(listed.end)
 }

@@ -16,7 +16,7 @@ use crate::stream_run::{ListStream, list_all};
 use crate::transfer::Asked;
 use krb_der::{Profile, Refusal};
 use krb_frame::{Decoder, Limit, SkippingDecoder, Status};
-use krb_list::{Form, put_counted_stream_end, put_message_view};
+use krb_list::{Form, TextBuffer, put_counted_stream_end, put_message_view};
 use krb_msg::MessageView;
 use std::alloc::Global;
 use std::io::{Read, Write};
@@ -48,7 +48,7 @@ pub(crate) struct CountingLister {
     alloc: Global,
     decoder: SkippingDecoder,
     form: Form,
-    text: String,
+    text: TextBuffer,
     messages: u64,
     refused: u64,
 }
@@ -148,7 +148,7 @@ impl ListStream for CountingLister {
             alloc,
             decoder: SkippingDecoder::new(decoder),
             form,
-            text: String::new(alloc),
+            text: TextBuffer::new(alloc),
             messages: 0,
             refused: 0,
         }
@@ -173,8 +173,8 @@ impl ListStream for CountingLister {
         }
     }
 
-    fn text(&self) -> &str {
-        self.text.as_str()
+    fn text(&self) -> &[u8] {
+        self.text.octets()
     }
 
     fn clear_text(&mut self) {

@@ -14,7 +14,7 @@ use crate::run::{RunEnd, RunFault};
 use crate::stream_run::ListStream;
 use krb_der::Profile;
 use krb_frame::{Decoder, Limit, Status};
-use krb_list::{Form, put_message_view, put_stream_end};
+use krb_list::{Form, TextBuffer, put_message_view, put_stream_end};
 use krb_msg::MessageView;
 use std::alloc::Global;
 
@@ -25,7 +25,7 @@ pub(crate) struct Lister {
     alloc: Global,
     decoder: Decoder,
     form: Form,
-    text: String,
+    text: TextBuffer,
     messages: u64,
 }
 
@@ -103,7 +103,7 @@ impl ListStream for Lister {
             alloc,
             decoder: Decoder::with_profile(alloc, limit, profile),
             form,
-            text: String::new(alloc),
+            text: TextBuffer::new(alloc),
             messages: 0,
         }
     }
@@ -123,8 +123,8 @@ impl ListStream for Lister {
         }
     }
 
-    fn text(&self) -> &str {
-        self.text.as_str()
+    fn text(&self) -> &[u8] {
+        self.text.octets()
     }
 
     fn clear_text(&mut self) {

@@ -14,7 +14,7 @@ use crate::transfer::Asked;
 use hex::FromHexError;
 use krb_der::{Profile, Refusal};
 use krb_judge::{ParseFault, parse_in};
-use krb_list::{Form, InputFault, put_input_refusal, put_message};
+use krb_list::{Form, InputFault, TextBuffer, put_input_refusal, put_message};
 use krb_msg::Message;
 use std::alloc::{AllocError, Global};
 use std::io::{Read, Write};
@@ -47,7 +47,7 @@ fn refuse_input(alloc: Global, form: Form, fault: InputFault) -> Result<FileText
     ensures listed { IfOk result (λ made. shown made ≡ refused_with (input_refused_line form fault)) }
     ensures fault { IfErr result (λ e. e ≡ RunFault.Memory) }
 {
-    let mut text = String::new(alloc);
+    let mut text = TextBuffer::new(alloc);
     put_input_refusal(&mut text, form, fault)?;
     let end = RunEnd::Refused;
     Ok(FileText { text, end })
@@ -58,7 +58,7 @@ fn list_message(alloc: Global, form: Form, message: &Message) -> Result<FileText
     ensures listed { IfOk result (λ made. shown made ≡ clean_with (message_line form message.now)) }
     ensures fault { IfErr result (λ e. e ≡ RunFault.Memory) }
 {
-    let mut text = String::new(alloc);
+    let mut text = TextBuffer::new(alloc);
     put_message(&mut text, form, message)?;
     let end = RunEnd::Clean;
     Ok(FileText { text, end })
@@ -76,7 +76,7 @@ fn list_refusal(
     ensures fault { IfErr result (λ e. e ≡ RunFault.Memory) }
 {
     let path = refused_path(alloc, form, profile, octets, refusal)?;
-    let mut text = String::new(alloc);
+    let mut text = TextBuffer::new(alloc);
     put_refused_message(&mut text, form, refusal, &path)?;
     let end = RunEnd::Refused;
     Ok(FileText { text, end })

@@ -17,7 +17,8 @@ use krb_ccache::{Credential, Credentials, FilePrincipal, Header};
 use krb_file::{FieldLimit, FileFault, FileWhy};
 use krb_keytab::{Next, Record, Records, Stop};
 use krb_list::{
-    Form, put_cache, put_cache_end, put_credential, put_file_refusal, put_keytab_end, put_record,
+    Form, TextBuffer, put_cache, put_cache_end, put_credential, put_file_refusal, put_keytab_end,
+    put_record,
 };
 use std::alloc::Global;
 use std::cell::Cell;
@@ -108,15 +109,15 @@ pub(crate) trait RecordLines {
         &mut self,
         alloc: Global,
         count: u64,
-        text: &mut String,
+        text: &mut TextBuffer,
     ) -> Result<Option<RunEnd>, RunFault>
-        ensures line { (left : RecordListing) → IsLeft self.old count left → AddsLine (IsLeft self.new (suc count)) left (string_bytes text.old) (string_bytes text.new) result }
+        ensures line { (left : RecordListing) → IsLeft self.old count left → AddsLine (IsLeft self.new (suc count)) left text.old text.new result }
         ensures fault { IfErr result (λ e. IsWrite e → ⊥) };
 }
 
 /// Appends the line of a record.
-fn add_record(text: &mut String, form: Form, item: &Record) -> Result<(), RunFault>
-    ensures line { OnOk result (string_bytes text.new ≡ string_bytes text.old ++ record_line form item.now) }
+fn add_record(text: &mut TextBuffer, form: Form, item: &Record) -> Result<(), RunFault>
+    ensures line { OnOk result (text.new ≡ text.old ++ record_line form item.now) }
     ensures fault { IfErr result (λ e. e ≡ RunFault.Memory) }
 {
     put_record(text, form, item)?;
@@ -125,12 +126,12 @@ fn add_record(text: &mut String, form: Form, item: &Record) -> Result<(), RunFau
 
 /// Appends the line of the end of a keytab.
 fn put_stop(
-    text: &mut String,
+    text: &mut TextBuffer,
     form: Form,
     count: u64,
     stop: &Stop,
 ) -> Result<Option<RunEnd>, RunFault>
-    ensures line { IfOk result (Adds (keytab_end_line form count stop.now) (Some run.Clean) (string_bytes text.old) (string_bytes text.new)) }
+    ensures line { IfOk result (Adds (keytab_end_line form count stop.now) (Some run.Clean) text.old text.new) }
     ensures fault { IfErr result (λ e. e ≡ RunFault.Memory) }
 {
     put_keytab_end(text, form, count, stop)?;
@@ -152,7 +153,7 @@ impl<R: Read> RecordLines for KeytabLines<'_, R> {
         &mut self,
         alloc: Global,
         count: u64,
-        text: &mut String,
+        text: &mut TextBuffer,
     ) -> Result<Option<RunEnd>, RunFault> {
         match self.records.next_record(alloc) {
             Ok(Next::Item(record)) => {
@@ -168,13 +169,13 @@ impl<R: Read> RecordLines for KeytabLines<'_, R> {
 
 /// Appends the line of a refused file, with the path of the field at fault.
 fn put_refusal(
-    text: &mut String,
+    text: &mut TextBuffer,
     form: Form,
     place: u64,
     why: FileWhy,
     path: &Option<String>,
 ) -> Result<(), RunFault>
-    ensures line { OnOk result (string_bytes text.new ≡ string_bytes text.old ++ file_refused_line form place why (option_map string_bytes path.now)) }
+    ensures line { OnOk result (text.new ≡ text.old ++ file_refused_line form place why (option_map string_bytes path.now)) }
     ensures fault { IfErr result (λ e. e ≡ RunFault.Memory) }
 {
     match path {
@@ -187,13 +188,13 @@ fn put_refusal(
 /// Appends the line of a refusal with the path of the field at fault, which ends the run. Other
 /// faults have no line.
 fn put_fault(
-    text: &mut String,
+    text: &mut TextBuffer,
     form: Form,
     fault: FileFault,
     path: &Option<String>,
     watch: &Watch,
 ) -> Result<Option<RunEnd>, RunFault>
-    ensures refused { IfOk result (AddsRefusal (λ _. option_map string_bytes path.now) form fault (string_bytes text.old) (string_bytes text.new)) }
+    ensures refused { IfOk result (AddsRefusal (λ _. option_map string_bytes path.now) form fault text.old text.new) }
     ensures fault { IfErr result (λ e. IsWrite e → ⊥) }
 {
     match fault {
@@ -209,13 +210,13 @@ fn put_fault(
 /// Appends the line of a refusal after a number of records of a keytab, as [`put_fault`] does.
 fn put_keytab_fault(
     alloc: Global,
-    text: &mut String,
+    text: &mut TextBuffer,
     form: Form,
     records: u64,
     fault: FileFault,
     watch: &Watch,
 ) -> Result<Option<RunEnd>, RunFault>
-    ensures refused { IfOk result (AddsRefusal (keytab_path records) form fault (string_bytes text.old) (string_bytes text.new)) }
+    ensures refused { IfOk result (AddsRefusal (keytab_path records) form fault text.old text.new) }
     ensures fault { IfErr result (λ e. IsWrite e → ⊥) }
 {
     let path = keytab_path(alloc, form, records, fault.field())?;
@@ -225,13 +226,13 @@ fn put_keytab_fault(
 /// Appends the line of a refusal after a number of credentials, as [`put_fault`] does.
 fn put_credential_fault(
     alloc: Global,
-    text: &mut String,
+    text: &mut TextBuffer,
     form: Form,
     credentials: u64,
     fault: FileFault,
     watch: &Watch,
 ) -> Result<Option<RunEnd>, RunFault>
-    ensures refused { IfOk result (AddsRefusal (credential_path credentials) form fault (string_bytes text.old) (string_bytes text.new)) }
+    ensures refused { IfOk result (AddsRefusal (credential_path credentials) form fault text.old text.new) }
     ensures fault { IfErr result (λ e. IsWrite e → ⊥) }
 {
     let path = credential_path(alloc, form, credentials, fault.field())?;
@@ -241,12 +242,12 @@ fn put_credential_fault(
 /// Appends the line of a refusal before the credentials of a cache, as [`put_fault`] does.
 fn put_start_fault(
     alloc: Global,
-    text: &mut String,
+    text: &mut TextBuffer,
     form: Form,
     fault: FileFault,
     watch: &Watch,
 ) -> Result<Option<RunEnd>, RunFault>
-    ensures refused { IfOk result (AddsRefusal start_path form fault (string_bytes text.old) (string_bytes text.new)) }
+    ensures refused { IfOk result (AddsRefusal start_path form fault text.old text.new) }
     ensures fault { IfErr result (λ e. IsWrite e → ⊥) }
 {
     let path = start_path(alloc, form, fault.field())?;
@@ -268,7 +269,7 @@ impl RecordLines for NoLines<'_> {
         &mut self,
         alloc: Global,
         _count: u64,
-        text: &mut String,
+        text: &mut TextBuffer,
     ) -> Result<Option<RunEnd>, RunFault> {
         put_start_fault(alloc, text, self.form, self.fault, self.watch)
     }
@@ -276,12 +277,12 @@ impl RecordLines for NoLines<'_> {
 
 /// Appends the line of a cache.
 fn put_first(
-    text: &mut String,
+    text: &mut TextBuffer,
     form: Form,
     header: &Header,
     principal: &FilePrincipal,
 ) -> Result<(), RunFault>
-    ensures line { OnOk result (string_bytes text.new ≡ string_bytes text.old ++ cache_line form header.now principal.now) }
+    ensures line { OnOk result (text.new ≡ text.old ++ cache_line form header.now principal.now) }
     ensures fault { IfErr result (λ e. e ≡ RunFault.Memory) }
 {
     put_cache(text, form, header, principal)?;
@@ -290,12 +291,12 @@ fn put_first(
 
 /// Appends the line of a credential.
 fn put_one(
-    text: &mut String,
+    text: &mut TextBuffer,
     form: Form,
     credential: &Credential,
     now: Option<u32>,
 ) -> Result<(), RunFault>
-    ensures line { OnOk result (string_bytes text.new ≡ string_bytes text.old ++ credential_line form now credential.now) }
+    ensures line { OnOk result (text.new ≡ text.old ++ credential_line form now credential.now) }
     ensures fault { IfErr result (λ e. e ≡ RunFault.Memory) }
 {
     put_credential(text, form, credential, now)?;
@@ -303,8 +304,8 @@ fn put_one(
 }
 
 /// Appends the line of the end of a cache.
-fn put_end(text: &mut String, form: Form, count: u64) -> Result<Option<RunEnd>, RunFault>
-    ensures line { IfOk result (Adds (cache_end_line form count) (Some run.Clean) (string_bytes text.old) (string_bytes text.new)) }
+fn put_end(text: &mut TextBuffer, form: Form, count: u64) -> Result<Option<RunEnd>, RunFault>
+    ensures line { IfOk result (Adds (cache_end_line form count) (Some run.Clean) text.old text.new) }
     ensures fault { IfErr result (λ e. e ≡ RunFault.Memory) }
 {
     put_cache_end(text, form, count)?;
@@ -327,7 +328,7 @@ impl<R: Read + Drop> RecordLines for CredentialLines<'_, R> {
         &mut self,
         alloc: Global,
         count: u64,
-        text: &mut String,
+        text: &mut TextBuffer,
     ) -> Result<Option<RunEnd>, RunFault> {
         match self.credentials.next_credential(alloc) {
             Ok(Some(credential)) => {
@@ -342,13 +343,17 @@ impl<R: Read + Drop> RecordLines for CredentialLines<'_, R> {
 }
 
 /// Writes a text if it has to be written now, and clears it.
-fn write_early<W: Write>(writer: &mut W, text: &mut String, is_due: bool) -> Result<(), RunFault>
-    ensures moved { OnOk result (Moves (W.contents writer.old) (W.contents writer.new) (string_bytes text.old) (string_bytes text.new)) }
-    ensures prefix { OnErr result (AppendsPrefix (W.contents writer.old) (W.contents writer.new) (string_bytes text.old)) }
+fn write_early<W: Write>(
+    writer: &mut W,
+    text: &mut TextBuffer,
+    is_due: bool,
+) -> Result<(), RunFault>
+    ensures moved { OnOk result (Moves (W.contents writer.old) (W.contents writer.new) text.old text.new) }
+    ensures prefix { OnErr result (AppendsPrefix (W.contents writer.old) (W.contents writer.new) text.old) }
     ensures fault { IfErr result IsWrite }
 {
     if is_due {
-        write_all(writer, text.as_bytes())?;
+        write_all(writer, text.octets())?;
         text.clear();
     }
     Ok(())
@@ -359,17 +364,17 @@ fn write_early<W: Write>(writer: &mut W, text: &mut String, is_due: bool) -> Res
 pub(crate) fn list_records<L: RecordLines, W: Write>(
     alloc: Global,
     lines: &mut L,
-    text: &mut String,
+    text: &mut TextBuffer,
     watch: &Watch,
     writer: &mut W,
 ) -> Result<RunEnd, RunFault>
-    ensures { (left : RecordListing) → L.IsLeft lines.old 0 left → ListsRecords (after_line (string_bytes text.old) left) (W.contents writer.old) (W.contents writer.new) result }
+    ensures { (left : RecordListing) → L.IsLeft lines.old 0 left → ListsRecords (after_line text.old left) (W.contents writer.old) (W.contents writer.new) result }
 {
     'records: for count in 0..MOST_ASKS {
-        let is_due = (text.len() >= PIECE_OCTETS) | !watch.is_fast.get();
+        let is_due = (text.octets().len() >= PIECE_OCTETS) | !watch.is_fast.get();
         write_early(writer, text, is_due)?;
         if let Some(ended) = lines.put_next(alloc, count, text)? {
-            write_all(writer, text.as_bytes())?;
+            write_all(writer, text.octets())?;
             return Ok(ended);
         }
     }
@@ -404,7 +409,7 @@ pub fn run_keytab_in<R: Read, W: Write>(
     let watch = &watch;
     let reader = in_pieces(alloc, Watched { reader, watch })?;
     let records = Records::new(reader, field_limit());
-    let mut text = String::new(alloc);
+    let mut text = TextBuffer::new(alloc);
     list_records(
         alloc,
         &mut KeytabLines {
@@ -446,7 +451,7 @@ pub fn run_ccache_in<R: Read, W: Write>(
     let watch = Watch::new();
     let watch = &watch;
     let reader = in_pieces(alloc, Watched { reader, watch })?;
-    let mut text = String::new(alloc);
+    let mut text = TextBuffer::new(alloc);
     match Credentials::start(alloc, reader, field_limit()) {
         Ok(credentials) => {
             put_first(

@@ -7,7 +7,7 @@ ghost use Rattle.krb_tool.specs.Sources.{Run, FailsName, ListsOne, Reports, List
 
 use crate::run::{RunEnd, RunFault, status};
 use crate::transfer::write_all;
-use krb_list::{Form, put_file};
+use krb_list::{Form, TextBuffer, put_file};
 use std::alloc::Global;
 use std::io::Write;
 
@@ -47,9 +47,9 @@ fn write_name<W: Write>(
     ensures written { OnOk result (Appends (W.contents writer.old) (W.contents writer.new) (file_line form name.now)) }
     ensures fault { IfErr result (FailsName form name.now (W.contents writer.old) (W.contents writer.new)) }
 {
-    let mut line = String::new(alloc);
+    let mut line = TextBuffer::new(alloc);
     put_file(&mut line, form, name)?;
-    write_all(writer, line.as_bytes())
+    write_all(writer, line.octets())
 }
 
 /// Lists a source, after a line with its name if it is one of several.

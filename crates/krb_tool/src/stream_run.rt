@@ -33,7 +33,7 @@ pub(crate) trait ListStream: Drop {
         ensures fault { IfErr result (λ e. e ≡ RunFault.Memory) };
 
     /// Returns the lines that are not written yet.
-    fn text(&self) -> &str
+    fn text(&self) -> &[u8]
         ensures { result.now ≡ (listing self.now).text };
 
     /// Forgets the lines, which are written.
@@ -90,10 +90,10 @@ pub(crate) fn list_all<L: ListStream, R: Read, W: Write>(
     let mut lister = L::new(alloc, form, profile, limit);
     let mut buffer = vec![in alloc; 0u8; PIECE_OCTETS]?;
     'pieces: while feed_next(&mut lister, asked, buffer.as_mut_slice())? {
-        write_all(writer, lister.text().as_bytes())?;
+        write_all(writer, lister.text())?;
         lister.clear_text();
     }
     let ended = lister.finish()?;
-    write_all(writer, lister.text().as_bytes())?;
+    write_all(writer, lister.text())?;
     Ok(ended)
 }

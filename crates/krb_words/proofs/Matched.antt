@@ -8,10 +8,10 @@ use Rattle.clap.specs.declared.error.Error.{Error}
 use Rattle.clap.specs.declared.error.kind.ErrorKind.{ErrorKind}
 use Rattle.clap.specs.declared.error.kind.ErrorKind.TheVariants.{OutOfMemory}
 use Rattle.clap.specs.declared.parser.matches.ArgMatches.{ArgMatches}
-use Rattle.krb_words.specs.Words.{Spells, IsNumber, IsTextBy, IsCommandLineOf, IsCommandLineBy, IsCommandLineIn, krbls}
+use Rattle.krb_words.specs.Words.{Spells, IsNumber, IsTextBy, IsOrderOf, IsOrderBy, IsOrderIn, krbls}
 use Rattle.krb_words.specs.declared.words.Job.{Job}
 use Rattle.krb_words.specs.declared.words.Job.TheVariants as jobs
-use Rattle.krb_words.specs.declared.words.CommandLine.{CommandLine}
+use Rattle.krb_words.specs.declared.words.Order.{Order}
 
 pub subcommand_added : (old sub new : Command) (above below : App) → AddsSubcommand old sub new → app_of old ≡ above → app_of sub ≡ below → (out-Command sub).has_globals ≡ false → app_of new ≡ with_subcommand above below.top
 subcommand_added old sub new above below adds e f local = adds.shape local ∙ ap₂ with_subcommand e (ap (λ (a : App). a.top) f)
@@ -29,22 +29,22 @@ krbls-simple = refl
 krbls-free : is_simple_and_free krbls ≡ true
 krbls-free = refl
 
-by_nothing : (kinds : Kinds) (words : List Text) (command_line : CommandLine) → kinds ≡ [] → IsCommandLineOf (subcommand_of krbls words) command_line → IsCommandLineBy kinds words command_line
-by_nothing [] words command_line e o = o
-by_nothing (first ∷ kinds) words command_line e o = absurd cc
+by_nothing : (kinds : Kinds) (words : List Text) (order : Order) → kinds ≡ [] → IsOrderOf (subcommand_of krbls words) order → IsOrderBy kinds words order
+by_nothing [] words order e o = o
+by_nothing (first ∷ kinds) words order e o = absurd cc
 
-by_text : (kinds : Kinds) (words : List Text) (command_line : CommandLine) (kind : ErrorKind) → IsAmong kind kinds → IsTextBy kind command_line.job → command_line.sources.items ≡ [] → IsCommandLineBy kinds words command_line
-by_text [] words command_line kind a h f = absurd a
-by_text (first ∷ kinds) words command_line kind a h f = (kind, a, h, f)
+by_text : (kinds : Kinds) (words : List Text) (order : Order) (kind : ErrorKind) → IsAmong kind kinds → IsTextBy kind order.job → order.sources.items ≡ [] → IsOrderBy kinds words order
+by_text [] words order kind a h f = absurd a
+by_text (first ∷ kinds) words order kind a h f = (kind, a, h, f)
 
 -- the order that the matches of words name
-pub IsCommandLineIn-matches : (app : App) (words : List Text) (m : ArgMatches) (command_line : CommandLine) → app ≡ krbls → (is_simple_and_free app ≡ true → fault_of app words ≡ []) → HasMatchesOf app words m → IsCommandLineOf (subcommand_rows_of m) command_line → IsCommandLineIn words command_line
-IsCommandLineIn-matches app words m command_line e nothing has o =
+pub IsOrderIn-matches : (app : App) (words : List Text) (m : ArgMatches) (order : Order) → app ≡ krbls → (is_simple_and_free app ≡ true → fault_of app words ≡ []) → HasMatchesOf app words m → IsOrderOf (subcommand_rows_of m) order → IsOrderIn words order
+IsOrderIn-matches app words m order e nothing has o =
     let free : is_simple_and_free app ≡ true = ap is_simple_and_free e ∙ krbls-free in
     let simple : is_simple app ≡ true = ap is_simple e ∙ krbls-simple in
-    by_nothing (fault_of krbls words) words command_line
+    by_nothing (fault_of krbls words) words order
     (ap (λ a. fault_of a words) (sym e) ∙ nothing free)
-    (subst (λ met. IsCommandLineOf met command_line) ((has simple).1 ∙ ap (λ a. subcommand_of a words) e) o)
+    (subst (λ met. IsOrderOf met order) ((has simple).1 ∙ ap (λ a. subcommand_of a words) e) o)
 
 no_text : (job : Job) → IsTextBy OutOfMemory job → ⊥
 no_text (jobs.Stream limit chosen after) text = text
@@ -60,8 +60,8 @@ among kinds error job (inl m) text = absurd (no_text job (subst (λ k. IsTextBy 
 among kinds error job (inr a) text = a
 
 -- a text, which the words ask for
-pub IsCommandLineIn-text : (app : App) (words : List Text) (error : Error) (command_line : CommandLine) → app ≡ krbls → (is_simple_and_free app ≡ true → HasKind (fault_of app words) error) → IsTextBy (kind_of error) command_line.job → command_line.sources.items ≡ [] → IsCommandLineIn words command_line
-IsCommandLineIn-text app words error command_line e fails h f =
+pub IsOrderIn-text : (app : App) (words : List Text) (error : Error) (order : Order) → app ≡ krbls → (is_simple_and_free app ≡ true → HasKind (fault_of app words) error) → IsTextBy (kind_of error) order.job → order.sources.items ≡ [] → IsOrderIn words order
+IsOrderIn-text app words error order e fails h f =
     let free : is_simple_and_free app ≡ true = ap is_simple_and_free e ∙ krbls-free in
-    by_text (fault_of krbls words) words command_line (kind_of error)
-    (subst (λ a. IsAmong (kind_of error) (fault_of a words)) e (among (fault_of app words) error command_line.job (fails free) h)) h f
+    by_text (fault_of krbls words) words order (kind_of error)
+    (subst (λ a. IsAmong (kind_of error) (fault_of a words)) e (among (fault_of app words) error order.job (fails free) h)) h f

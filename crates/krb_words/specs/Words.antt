@@ -17,7 +17,7 @@ use Rattle.krb_words.specs.declared.words.AfterRefusal.{AfterRefusal}
 use Rattle.krb_words.specs.declared.words.AfterRefusal.TheVariants as after
 use Rattle.krb_words.specs.declared.words.Job.{Job}
 use Rattle.krb_words.specs.declared.words.Job.TheVariants as job
-use Rattle.krb_words.specs.declared.words.CommandLine.{CommandLine}
+use Rattle.krb_words.specs.declared.words.Order.{Order}
 use Rattle.krb_words.specs.Sources.{path_of, file_path, word_path, words_of, or_input}
 
 -- ---- the command
@@ -143,9 +143,9 @@ abbrev pub sources_of : List Row → List (Option Text)
 sources_of rows = or_input (file_path (first_of (codes "file") rows) ++ map word_path (words_of (all_of (codes "file names") rows)))
 
 -- The command line has the job of the command that was found, the form of records, and the sources.
-abbrev pub IsCommandLineOf : Option (Text × List Row) → CommandLine → Type 0
-IsCommandLineOf None command_line = ⊥
-IsCommandLineOf (Some met) command_line = IsJob met.0 met.1 command_line.job × IsForm met.1 command_line.form × (map path_of command_line.sources.items ≡ sources_of met.1)
+abbrev pub IsOrderOf : Option (Text × List Row) → Order → Type 0
+IsOrderOf None order = ⊥
+IsOrderOf (Some met) order = IsJob met.0 met.1 order.job × IsForm met.1 order.form × (map path_of order.sources.items ≡ sources_of met.1)
 
 -- the job is to print the text of an error of `clap`
 abbrev pub IsTextBy : ErrorKind → Job → Type 0
@@ -154,9 +154,9 @@ IsTextBy kind (job.Version text) = kind ≡ DisplayVersion
 IsTextBy kind job = ⊥
 
 -- The command line by the kinds of error that `clap` may return for the words: that of their matches if there is none, or else the text of an error of one of them, and no source.
-abbrev pub IsCommandLineBy : Kinds → List Text → CommandLine → Type 0
-IsCommandLineBy [] words command_line = IsCommandLineOf (subcommand_of krbls words) command_line
-IsCommandLineBy (first ∷ kinds) words command_line = (kind : ErrorKind) × IsAmong kind (first ∷ kinds) × IsTextBy kind command_line.job × (command_line.sources.items ≡ [])
+abbrev pub IsOrderBy : Kinds → List Text → Order → Type 0
+IsOrderBy [] words order = IsOrderOf (subcommand_of krbls words) order
+IsOrderBy (first ∷ kinds) words order = (kind : ErrorKind) × IsAmong kind (first ∷ kinds) × IsTextBy kind order.job × (order.sources.items ≡ [])
 
-abbrev pub IsCommandLineIn : List Text → CommandLine → Type 0
-IsCommandLineIn words command_line = IsCommandLineBy (fault_of krbls words) words command_line
+abbrev pub IsOrderIn : List Text → Order → Type 0
+IsOrderIn words order = IsOrderBy (fault_of krbls words) words order

@@ -2,9 +2,9 @@
 //!
 //! The main calls:
 //!
-//! - [`read_words`] returns the [`CommandLine`] of the words after the program's name, or what is wrong with
+//! - [`read_words`] returns the [`Order`] of the words after the program's name, or what is wrong with
 //!   them.
-//! - [`CommandLine`] has what is to be listed ([`Job`]), in which form ([`Form`]), and from which
+//! - [`Order`] has what is to be listed ([`Job`]), in which form ([`Form`]), and from which
 //!   sources ([`Source`]). A [`Job`] may also be a text to print: a help or the version.
 //! - [`NOT_UTF8`] is what is wrong with words that are not UTF-8, which the program finds before.
 //!
@@ -19,4 +19,4 @@ pub use krb_der::Profile;
 pub use krb_frame::Limit;
 pub use krb_list::Form;
 pub use sources::Source;
-pub use words::{AfterRefusal, CommandLine, Job, NOT_UTF8, VERSION, WordsFault, read_words};
+pub use words::{AfterRefusal, Job, NOT_UTF8, Order, VERSION, WordsFault, read_words};

@@ -3,7 +3,7 @@
 ghost use Rattle.std.specs.Prelude.{◌≡◌, false, codes, map, string_bytes, [], IfOk};
 ghost use Rattle.clap.specs.Words.{app_of, new_app, found_of, kind_of, rows_of, rule_of, subcommand_rows_of, first_of, one_of};
 ghost use Rattle.clap.specs.declared.builder.command.Command.TheViews.{out-Command};
-ghost use Rattle.krb_words.specs.Words.{file_option, file_names, with_output, with_files, number_option, limit_option, flag, strict_flag, keep_going_flag, names_flag, json_flag, stream_app, message_app, keytab_app, ccache_app, capture_app, krbls, IsTextBy, IsJob, IsProfile, IsAfter, IsForm, IsGiven, IsCommandLineOf, IsCommandLineIn, IsNumber, IsNumberOr};
+ghost use Rattle.krb_words.specs.Words.{file_option, file_names, with_output, with_files, number_option, limit_option, flag, strict_flag, keep_going_flag, names_flag, json_flag, stream_app, message_app, keytab_app, ccache_app, capture_app, krbls, IsTextBy, IsJob, IsProfile, IsAfter, IsForm, IsGiven, IsOrderOf, IsOrderIn, IsNumber, IsNumberOr};
 
 use crate::sources::{Source, sources_of};
 use clap::builder::ValueParser;
@@ -46,7 +46,7 @@ pub enum Job {
 
 /// A command line that was read.
 #[derive(Drop)]
-pub struct CommandLine {
+pub struct Order {
     /// What is to be listed.
     pub job: Job,
     /// How records are printed.
@@ -528,8 +528,8 @@ fn job_of(alloc: Global, name: &str, found: &ArgMatches<'_>) -> Result<Job, Word
 }
 
 /// Returns the command line of the matches.
-fn command_line_of(alloc: Global, matches: &ArgMatches<'_>) -> Result<CommandLine, WordsFault>
-    ensures { IfOk result (IsCommandLineOf (subcommand_rows_of matches.now)) }
+fn order_of(alloc: Global, matches: &ArgMatches<'_>) -> Result<Order, WordsFault>
+    ensures { IfOk result (IsOrderOf (subcommand_rows_of matches.now)) }
 {
     match matches.subcommand() {
         None => Err(not_read(alloc)),
@@ -537,14 +537,14 @@ fn command_line_of(alloc: Global, matches: &ArgMatches<'_>) -> Result<CommandLin
             let job = job_of(alloc, name, found)?;
             let form = form_of(found);
             let sources = sources_of(alloc, found)?;
-            Ok(CommandLine { job, form, sources })
+            Ok(Order { job, form, sources })
         }
     }
 }
 
 /// Returns the command line that prints a text, if words that `clap` does not accept ask for it.
-fn text_of(alloc: Global, error: &Error) -> Result<CommandLine, WordsFault>
-    ensures { IfOk result (λ command_line. IsTextBy (kind_of error.now) command_line.job × (command_line.sources.items ≡ [])) }
+fn text_of(alloc: Global, error: &Error) -> Result<Order, WordsFault>
+    ensures { IfOk result (λ order. IsTextBy (kind_of error.now) order.job × (order.sources.items ≡ [])) }
 {
     let text = format!(in alloc; "{error}")?;
     let job = match error.kind() {
@@ -553,7 +553,7 @@ fn text_of(alloc: Global, error: &Error) -> Result<CommandLine, WordsFault>
         ErrorKind::OutOfMemory => return Err(WordsFault::Memory),
         _ => return Err(WordsFault::Wrong(text)),
     };
-    Ok(CommandLine {
+    Ok(Order {
         job,
         form: Form::Lines,
         sources: Vec::new(alloc),
@@ -562,12 +562,12 @@ fn text_of(alloc: Global, error: &Error) -> Result<CommandLine, WordsFault>
 
 /// Returns the command line of the words after the program's name: a command, its options and the
 /// files to read, as `clap` reads them.
-pub fn read_words(alloc: Global, words: &[String]) -> Result<CommandLine, WordsFault>
-    ensures { IfOk result (IsCommandLineIn (map string_bytes words.now)) }
+pub fn read_words(alloc: Global, words: &[String]) -> Result<Order, WordsFault>
+    ensures { IfOk result (IsOrderIn (map string_bytes words.now)) }
 {
     let command = krbls_command(alloc)?;
     match command.try_get_matches_from(words) {
-        Ok(matches) => command_line_of(alloc, &matches),
+        Ok(matches) => order_of(alloc, &matches),
         Err(error) => text_of(alloc, &error),
     }
 }

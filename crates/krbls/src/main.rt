@@ -22,7 +22,7 @@ use krb_tool::{
     Form, ListSource, RunEnd, RunFault, run_capture, run_ccache_in, run_keytab_in, run_message_in,
     run_sources, run_stream_going_on, run_stream_in,
 };
-use krb_words::{AfterRefusal, CommandLine, Job, NOT_UTF8, Source, WordsFault, read_words};
+use krb_words::{AfterRefusal, Job, NOT_UTF8, Order, Source, WordsFault, read_words};
 use std::alloc::Global;
 use std::fmt::Display;
 use std::io::{ErrorKind, Read, Write};
@@ -39,15 +39,15 @@ const FAULT: u8 = 3;
 const INPUT: &str = "standard input";
 
 fn main(rt: HostRuntime) -> ExitCode {
-    match command_line(&rt) {
-        Ok(command_line) => carry_out(&rt, &command_line),
+    match order(&rt) {
+        Ok(order) => carry_out(&rt, &order),
         Err(WordsFault::Wrong(text)) => wrong(&rt, text.as_str()),
         Err(WordsFault::Memory) => fault(&rt, &INPUT, &RunFault::Memory),
     }
 }
 
 /// Returns the command line of the words after the program's name.
-fn command_line(rt: &HostRuntime) -> Result<CommandLine, WordsFault> {
+fn order(rt: &HostRuntime) -> Result<Order, WordsFault> {
     let alloc = rt.alloc();
     let mut words = match env::args(rt) {
         Ok(words) => words,
@@ -60,13 +60,13 @@ fn command_line(rt: &HostRuntime) -> Result<CommandLine, WordsFault> {
 }
 
 /// Lists each source of the command line, or prints its text.
-fn carry_out(rt: &HostRuntime, command_line: &CommandLine) -> ExitCode {
-    match &command_line.job {
+fn carry_out(rt: &HostRuntime, order: &Order) -> ExitCode {
+    match &order.job {
         Job::Help(text) | Job::Version(text) => print_text(rt, text.as_str()),
         job => {
-            let form = command_line.form;
+            let form = order.form;
             let lister = Lister { rt, form, job };
-            let sources = command_line.sources.as_slice();
+            let sources = order.sources.as_slice();
             list_each(rt.alloc(), form, &lister, sources, &mut rt.stdout())
         }
     }

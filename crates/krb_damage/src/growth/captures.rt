@@ -7,7 +7,7 @@ use krb_capture::Capture;
 use krb_file::FileFault;
 use krb_flow::Direction;
 use krb_frame::Limit;
-use krb_list::Form;
+use krb_list::{Form, TextBuffer};
 use krb_packet::{
     CaptureFault, Endpoint, Fragment, Fragments, Original, Packets, Payload, Reassembled, Segment,
 };
@@ -47,7 +47,7 @@ fn put_records(
     alloc: Global,
     packets: &mut Packets<&[u8]>,
     capture: &mut Capture,
-    text: &mut String,
+    text: &mut TextBuffer,
 ) -> Outcome {
     // no capture here has more packets
     for _ in 0..16 {
@@ -91,16 +91,16 @@ fn put_records(
 pub(super) fn lists(alloc: Global, form: Form, octets: &[u8], wanted: &str) -> Outcome {
     let mut packets = Packets::new(octets);
     let mut capture = Capture::new(alloc, form, Limit::DEFAULT, 88);
-    let mut text = String::new(alloc);
+    let mut text = TextBuffer::new(alloc);
     let outcome = put_records(alloc, &mut packets, &mut capture, &mut text);
-    if outcome == Outcome::Done && text.as_str() != wanted {
+    if outcome == Outcome::Done && text.octets() != wanted.as_bytes() {
         return Outcome::Wrong;
     }
     outcome
 }
 
-/// Returns the fragment of an AP-REP that has the octets from a place on.
-fn fragment(place: u16, octets: &'static [u8]) -> Fragment<'static> {
+/// Returns the fragment of an AP-REP that has the octets from an offset on.
+fn fragment(offset: u16, octets: &'static [u8]) -> Fragment<'static> {
     let address = IpAddr::V4(Ipv4Addr::LOCALHOST);
     Fragment {
         original: Original {
@@ -110,8 +110,8 @@ fn fragment(place: u16, octets: &'static [u8]) -> Fragment<'static> {
             protocol: Some(17),
         },
         protocol: 17,
-        place,
-        is_last: place > 0,
+        offset,
+        is_last: offset > 0,
         payload: Payload::new(octets, 0),
     }
 }

@@ -10,10 +10,10 @@ abbrev pub escaped : Escape → ℕ → List ℕ
 escaped escapes.Line octet = escape_octet octet
 escaped escapes.Object octet = shown_octet octet
 
--- whether an octet stands for itself
-abbrev pub stands : Escape → ℕ → Bool
-stands escapes.Line octet = is_plain octet
-stands escapes.Object octet = nat_le 0x20 octet && nat_le octet 0x7E && not (octet == 0x5C)
+-- whether an octet is not escaped
+abbrev pub is_unescaped : Escape → ℕ → Bool
+is_unescaped escapes.Line octet = is_plain octet
+is_unescaped escapes.Object octet = nat_le 0x20 octet && nat_le octet 0x7E && not (octet == 0x5C)
 
 abbrev pub quoted : Escape → List ℕ → List ℕ
 quoted escape octets = flat_map (λ octet. flat_map json_character (escaped escape octet)) octets

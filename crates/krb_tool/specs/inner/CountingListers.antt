@@ -1,5 +1,5 @@
 -- What a lister does with a stream that goes on after refusals.
-use Rattle.std.specs.Prelude.{ℕ, ◌≡◌, ◌+◌, ◌*◌, ◌≤◌, ◌⊎◌, Bool, true, false, List, [], ◌∷◌, ◌++◌, map, Option, Some, None, string_bytes}
+use Rattle.std.specs.Prelude.{ℕ, ◌≡◌, ◌+◌, ◌*◌, ◌≤◌, ◌⊎◌, Bool, true, false, List, [], ◌∷◌, ◌++◌, map, Option, Some, None}
 use Rattle.std.specs.Io.KnownBytes.{IsAtEnd}
 use Rattle.krb_der.specs.declared.profile.Profile.{Profile}
 use Rattle.krb_der.specs.declared.why.Why.TheVariants.{HighBit, Truncated}
@@ -26,7 +26,7 @@ pub record HasCounted (lister : CountingLister) (stream written : List ℕ) : Ty
   pub goes_on : GoesOn (grammar lister.decoder.current.profile) lister.decoder stream (map entry_of listed)
   -- the length of the last of them is known
   pub known : EndsUnknown (map entry_of listed) → ⊥
-  pub lines : written ++ string_bytes lister.text ≡ lines_after lister.form lister.decoder.current.profile 0 listed
+  pub lines : written ++ lister.text ≡ lines_after lister.form lister.decoder.current.profile 0 listed
   pub messages : lister.messages ≡ messages_in listed
   pub refused : lister.refused ≡ refused_in listed
 
@@ -36,7 +36,7 @@ pub record CountsReady (old new : CountingLister) : Type 0 where
   pub is_ready : borrowed (grammar old.decoder.current.profile) old.decoder.current ≡ Some contents
   pub message : Message
   pub form : message_der message ≡ contents
-  pub line : string_bytes new.text ≡ string_bytes old.text ++ message_line old.form message
+  pub line : new.text ≡ old.text ++ message_line old.form message
   pub messages : new.messages ≡ old.messages + 1
   pub refused : new.refused ≡ old.refused
   pub same_form : new.form ≡ old.form
@@ -44,7 +44,7 @@ pub record CountsReady (old new : CountingLister) : Type 0 where
 
 -- the line of a message was added, which is counted
 pub record CountsLine (message : Message) (old new : CountingLister) : Type 0 where
-  pub line : string_bytes new.text ≡ string_bytes old.text ++ message_line old.form message
+  pub line : new.text ≡ old.text ++ message_line old.form message
   pub messages : new.messages ≡ old.messages + 1
   pub refused : new.refused ≡ old.refused
   pub same_form : new.form ≡ old.form
@@ -52,7 +52,7 @@ pub record CountsLine (message : Message) (old new : CountingLister) : Type 0 wh
 
 -- the line of the frame that is refused was added, and it is skipped
 pub record CountsRefused (old : CountingLister) (refusal : Refusal) (new : CountingLister) : Type 0 where
-  pub line : string_bytes new.text ≡ string_bytes old.text ++ refused_line old.form old.messages refusal.place refusal.why (frame_path old.decoder.current.profile old.decoder.current.octets)
+  pub line : new.text ≡ old.text ++ refused_line old.form old.messages refusal.place refusal.why (frame_path old.decoder.current.profile old.decoder.current.octets)
   pub messages : new.messages ≡ old.messages
   pub refused : new.refused ≡ old.refused + 1
   pub same_form : new.form ≡ old.form
@@ -75,24 +75,24 @@ last_of lister = last_listed (found (grammar lister.decoder.current.profile) lis
 
 -- the line that counts was added
 pub record PutsCount (old new : CountingLister) (ended : RunEnd) : Type 0 where
-  pub line : string_bytes new.text ≡ string_bytes old.text ++ counted_end_line old.form old.messages old.refused
+  pub line : new.text ≡ old.text ++ counted_end_line old.form old.messages old.refused
   pub ended_so : ended ≡ counted_run_end old.refused
 
 -- the line of the last frame was added, and the one that counts
 pub record PutsLast (old : CountingLister) (refusal : Refusal) (new : CountingLister) (ended : RunEnd) : Type 0 where
-  pub lines : string_bytes new.text ≡ string_bytes old.text ++ (refused_line old.form old.messages refusal.place refusal.why (frame_path old.decoder.current.profile old.decoder.current.octets) ++ counted_end_line old.form old.messages (old.refused + 1))
+  pub lines : new.text ≡ old.text ++ (refused_line old.form old.messages refusal.place refusal.why (frame_path old.decoder.current.profile old.decoder.current.octets) ++ counted_end_line old.form old.messages (old.refused + 1))
   pub ended_so : ended ≡ counted_run_end (old.refused + 1)
 
 -- the lines of the end were added
 pub record CountsEnd (old new : CountingLister) (ended : RunEnd) : Type 0 where
-  pub lines : string_bytes new.text ≡ string_bytes old.text ++ (lines_after old.form old.decoder.current.profile old.messages (last_of old) ++ counted_end_line old.form old.messages (old.refused + refused_in (last_of old)))
+  pub lines : new.text ≡ old.text ++ (lines_after old.form old.decoder.current.profile old.messages (last_of old) ++ counted_end_line old.form old.messages (old.refused + refused_in (last_of old)))
   pub ended_so : ended ≡ counted_run_end (old.refused + refused_in (last_of old))
 
 -- ---- a lister of a stream
 -- The length of the last frame is not known. The frames before it are listed.
 pub record IsUnknownAfter (lister : CountingLister) (taken : Taken) : Type 0 where
   pub listed : List Listed
-  pub lines : taken.written ++ string_bytes lister.text ≡ lines_after lister.form lister.decoder.current.profile 0 listed
+  pub lines : taken.written ++ lister.text ≡ lines_after lister.form lister.decoder.current.profile 0 listed
   pub messages : lister.messages ≡ messages_in listed
   pub refused : lister.refused ≡ refused_in listed
   pub all : entries (grammar lister.decoder.current.profile) lister.decoder.current.limit taken.octets ≡ map entry_of listed ++ map entry_of (last_of lister)
@@ -118,7 +118,7 @@ counting = record {
   rules = counting_rules;
   request = λ lister. request_of lister.form lister.decoder.current;
   decoding = λ lister. lister.decoder.current;
-  text = λ lister. string_bytes lister.text;
+  text = λ lister. lister.text;
   count = λ lister. lister.messages + lister.refused;
   HasListed = HasCounted;
   IsRefused = λ lister. (refusal : Refusal) × (status_of (grammar lister.decoder.current.profile) lister.decoder.current ≡ status.Refused refusal) × (rest_to_come (grammar lister.decoder.current.profile) lister.decoder.current ≡ None);

@@ -1,5 +1,5 @@
 -- What the parts of a run on a file promise each other.
-use Rattle.std.specs.Prelude.{ℕ, ◌≡◌, ◌≤◌, ◌⊎◌, List, [], ◌++◌, length, Option, Some, IfSome, string_bytes}
+use Rattle.std.specs.Prelude.{ℕ, ◌≡◌, ◌≤◌, ◌⊎◌, List, [], ◌++◌, length, Option, Some, IfSome}
 use Rattle.krb_tool.specs.declared.run.RunFault.{RunFault}
 use Rattle.krb_tool.specs.declared.run.RunFault.TheVariants as fault
 use Rattle.krb_tool.specs.declared.file_run.FileText.{FileText}
@@ -25,7 +25,7 @@ IsDecidedByPrefix Lists most = (kept rest : List ℕ) (listing : FileListing) �
 
 -- the listing that a function made
 abbrev pub shown : FileText → FileListing
-shown made = record { text = string_bytes made.text; end = made.end }
+shown made = record { text = made.text; end = made.end }
 
 -- the fault of a run that has not written: that of its reader if this failed, and else out of memory
 abbrev pub IsOfReading : ReaderState → RunFault → Type 0

@@ -1,5 +1,5 @@
 -- What a lister does with a stream, up to its end or the first refusal.
-use Rattle.std.specs.Prelude.{ℕ, ◌≡◌, ◌+◌, true, List, [], ◌++◌, length, map, Option, Some, string_bytes}
+use Rattle.std.specs.Prelude.{ℕ, ◌≡◌, ◌+◌, true, List, [], ◌++◌, length, map, Option, Some}
 use Rattle.std.specs.List.{flat_map}
 use Rattle.krb_der.specs.declared.profile.Profile.{Profile}
 use Rattle.krb_der.specs.declared.verdict.Refusal.{Refusal}
@@ -24,7 +24,7 @@ use Rattle.krb_tool.specs.declared.run.RunEnd.{RunEnd}
 pub record HasListed (lister : Lister) (stream written : List ℕ) : Type 0 where
   pub messages : List Message
   pub decoded : HasDecoded (grammar lister.decoder.profile) lister.decoder stream (map message_der messages)
-  pub lines : written ++ string_bytes lister.text ≡ flat_map (message_line lister.form) messages
+  pub lines : written ++ lister.text ≡ flat_map (message_line lister.form) messages
   pub counted : lister.messages ≡ length messages
 
 -- the line of the message that is ready was added, and its frame is cleared
@@ -33,21 +33,21 @@ pub record ListsReady (old new : Lister) : Type 0 where
   pub is_ready : borrowed (grammar old.decoder.profile) old.decoder ≡ Some contents
   pub message : Message
   pub form : message_der message ≡ contents
-  pub line : string_bytes new.text ≡ string_bytes old.text ++ message_line old.form message
+  pub line : new.text ≡ old.text ++ message_line old.form message
   pub counted : new.messages ≡ old.messages + 1
   pub same_form : new.form ≡ old.form
   pub cleared : Clears (grammar old.decoder.profile) old.decoder new.decoder true
 
 -- the line of a message was added, which is counted
 pub record AddsLine (message : Message) (old new : Lister) : Type 0 where
-  pub line : string_bytes new.text ≡ string_bytes old.text ++ message_line old.form message
+  pub line : new.text ≡ old.text ++ message_line old.form message
   pub counted : new.messages ≡ old.messages + 1
   pub same_form : new.form ≡ old.form
   pub same_decoder : new.decoder ≡ old.decoder
 
 -- the line of the end was added
 pub record AddsEnd (old new : Lister) (ended : RunEnd) : Type 0 where
-  pub line : string_bytes new.text ≡ string_bytes old.text ++ end_line old.form old.messages (found (grammar old.decoder.profile) old.decoder).end (frame_path old.decoder.profile old.decoder.octets)
+  pub line : new.text ≡ old.text ++ end_line old.form old.messages (found (grammar old.decoder.profile) old.decoder).end (frame_path old.decoder.profile old.decoder.octets)
   pub ended_so : ended ≡ run_end (found (grammar old.decoder.profile) old.decoder).end
 
 -- ---- a lister of a stream
@@ -81,7 +81,7 @@ stopping = record {
   rules = stopping_rules;
   request = λ lister. request_of lister.form lister.decoder;
   decoding = λ lister. lister.decoder;
-  text = λ lister. string_bytes lister.text;
+  text = λ lister. lister.text;
   count = λ lister. lister.messages;
   HasListed = HasListed;
   IsRefused = λ lister. (refusal : Refusal) × (status_of (grammar lister.decoder.profile) lister.decoder ≡ status.Refused refusal);

@@ -12,5 +12,5 @@ returns g c =
     on_ok_weaker c.put_closing.result
     (four_lists _ c.args.form _ _ (who_fields credential ++ key_fields credential ++ times_fields credential) (flags_fields c.args.now credential) (counts_fields credential)
     (tickets_fields credential (g.T.Shown.shown c.args.ticket.now) (g.S.Shown.shown c.args.server.now))
-    c.in_ok-put_opening.ensures c.in_ok-put_front.ensures c.in_ok-put_flags.ensures c.in_ok-put_counts.ensures c.in_ok-put_tickets.ensures)
+    c.in_ok-put_opening.ensures c.in_ok-put_first_fields.ensures c.in_ok-put_flags.ensures c.in_ok-put_counts.ensures c.in_ok-put_tickets.ensures)
     c.put_closing.ensures

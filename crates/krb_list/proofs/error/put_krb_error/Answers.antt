@@ -3,4 +3,4 @@ use Rattle.std.proofs.lemmas.List.{append-nil}
 use Rattle.krb_list.proofs.error.put_krb_error.Goals as goal
 
 pub returns : goal.returns
-returns c = simp (append_assoc, append-nil) (simp (c.in_ok-put_front.ensures, append_assoc) at c.put_rest.ensures)
+returns c = simp (append_assoc, append-nil) (simp (c.in_ok-put_first_fields.ensures, append_assoc) at c.put_last_fields.ensures)

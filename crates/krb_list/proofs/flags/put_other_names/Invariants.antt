@@ -1,4 +1,4 @@
-use Rattle.std.proofs.Common.{◌≡◌, ◌++◌, codes, true, length, map, string_bytes}
+use Rattle.std.proofs.Common.{◌≡◌, ◌++◌, codes, true, length, map}
 use Rattle.std.specs.List.{flat_map}
 use Rattle.krb_registry.specs.Rows.{number_and_name}
 use Rattle.krb_list.specs.inner.Flags.{are_plain, name_item, names_set}
@@ -8,8 +8,8 @@ use Rattle.krb_list.proofs.flags.put_other_names.Given as goal
 abbrev pub invariant-others : goal.invariant-others
 invariant-others l =
     (are_plain (map number_and_name l.others) ≡ true)
-    × (string_bytes l.text ++ flat_map (λ name. codes "," ++ name_item l.form name) (names_set l.octets (map number_and_name l.others))
-    ≡ string_bytes l.initial.text ++ flat_map (λ name. codes "," ++ name_item l.form name) (names_set l.octets (map number_and_name l.initial.others)))
+    × (l.text ++ flat_map (λ name. codes "," ++ name_item l.form name) (names_set l.octets (map number_and_name l.others))
+    ≡ l.initial.text ++ flat_map (λ name. codes "," ++ name_item l.form name) (names_set l.octets (map number_and_name l.initial.others)))
 
 abbrev pub decreases-others : goal.decreases-others
 decreases-others l = length (names_set l.octets (map number_and_name l.others))

@@ -1,4 +1,4 @@
-use Rattle.std.proofs.Common.{◌≡◌, ◌+◌, ◌++◌, length, string_bytes}
+use Rattle.std.proofs.Common.{◌≡◌, ◌+◌, ◌++◌, length}
 use Rattle.krb_list.specs.Forms.{unnamed_from}
 use Rattle.krb_list.specs.Text.{hex}
 use Rattle.krb_list.proofs.flags.put_unnamed.Given as goal
@@ -6,7 +6,7 @@ use Rattle.krb_list.proofs.flags.put_unnamed.Given as goal
 -- the text so far, and that of the octets that are left
 abbrev pub invariant-others : goal.invariant-others
 invariant-others l =
-    (string_bytes l.text ++ hex (unnamed_from l.k l.registry l.others) ≡ string_bytes l.initial.text ++ hex (unnamed_from 0 l.registry l.octets))
+    (l.text ++ hex (unnamed_from l.k l.registry l.others) ≡ l.initial.text ++ hex (unnamed_from 0 l.registry l.octets))
     × (l.k + length l.others ≡ length l.octets)
 
 abbrev pub decreases-others : goal.decreases-others

@@ -1,4 +1,4 @@
-use Rattle.std.proofs.Common.{◌≡◌, ◌++◌, codes, length, string_bytes}
+use Rattle.std.proofs.Common.{◌≡◌, ◌++◌, codes, length}
 use Rattle.std.specs.List.{flat_map}
 use Rattle.krb_msg.specs.Viewed.{AreViewed, items_of}
 use Rattle.krb_list.specs.inner.Items.{item_number, number_item}
@@ -8,8 +8,8 @@ use Rattle.krb_list.proofs.list.put_other_numbers.Given as goal
 abbrev pub invariant-others : goal.invariant-others
 invariant-others g l =
     AreViewed g.T.View.term l.others.octets.now
-    × (string_bytes l.text ++ flat_map (λ item. codes "," ++ number_item l.form (item_number g.T.View.term item)) (items_of g.T.View.term l.others.octets.now)
-    ≡ string_bytes l.initial.text ++ flat_map (λ item. codes "," ++ number_item l.form (item_number g.T.View.term item)) (items_of g.T.View.term l.initial.others.octets.now))
+    × (l.text ++ flat_map (λ item. codes "," ++ number_item l.form (item_number g.T.View.term item)) (items_of g.T.View.term l.others.octets.now)
+    ≡ l.initial.text ++ flat_map (λ item. codes "," ++ number_item l.form (item_number g.T.View.term item)) (items_of g.T.View.term l.initial.others.octets.now))
 
 abbrev pub decreases-others : goal.decreases-others
 decreases-others g l = length l.others.octets.now

@@ -3,4 +3,4 @@ use Rattle.std.proofs.lemmas.List.{append-nil}
 use Rattle.krb_list.proofs.message.put_kdc_req.Goals as goal
 
 pub returns : goal.returns
-returns c = simp (append_assoc, append-nil) (simp (c.in_ok-put_kdc_req_front.ensures, append_assoc) at c.put_kdc_req_rest.ensures)
+returns c = simp (append_assoc, append-nil) (simp (c.in_ok-put_kdc_req_first_fields.ensures, append_assoc) at c.put_kdc_req_last_fields.ensures)

@@ -1,4 +1,4 @@
-use Rattle.std.proofs.Common.{◌≡◌, ◌++◌, length, string_bytes, ap, subst, sym, ◌∙◌}
+use Rattle.std.proofs.Common.{◌≡◌, ◌++◌, length, ap, subst, sym, ◌∙◌}
 use Rattle.krb_der.specs.declared.profile.Profile.TheVariants.{Lenient}
 use Rattle.krb_der.specs.declared.verdict.Verdict.TheVariants.{Whole}
 use Rattle.krb_msg.specs.Judgement.{judgement}
@@ -21,4 +21,4 @@ pub returns : goal.returns
 returns c =
     let octets : c.as_slice.result.now ≡ message_der c.args.message.now = c.as_slice.ensures.value ∙ c.in-Ok.ensures.octets in
     let same : message_of_view c.in-Some.view ≡ c.args.message.now = c.in-Some.ensures.read ∙ ap message_of_der octets ∙ message_of_der_is_message Lenient c.args.message.now c.in-Ok.ensures.in_profile in
-    subst (λ m. string_bytes c.put_text.new.text ≡ string_bytes c.args.text.now ++ message_text c.args.form m) same c.in_ok-put_text.ensures
+    subst (λ m. c.put_text.new.text ≡ c.args.text.now ++ message_text c.args.form m) same c.in_ok-put_text.ensures

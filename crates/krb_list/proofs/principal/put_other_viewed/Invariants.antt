@@ -1,4 +1,4 @@
-use Rattle.std.proofs.Common.{◌≡◌, ◌++◌, length, string_bytes}
+use Rattle.std.proofs.Common.{◌≡◌, ◌++◌, length}
 use Rattle.std.specs.List.{flat_map}
 use Rattle.krb_msg.specs.Grammar.{kerberos_string}
 use Rattle.krb_msg.specs.Viewed.{AreViewed, items_of}
@@ -9,8 +9,8 @@ use Rattle.krb_list.proofs.principal.put_other_viewed.Given as goal
 abbrev pub invariant-others : goal.invariant-others
 invariant-others l =
     AreViewed kerberos_string l.others.octets.now
-    × (string_bytes l.text ++ flat_map (λ c. l.separator ++ octets_item l.form c) (items_of kerberos_string l.others.octets.now)
-    ≡ string_bytes l.initial.text ++ flat_map (λ c. l.separator ++ octets_item l.form c) (items_of kerberos_string l.initial.others.octets.now))
+    × (l.text ++ flat_map (λ c. l.separator ++ octets_item l.form c) (items_of kerberos_string l.others.octets.now)
+    ≡ l.initial.text ++ flat_map (λ c. l.separator ++ octets_item l.form c) (items_of kerberos_string l.initial.others.octets.now))
 
 abbrev pub decreases-others : goal.decreases-others
 decreases-others l = length l.others.octets.now

@@ -2,7 +2,7 @@ use Rattle.std.proofs.Common.{sym, ◌∙◌, ap}
 use Rattle.std.proofs.lemmas.Result.{err_from_is_err_and}
 use Rattle.std.specs.Int.{w32, from_be_bytes}
 use Rattle.krb_packet.specs.Numbers.{checked}
-use Rattle.krb_packet.specs.Bodies.{body_size, after_byte_order}
+use Rattle.krb_packet.specs.Bodies.{body_size}
 use Rattle.krb_packet.proofs.Heads.{size_fails, left_fails, checked_ok}
 use Rattle.krb_packet.proofs.block.section_head.Goals as goal
 

@@ -1,5 +1,5 @@
 use Rattle.std.proofs.Common.{arith}
-use Rattle.krb_packet.proofs.Clocks.{second_positive, none, no_more}
+use Rattle.krb_packet.proofs.Clocks.{second_positive}
 use Rattle.krb_packet.proofs.interface.nanoseconds.Goals as goal
 
 pub nonzero_div-result : goal.nonzero_div-result

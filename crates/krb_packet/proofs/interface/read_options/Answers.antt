@@ -1,7 +1,7 @@
-use Rattle.std.proofs.Common.{sym, ◌∙◌, subst}
+use Rattle.std.proofs.Common.{sym, ◌∙◌}
 use Rattle.std.proofs.lemmas.Result.{err_from_is_err_and}
 use Rattle.krb_file.proofs.FieldReaders.{Keeps-then}
-use Rattle.krb_packet.specs.Interfaces.{no_options, option_at, options_within}
+use Rattle.krb_packet.specs.Interfaces.{no_options, options_within}
 use Rattle.krb_packet.proofs.Options.{at_end, goes_on, ends, fails}
 use Rattle.krb_packet.proofs.interface.read_options.Goals as goal
 

@@ -21,7 +21,7 @@ returns-clause-listed g c =
       listing = listing;
       listed = decided-whole _ _ _ _ _ c.most.ensures prefix.enough listed;
       taken = prefix.taken;
-      added = subst (Appends _ _) c.as_bytes.ensures.value c.in_ok-write_all.ensures.all;
+      added = subst (Appends _ _) c.octets.ensures c.in_ok-write_all.ensures.all;
       ended_so = refl;
     }
 
@@ -36,5 +36,5 @@ returns-in_err-write_all-clause-fault g c =
       listing = listing;
       listed = decided-whole _ _ _ _ _ c.most.ensures prefix.enough listed;
       taken = prefix.taken;
-      added = subst (AppendsPrefix _ _) c.as_bytes.ensures.value c.in_err-write_all.ensures.prefix;
+      added = subst (AppendsPrefix _ _) c.octets.ensures c.in_err-write_all.ensures.prefix;
     })

@@ -1,8 +1,7 @@
-use Rattle.std.proofs.Common.{string_bytes}
 use Rattle.krb_tool.specs.Files.{RecordListing, after_line}
 use Rattle.krb_tool.proofs.Records.{Listed}
 use Rattle.krb_tool.proofs.record_run.list_records.Given as goal
 
 -- what was written, what is to be written, and what is left are the listing
 abbrev pub invariant-records : goal.invariant-records
-invariant-records g l = (left : RecordListing) → g.L.RecordLines.IsLeft l.fn.lines 0 left → Listed (g.L.RecordLines.IsLeft l.lines l.count) (after_line (string_bytes l.fn.text) left) (g.W.Write.contents l.fn.writer) (g.W.Write.contents l.writer) (string_bytes l.text)
+invariant-records g l = (left : RecordListing) → g.L.RecordLines.IsLeft l.fn.lines 0 left → Listed (g.L.RecordLines.IsLeft l.lines l.count) (after_line l.fn.text left) (g.W.Write.contents l.fn.writer) (g.W.Write.contents l.writer) l.text

@@ -1,4 +1,4 @@
-use Rattle.std.proofs.Common.{◌≡◌, ◌++◌, ℕ, List, ◌∙◌, ap, ap₂, subst, string_bytes}
+use Rattle.std.proofs.Common.{◌≡◌, ◌++◌, ℕ, List, ◌∙◌, ap, ap₂, subst}
 use Rattle.std.proofs.lemmas.Result.{err_from_is_err_and}
 use Rattle.krb_ccache.specs.Streaming.{credentials}
 use Rattle.krb_tool.specs.Lines.{cache_line}
@@ -13,9 +13,9 @@ returns-in-Ok g c = record {
       let made = c.in-Ok.credentials in
       let reads = rw c.field_limit.ensures at (c.in-Ok.ensures.begins file (c.in_ok-reader.ensures.same file known)) in
       let listing = credentials_listing c.args.form c.args.now (credentials field_limit file) in
-      let text : string_bytes c.put_first.new.text ≡ cache_line c.args.form made.start.header made.start.principal =
+      let text : c.put_first.new.text ≡ cache_line c.args.form made.start.header made.start.principal =
       c.in_ok-put_first-in-Ok.ensures.line
-      ∙ ap₂ (λ (text cache : List ℕ). text ++ cache) c.new-text.ensures.bytes (ap₂ (cache_line c.args.form) c.header.ensures c.principal.ensures) in
+      ∙ ap₂ (λ (text cache : List ℕ). text ++ cache) c.new-text.ensures (ap₂ (cache_line c.args.form) c.header.ensures c.principal.ensures) in
       let whole = ap (λ (t : List ℕ). after_line t listing) text ∙ first_line c.args.form c.args.now file made.reader made.start made.state reads in
       subst (λ (l : RecordListing). ListsRecords l (g.W.Write.contents c.args.writer.now) (g.W.Write.contents c.list_records.new.writer) c.list_records.result) whole (c.list_records.ensures listing (all_left c.args.form c.args.now file made.reader made.start made.state reads));
 }
@@ -24,7 +24,7 @@ pub returns : goal.returns
 returns g c = record {
   listed = λ file known.
       let fails = rw c.field_limit.ensures at (c.in-Err.ensures.fault file (c.in_ok-reader.ensures.same file known)) in
-      subst (λ (text : List ℕ). ListsRecords (after_line text (ccache_listing c.args.form c.args.now file)) (g.W.Write.contents c.args.writer.now) (g.W.Write.contents c.list_records-in-Err.new.writer) c.list_records-in-Err.result) c.new-text.ensures.bytes
+      subst (λ (text : List ℕ). ListsRecords (after_line text (ccache_listing c.args.form c.args.now file)) (g.W.Write.contents c.args.writer.now) (g.W.Write.contents c.list_records-in-Err.new.writer) c.list_records-in-Err.result) c.new-text.ensures
       (c.list_records-in-Err.ensures (ccache_listing c.args.form c.args.now file) (start_refused c.args.form c.args.now file c.in-Err.fault fails));
 }
 

@@ -27,7 +27,7 @@ returns-in_err-feed_next-clause-fault g c =
 pub returns-in_err-write_all-clause-fault : goal.returns-in_err-write_all-clause-fault
 returns-in_err-write_all-clause-fault g c =
     let runs = runs_on _ c.if-branch.true (c.in_ok-feed_next.ensures.fed _ _ _ _ c.pieces.invariant.runs) in
-    let prefix = subst (AppendsPrefix _ _) (c.as_bytes.ensures.value ∙ c.text.ensures) c.in_err-write_all.ensures.prefix in
+    let prefix = subst (AppendsPrefix _ _) c.text.ensures c.in_err-write_all.ensures.prefix in
     Fails-written _ _ runs (search rules) prefix
 
 pub pieces-smaller : goal.pieces-smaller
@@ -38,7 +38,7 @@ pieces-smaller g c =
 pub pieces-preserved : goal.pieces-preserved
 pieces-preserved g c =
     let runs = runs_on _ c.if-branch.true (c.in_ok-feed_next.ensures.fed _ _ _ _ c.pieces.invariant.runs) in
-    let written = subst (Appends _ _) (c.as_bytes.ensures.value ∙ c.text.ensures) c.in_ok-write_all.ensures.all in
+    let written = subst (Appends _ _) c.text.ensures c.in_ok-write_all.ensures.all in
     record {
       size = c.pieces.invariant.size;
       opens = c.in_ok-feed_next.ensures.open c.if-branch.true;
@@ -58,11 +58,11 @@ returns-in_err-ended-clause-fault g c =
 pub returns-in_err-write_all-2-clause-fault : goal.returns-in_err-write_all-2-clause-fault
 returns-in_err-write_all-2-clause-fault g c =
     let over = is_over _ c.if-branch.false (c.in_ok-feed_next.ensures.fed _ _ _ _ c.pieces.invariant.runs) in
-    let prefix = subst (AppendsPrefix _ _) (c.as_bytes-2.ensures.value ∙ c.text-2.ensures) c.in_err-write_all-2.ensures.prefix in
+    let prefix = subst (AppendsPrefix _ _) c.text-2.ensures c.in_err-write_all-2.ensures.prefix in
     Fails-last g.L.ListStream.rules _ _ (g.L.ListStream.listing c.finish.new.self) _ over c.in_ok-ended.ensures.finished (search rules) prefix
 
 pub returns-clause-listed : goal.returns-clause-listed
 returns-clause-listed g c =
     let over = is_over _ c.if-branch.false (c.in_ok-feed_next.ensures.fed _ _ _ _ c.pieces.invariant.runs) in
-    let written = subst (Appends _ _) (c.as_bytes-2.ensures.value ∙ c.text-2.ensures) c.in_ok-write_all-2.ensures.all in
+    let written = subst (Appends _ _) c.text-2.ensures c.in_ok-write_all-2.ensures.all in
     Lists-made g.L.ListStream.rules _ (g.L.ListStream.listing c.finish.new.self) _ over c.in_ok-ended.ensures.finished written

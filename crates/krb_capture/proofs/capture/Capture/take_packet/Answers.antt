@@ -1,4 +1,4 @@
-use Rattle.std.proofs.Common.{◌≡◌, ◌++◌, ◌∙◌, ap, subst, string_bytes}
+use Rattle.std.proofs.Common.{◌≡◌, ◌++◌, refl, sym, ◌∙◌, ap, subst}
 use Rattle.krb_list.specs.declared.capture.CaptureCounts.{CaptureCounts}
 use Rattle.krb_capture.specs.Captures.{HasFollowed, Progress, and_counted, contents_taken, lines_of, packet_taken, with_packet}
 use Rattle.krb_capture.specs.Found.{Written, and_more}
@@ -55,5 +55,5 @@ returns-clause-listed c = on_ok-map c.take_contents-taken.result
       counts = counted;
     })
     ∙ ap (λ t. t ++ lines_of settings.form (contents_taken settings c.contents_of.result start).found) (ap (λ w. w.text) c.count_packet.ensures ∙ ap (λ w. w.text) c.swap_text.ensures.listing)
-    ∙ ap (λ x. string_bytes c.args.text.now ++ lines_of settings.form (contents_taken settings x start).found) c.contents_of.ensures)
+    ∙ ap (λ x. c.args.text.now ++ lines_of settings.form (contents_taken settings x start).found) c.contents_of.ensures)
     c.take_contents-taken.ensures.listed

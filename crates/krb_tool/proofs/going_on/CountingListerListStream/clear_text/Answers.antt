@@ -1,16 +1,16 @@
-use Rattle.std.proofs.Common.{◌++◌, string_bytes, refl, ap, ◌∙◌, append-nil}
+use Rattle.std.proofs.Common.{◌++◌, refl, ap, ◌∙◌, append-nil}
 use Rattle.krb_tool.specs.inner.CountingListers.{counting}
 use Rattle.krb_tool.proofs.Pieces.{Clears-made}
 use Rattle.krb_tool.proofs.going_on.CountingListerListStream.clear_text.Goals as goal
 
 pub returns : goal.returns
 returns c =
-    Clears-made counting c.clear.ensures.bytes refl refl refl
+    Clears-made counting c.clear.ensures refl refl refl
     (λ stream written h. record {
       listed = h.listed;
       goes_on = h.goes_on;
       known = h.known;
-      lines = ap (λ l. (written ++ string_bytes c.args.self.now.text) ++ l) c.clear.ensures.bytes ∙ append-nil (written ++ string_bytes c.args.self.now.text) ∙ h.lines;
+      lines = ap (λ l. (written ++ c.args.self.now.text) ++ l) c.clear.ensures ∙ append-nil (written ++ c.args.self.now.text) ∙ h.lines;
       messages = h.messages;
       refused = h.refused;
     })

@@ -20,7 +20,7 @@ returns c =
         listed = [];
         goes_on = subst (λ d. GoesOn (messages d.profile) c.new.result [] []) (sym same) (c.new.ensures.goes_on (ap (λ d. d.octets) nothing));
         known = none_unknown;
-        lines = c.new-2.ensures.bytes;
+        lines = c.new-2.ensures;
         messages = refl;
         refused = refl;
       };

@@ -15,7 +15,7 @@ returns c =
     let profile : c.with_profile.result.profile ≡ c.args.profile = ap (λ d. d.profile) nothing in
     IsNew-made stopping Begins-waits (ap (request_of c.args.form) nothing)
     (record {
-      listed = record { messages = []; decoded = subst (λ p. HasDecoded (messages p) c.with_profile.result [] []) (sym profile) c.with_profile.ensures.decoded; lines = c.new.ensures.bytes; counted = refl };
+      listed = record { messages = []; decoded = subst (λ p. HasDecoded (messages p) c.with_profile.result [] []) (sym profile) c.with_profile.ensures.decoded; lines = c.new.ensures; counted = refl };
       waits = ap (λ d. status_of (messages d.profile) d) nothing ∙ more-nothing (messages c.args.profile) c.args.profile c.args.limit _ _;
       few = omega arith;
     })

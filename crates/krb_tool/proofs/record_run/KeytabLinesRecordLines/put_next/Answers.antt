@@ -1,4 +1,4 @@
-use Rattle.std.proofs.Common.{None, Ok, refl, string_bytes}
+use Rattle.std.proofs.Common.{None, Ok, refl}
 use Rattle.krb_tool.proofs.KeytabLines.{record_added, stop_added, refusal_added}
 use Rattle.krb_tool.proofs.record_run.KeytabLinesRecordLines.put_next.Goals as goal
 
@@ -6,12 +6,12 @@ pub returns-in_ok-add_record-in-Ok-Item-clause-line : goal.returns-in_ok-add_rec
 returns-in_ok-add_record-in-Ok-Item-clause-line g c = λ left is_left.
     let old = c.args.self.now.records in
     let new = c.next_record.new.self in
-    rw (c.give_back.ensures.same_reader, c.give_back.ensures.same_state) (record_added c.args.self.now.form old.reader new.reader old.state new.state c.args.count left (string_bytes c.args.text.now) (string_bytes c.add_record.new.text) is_left c.in-Ok-Item.record (Ok None) (rw c.in-Ok-Item.field-0-is at c.in-Ok-Item.ensures.next) (refl, rw c.in-Ok-Item.field-0-is at c.in_ok-add_record-in-Ok-Item.ensures.line))
+    rw (c.give_back.ensures.same_reader, c.give_back.ensures.same_state) (record_added c.args.self.now.form old.reader new.reader old.state new.state c.args.count left c.args.text.now c.add_record.new.text is_left c.in-Ok-Item.record (Ok None) (rw c.in-Ok-Item.field-0-is at c.in-Ok-Item.ensures.next) (refl, rw c.in-Ok-Item.field-0-is at c.in_ok-add_record-in-Ok-Item.ensures.line))
 
 pub returns-in-Ok-Done-clause-line : goal.returns-in-Ok-Done-clause-line
 returns-in-Ok-Done-clause-line g c = λ left is_left.
-    stop_added c.args.self.now.form c.args.self.now.records.reader c.next_record.new.self.reader c.args.self.now.records.state c.next_record.new.self.state c.args.count left (string_bytes c.args.text.now) (string_bytes c.put_stop.new.text) is_left c.in-Ok-Done.stop c.put_stop.result (rw c.in-Ok-Done.field-0-is at c.in-Ok-Done.ensures.next) (rw c.in-Ok-Done.field-0-is at c.put_stop.ensures.line)
+    stop_added c.args.self.now.form c.args.self.now.records.reader c.next_record.new.self.reader c.args.self.now.records.state c.next_record.new.self.state c.args.count left c.args.text.now c.put_stop.new.text is_left c.in-Ok-Done.stop c.put_stop.result (rw c.in-Ok-Done.field-0-is at c.in-Ok-Done.ensures.next) (rw c.in-Ok-Done.field-0-is at c.put_stop.ensures.line)
 
 pub returns-in-Err-clause-line : goal.returns-in-Err-clause-line
 returns-in-Err-clause-line g c = λ left is_left.
-    refusal_added c.args.self.now.form c.args.self.now.records.reader c.next_record.new.self.reader c.args.self.now.records.state c.next_record.new.self.state c.args.count left (string_bytes c.args.text.now) (string_bytes c.put_keytab_fault.new.text) is_left c.in-Err.fault c.put_keytab_fault.result c.in-Err.ensures.next c.put_keytab_fault.ensures.refused
+    refusal_added c.args.self.now.form c.args.self.now.records.reader c.next_record.new.self.reader c.args.self.now.records.state c.next_record.new.self.state c.args.count left c.args.text.now c.put_keytab_fault.new.text is_left c.in-Err.fault c.put_keytab_fault.result c.in-Err.ensures.next c.put_keytab_fault.ensures.refused

@@ -1,6 +1,5 @@
-use Rattle.std.proofs.Common.{string_bytes}
 use Rattle.krb_tool.proofs.CredentialLines.{fault_added}
 use Rattle.krb_tool.proofs.record_run.NoLinesRecordLines.put_next.Goals as goal
 
 pub returns-clause-line : goal.returns-clause-line
-returns-clause-line c = λ left is_left. fault_added c.args.self.now.form c.args.self.now.fault left (string_bytes c.args.text.now) (string_bytes c.put_start_fault.new.text) c.put_start_fault.result is_left c.put_start_fault.ensures.refused
+returns-clause-line c = λ left is_left. fault_added c.args.self.now.form c.args.self.now.fault left c.args.text.now c.put_start_fault.new.text c.put_start_fault.result is_left c.put_start_fault.ensures.refused

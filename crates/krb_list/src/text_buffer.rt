@@ -1,0 +1,263 @@
+//! Text that grows.
+
+ghost use Rattle.std.specs.Prelude.{◌≡◌, ◌+◌, ◌++◌, ◌<◌, ◌≤◌, ◌∷◌, [], IfSome, OnErr, OnOk, decimal, length, string_bytes, take};
+ghost use Rattle.std.specs.Fmt.{signed_decimal};
+ghost use Rattle.std.specs.Str.{IsAscii, IsUtf8};
+
+use itoa::{Buffer, Integer};
+use std::alloc::{AllocError, Global};
+use std::fmt;
+use std::fmt::{Display, Write};
+use std::marker::Model;
+
+/// Text that grows, as a `String` does. What is appended is copied in place, without a call, unless memory
+/// has to be allocated for it. Contracts see the octets of the text.
+#[derive(Drop)]
+pub struct TextBuffer {
+    /// The text, and after it octets that are not used yet.
+    octets: Vec<u8>,
+    /// How many octets the text has.
+    size: usize,
+}
+
+impl Model for TextBuffer {
+    ghost use Rattle.std.specs.Prelude.{List, ℕ, ◌≤◌, length, take};
+    ghost use Rattle.std.specs.Str.{IsUtf8};
+
+    ghost Value = { List ℕ };
+
+    ghost view = { λ text. take text.size text.octets.items };
+
+    ghost invariant = { λ text. (text.size ≤ length text.octets.items) × IsUtf8 (take text.size text.octets.items) };
+}
+
+/// The least number of octets that memory is taken for.
+const LEAST: usize = 256;
+
+/// Makes a vector longer, so that n octets fit after those that are used, which stay. Its length is at
+/// least doubled, so that appending takes time by the octets that are appended.
+#[cold]
+#[inline(never)]
+fn grow(octets: &mut Vec<u8>, used: usize, more: usize) -> Result<(), AllocError>
+    requires { used ≤ length octets.old.items }
+    ensures same { OnOk result (take used octets.new.items ≡ take used octets.old.items) }
+    ensures fits { OnOk result (used + more ≤ length octets.new.items) }
+    ensures memory { OnErr result (octets.new.items ≡ octets.old.items) }
+{
+    let Some(needed) = used.checked_add(more) else {
+        return Err(AllocError);
+    };
+    let doubled = octets.len().saturating_mul(2);
+    octets.resize(needed.max(doubled).max(LEAST), 0)
+}
+
+/// Makes a vector longer if n octets do not fit after those that are used, which stay.
+#[inline(always)]
+fn make_fit(octets: &mut Vec<u8>, used: usize, more: usize) -> Result<(), AllocError>
+    requires { used ≤ length octets.old.items }
+    ensures same { OnOk result (take used octets.new.items ≡ take used octets.old.items) }
+    ensures fits { OnOk result (used + more ≤ length octets.new.items) }
+    ensures memory { OnErr result (octets.new.items ≡ octets.old.items) }
+{
+    if octets.len() - used < more {
+        grow(octets, used, more)
+    } else {
+        Ok(())
+    }
+}
+
+/// Copies octets over others, from a place on.
+#[inline(always)]
+fn overwrite(to: &mut [u8], place: usize, octets: &[u8])
+    requires { place + length octets.now ≤ length to.old }
+    ensures { take (place + length octets.now) to.new ≡ take place to.old ++ octets.now }
+{
+    to[place..place + octets.len()].copy_from_slice(octets);
+}
+
+/// Copies the first n octets and the last n, which are all of them.
+#[inline(always)]
+fn overwrite_ends(to: &mut [u8], place: usize, octets: &[u8], count: usize)
+    requires fits { place + length octets.now ≤ length to.old }
+    requires many { count ≤ length octets.now }
+    requires few { length octets.now ≤ count + count }
+    ensures { take (place + length octets.now) to.new ≡ take place to.old ++ octets.now }
+{
+    let others = octets.len() - count;
+    let (first, _) = octets.split_at(count);
+    let (_, last) = octets.split_at(others);
+    overwrite(to, place, first);
+    overwrite(to, place + others, last);
+}
+
+/// Copies octets over others, from a place on. Up to 32 are copied without a call of `memcpy`.
+#[inline(always)]
+fn copy_at(to: &mut [u8], place: usize, octets: &[u8])
+    requires { place + length octets.now ≤ length to.old }
+    ensures { take (place + length octets.now) to.new ≡ take place to.old ++ octets.now }
+{
+    match octets.len() {
+        4..8 => overwrite_ends(to, place, octets, 4),
+        8..16 => overwrite_ends(to, place, octets, 8),
+        16..=32 => overwrite_ends(to, place, octets, 16),
+        _ => overwrite(to, place, octets),
+    }
+}
+
+/// Copies octets after those that are used, which stay. Out of memory, nothing changes.
+#[inline(always)]
+fn put_after(octets: &mut Vec<u8>, used: usize, new: &[u8]) -> Result<(), AllocError>
+    requires { used ≤ length octets.old.items }
+    ensures fits { OnOk result (used + length new.now ≤ length octets.new.items) }
+    ensures text { OnOk result (take (used + length new.now) octets.new.items ≡ take used octets.old.items ++ new.now) }
+    ensures memory { OnErr result (octets.new.items ≡ octets.old.items) }
+{
+    make_fit(octets, used, new.len())?;
+    copy_at(octets, used, new);
+    Ok(())
+}
+
+impl TextBuffer {
+    /// Returns a text of no octets, which takes no memory yet.
+    pub fn new(alloc: Global) -> TextBuffer
+        ensures { result ≡ [] }
+    {
+        TextBuffer {
+            octets: Vec::new(alloc),
+            size: 0,
+        }
+    }
+
+    /// Returns the octets of the text.
+    pub fn octets(&self) -> &[u8]
+        ensures { result.now ≡ self.now }
+    {
+        &self.octets[..self.size]
+    }
+
+    /// Returns what allocates for the text.
+    pub(crate) fn allocator(&self) -> Global {
+        *self.octets.allocator()
+    }
+
+    /// Forgets the text, and keeps the memory.
+    pub fn clear(&mut self)
+        ensures { self.new ≡ [] }
+    {
+        self.size = 0;
+    }
+
+    /// Returns the text as a `String`, and copies nothing.
+    pub fn into_string(self) -> String
+        ensures { string_bytes result ≡ self }
+    {
+        let mut octets = self.octets;
+        octets.truncate(self.size);
+        // The text is UTF-8.
+        unsafe { String::from_utf8_unchecked(octets) }
+    }
+
+    /// Appends octets of UTF-8.
+    #[inline(always)]
+    fn append(&mut self, octets: &[u8]) -> Result<(), AllocError>
+        requires { IsUtf8 octets.now }
+        ensures { OnOk result (self.new ≡ self.old ++ octets.now) }
+    {
+        put_after(&mut self.octets, self.size, octets)?;
+        self.size += octets.len();
+        Ok(())
+    }
+
+    /// Appends text.
+    #[inline(always)]
+    pub fn push_str(&mut self, text: &str) -> Result<(), AllocError>
+        ensures { OnOk result (self.new ≡ self.old ++ text.now) }
+    {
+        self.append(text.as_bytes())
+    }
+
+    /// Appends octets of ASCII.
+    #[inline(always)]
+    pub fn push_ascii(&mut self, octets: &[u8]) -> Result<(), AllocError>
+        requires { IsAscii octets.now }
+        ensures { OnOk result (self.new ≡ self.old ++ octets.now) }
+    {
+        self.append(octets)
+    }
+
+    /// Appends a character of ASCII.
+    #[inline(always)]
+    pub fn push_octet(&mut self, octet: u8) -> Result<(), AllocError>
+        requires { octet < 128 }
+        ensures { OnOk result (self.new ≡ self.old ++ octet ∷ []) }
+    {
+        self.append(&[octet])
+    }
+
+    /// Appends a number in decimal. Most have one digit or two.
+    #[inline(always)]
+    pub fn push_number(&mut self, number: u64) -> Result<(), AllocError>
+        ensures { OnOk result (self.new ≡ self.old ++ decimal number) }
+    {
+        if number < 10 {
+            self.push_octet(b'0' + number as u8)
+        } else if number < 100 {
+            self.push_two_digits(number as u8)
+        } else {
+            self.push_integer(number)
+        }
+    }
+
+    /// Appends a number of two digits.
+    #[inline(always)]
+    fn push_two_digits(&mut self, number: u8) -> Result<(), AllocError>
+        requires { (10 ≤ number) × (number < 100) }
+        ensures { OnOk result (self.new ≡ self.old ++ decimal number) }
+    {
+        self.push_ascii(&[b'0' + number / 10, b'0' + number % 10])
+    }
+
+    /// Appends a number that may be negative in decimal.
+    #[inline(always)]
+    pub fn push_signed(&mut self, number: i64) -> Result<(), AllocError>
+        ensures { OnOk result (self.new ≡ self.old ++ signed_decimal number) }
+    {
+        if (0 <= number) & (number < 100) {
+            self.push_number(number as u64)
+        } else {
+            self.push_integer(number)
+        }
+    }
+
+    /// Appends a number of any type in decimal.
+    #[inline(never)]
+    pub fn push_integer<I: Integer>(&mut self, number: I) -> Result<(), AllocError>
+        ensures { OnOk result (self.new ≡ self.old ++ I.text number) }
+    {
+        let mut buffer = Buffer::new();
+        self.push_str(buffer.format(number))
+    }
+}
+
+impl Write for TextBuffer {
+    ghost write_str_gives = { λ old text new. new ≡ old ++ text };
+
+    fn write_str(&mut self, text: &str) -> fmt::Result {
+        match self.push_str(text) {
+            Ok(()) => Ok(()),
+            Err(_) => Err(fmt::Error),
+        }
+    }
+}
+
+impl TextBuffer {
+    /// Appends what a value shows. This is what `write!` calls.
+    pub fn write_fmt<D: Display + Drop>(&mut self, value: D) -> Result<(), AllocError>
+        ensures { OnOk result (IfSome (D.output value) (λ shown. self.new ≡ self.old ++ shown)) }
+    {
+        match self.write(value) {
+            Ok(()) => Ok(()),
+            Err(_) => Err(AllocError),
+        }
+    }
+}
