@@ -65,9 +65,11 @@ def time_walk(name, frames, messages, count):
         if subprocess.run(compiling, stderr=subprocess.DEVNULL).returncode != 0:
             print(f"{name} by a walk in C: skipped, there is no cc")
             return
-        if output_of(KRBLS, stream.name) != output_of([walk], stream.name):
+        # Begun as krbls is.
+        command = ["bash", "-c", f"ulimit -v 8192; exec {walk}"]
+        if output_of(KRBLS, stream.name) != output_of(command, stream.name):
             sys.exit(f"{name}: the walk in C prints other lines")
-        listing, walking = best_runs([KRBLS, [walk]], stream.name, runs=21)
+        listing, walking = best_runs([KRBLS, command], stream.name, runs=21)
     print(
         f"{messages} {name}, {size} octets: list {rate(size, listing)}; walk in C {rate(size, walking)}: "
         f"listing takes {listing / walking:.2f} times the time of the walk"

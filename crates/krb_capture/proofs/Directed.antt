@@ -89,30 +89,30 @@ module _ (limit : ℕ) (flow : Flow) (service : Service) where
     parts_after taken left octets after parts e = append_assoc taken octets after ∙ ap (λ (l : List ℕ). taken ++ l) (sym e) ∙ parts
 
     -- at the end of the capture
-    at_end : (before : List Piece) (progress : Progress) (taken : List ℕ) → Holds stream first before progress → taken ++ drop progress.due stream ≡ stream → AllCaptured stream before → end_found service limit taken (ending progress) ≡ found_with service limit taken (drop progress.due stream) ++ end
+    at_end : (before : List Piece) (progress : Progress) (taken : List ℕ) → Holds stream first before progress → taken ++ drop progress.expected stream ≡ stream → AllCaptured stream before → end_found service limit taken (ending progress) ≡ found_with service limit taken (drop progress.expected stream) ++ end
     at_end before progress taken h parts all =
-        let full : length stream ≤ progress.due = all_taken stream first before progress h all in
-        let none : drop progress.due stream ≡ [] = drop_of_length-le stream full in
+        let full : length stream ≤ progress.expected = all_taken stream first before progress h all in
+        let none : drop progress.expected stream ≡ [] = drop_of_length-le stream full in
         ap₂ (λ (s : List ℕ) (e : End). end_found service limit s e) (sym (append-nil taken) ∙ ap (λ (l : List ℕ). taken ++ l) (sym none) ∙ parts) (is_complete stream first before progress h full)
         ∙ ap (λ (l : List Found). l ++ end) (sym (ap (found_with service limit taken) none ∙ found_with-none service limit taken))
 
     -- the octets before a place were taken, and those after it are found with a segment and later
-    with_piece : (state : State) (held taken : List ℕ) (how : Option Beginning) (due : ℕ) (before pieces : List Piece) (piece : Piece) → beginning_found how ≡ [] → stream_at how held ≡ taken → taken ++ drop due stream ≡ stream → AreSegmentsOf stream first (piece ∷ before) pieces → Comes stream first (piece ∷ before) due how (step state piece.1) → ((next : Progress) (taken : List ℕ) → Holds stream first (piece ∷ before) next → taken ++ drop next.due stream ≡ stream → direction_found limit (sent_at (Open next) taken) (segments_of pieces) ≡ found_with service limit taken (drop next.due stream) ++ end) → direction_found limit (sent_at state held) (piece.1 ∷ segments_of pieces) ≡ found_with service limit taken (drop due stream) ++ end
+    with_piece : (state : State) (held taken : List ℕ) (how : Option Beginning) (due : ℕ) (before pieces : List Piece) (piece : Piece) → beginning_found how ≡ [] → stream_at how held ≡ taken → taken ++ drop due stream ≡ stream → AreSegmentsOf stream first (piece ∷ before) pieces → Comes stream first (piece ∷ before) due how (step state piece.1) → ((next : Progress) (taken : List ℕ) → Holds stream first (piece ∷ before) next → taken ++ drop next.expected stream ≡ stream → direction_found limit (sent_at (Open next) taken) (segments_of pieces) ≡ found_with service limit taken (drop next.expected stream) ++ end) → direction_found limit (sent_at state held) (piece.1 ∷ segments_of pieces) ≡ found_with service limit taken (drop due stream) ++ end
     with_piece state held taken how due before pieces piece none at parts of comes later = by (step state piece.1) refl comes
       where
         by : (went : Outcome × State) → step state piece.1 ≡ went → Comes stream first (piece ∷ before) due how went → direction_found limit (sent_at state held) (piece.1 ∷ segments_of pieces) ≡ found_with service limit taken (drop due stream) ++ end_found service limit stream Complete
-        by went is (Goes octets next e front more) =
+        by went is (Goes octets next e prefix more) =
             found_after state (Open next) held taken octets how None piece.1 (is ∙ e) none at (segments_of pieces)
-            ∙ goes taken (drop due stream) octets parts (drop next.due stream) (direction_found limit (sent_at (Open next) (taken ++ octets)) (segments_of pieces)) front
-            (later next (taken ++ octets) more (parts_after taken (drop due stream) octets (drop next.due stream) parts front))
-        by went is (Ends octets e front ended) =
+            ∙ goes taken (drop due stream) octets parts (drop next.expected stream) (direction_found limit (sent_at (Open next) (taken ++ octets)) (segments_of pieces)) prefix
+            (later next (taken ++ octets) more (parts_after taken (drop due stream) octets (drop next.expected stream) parts prefix))
+        by went is (Ends octets e prefix ended) =
             found_after state Ended held taken octets how (Some Complete) piece.1 (is ∙ e) none at (segments_of pieces)
-            ∙ stops taken (drop due stream) octets parts (direction_found limit (sent_at Ended (taken ++ octets)) (segments_of pieces)) front (none_after stream first (piece ∷ before) pieces (taken ++ octets) of ended)
+            ∙ stops taken (drop due stream) octets parts (direction_found limit (sent_at Ended (taken ++ octets)) (segments_of pieces)) prefix (none_after stream first (piece ∷ before) pieces (taken ++ octets) of ended)
 
-    open_found : (pieces before : List Piece) (progress : Progress) (taken : List ℕ) → Holds stream first before progress → taken ++ drop progress.due stream ≡ stream → AreSegmentsOf stream first before pieces → ((place : ℕ) → place < length stream → IsCaptured place before ⊎ IsCaptured place pieces) → direction_found limit (sent_at (Open progress) taken) (segments_of pieces) ≡ found_with service limit taken (drop progress.due stream) ++ end
+    open_found : (pieces before : List Piece) (progress : Progress) (taken : List ℕ) → Holds stream first before progress → taken ++ drop progress.expected stream ≡ stream → AreSegmentsOf stream first before pieces → ((place : ℕ) → place < length stream → IsCaptured place before ⊎ IsCaptured place pieces) → direction_found limit (sent_at (Open progress) taken) (segments_of pieces) ≡ found_with service limit taken (drop progress.expected stream) ++ end
     open_found [] before progress taken h parts of all = at_end before progress taken h parts (λ place within. captured_none place before (all place within))
     open_found (piece ∷ pieces) before progress taken h parts of all =
-        with_piece (Open progress) taken taken None progress.due before pieces piece refl refl parts of.1 (comes_next stream short first before progress h piece of.0)
+        with_piece (Open progress) taken taken None progress.expected before pieces piece refl refl parts of.1 (comes_next stream short first before progress h piece of.0)
         (λ next taken h parts. open_found pieces (piece ∷ before) next taken h parts of.1 (λ place within. captured_on place before pieces piece (all place within)))
 
   -- from the SYN on

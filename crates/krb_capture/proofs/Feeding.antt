@@ -62,7 +62,7 @@ module _ (old new : Skipping) (piece : List ℕ) (fed : Fed) (f : FeedsAfter (me
       by zero z = absurd (differs (sym w ∙ sym (same z) ∙ status_by answer e never))
       by (suc n) z = omega (arith, z)
 
-  -- fewer octets are left, or a frame was due
+  -- fewer octets are left, or a frame was ready
   pub fewer : (answer : Status) → fed.status ≡ answer → (status.More ≡ answer → ⊥) → (status.Memory ≡ answer → ⊥) → length (drop fed.used piece) + 0 < length piece + frames_due (status_in old)
   fewer answer e differs never = by (status_in old) refl
     where

@@ -32,9 +32,9 @@ all_done (x ∷ xs) ys d e = (d.0, all_done xs ys d.1 e)
 
 one_done : (x : Entry) (l : List Entry) → is_cut x ≡ false → is_unknown x ≡ false → framed_entries (x ∷ l) ≡ before_frames (entry_found x ∷ []) (framed_entries l)
 one_done (Contents contents) l c u = refl
-one_done (Fault place reason front) l c u = λ i. record {
-  found = map entry_found (cond (not (c i)) (Fault place reason front ∷ filter (λ entry. not (is_cut entry)) l) (filter (λ entry. not (is_cut entry)) l));
-  partial = if c i then front else cut_octets l;
+one_done (Fault place reason prefix) l c u = λ i. record {
+  found = map entry_found (cond (not (c i)) (Fault place reason prefix ∷ filter (λ entry. not (is_cut entry)) l) (filter (λ entry. not (is_cut entry)) l));
+  partial = if c i then prefix else cut_octets l;
   over = u i || list_any is_unknown l;
 }
 

@@ -20,7 +20,7 @@ use Rattle.krb_frame.proofs.Ends.{refused_end}
 use Rattle.krb_frame.proofs.DecoderFrames.{more-nothing}
 use Rattle.krb_list.specs.declared.origin.Origin.{Origin}
 use Rattle.krb_capture.specs.Found.{Whole, Written, with_all, with_found}
-use Rattle.krb_capture.specs.Listed.{Lists, ListsFront, ListsLast, ListsOne, ListsRefused, status_in}
+use Rattle.krb_capture.specs.Listed.{Lists, ListsPrefix, ListsLast, ListsOne, ListsRefused, status_in}
 use Rattle.krb_capture.specs.Streams.{entry_found}
 use Rattle.krb_capture.specs.Taken.{IsDone}
 use Rattle.krb_capture.proofs.Found.{with_all-append}
@@ -68,42 +68,42 @@ lists-both a b c xs ys origin u v w l m = record {
     between : (stream : List ℕ) (first : List Entry) → GoesOn (messages a.current.profile) a stream first → GoesOn (messages b.current.profile) b (stream ++ xs) (first ++ l.frames)
     between stream first g = subst (λ p. GoesOn (messages p) b (stream ++ xs) (first ++ l.frames)) (sym l.profile) (l.goes_on stream first g)
 
-pub front-start : (s : Skipping) (piece : List ℕ) (origin : Origin) (w : Written) → ListsFront s s piece piece origin w w
-front-start s piece origin w = record { used = []; parts = refl; lists = lists-none s origin w }
+pub prefix-start : (s : Skipping) (piece : List ℕ) (origin : Origin) (w : Written) → ListsPrefix s s piece piece origin w w
+prefix-start s piece origin w = record { used = []; parts = refl; lists = lists-none s origin w }
 
-pub front-more : (a b c : Skipping) (piece rest : List ℕ) (n : ℕ) (origin : Origin) (u v w : Written) → ListsFront a b piece rest origin u v → Lists b c (take n rest) origin v w → ListsFront a c piece (drop n rest) origin u w
-front-more a b c piece rest n origin u v w l m = record {
+pub prefix-more : (a b c : Skipping) (piece rest : List ℕ) (n : ℕ) (origin : Origin) (u v w : Written) → ListsPrefix a b piece rest origin u v → Lists b c (take n rest) origin v w → ListsPrefix a c piece (drop n rest) origin u w
+prefix-more a b c piece rest n origin u v w l m = record {
   used = l.used ++ take n rest;
   parts = l.parts ∙ ap (λ x. l.used ++ x) (sym (take-append-drop n rest)) ∙ sym (append_assoc l.used (take n rest) (drop n rest));
   lists = lists-both a b c l.used (take n rest) origin u v w l.lists m;
 }
 
--- what is at the front of the rest, and then the rest of that
-pub front-both : (a b c : Skipping) (piece rest others : List ℕ) (origin : Origin) (u v w : Written) → ListsFront a b piece rest origin u v → ListsFront b c rest others origin v w → ListsFront a c piece others origin u w
-front-both a b c piece rest others origin u v w l m = record {
+-- a prefix of the rest, and then the rest of that
+pub prefix-both : (a b c : Skipping) (piece rest others : List ℕ) (origin : Origin) (u v w : Written) → ListsPrefix a b piece rest origin u v → ListsPrefix b c rest others origin v w → ListsPrefix a c piece others origin u w
+prefix-both a b c piece rest others origin u v w l m = record {
   used = l.used ++ m.used;
   parts = l.parts ∙ ap (λ x. l.used ++ x) m.parts ∙ sym (append_assoc l.used m.used others);
   lists = lists-both a b c l.used m.used origin u v w l.lists m.lists;
 }
 
-pub front_shorter : (a b : Skipping) (piece rest : List ℕ) (origin : Origin) (u v : Written) → ListsFront a b piece rest origin u v → length rest ≤ length piece
-front_shorter a b piece rest origin u v l = omega (arith, ap length l.parts, length-append l.used rest)
+pub prefix_shorter : (a b : Skipping) (piece rest : List ℕ) (origin : Origin) (u v : Written) → ListsPrefix a b piece rest origin u v → length rest ≤ length piece
+prefix_shorter a b piece rest origin u v l = omega (arith, ap length l.parts, length-append l.used rest)
 
 -- one frame after octets
-pub front-one : (a b c : Skipping) (piece rest : List ℕ) (origin : Origin) (u v w : Written) → ListsFront a b piece rest origin u v → ListsOne b c origin v w → ListsFront a c piece rest origin u w
-front-one a b c piece rest origin u v w l m = record {
+pub prefix-one : (a b c : Skipping) (piece rest : List ℕ) (origin : Origin) (u v w : Written) → ListsPrefix a b piece rest origin u v → ListsOne b c origin v w → ListsPrefix a c piece rest origin u w
+prefix-one a b c piece rest origin u v w l m = record {
   used = l.used;
   parts = l.parts;
   lists = subst (λ x. Lists a c x origin u w) (append-nil l.used) (lists-both a b c l.used [] origin u v w l.lists m.lists);
 }
 
 -- all of a piece
-pub front-all : (a b : Skipping) (piece rest : List ℕ) (n : ℕ) (origin : Origin) (u v : Written) → ListsFront a b piece (drop n rest) origin u v → length rest ≤ n → Lists a b piece origin u v
-front-all a b piece rest n origin u v l h = subst (λ x. Lists a b x origin u v) (sym (l.parts ∙ ap (λ x. l.used ++ x) (drop_all n rest h) ∙ append-nil l.used)) l.lists
+pub prefix-all : (a b : Skipping) (piece rest : List ℕ) (n : ℕ) (origin : Origin) (u v : Written) → ListsPrefix a b piece (drop n rest) origin u v → length rest ≤ n → Lists a b piece origin u v
+prefix-all a b piece rest n origin u v l h = subst (λ x. Lists a b x origin u v) (sym (l.parts ∙ ap (λ x. l.used ++ x) (drop_all n rest h) ∙ append-nil l.used)) l.lists
 
 -- ---- the frame that is passed
-pub front-passed : (s : Skipping) (piece : List ℕ) (passed : Passed) (origin : Origin) (before after : Written) → PassesEntry (messages s.current.profile) s piece passed → after ≡ with_found origin (Whole (message_of_view passed.message)) before → ListsFront s s piece passed.rest.now origin before after
-front-passed s piece passed origin before after p l = record {
+pub prefix-passed : (s : Skipping) (piece : List ℕ) (passed : Passed) (origin : Origin) (before after : Written) → PassesEntry (messages s.current.profile) s piece passed → after ≡ with_found origin (Whole (message_of_view passed.message)) before → ListsPrefix s s piece passed.rest.now origin before after
+prefix-passed s piece passed origin before after p l = record {
   used = framed (contents_of passed);
   parts = p.passes.parts;
   lists = record {
@@ -212,7 +212,7 @@ pub one-of : (old new : Skipping) (origin : Origin) (before after : Written) (re
 one-of old new origin before after refusal true e l = l
 one-of old new origin before after refusal false e l = absurd cc
 
-pub last-of : (a b c : Skipping) (piece rest : List ℕ) (origin : Origin) (u v w : Written) (refusal : Refusal) (skipped : Bool) → ListsFront a b piece rest origin u v → skipped ≡ false → ListsRefused skipped b refusal c origin v w → ListsLast a c piece origin u w
-last-of a b c piece rest origin u v w refusal true front e l = absurd cc
-last-of a b c piece rest origin u v w refusal false front e l =
-    subst (λ d. ListsLast a d piece origin u w) (sym l.0) (record { rest = rest; between = v; refusal = refusal; front = front; stopped = l.1 })
+pub last-of : (a b c : Skipping) (piece rest : List ℕ) (origin : Origin) (u v w : Written) (refusal : Refusal) (skipped : Bool) → ListsPrefix a b piece rest origin u v → skipped ≡ false → ListsRefused skipped b refusal c origin v w → ListsLast a c piece origin u w
+last-of a b c piece rest origin u v w refusal true prefix e l = absurd cc
+last-of a b c piece rest origin u v w refusal false prefix e l =
+    subst (λ d. ListsLast a d piece origin u w) (sym l.0) (record { rest = rest; between = v; refusal = refusal; prefix = prefix; stopped = l.1 })

@@ -85,23 +85,23 @@ module _ (limit : ℕ) (stream : List ℕ) (place : ℕ) (reason : Why) (four : 
   abbrev n : ℕ
   n = number (take 4 stream)
 
-  abbrev front : List ℕ
-  front = take (place + 1) stream
+  abbrev prefix : List ℕ
+  prefix = take (place + 1) stream
 
   abbrev entry : Entry
   entry = Fault place reason (take (place + 1) stream)
 
-  front_size : length front ≡ place + 1
-  front_size = omega (arith, inside, length-take (place + 1) stream)
+  prefix_size : length prefix ≡ place + 1
+  prefix_size = omega (arith, inside, length-take (place + 1) stream)
 
-  front_length : take 4 front ≡ take 4 stream
-  front_length = take-take 4 (place + 1) stream (omega (arith, after_length))
+  prefix_length : take 4 prefix ≡ take 4 stream
+  prefix_length = take-take 4 (place + 1) stream (omega (arith, after_length))
 
   not_cut : is_cut entry ≡ false
-  not_cut = lt-leb (length front) place (omega (arith, front_size))
+  not_cut = lt-leb (length prefix) place (omega (arith, prefix_size))
 
-  reaches : nat_lt place (length front) ≡ true
-  reaches = lt-ltb place (length front) (omega (arith, front_size))
+  reaches : nat_lt place (length prefix) ≡ true
+  reaches = lt-ltb place (length prefix) (omega (arith, prefix_size))
 
   length_more : (more : List ℕ) → number (take 4 (stream ++ more)) ≡ n
   length_more more = ap number (take-append-le 4 stream more four)
@@ -114,13 +114,13 @@ module _ (limit : ℕ) (stream : List ℕ) (place : ℕ) (reason : Why) (four : 
   -- its length is not known
   known_stopped : 2 ^ 31 ≤ n → Known limit stream
   known_stopped big =
-      let unknown : is_unknown entry ≡ true = ap₂ (λ (a b : Bool). a && b) reaches (ap (λ l. nat_le (2 ^ 31) (number l)) front_length ∙ le-leb (2 ^ 31) n big) in
+      let unknown : is_unknown entry ≡ true = ap₂ (λ (a b : Bool). a && b) reaches (ap (λ l. nat_le (2 ^ 31) (number l)) prefix_length ∙ le-leb (2 ^ 31) n big) in
       Stopped [] entry tt not_cut unknown (λ more. refused_at more ∙ rw (length_more more, le-leb (2 ^ 31) n big) refl)
 
   -- it is known
   module _ (short : n < 2 ^ 31) where
     done : IsDone entry
-    done = (not_cut, ap₂ (λ (a b : Bool). a && b) reaches (ap (λ l. nat_le (2 ^ 31) (number l)) front_length ∙ lt-leb (2 ^ 31) n short))
+    done = (not_cut, ap₂ (λ (a b : Bool). a && b) reaches (ap (λ l. nat_le (2 ^ 31) (number l)) prefix_length ∙ lt-leb (2 ^ 31) n short))
 
     next_at : (more : List ℕ) → entries (messages Lenient) limit (stream ++ more) ≡ entry ∷ entries (messages Lenient) limit (drop (4 + n) (stream ++ more))
     next_at more = refused_at more ∙ rw (length_more more, lt-leb (2 ^ 31) n short) refl

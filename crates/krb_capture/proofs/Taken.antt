@@ -56,23 +56,23 @@ module _ (old new : Skipping) (octets : List ℕ) (origin : Origin) (before afte
 -- the last of them has no known length
 module _ (old new : Skipping) (piece : List ℕ) (origin : Origin) (before after : Written) (lenient : old.current.profile ≡ Lenient) (l : ListsLast old new piece origin before after) (stream : List ℕ) (w : Waits old stream) (limit : ℕ) (n : old.current.limit ≡ limit) where
   abbrev pub frames : List Entry
-  frames = l.front.lists.frames
+  frames = l.prefix.lists.frames
 
   abbrev pub last : Entry
   last = Fault l.refusal.place l.refusal.why new.current.octets
 
   same : new.current.profile ≡ Lenient
-  same = l.front.lists.profile ∙ lenient
+  same = l.prefix.lists.profile ∙ lenient
 
   all_framed : (more : List ℕ) → framed services.Kerberos limit ((stream ++ piece) ++ more) ≡ last_framed (w.before ++ frames) l.refusal new.current.octets
   all_framed more =
       ap (framed services.Kerberos limit)
-      (ap (λ x. (stream ++ x) ++ more) l.front.parts
-      ∙ ap (λ x. x ++ more) (sym (append_assoc stream l.front.used l.rest))
-      ∙ append_assoc (stream ++ l.front.used) l.rest more)
-      ∙ framed-last limit new (stream ++ l.front.used) (w.before ++ frames) l.refusal (l.front.lists.limit ∙ n)
-      (lists-done old new l.front.used origin before l.between lenient l.front.lists stream w)
-      (lists-goes_on old new l.front.used origin before l.between lenient l.front.lists stream w)
+      (ap (λ x. (stream ++ x) ++ more) l.prefix.parts
+      ∙ ap (λ x. x ++ more) (sym (append_assoc stream l.prefix.used l.rest))
+      ∙ append_assoc (stream ++ l.prefix.used) l.rest more)
+      ∙ framed-last limit new (stream ++ l.prefix.used) (w.before ++ frames) l.refusal (l.prefix.lists.limit ∙ n)
+      (lists-done old new l.prefix.used origin before l.between lenient l.prefix.lists stream w)
+      (lists-goes_on old new l.prefix.used origin before l.between lenient l.prefix.lists stream w)
       (subst (λ p. status_of (messages p) new.current ≡ status.Refused l.refusal) same l.stopped.refused)
       (subst (λ p. rest_to_come (messages p) new.current ≡ None) same l.stopped.unknown)
       (l.rest ++ more)
@@ -93,7 +93,7 @@ module _ (old new : Skipping) (piece : List ℕ) (origin : Origin) (before after
   pub last-listed : after ≡ with_all origin (found_with services.Kerberos limit stream piece) before
   last-listed =
       l.stopped.listed
-      ∙ ap (with_found origin (entry_found last)) l.front.lists.listed
+      ∙ ap (with_found origin (entry_found last)) l.prefix.lists.listed
       ∙ sym (with_all-append origin (map entry_found frames) (entry_found last ∷ []) before)
       ∙ ap (λ x. with_all origin x before) (sym last-found)
 
@@ -128,8 +128,8 @@ takes-some old new true piece origin before after o e l = record {
     waits limit stream t = subst (λ b. WaitsUnless b old.decoder limit stream) o t.state
 takes-some old new false piece origin before after o e l = record {
   took = λ limit stream t. record {
-    profile = l.front.lists.profile ∙ t.profile;
-    limit_is = l.front.lists.limit ∙ t.limit_is;
+    profile = l.prefix.lists.profile ∙ t.profile;
+    limit_is = l.prefix.lists.limit ∙ t.limit_is;
     state = subst (λ b. WaitsUnless b new.decoder limit (stream ++ piece)) (sym e) (last-over old.decoder new.decoder piece origin before after t.profile l stream (waits limit stream t) limit t.limit_is);
   };
   listed = λ limit stream t. last-listed old.decoder new.decoder piece origin before after t.profile l stream (waits limit stream t) limit t.limit_is;

@@ -139,7 +139,7 @@ end_text settings progress =
 abbrev pub is_clean : CaptureCounts → Bool
 is_clean counts = (counts.refused == 0 && counts.lost == 0) && counts.unread == 0
 
--- ---- what a capture keeps stands for its progress
+-- ---- what a capture keeps represents its progress
 pub record HasFollowed (capture : Capture) (settings : Settings) (progress : Progress) : Type 0 where
   pub port : capture.port ≡ settings.port
   pub form : capture.listing.form ≡ settings.form

@@ -9,7 +9,7 @@ use Rattle.krb_packet.specs.declared.contents.Segment.{Segment}
 use Rattle.krb_capture.specs.contracts.flow.FlowOrd.TheImpl as flow_order
 use Rattle.krb_capture.specs.Flows.{flow_between}
 use Rattle.krb_capture.specs.Found.{Found}
-use Rattle.krb_capture.specs.Sending.{Sent, StandsFor, after_segment, last_found, nothing_sent, segment_found, step_of}
+use Rattle.krb_capture.specs.Sending.{Sent, Represents, after_segment, last_found, nothing_sent, segment_found, step_of}
 use Rattle.krb_capture.specs.declared.directions.Directions.{Directions}
 use Rattle.krb_capture.specs.declared.flow.Flow.{Flow}
 use Rattle.krb_capture.specs.declared.flow.Service.{Service}
@@ -123,15 +123,15 @@ abbrev pub last_of : ℕ → List (ℕ × Sent) → List (Flow × Found)
 last_of limit [] = []
 last_of limit (first ∷ others) = in_flow first.1.flow (last_found limit first.1) ++ last_of limit others
 
--- ---- what is kept stands for a table, with frames of at most n octets
-abbrev pub AllStand : ℕ → List (ℕ × Box Sending Global) → List (ℕ × Sent) → Type 0
-AllStand limit [] [] = Unit {0}
-AllStand limit [] (first ∷ others) = ⊥
-AllStand limit (first ∷ others) [] = ⊥
-AllStand limit (first ∷ others) (sent ∷ rest) = (first.0 ≡ sent.0) × StandsFor first.1.value limit sent.1 × AllStand limit others rest
+-- ---- the directions that are kept represent a table, with frames of at most n octets
+abbrev pub AllRepresented : ℕ → List (ℕ × Box Sending Global) → List (ℕ × Sent) → Type 0
+AllRepresented limit [] [] = Unit {0}
+AllRepresented limit [] (first ∷ others) = ⊥
+AllRepresented limit (first ∷ others) [] = ⊥
+AllRepresented limit (first ∷ others) (sent ∷ rest) = (first.0 ≡ sent.0) × Represents first.1.value limit sent.1 × AllRepresented limit others rest
 
 pub record HoldsTable (directions : Directions) (limit : ℕ) (table : Table) : Type 0 where
   pub limit_is : directions.limit ≡ limit
   pub numbers : directions.numbers.entries ≡ table.numbers
-  pub active : AllStand limit directions.active.entries table.active
+  pub active : AllRepresented limit directions.active.entries table.active
   pub ended : directions.ended.entries ≡ table.ended

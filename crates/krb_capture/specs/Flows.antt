@@ -1,5 +1,5 @@
 -- Flows, what they carry, and the packets with which records are due.
-use Rattle.std.specs.Prelude.{ℕ, ◌+◌, ◌*◌, ◌^◌, ◌||◌, ◌==◌, if◌then◌else◌, Option, Some, None}
+use Rattle.std.specs.Prelude.{ℕ, ◌||◌, ◌==◌, if◌then◌else◌, Option, Some, None}
 use Rattle.krb_packet.specs.declared.contents.Endpoint.{Endpoint}
 use Rattle.krb_packet.specs.declared.packet.Packet.{Packet}
 use Rattle.krb_list.specs.declared.origin.Origin.{Origin}
@@ -16,9 +16,9 @@ service_of port source target =
     else if source.port == 464 || target.port == 464 then Some services.Passwords
     else None
 
--- the flow from one end to another, with the number of both ports
+-- the flow from one end to another, by its ports first
 abbrev pub flow_between : Endpoint → Endpoint → Flow
-flow_between source target = record { ports = source.port * 2 ^ 16 + target.port; source = source; target = target }
+flow_between source target = record { source_port = source.port; target_port = target.port; source = source; target = target }
 
 abbrev pub due_with : Packet → Due
 due_with packet = record { packet = packet.number; time = packet.time }

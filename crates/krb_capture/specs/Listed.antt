@@ -25,12 +25,12 @@ abbrev pub status_in : Skipping → Status
 status_in decoder = status_of (messages decoder.current.profile) decoder.current
 
 -- the same of the octets of a piece before the rest
-pub record ListsFront (old new : Skipping) (piece rest : List ℕ) (origin : Origin) (before after : Written) : Type 0 where
+pub record ListsPrefix (old new : Skipping) (piece rest : List ℕ) (origin : Origin) (before after : Written) : Type 0 where
   pub used : List ℕ
   pub parts : piece ≡ used ++ rest
   pub lists : Lists old new used origin before after
 
--- one frame was listed, and the next one is due
+-- one frame was listed, and the next one is to be listed
 pub record ListsOne (old new : Skipping) (origin : Origin) (before after : Written) : Type 0 where
   pub lists : Lists old new [] origin before after
   pub waits : status_in new ≡ status.More
@@ -51,7 +51,7 @@ pub record ListsLast (old new : Skipping) (piece : List ℕ) (origin : Origin) (
   pub rest : List ℕ
   pub between : Written
   pub refusal : Refusal
-  pub front : ListsFront old new piece rest origin before between
+  pub prefix : ListsPrefix old new piece rest origin before between
   pub stopped : IsStopped new refusal origin between after
 
 -- the frames of a piece were listed, and more can follow, or none

@@ -15,9 +15,9 @@ most_octets = 2147483647
 
 -- the path of the field that has the last of these octets of a message of n octets
 unfoldable pub path_of : ℕ → List ℕ → Option (List ℕ)
-path_of size front = if nat_lt most_octets size then None else message_path Lenient size front
+path_of size prefix = if nat_lt most_octets size then None else message_path Lenient size prefix
 
--- a message of n octets that stands after others, and of which these are there, is refused
+-- a message of n octets that follows others, and of which these are present, is refused
 abbrev pub refused_found : ℕ → ℕ → List ℕ → Refusal → Found
 refused_found before size octets refusal =
     Faulty (record { place = before + refusal.place; why = refusal.why }) (path_of size (take (refusal.place + 1) octets))
@@ -31,8 +31,8 @@ unfoldable pub message_found : ℕ → List ℕ → Found
 message_found before octets = found_unless (refusal_of Lenient octets) before octets
 
 -- why the first octets of a message of n octets are refused, if they are
-abbrev pub front_refusal : ℕ → List ℕ → Option Refusal
-front_refusal size octets =
+abbrev pub prefix_refusal : ℕ → List ℕ → Option Refusal
+prefix_refusal size octets =
     if nat_lt most_octets size then Some (record { place = 0; why = why.TooLong }) else refused (judgement Lenient size octets)
 
 abbrev pub missing_unless : Option Refusal → ℕ → List ℕ → Found
@@ -41,4 +41,4 @@ missing_unless (Some refusal) size octets = refused_found 0 size octets refusal
 
 -- the first octets of a message of n octets, of which the others are not in the capture
 unfoldable pub cut_found : ℕ → List ℕ → Found
-cut_found size octets = missing_unless (front_refusal size octets) size octets
+cut_found size octets = missing_unless (prefix_refusal size octets) size octets

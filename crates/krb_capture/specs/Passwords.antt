@@ -10,7 +10,7 @@ use Rattle.krb_capture.specs.declared.password.Field.TheVariants as fields
 use Rattle.krb_capture.specs.declared.password.Fault.{Fault}
 use Rattle.krb_capture.specs.declared.password.Header.{Header}
 
--- how many octets stand before a field of the header
+-- the number of octets before a field of the header
 abbrev pub place_of : Field → ℕ
 place_of fields.Length = 0
 place_of fields.Version = 2
@@ -49,7 +49,7 @@ header octets =
     and_then (number fields.ApLength octets) (λ ap.
     checked (length octets) all version ap)))
 
--- a part that stands after others, unless it is left out
+-- a part that follows others, unless it is left out
 abbrev pub part_found : ℕ → List ℕ → List Found
 part_found before [] = []
 part_found before (octet ∷ octets) = message_found before (octet ∷ octets) ∷ []

@@ -68,7 +68,7 @@ abbrev pub last_found : ℕ → Sent → List Found
 last_found limit sent = end_if sent.service limit sent.stream (end_of sent.state)
 
 -- what is kept of a direction, with frames of at most n octets
-pub record StandsFor (kept : Sending) (limit : ℕ) (sent : Sent) : Type 0 where
+pub record Represents (kept : Sending) (limit : ℕ) (sent : Sent) : Type 0 where
   pub limit_is : kept.limit ≡ limit
   pub flow : kept.flow ≡ sent.flow
   pub service : kept.service ≡ sent.service

@@ -32,22 +32,22 @@ frame_path octets = path_of (number (take 4 octets)) (drop 4 octets)
 -- A frame is refused at an octet of it; the octets that are there of one that is cut end before that place, and it is found at the end alone.
 abbrev pub is_cut : Entry → Bool
 is_cut (Contents contents) = false
-is_cut (Fault place reason front) = nat_le (length front) place
+is_cut (Fault place reason prefix) = nat_le (length prefix) place
 
 -- a frame is refused whose length has its high bit set
 abbrev pub is_unknown : Entry → Bool
 is_unknown (Contents contents) = false
-is_unknown (Fault place reason front) = nat_lt place (length front) && nat_le (2 ^ 31) (number (take 4 front))
+is_unknown (Fault place reason prefix) = nat_lt place (length prefix) && nat_le (2 ^ 31) (number (take 4 prefix))
 
 abbrev pub entry_found : Entry → Found
 entry_found (Contents contents) = Whole (message_of_der contents)
-entry_found (Fault place reason front) = Faulty (record { place = place; why = reason }) (frame_path front)
+entry_found (Fault place reason prefix) = Faulty (record { place = place; why = reason }) (frame_path prefix)
 
 -- the octets of the frame that is cut, if one is
 abbrev pub cut_octets : List Entry → List ℕ
 cut_octets [] = []
 cut_octets (Contents contents ∷ others) = cut_octets others
-cut_octets (Fault place reason front ∷ others) = if nat_le (length front) place then front else cut_octets others
+cut_octets (Fault place reason prefix ∷ others) = if nat_le (length prefix) place then prefix else cut_octets others
 
 abbrev pub framed_entries : List Entry → Framed
 framed_entries found = record { found = map entry_found (filter (λ entry. not (is_cut entry)) found); partial = cut_octets found; over = list_any is_unknown found }

@@ -19,7 +19,7 @@ use krb_list::{CaptureCounts, Form, TextBuffer};
 use krb_packet::{Contents, Datagram, Fragment, Fragments, Packet, Segment, contents_of};
 use std::alloc::Global;
 
-/// What was found in the packets of a capture so far. It takes memory for the fragments of datagrams that
+/// What was found in the packets of a capture so far. It allocates for the fragments of datagrams that
 /// are not whole, and of each direction of a connection for its last frame and the octets that came early.
 /// Once a call was out of memory, what was found is not known any more: each later call is out of memory,
 /// too, and changes nothing.

@@ -6,7 +6,7 @@ ghost use Rattle.std.specs.Map.{lookup};
 ghost use Rattle.std.specs.Ordering.{nat_cmp};
 ghost use Rattle.krb_capture.specs.Captures.{over_tcp, with_each};
 ghost use Rattle.krb_capture.specs.Directions.{HoldsTable, Table, begins, begun, flow_cmp, flow_of, followed, gone_on, kept, last_of, no_directions, of_ended, of_known, with_room, without};
-ghost use Rattle.krb_capture.specs.Sending.{Sent, StandsFor};
+ghost use Rattle.krb_capture.specs.Sending.{Sent, Represents};
 
 use crate::flow::{Due, Flow, Service};
 use crate::listing::Listing;
@@ -139,8 +139,8 @@ impl Directions {
         due: Due,
         listing: &mut Listing,
     ) -> Result<(), Memory>
-        ensures table { OnOk result ((limit : ℕ) (table : Table) (sent : Sent) → HoldsTable self.old limit (without number table) → StandsFor sending.value limit sent → HoldsTable self.new limit (gone_on limit due.packet number sent segment.now table).table) }
-        ensures found { OnOk result ((limit : ℕ) (table : Table) (sent : Sent) → StandsFor sending.value limit sent → listing.new ≡ with_each (over_tcp due (gone_on limit due.packet number sent segment.now table).found) listing.old) }
+        ensures table { OnOk result ((limit : ℕ) (table : Table) (sent : Sent) → HoldsTable self.old limit (without number table) → Represents sending.value limit sent → HoldsTable self.new limit (gone_on limit due.packet number sent segment.now table).table) }
+        ensures found { OnOk result ((limit : ℕ) (table : Table) (sent : Sent) → Represents sending.value limit sent → listing.new ≡ with_each (over_tcp due (gone_on limit due.packet number sent segment.now table).found) listing.old) }
     {
         let mut sending = sending;
         let step = sending.take(segment, due, &mut self.waited, listing)?;
@@ -174,7 +174,7 @@ impl Directions {
         sending: Box<Sending>,
         step: Step,
     ) -> Result<(), Memory>
-        ensures { OnOk result ((limit : ℕ) (table : Table) (sent : Sent) → HoldsTable self.old limit table → StandsFor sending.value limit sent → HoldsTable self.new limit (kept flow number step sent table)) }
+        ensures { OnOk result ((limit : ℕ) (table : Table) (sent : Sent) → HoldsTable self.old limit table → Represents sending.value limit sent → HoldsTable self.new limit (kept flow number step sent table)) }
     {
         self.keep_number(flow, number, step.began)?;
         if step.ended {

@@ -13,9 +13,11 @@ const PASSWORD_PORT: u16 = 464;
 /// A flow of TCP: what one end of a connection sends to the other.
 #[derive(Clone, Copy, PartialEq, Eq, PartialOrd, Ord, Debug)]
 pub(crate) struct Flow {
-    /// The number of both ports. It comes first, since it tells most flows apart by itself, and flows are
+    /// The port of the source. The two ports come first, since they distinguish most flows, and flows are
     /// compared often.
-    pub(crate) ports: u32,
+    pub(crate) source_port: u16,
+    /// The port of the target.
+    pub(crate) target_port: u16,
     pub(crate) source: Endpoint,
     pub(crate) target: Endpoint,
 }
@@ -26,7 +28,8 @@ impl Flow {
         ensures { result ≡ flow_between source target }
     {
         Flow {
-            ports: u32::from(source.port) * (1 << 16) + u32::from(target.port),
+            source_port: source.port,
+            target_port: target.port,
             source,
             target,
         }

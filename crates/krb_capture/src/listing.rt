@@ -44,7 +44,7 @@ fn and_more(count: u64, more: u64) -> u64
     count.saturating_add(more)
 }
 
-/// Returns a text where it stands, if there is one.
+/// Returns a text, borrowed, if there is one.
 pub(crate) fn text_of(text: &Option<String>) -> Option<&str>
     ensures { option_copied result ≡ option_map string_bytes text.now }
 {

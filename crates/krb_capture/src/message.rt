@@ -4,7 +4,7 @@ ghost use Rattle.std.specs.Prelude.{◌≡◌, ◌+◌, ◌-◌, ◌^◌, ◌<�
 ghost use Rattle.std.specs.Option.{option_map};
 ghost use Rattle.krb_list.specs.Refusals.{path_in};
 ghost use Rattle.krb_capture.specs.Found.{Missing, with_found};
-ghost use Rattle.krb_capture.specs.Messages.{cut_found, front_refusal, message_found, path_of, refused_found};
+ghost use Rattle.krb_capture.specs.Messages.{cut_found, prefix_refusal, message_found, path_of, refused_found};
 
 use crate::listing::{Listing, text_of};
 use krb_der::{Memory, Profile, Refusal, Verdict, Why};
@@ -23,15 +23,15 @@ pub(crate) fn path_of(
     alloc: Global,
     form: Form,
     size: u64,
-    front: &[u8],
+    prefix: &[u8],
 ) -> Result<Option<String>, Memory>
-    requires present { length front.now ≤ size }
-    ensures { IfOk result (λ path. path_in form (option_map string_bytes path) ≡ path_in form (path_of size front.now)) }
+    requires present { length prefix.now ≤ size }
+    ensures { IfOk result (λ path. path_in form (option_map string_bytes path) ≡ path_in form (path_of size prefix.now)) }
 {
     if (form == Form::Lines) | (size > MOST_OCTETS) {
         return Ok(None);
     }
-    path(alloc, Profile::Lenient, size as u32, front)
+    path(alloc, Profile::Lenient, size as u32, prefix)
 }
 
 /// Returns the first `count` octets, or all if there are no more.
@@ -41,7 +41,7 @@ fn first(octets: &[u8], count: usize) -> &[u8]
     &octets[..octets.len().min(count)]
 }
 
-/// Lists octets that are refused as a message of `size` octets, which stands after `before` others.
+/// Lists octets that are refused as a message of `size` octets, which follows `before` others.
 pub(crate) fn list_refused(
     octets: &[u8],
     size: u64,
@@ -54,14 +54,14 @@ pub(crate) fn list_refused(
     requires fits { before + refusal.place < 2 ^ 32 }
     ensures { OnOk result (listing.new ≡ with_found origin.now (refused_found before size octets.now refusal) listing.old) }
 {
-    let front = first(octets, refusal.place as usize + 1);
-    let path = path_of(listing.allocator(), listing.form(), size, front)?;
+    let prefix = first(octets, refusal.place as usize + 1);
+    let path = path_of(listing.allocator(), listing.form(), size, prefix)?;
     let place = before + refusal.place;
     let why = refusal.why;
     listing.put_refusal(origin, Refusal { place, why }, text_of(&path))
 }
 
-/// Lists octets that stand after `before` others, as a message that is all there.
+/// Lists octets that follow `before` others, as a message that is all there.
 #[tactic(auto, unfolding(crate::specs::Messages::message_found))]
 pub(crate) fn list_message(
     octets: &[u8],
@@ -88,10 +88,10 @@ pub(crate) fn list_message(
 }
 
 /// Returns why the first octets of a message of `size` octets are refused, if they are.
-fn front_refusal(octets: &[u8], size: u64) -> Option<Refusal>
+fn prefix_refusal(octets: &[u8], size: u64) -> Option<Refusal>
     requires some { 0 < size }
     requires present { length octets.now ≤ size }
-    ensures { result ≡ front_refusal size octets.now }
+    ensures { result ≡ prefix_refusal size octets.now }
 {
     if size > MOST_OCTETS {
         return Some(Refusal {
@@ -117,7 +117,7 @@ pub(crate) fn list_cut_message(
     requires present { length octets.now ≤ size }
     ensures { OnOk result (listing.new ≡ with_found origin.now (cut_found size octets.now) listing.old) }
 {
-    match front_refusal(octets, size) {
+    match prefix_refusal(octets, size) {
         Some(refusal) => list_refused(octets, size, 0, refusal, origin, listing),
         None => list_missing(octets, size, origin, listing),
     }

@@ -5,7 +5,7 @@ ghost use Rattle.std.specs.Option.{option_map};
 ghost use Rattle.krb_list.specs.Refusals.{path_in};
 ghost use Rattle.krb_frame.specs.declared.decoder.Status.TheVariants as status;
 ghost use Rattle.krb_capture.specs.Found.{with_all};
-ghost use Rattle.krb_capture.specs.Listed.{ListsFront, ListsOne, ListsPiece, ListsRefused, status_in};
+ghost use Rattle.krb_capture.specs.Listed.{ListsPrefix, ListsOne, ListsPiece, ListsRefused, status_in};
 ghost use Rattle.krb_capture.specs.Streams.{cut_refusal, found_with, framed, frame_path};
 ghost use Rattle.krb_capture.specs.Taken.{TookMessages};
 ghost use Rattle.krb_capture.specs.declared.flow.Service.TheVariants as services;
@@ -77,7 +77,7 @@ impl MessageFrames {
     }
 }
 
-/// Lists the frames that lie whole at the front of octets, where they lie, and returns the octets after
+/// Lists the frames that lie whole at the beginning of octets, where they lie, and returns the octets after
 /// them. The decoder stays as it is.
 fn list_passed<'a>(
     decoder: &SkippingDecoder,
@@ -85,7 +85,7 @@ fn list_passed<'a>(
     origin: &Origin,
     listing: &mut Listing,
 ) -> Result<&'a [u8], Memory>
-    ensures { IfOk result (λ rest. ListsFront decoder.now decoder.now octets.now rest.now origin.now listing.old listing.new) }
+    ensures { IfOk result (λ rest. ListsPrefix decoder.now decoder.now octets.now rest.now origin.now listing.old listing.new) }
 {
     let mut rest = octets;
     while let Some(passed) = decoder.pass(rest) {

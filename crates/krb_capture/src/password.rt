@@ -9,7 +9,7 @@ use crate::message::list_message;
 use krb_der::{Memory, Refusal, Why};
 use krb_list::Origin;
 
-/// How many octets stand before the AP-REQ or AP-REP: the length, the version, and the length of that.
+/// How many octets precede the AP-REQ or AP-REP: the length, the version, and the length of that.
 const HEADER: usize = 6;
 
 /// A field of the header.
@@ -24,7 +24,7 @@ enum Field {
 }
 
 impl Field {
-    /// Returns how many octets stand before it.
+    /// Returns how many octets precede it.
     fn place(self) -> u32
         ensures value { result ≡ place_of self }
         ensures few { result < 6 }
@@ -104,7 +104,7 @@ fn read_header(octets: &[u8]) -> Result<Header, Fault>
     checked(octets.len(), length, version, ap)
 }
 
-/// Lists a part that stands after `before` other octets, unless it is left out.
+/// Lists a part that follows `before` other octets, unless it is left out.
 fn list_part(
     octets: &[u8],
     before: u32,
@@ -120,7 +120,7 @@ fn list_part(
     list_message(octets, before, origin, listing)
 }
 
-/// Lists the refusal of a header that stands after `before` octets.
+/// Lists the refusal of a header that follows `before` octets.
 fn list_fault(
     before: u32,
     fault: Fault,
@@ -137,7 +137,7 @@ fn list_fault(
     listing.put_refusal(origin, refusal, Some(fault.field.path()))
 }
 
-/// Lists octets that stand after `before` others, as a message that changes a password and is all
+/// Lists octets that follow `before` others, as a message that changes a password and is all
 /// there.
 #[tactic(auto, unfolding(crate::specs::Passwords::password_found))]
 pub(crate) fn list_password(

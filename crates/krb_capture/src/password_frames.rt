@@ -129,8 +129,8 @@ impl PasswordFrames {
         }
     }
 
-    /// Begins the next frame, which comes after octets that are not kept, and gives the memory of the
-    /// last one back.
+    /// Begins the next frame, which comes after octets that are not kept, and frees the memory of the
+    /// last one.
     fn pass_over(&mut self, count: u32)
         ensures { PassesOver self.old count self.new }
     {

@@ -4,7 +4,7 @@ ghost use Rattle.std.specs.Prelude.{◌≡◌, ℕ, List, IfOk, OnOk};
 ghost use Rattle.krb_list.specs.declared.origin.Transport.TheVariants as transports;
 ghost use Rattle.krb_capture.specs.Flows.{origin_of};
 ghost use Rattle.krb_capture.specs.Found.{with_all};
-ghost use Rattle.krb_capture.specs.Sending.{Sent, StandsFor, after_segment, beginning_found, end_if, last_found, nothing_sent, segment_found, step_of, stream_at};
+ghost use Rattle.krb_capture.specs.Sending.{Sent, Represents, after_segment, beginning_found, end_if, last_found, nothing_sent, segment_found, step_of, stream_at};
 ghost use Rattle.krb_capture.specs.Taken.{Took, service_of};
 
 use crate::flow::{Due, Flow, Service};
@@ -41,7 +41,7 @@ impl Sending {
     /// Creates a direction of which nothing came.
     #[inline(always)]
     pub(crate) fn new(alloc: Global, limit: Limit, flow: Flow, service: Service) -> Sending
-        ensures { StandsFor result limit (nothing_sent flow service) }
+        ensures { Represents result limit (nothing_sent flow service) }
     {
         Sending {
             alloc,
@@ -69,8 +69,8 @@ impl Sending {
         listing: &mut Listing,
     ) -> Result<Step, Memory>
         ensures step { IfOk result (λ step. step ≡ step_of self.old.direction.state segment.now) }
-        ensures stands { OnOk result ((limit : ℕ) (sent : Sent) → StandsFor self.old limit sent → StandsFor self.new limit (after_segment sent segment.now)) }
-        ensures found { OnOk result ((limit : ℕ) (sent : Sent) → StandsFor self.old limit sent → listing.new ≡ with_all (origin_of due transports.Tcp self.old.flow.source self.old.flow.target) (segment_found limit sent segment.now) listing.old) }
+        ensures represents { OnOk result ((limit : ℕ) (sent : Sent) → Represents self.old limit sent → Represents self.new limit (after_segment sent segment.now)) }
+        ensures found { OnOk result ((limit : ℕ) (sent : Sent) → Represents self.old limit sent → listing.new ≡ with_all (origin_of due transports.Tcp self.old.flow.source self.old.flow.target) (segment_found limit sent segment.now) listing.old) }
     {
         let origin = due.over_tcp(self.flow);
         let taken = self.direction.take(self.alloc, segment, waited)?;
@@ -126,7 +126,7 @@ impl Sending {
     /// Ends the direction, and lists what is known then.
     pub(crate) fn finish(&mut self, due: Due, listing: &mut Listing) -> Result<(), Memory>
         ensures flow { self.new.flow ≡ self.old.flow }
-        ensures found { OnOk result ((limit : ℕ) (sent : Sent) → StandsFor self.old limit sent → listing.new ≡ with_all (origin_of due transports.Tcp self.old.flow.source self.old.flow.target) (last_found limit sent) listing.old) }
+        ensures found { OnOk result ((limit : ℕ) (sent : Sent) → Represents self.old limit sent → listing.new ≡ with_all (origin_of due transports.Tcp self.old.flow.source self.old.flow.target) (last_found limit sent) listing.old) }
     {
         let origin = due.over_tcp(self.flow);
         let end = self.direction.end();

@@ -4,3 +4,4 @@ pub mod Distances
 pub mod Pieces
 pub mod Captured
 pub mod Arriving
+mod Arrived

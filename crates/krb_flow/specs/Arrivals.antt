@@ -22,7 +22,7 @@ pub record IsSegmentOf (stream : List ℕ) (first : ℕ) (before : List Piece) (
   -- it is at most 1048576 octets early, and, as numbers are counted modulo 2^32, at most 2^31 late
   pub not_early : (place : ℕ) → place + 1048576 < piece.0 + piece.1.payload.size → IsCaptured place before
   pub not_late : (place : ℕ) → IsCaptured place before → place < piece.0 + 2 ^ 31
-  -- a FIN stands at the end of the stream, a RST comes after all of it, and a copy of the SYN before both
+  -- a FIN is at the end of the stream, a RST comes after all of it, and a copy of the SYN before both
   pub fin : piece.1.fin ≡ true → piece.0 + piece.1.payload.size ≡ length stream
   pub rst : piece.1.rst ≡ true → AllCaptured stream before
   pub syn : piece.1.syn ≡ true → (piece.0 ≡ 0) × NoneEnds before

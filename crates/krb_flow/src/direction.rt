@@ -42,7 +42,7 @@ pub struct Taken<'a> {
     pub end: Option<End>,
 }
 
-/// A direction of a TCP connection. It takes memory for the octets that wait alone, at most two octets
+/// A direction of a TCP connection. It allocates for the octets that wait alone, at most two octets
 /// for each, and some for each run of them; after each call at most 1048576 wait.
 #[derive(Drop)]
 pub struct Direction {

@@ -34,7 +34,7 @@ pub enum End {
     Lost(Lost),
 }
 
-/// The octets that were taken, by their number, and those that wait. It takes memory for these alone.
+/// The octets that were taken, by their number, and those that wait. It allocates for these alone.
 #[derive(Drop)]
 pub struct Stream {
     first: u32,
@@ -140,7 +140,7 @@ impl Stream {
     }
 
     /// Takes a segment. Returns those of its octets that are taken at once, borrowed; those that
-    /// waited and are taken after them stand in `waited`, and none else.
+    /// waited and are taken after them are in `waited`, and no others.
     pub(crate) fn take<'a>(
         &mut self,
         segment: &Segment<'a>,

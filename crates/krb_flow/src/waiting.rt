@@ -18,7 +18,7 @@ use std::marker::Model;
 /// backwards has few runs, and no long one is copied again and again.
 const SHORT_RUN: usize = 64;
 
-/// Octets that wait, each in a run of octets that follow each other. It takes memory for these
+/// Octets that wait, each in a run of octets that follow each other. It allocates for these
 /// octets, and some for each run.
 #[derive(Drop)]
 pub(crate) struct Runs {
@@ -94,7 +94,7 @@ fn insert_run(runs: &mut BTreeMap<u64, Vec<u8>>, end: u64, mut run: Vec<u8>) -> 
     Ok(())
 }
 
-/// Keeps octets from a place on, where none waits. They go on with the run that ends there, if one
+/// Keeps octets from a place on, at places at which none waits. They go on with the run that ends there, if one
 /// does.
 fn put(
     alloc: Global,
@@ -115,7 +115,7 @@ fn put(
     insert_run(runs, place + octets.len() as u64, run)
 }
 
-/// Keeps the first of octets that stand from a place on, up to where a run begins or ends, if no
+/// Keeps the first of octets from a place on, up to where a run begins or ends, if no
 /// octet waits there.
 fn keep_first(
     alloc: Global,
@@ -213,7 +213,7 @@ impl Runs {
         }
     }
 
-    /// Moves the octets that stand from a place on, up to the first one that is missing, into a
+    /// Moves the octets from a place on, up to the first one that is missing, into a
     /// vector, which has them alone then.
     fn release(&mut self, expected: u64, released: &mut Vec<u8>) -> Result<(), Memory>
         requires { expected < 2 ^ 63 }
@@ -233,8 +233,8 @@ impl Runs {
         Ok(())
     }
 
-    /// Returns how many of `count` octets, which stand so far ahead of the place that is due, are due
-    /// and before all that wait.
+    /// Returns how many of `count` octets, which begin `ahead` octets after the place that is expected,
+    /// are expected and before all that wait.
     fn prefix(&self, expected: u64, ahead: u32, count: usize) -> usize
         ensures few { result ≤ count }
         ensures here { 0 < result → ahead ≡ 0 }
@@ -249,7 +249,7 @@ impl Runs {
         }
     }
 
-    /// Takes octets that stand so far ahead of the place that is due. Returns those of them that are
+    /// Takes octets that begin `ahead` octets after the place that is expected. Returns those of them that are
     /// taken at once, borrowed, and moves those that waited and are taken after them into `released`.
     pub(crate) fn pass<'a>(
         &mut self,

@@ -14,7 +14,7 @@ member_alone old begin value first second = rw (second, first) (simp (append_ass
 pub one_field : (old : List ℕ) {opened put new : List ℕ} (opening field closing : List ℕ) → opened ≡ old ++ opening → put ≡ opened ++ field → new ≡ put ++ closing → new ≡ old ++ (opening ++ (field ++ []) ++ closing)
 one_field old opening field closing first second third = rw (third, second, first) (simp (append_assoc, append-nil))
 
--- a record's front, fields and end
+-- the opening of a record, its fields and its end
 pub two_fields : (old : List ℕ) {first second : List ℕ} (one two : List ℕ) → first ≡ old ++ one → second ≡ first ++ two → second ≡ old ++ (one ++ (two ++ []))
 two_fields old one two first second = rw (second, first) (simp (append_assoc, append-nil))
 

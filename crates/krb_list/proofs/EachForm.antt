@@ -26,7 +26,7 @@ use Rattle.krb_list.specs.inner.Flags.{names_set}
 use Rattle.krb_list.proofs.Printable.{Prints, is_printable, word, join, either, flat, number, signed, escaped, in_hex, optional, always, all_joined, every, listed, list, principal}
 use Rattle.krb_list.proofs.Reasons as reasons
 
--- ---- octets that stand for themselves, or are `\x` and two digits
+-- ---- octets that are not escaped, or are `\x` and two digits
 octet : (plain : Bool) (o : ℕ) → o < 256 → (plain ≡ true → (32 ≤ o) × (o ≤ 126)) → Prints (if plain then o ∷ [] else codes "\\x" ++ two_hex o)
 octet true o small range = record { all = (range refl, tt) }
 octet false o small range = join (word (codes "\\x") refl) (in_hex (o ∷ []) (small, tt))
@@ -37,10 +37,10 @@ plain_in_name o e = (grind (arith, nat_tests), grind (arith, nat_tests))
 file_name : (name : List ℕ) → AreOctets name → Prints (name_text name)
 file_name name h = flat name_octet (λ o. o < 256) (λ o small. octet (is_plain_in_name o) o small (plain_in_name o)) name h
 
-abbrev stands : ℕ → Bool
-stands o = nat_le 0x20 o && nat_le o 0x7E && not (o == 0x5C)
+abbrev is_plain_in_string : ℕ → Bool
+is_plain_in_string o = nat_le 0x20 o && nat_le o 0x7E && not (o == 0x5C)
 
-plain_in_string : (o : ℕ) → stands o ≡ true → (32 ≤ o) × (o ≤ 126)
+plain_in_string : (o : ℕ) → is_plain_in_string o ≡ true → (32 ≤ o) × (o ≤ 126)
 plain_in_string o e = (grind (arith, nat_tests), grind (arith, nat_tests))
 
 -- ---- strings of JSON
@@ -52,7 +52,7 @@ string text h = join (join (word (codes "\"") refl) (flat json_character (λ c. 
 
 octets_in_string : (octets : List ℕ) → AreOctets octets → Prints (octets_string octets)
 octets_in_string octets h =
-    string (flat_map shown_octet octets) (flat shown_octet (λ o. o < 256) (λ o small. octet (stands o) o small (plain_in_string o)) octets h).all
+    string (flat_map shown_octet octets) (flat shown_octet (λ o. o < 256) (λ o small. octet (is_plain_in_string o) o small (plain_in_string o)) octets h).all
 
 nullable : {A : Type 0} (text : A → List ℕ) (P : A → Type 0) → ((v : A) → P v → Prints (text v)) → (v : Option A) → IfPresent P v → Prints (or_null text v)
 nullable text P shown None h = word (codes "null") refl

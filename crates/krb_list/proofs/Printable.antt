@@ -95,7 +95,7 @@ pub always : {A : Type 0} (text : A → List ℕ) → ((v : A) → Prints (text 
 always text shown None = word (codes "-") refl
 always text shown (Some v) = shown v
 
--- what each value gives, one after another
+-- the texts of values, one after another
 pub flat : {A : Type 0} (text : A → List ℕ) (P : A → Type 0) → ((v : A) → P v → Prints (text v)) → (vs : List A) → AllByRecursion P vs → Prints (flat_map text vs)
 flat text P shown [] h = word [] refl
 flat text P shown (v ∷ vs) h = join (shown v h.0) (flat text P shown vs h.1)

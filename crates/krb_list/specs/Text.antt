@@ -22,7 +22,7 @@ escape_octet octet = if is_plain octet then octet ∷ [] else codes "\\x" ++ two
 abbrev pub escape : List ℕ → List ℕ
 escape octets = flat_map escape_octet octets
 
--- what each element gives, with a separator between two; another text if there is no element
+-- the text of each element, with a separator between two; another text if there is no element
 abbrev pub joined : {A : Type 0} → List ℕ → List ℕ → (A → List ℕ) → List A → List ℕ
 joined none separator text [] = none
 joined none separator text (first ∷ others) = text first ++ flat_map (λ other. separator ++ text other) others

@@ -1,9 +1,9 @@
 //! Laws of what is printed. Each is the contract of a function that does nothing.
-ghost use Rattle.krb_list.specs.Laws.{CacheEndIsOneLine, CacheIsOneLine, CaptureEndIsOneLine, CaptureRefusalIsOneLine, CapturedMessageIsOneLine, CapturedRefusalIsOneLine, CountedStreamEndIsOneLine, CredentialIsOneLine, CredentialKeyIsNotShown, DatesAreTheCalendars, EscapeIsGraphic, FileNameIsOneLine, FileRefusalIsOneLine, InputRefusalIsOneLine, JoinedIsOneLine, KeysAreNotShown, KeytabEndIsOneLine, LostIsOneLine, MessageIsOneLine, MessageRefusalIsOneLine, PasswordIsOneLine, PrincipalTextTells, RecordIsOneLine, RecordKeyIsNotShown, SessionKeys3AreNotShown, SessionKeysAreNotShown, StreamEndIsOneLine};
+ghost use Rattle.krb_list.specs.Laws.{CacheEndIsOneLine, CacheIsOneLine, CaptureEndIsOneLine, CaptureRefusalIsOneLine, CapturedMessageIsOneLine, CapturedRefusalIsOneLine, CountedStreamEndIsOneLine, CredentialIsOneLine, CredentialKeyIsNotShown, DatesAreTheCalendars, EscapeIsGraphic, FileNameIsOneLine, FileRefusalIsOneLine, InputRefusalIsOneLine, JoinedIsOneLine, KeysAreNotShown, KeytabEndIsOneLine, LostIsOneLine, MessageIsOneLine, MessageRefusalIsOneLine, PasswordIsOneLine, PrincipalTextIsInjective, RecordIsOneLine, RecordKeyIsNotShown, SessionKeys3AreNotShown, SessionKeysAreNotShown, StreamEndIsOneLine};
 
 /// Different components or realms have different texts.
-pub fn principal_text_tells()
-    ensures { PrincipalTextTells }
+pub fn principal_text_is_injective()
+    ensures { PrincipalTextIsInjective }
 {}
 
 /// Escaped octets are graphic characters of ASCII: no blank, no line feed.

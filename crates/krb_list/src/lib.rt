@@ -54,7 +54,7 @@ pub use krb_msg::{Notes, notes_of};
 pub use law::{
     capture_is_one_line_each, ccache_is_one_line_each, dates_are_the_calendars, end_is_one_line,
     escape_is_graphic, keys_are_not_shown, keytab_is_one_line_each, message_is_one_line,
-    principal_text_tells, session_keys_are_not_shown,
+    principal_text_is_injective, session_keys_are_not_shown,
 };
 pub use message::{message_line, put_message, put_message_view};
 pub use origin::{Origin, Transport};

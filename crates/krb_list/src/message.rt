@@ -253,7 +253,7 @@ fn put_text_of(text: &mut TextBuffer, form: Form, message: &Message) -> Result<(
     Ok(())
 }
 
-/// Appends a message as a line or an object with its line feed. It takes memory for the DER octets,
+/// Appends a message as a line or an object with its line feed. It allocates the DER octets,
 /// too, and answers `Memory` if these are more than a message may have, 2147483647.
 #[tactic(auto, unfolding(crate::specs::Messages::message_line))]
 pub fn put_message(text: &mut TextBuffer, form: Form, message: &Message) -> Result<(), Memory>
@@ -265,7 +265,7 @@ pub fn put_message(text: &mut TextBuffer, form: Form, message: &Message) -> Resu
 }
 
 /// Returns a message as a line or an object, without a line feed: its name, its fields and its notes.
-/// Memory is taken as in [`put_message`].
+/// It allocates as [`put_message`] does.
 pub fn message_line(alloc: Global, form: Form, message: &Message) -> Result<String, Memory>
     ensures { IfOk result (λ text. string_bytes text ≡ message_text form message.now) }
 {

@@ -37,7 +37,7 @@ impl Transport {
 pub struct Origin {
     /// The number of the packet, from 1.
     pub packet: u64,
-    /// When the packet was captured, if that is told.
+    /// When the packet was captured, if that is known.
     pub time: Option<Time>,
     /// The protocol.
     pub transport: Transport,

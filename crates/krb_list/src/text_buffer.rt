@@ -31,11 +31,11 @@ impl Model for TextBuffer {
     ghost invariant = { λ text. (text.size ≤ length text.octets.items) × IsUtf8 (take text.size text.octets.items) };
 }
 
-/// The least number of octets that memory is taken for.
+/// The least number of octets that are allocated.
 const LEAST: usize = 256;
 
 /// Makes a vector longer, so that n octets fit after those that are used, which stay. Its length is at
-/// least doubled, so that appending takes time by the octets that are appended.
+/// least doubled, so that the time of appending follows the octets that are appended.
 #[cold]
 #[inline(never)]
 fn grow(octets: &mut Vec<u8>, used: usize, more: usize) -> Result<(), AllocError>
@@ -118,7 +118,7 @@ fn put_after(octets: &mut Vec<u8>, used: usize, new: &[u8]) -> Result<(), AllocE
 }
 
 impl TextBuffer {
-    /// Returns a text of no octets, which takes no memory yet.
+    /// Returns a text of no octets, for which nothing is allocated yet.
     pub fn new(alloc: Global) -> TextBuffer
         ensures { result ≡ [] }
     {

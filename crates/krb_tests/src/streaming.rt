@@ -307,7 +307,7 @@ const CCACHES: [Row; 17] = [
     Row("05", 1, true, 1, "a read failed; "),
 ];
 
-/// Returns whether a row's answers come from a reader of at most so many octets at once.
+/// Returns whether a row's answers come from a reader of at most that many octets at once.
 fn is_answered(alloc: Global, row: &Row, is_keytab: bool, at_most: usize) -> Result<bool, Fail> {
     let Row(digits, count, fails, most, wanted) = row;
     let octets = octets_of(alloc, digits)?;

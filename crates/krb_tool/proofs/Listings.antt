@@ -77,12 +77,12 @@ pub some_used : (profile : Profile) (old new : Decoding) (piece : List ℕ) (fed
 some_used profile old new piece fed f w e = some_used-by profile old new piece fed status.Ready f w e more_ready memory_ready
 
 -- what a decoder is whose frame was cleared
-pub cleared_is : (profile : Profile) (old new : Decoding) (contents : List ℕ) → Clears (messages profile) old new true → borrowed (messages profile) old ≡ Some contents → new ≡ record old { octets = []; capacity = new.room }
-cleared_is profile old new contents c e = c.left ∙ ap (λ o. if is_some o then record old { octets = []; capacity = new.room } else old) e
+pub cleared_is : (profile : Profile) (old new : Decoding) (contents : List ℕ) → Clears (messages profile) old new true → borrowed (messages profile) old ≡ Some contents → new ≡ record old { octets = []; capacity = new.capacity }
+cleared_is profile old new contents c e = c.left ∙ ap (λ o. if is_some o then record old { octets = []; capacity = new.capacity } else old) e
 
 pub cleared_waits : (profile : Profile) (old new : Decoding) (contents : List ℕ) → Clears (messages profile) old new true → borrowed (messages profile) old ≡ Some contents → status_of (messages new.profile) new ≡ status.More
 cleared_waits profile old new contents c e =
-    ap (λ d. status_of (messages d.profile) d) (cleared_is profile old new contents c e) ∙ more-nothing (messages old.profile) old.profile old.limit old.looks new.room
+    ap (λ d. status_of (messages d.profile) d) (cleared_is profile old new contents c e) ∙ more-nothing (messages old.profile) old.profile old.limit old.looks new.capacity
 
 -- ---- a frame that is listed
 line_added : (old new : Lister) (message : Message) (listed : List Message) (written : List ℕ) → new.text ≡ old.text ++ message_line old.form message → new.form ≡ old.form → written ++ old.text ≡ flat_map (message_line old.form) listed → written ++ new.text ≡ flat_map (message_line new.form) (listed ++ message ∷ [])

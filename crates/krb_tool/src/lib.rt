@@ -10,8 +10,8 @@
 //! - [`run_sources`] lists several sources one after another, each by what a [`ListSource`] does.
 //! - [`status`] returns the exit status for what a run returned.
 //!
-//! Nothing here opens a file or reads a command line: `krbls` and `krb_words` do. What stands in a
-//! record is said by `krb_list`.
+//! Nothing here opens a file or reads a command line: `krbls` and `krb_words` do. `krb_list` says what is
+//! in a record.
 #![tactic(auto)]
 
 mod capture_run;

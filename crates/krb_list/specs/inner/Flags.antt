@@ -1,4 +1,4 @@
--- Flags by the rows of a registry, as they are held.
+-- Flags by the rows of a registry, as the code has them.
 use Rattle.std.specs.Prelude.{ℕ, ℤ, unsigned_abs, Bool, List, map}
 use Rattle.std.specs.List.{filter, list_all}
 use Rattle.krb_registry.specs.Laws.{is_plain}

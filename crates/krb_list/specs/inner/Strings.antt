@@ -1,4 +1,4 @@
--- Octets as they stand in strings of JSON.
+-- Octets as strings of JSON have them.
 use Rattle.std.specs.Prelude.{ℕ, Bool, ◌&&◌, ◌==◌, nat_le, not, List}
 use Rattle.std.specs.List.{flat_map}
 use Rattle.krb_list.specs.declared.json.Escape.{Escape}

@@ -2,18 +2,18 @@ use Rattle.std.proofs.Common.{arith}
 use Rattle.std.proofs.lemmas.List.{take_rest}
 use Rattle.krb_frame.specs.declared.decoder.Status.TheVariants as status
 use Rattle.krb_capture.proofs.Feeding.{fed_all, fewer_due, memory_more, memory_ready, memory_refused, more_ready, more_refused, status_is}
-use Rattle.krb_capture.proofs.Listed.{front-all, front-both, front-more, front-one, front-start, front_shorter, last-of, lists-fed, one-of}
+use Rattle.krb_capture.proofs.Listed.{prefix-all, prefix-both, prefix-more, prefix-one, prefix-start, prefix_shorter, last-of, lists-fed, one-of}
 use Rattle.krb_capture.proofs.message_frames.list_frames.Goals as goal
 
 pub frames-init : goal.frames-init
-frames-init c = front-start c.args.decoder.now c.args.octets.now c.args.origin.now c.args.listing.now
+frames-init c = prefix-start c.args.decoder.now c.args.octets.now c.args.origin.now c.args.listing.now
 
 pub returns-in-More : goal.returns-in-More
 returns-in-More c =
-    let passed = front-both c.args.decoder.now c.frames.decoder c.frames.decoder c.args.octets.now c.frames.rest.now c.in_ok-after.after.now c.args.origin.now c.args.listing.now c.frames.listing c.list_passed.new.listing c.frames.invariant c.in_ok-after.ensures in
+    let passed = prefix-both c.args.decoder.now c.frames.decoder c.frames.decoder c.args.octets.now c.frames.rest.now c.in_ok-after.after.now c.args.origin.now c.args.listing.now c.frames.listing c.list_passed.new.listing c.frames.invariant c.in_ok-after.ensures in
     let fed = lists-fed c.frames.decoder c.feed-fed.new.self c.in_ok-after.after.now c.feed-fed.result c.args.origin.now c.list_passed.new.listing c.feed-fed.ensures in
     let all = fed_all c.frames.decoder c.feed-fed.new.self c.in_ok-after.after.now c.feed-fed.result c.feed-fed.ensures c.in-More.is in (
-      front-all c.args.decoder.now c.feed-fed.new.self c.args.octets.now c.in_ok-after.after.now c.feed-fed.result.used c.args.origin.now c.args.listing.now c.list_passed.new.listing (front-more c.args.decoder.now c.frames.decoder c.feed-fed.new.self c.args.octets.now c.in_ok-after.after.now c.feed-fed.result.used c.args.origin.now c.args.listing.now c.list_passed.new.listing c.list_passed.new.listing passed fed) (omega (arith, all)),
+      prefix-all c.args.decoder.now c.feed-fed.new.self c.args.octets.now c.in_ok-after.after.now c.feed-fed.result.used c.args.origin.now c.args.listing.now c.list_passed.new.listing (prefix-more c.args.decoder.now c.frames.decoder c.feed-fed.new.self c.args.octets.now c.in_ok-after.after.now c.feed-fed.result.used c.args.origin.now c.args.listing.now c.list_passed.new.listing c.list_passed.new.listing passed fed) (omega (arith, all)),
       status_is c.frames.decoder c.feed-fed.new.self c.in_ok-after.after.now c.feed-fed.result c.feed-fed.ensures status.More c.in-More.is memory_more,
     )
 
@@ -23,17 +23,17 @@ list_ready-requires c = status_is c.frames.decoder c.feed-fed.new.self c.in_ok-a
 
 pub frames-smaller-in_ok-list_ready-in-Ready : goal.frames-smaller-in_ok-list_ready-in-Ready
 frames-smaller-in_ok-list_ready-in-Ready c =
-    let shorter = front_shorter c.frames.decoder c.frames.decoder c.frames.rest.now c.in_ok-after.after.now c.args.origin.now c.frames.listing c.list_passed.new.listing c.in_ok-after.ensures in
+    let shorter = prefix_shorter c.frames.decoder c.frames.decoder c.frames.rest.now c.in_ok-after.after.now c.args.origin.now c.frames.listing c.list_passed.new.listing c.in_ok-after.ensures in
     let fewer = fewer_due c.frames.decoder c.feed-fed.new.self c.in_ok-after.after.now c.feed-fed.result c.feed-fed.ensures c.list_ready.new.decoder status.Ready c.in-Ready.is more_ready memory_ready c.in_ok-list_ready-in-Ready.ensures.waits in
     rw (take_rest c.in_ok-after.after.now c.feed-fed.result.used) (omega (arith, shorter, fewer))
 
 pub frames-preserved-in_ok-list_ready-in-Ready : goal.frames-preserved-in_ok-list_ready-in-Ready
 frames-preserved-in_ok-list_ready-in-Ready c =
-    let passed = front-both c.args.decoder.now c.frames.decoder c.frames.decoder c.args.octets.now c.frames.rest.now c.in_ok-after.after.now c.args.origin.now c.args.listing.now c.frames.listing c.list_passed.new.listing c.frames.invariant c.in_ok-after.ensures in
+    let passed = prefix-both c.args.decoder.now c.frames.decoder c.frames.decoder c.args.octets.now c.frames.rest.now c.in_ok-after.after.now c.args.origin.now c.args.listing.now c.frames.listing c.list_passed.new.listing c.frames.invariant c.in_ok-after.ensures in
     let fed = lists-fed c.frames.decoder c.feed-fed.new.self c.in_ok-after.after.now c.feed-fed.result c.args.origin.now c.list_passed.new.listing c.feed-fed.ensures in
-    let front = front-more c.args.decoder.now c.frames.decoder c.feed-fed.new.self c.args.octets.now c.in_ok-after.after.now c.feed-fed.result.used c.args.origin.now c.args.listing.now c.list_passed.new.listing c.list_passed.new.listing passed fed in
+    let prefix = prefix-more c.args.decoder.now c.frames.decoder c.feed-fed.new.self c.args.octets.now c.in_ok-after.after.now c.feed-fed.result.used c.args.origin.now c.args.listing.now c.list_passed.new.listing c.list_passed.new.listing passed fed in
     rw (take_rest c.in_ok-after.after.now c.feed-fed.result.used)
-    (front-one c.args.decoder.now c.feed-fed.new.self c.list_ready.new.decoder c.args.octets.now _ c.args.origin.now c.args.listing.now c.list_passed.new.listing c.list_ready.new.listing front c.in_ok-list_ready-in-Ready.ensures)
+    (prefix-one c.args.decoder.now c.feed-fed.new.self c.list_ready.new.decoder c.args.octets.now _ c.args.origin.now c.args.listing.now c.list_passed.new.listing c.list_ready.new.listing prefix c.in_ok-list_ready-in-Ready.ensures)
 
 -- ---- a frame is refused
 pub list_refused-requires : goal.list_refused-requires
@@ -41,23 +41,23 @@ list_refused-requires c = status_is c.frames.decoder c.feed-fed.new.self c.in_ok
 
 pub returns-then-not-branch : goal.returns-then-not-branch
 returns-then-not-branch c =
-    let passed = front-both c.args.decoder.now c.frames.decoder c.frames.decoder c.args.octets.now c.frames.rest.now c.in_ok-after.after.now c.args.origin.now c.args.listing.now c.frames.listing c.list_passed.new.listing c.frames.invariant c.in_ok-after.ensures in
+    let passed = prefix-both c.args.decoder.now c.frames.decoder c.frames.decoder c.args.octets.now c.frames.rest.now c.in_ok-after.after.now c.args.origin.now c.args.listing.now c.frames.listing c.list_passed.new.listing c.frames.invariant c.in_ok-after.ensures in
     let fed = lists-fed c.frames.decoder c.feed-fed.new.self c.in_ok-after.after.now c.feed-fed.result c.args.origin.now c.list_passed.new.listing c.feed-fed.ensures in
-    let front = front-more c.args.decoder.now c.frames.decoder c.feed-fed.new.self c.args.octets.now c.in_ok-after.after.now c.feed-fed.result.used c.args.origin.now c.args.listing.now c.list_passed.new.listing c.list_passed.new.listing passed fed in
-    last-of c.args.decoder.now c.feed-fed.new.self c.list_refused.new.decoder c.args.octets.now _ c.args.origin.now c.args.listing.now c.list_passed.new.listing c.list_refused.new.listing c.in-Refused.refusal c.in_ok-list_refused-in-Refused.field-0 front c.if-not-branch.true c.in_ok-list_refused-in-Refused.ensures
+    let prefix = prefix-more c.args.decoder.now c.frames.decoder c.feed-fed.new.self c.args.octets.now c.in_ok-after.after.now c.feed-fed.result.used c.args.origin.now c.args.listing.now c.list_passed.new.listing c.list_passed.new.listing passed fed in
+    last-of c.args.decoder.now c.feed-fed.new.self c.list_refused.new.decoder c.args.octets.now _ c.args.origin.now c.args.listing.now c.list_passed.new.listing c.list_refused.new.listing c.in-Refused.refusal c.in_ok-list_refused-in-Refused.field-0 prefix c.if-not-branch.true c.in_ok-list_refused-in-Refused.ensures
 
 pub frames-smaller : goal.frames-smaller
 frames-smaller c =
     let one = one-of c.feed-fed.new.self c.list_refused.new.decoder c.args.origin.now c.list_passed.new.listing c.list_refused.new.listing c.in-Refused.refusal c.in_ok-list_refused-in-Refused.field-0 c.if-not-branch.false c.in_ok-list_refused-in-Refused.ensures in
-    let shorter = front_shorter c.frames.decoder c.frames.decoder c.frames.rest.now c.in_ok-after.after.now c.args.origin.now c.frames.listing c.list_passed.new.listing c.in_ok-after.ensures in
+    let shorter = prefix_shorter c.frames.decoder c.frames.decoder c.frames.rest.now c.in_ok-after.after.now c.args.origin.now c.frames.listing c.list_passed.new.listing c.in_ok-after.ensures in
     let fewer = fewer_due c.frames.decoder c.feed-fed.new.self c.in_ok-after.after.now c.feed-fed.result c.feed-fed.ensures c.list_refused.new.decoder (status.Refused c.in-Refused.refusal) c.in-Refused.is (more_refused c.in-Refused.refusal) (memory_refused c.in-Refused.refusal) one.waits in
     rw (take_rest c.in_ok-after.after.now c.feed-fed.result.used) (omega (arith, shorter, fewer))
 
 pub frames-preserved : goal.frames-preserved
 frames-preserved c =
-    let passed = front-both c.args.decoder.now c.frames.decoder c.frames.decoder c.args.octets.now c.frames.rest.now c.in_ok-after.after.now c.args.origin.now c.args.listing.now c.frames.listing c.list_passed.new.listing c.frames.invariant c.in_ok-after.ensures in
+    let passed = prefix-both c.args.decoder.now c.frames.decoder c.frames.decoder c.args.octets.now c.frames.rest.now c.in_ok-after.after.now c.args.origin.now c.args.listing.now c.frames.listing c.list_passed.new.listing c.frames.invariant c.in_ok-after.ensures in
     let fed = lists-fed c.frames.decoder c.feed-fed.new.self c.in_ok-after.after.now c.feed-fed.result c.args.origin.now c.list_passed.new.listing c.feed-fed.ensures in
-    let front = front-more c.args.decoder.now c.frames.decoder c.feed-fed.new.self c.args.octets.now c.in_ok-after.after.now c.feed-fed.result.used c.args.origin.now c.args.listing.now c.list_passed.new.listing c.list_passed.new.listing passed fed in
+    let prefix = prefix-more c.args.decoder.now c.frames.decoder c.feed-fed.new.self c.args.octets.now c.in_ok-after.after.now c.feed-fed.result.used c.args.origin.now c.args.listing.now c.list_passed.new.listing c.list_passed.new.listing passed fed in
     let one = one-of c.feed-fed.new.self c.list_refused.new.decoder c.args.origin.now c.list_passed.new.listing c.list_refused.new.listing c.in-Refused.refusal c.in_ok-list_refused-in-Refused.field-0 c.if-not-branch.false c.in_ok-list_refused-in-Refused.ensures in
     rw (take_rest c.in_ok-after.after.now c.feed-fed.result.used)
-    (front-one c.args.decoder.now c.feed-fed.new.self c.list_refused.new.decoder c.args.octets.now _ c.args.origin.now c.args.listing.now c.list_passed.new.listing c.list_refused.new.listing front one)
+    (prefix-one c.args.decoder.now c.feed-fed.new.self c.list_refused.new.decoder c.args.octets.now _ c.args.origin.now c.args.listing.now c.list_passed.new.listing c.list_refused.new.listing prefix one)

@@ -5,7 +5,7 @@ use Rattle.krb_list.specs.Text.{is_plain}
 use Rattle.krb_list.specs.declared.escape.TheConstants.{PLAIN}
 use Rattle.krb_list.proofs.escape.is_plain.Goals as goal
 
--- the table tells of each octet
+-- what the table says of each octet
 table_is : PLAIN ≡ map is_plain (range_with_len 0 256)
 table_is = refl
 

@@ -27,14 +27,14 @@ returns-in_err-write_all g c = λ left is_left.
     let after = g.L.RecordLines.IsLeft c.put_next.new.self (suc c.records.count) in
     let adds = rw c.in-Some.is at (c.in_ok-ended.ensures.line listed.left listed.is_left) in
     let all = after_line c.args.text.now left in
-    rw (p.1, p.2) (write-fault all _ _ _ c.in_err-write_all.ensures.fault (last-fails _ _ _ _ _ listed after _ _ _ adds (rw c.octets.ensures at c.in_err-write_all.ensures.prefix)))
+    rw (p.1, p.2) (write-fault all _ _ _ c.in_err-write_all.ensures.fault (last-fails _ _ _ _ _ listed after _ _ _ adds (rw c.octets-in-Some.ensures at c.in_err-write_all.ensures.prefix)))
 
 pub returns-in-Some : goal.returns-in-Some
 returns-in-Some g c = λ left is_left.
     let listed = Listed-moved _ _ _ _ _ (c.records.invariant left is_left) _ _ c.in_ok-write_early.ensures.moved in
     let after = g.L.RecordLines.IsLeft c.put_next.new.self (suc c.records.count) in
     let adds = rw c.in-Some.is at (c.in_ok-ended.ensures.line listed.left listed.is_left) in
-    Listed-ended _ _ _ _ _ listed after _ _ _ adds (rw c.octets.ensures at c.in_ok-write_all.ensures.all)
+    Listed-ended _ _ _ _ _ listed after _ _ _ adds (rw c.octets-in-Some.ensures at c.in_ok-write_all.ensures.all)
 
 pub records-preserved : goal.records-preserved
 records-preserved g c = λ left is_left.

@@ -1,7 +1,7 @@
 use Rattle.std.proofs.Common.{sym, ◌∙◌, ap, subst}
 use Rattle.std.specs.Prelude.{if◌then◌else◌}
 use Rattle.krb_capture.specs.Directions.{without}
-use Rattle.krb_capture.specs.Sending.{StandsFor, after_segment, segment_found, step_of}
+use Rattle.krb_capture.specs.Sending.{Represents, after_segment, segment_found, step_of}
 use Rattle.krb_capture.proofs.Tables.{kept-same}
 use Rattle.krb_capture.proofs.Written.{flow-found, on_ok-map}
 use Rattle.krb_capture.proofs.directions.Directions.go_on.Goals as goal
@@ -9,8 +9,8 @@ use Rattle.krb_capture.proofs.directions.Directions.go_on.Goals as goal
 pub returns-clause-table : goal.returns-clause-table
 returns-clause-table c = on_ok-map c.keep.result
     (λ k limit table sent h s.
-    let there = subst (λ x. StandsFor x limit sent) (sym c.deref_mut.ensures.value) s in
-    let after = c.in_ok-step.ensures.stands limit sent there in
+    let there = subst (λ x. Represents x limit sent) (sym c.deref_mut.ensures.value) s in
+    let after = c.in_ok-step.ensures.represents limit sent there in
     let step = c.in_ok-step.ensures.step ∙ ap (λ x. step_of x c.args.segment.now) there.state in
     kept-same c.keep.new.self limit c.flow-flow.result sent.flow c.number_after.result (if (step_of sent.state c.args.segment.now).began then c.args.due.packet else c.args.number) c.in_ok-step.step (step_of sent.state c.args.segment.now) (after_segment sent c.args.segment.now) (without c.args.number table)
     (c.flow-flow.ensures ∙ ap (λ x. x.flow) c.deref.ensures ∙ after.flow)
@@ -22,6 +22,6 @@ returns-clause-table c = on_ok-map c.keep.result
 pub returns-clause-found : goal.returns-clause-found
 returns-clause-found c = on_ok-map c.keep.result
     (λ k limit table sent s.
-    let there = subst (λ x. StandsFor x limit sent) (sym c.deref_mut.ensures.value) s in
+    let there = subst (λ x. Represents x limit sent) (sym c.deref_mut.ensures.value) s in
     flow-found c.args.due c.deref_mut.result.now.flow sent.flow (segment_found limit sent c.args.segment.now) c.take.new.listing c.args.listing.now (c.in_ok-step.ensures.found limit sent there) there.flow)
     c.keep.ensures

@@ -6,8 +6,8 @@ use Rattle.krb_capture.specs.Taken.{Took}
 use Rattle.krb_capture.proofs.Sendings.{segment-listed}
 use Rattle.krb_capture.proofs.sending.Sending.take.Goals as goal
 
-pub returns-clause-stands : goal.returns-clause-stands
-returns-clause-stands c = λ limit sent s.
+pub returns-clause-represents : goal.returns-clause-represents
+returns-clause-represents c = λ limit sent s.
     let same = c.in_ok-begin.ensures.same in
     let outcome = c.in_ok-taken.ensures.outcome ∙ ap (λ st. (step st c.args.segment.now).0) s.state in
     let at = stream_at c.in_ok-taken.taken.begins sent.stream in
