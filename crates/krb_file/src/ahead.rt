@@ -1,6 +1,6 @@
 //! Octets of a file that were read ahead of their fields.
 
-use crate::fault::FileFault;
+use crate::fault::ReadFailed;
 use crate::stream_reader::ask;
 use std::alloc::AllocError;
 use std::io::Read;
@@ -89,7 +89,7 @@ impl Ahead {
         reader: &mut R,
         asks: &mut u64,
         most: u64,
-    ) -> Result<(), FileFault>
+    ) -> Result<(), ReadFailed>
         requires some { 0 < most }
         requires few { asks.old ≤ 2 ^ 40 }
         ensures taken { OnOk result (Consumes (R.remaining reader.old) (R.remaining reader.new) self.new) }
@@ -97,7 +97,6 @@ impl Ahead {
         ensures few { length self.new ≤ 512 }
         ensures most { length self.new ≤ most }
         ensures none { OnErr result (self.new ≡ []) }
-        ensures fault { IfErr result (λ e. e ≡ FileFault.Read) }
         ensures counted { OnOk result (asks.new ≡ asks.old + 1) }
         ensures asked { asks.old ≤ asks.new }
         ensures still_few { asks.new ≤ 2 ^ 40 }

@@ -3,7 +3,7 @@
 ghost use Rattle.std.specs.Prelude.{◌≡◌, Some};
 ghost use Rattle.krb_file.specs.Faults.{file_reason_number, file_reason_name, file_fault_text, fault_field};
 ghost use Rattle.krb_file.specs.Fields.{with_name, with_part, fault_at, fails_at};
-ghost use Rattle.krb_file.specs.declared.fault.FileFault.TheVariants.{Memory};
+ghost use Rattle.krb_file.specs.declared.fault.FileFault.TheVariants.{Memory, Read};
 
 use crate::field_name::{FieldName, FileField, FilePart};
 use std::alloc::{AllocError, AllocFailed};
@@ -58,6 +58,18 @@ impl<T: Drop> From<AllocFailed<T>> for FileFault {
 
     fn from(_error: AllocFailed<T>) -> FileFault {
         FileFault::Memory
+    }
+}
+
+/// A read failed.
+#[derive(Drop)]
+pub(crate) struct ReadFailed;
+
+impl From<ReadFailed> for FileFault {
+    ghost from_gives = { λ _ e. e ≡ Read };
+
+    fn from(_error: ReadFailed) -> FileFault {
+        FileFault::Read
     }
 }
 

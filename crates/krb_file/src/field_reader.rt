@@ -1,9 +1,9 @@
 //! Readers of the fields of files.
 
-ghost use Rattle.std.specs.Prelude.{◌≡◌, ℕ, ◌+◌, ◌^◌, ◌<◌, ◌≤◌, [], length, None, Some};
+ghost use Rattle.std.specs.Prelude.{◌≡◌, ℕ, ◌+◌, ◌^◌, ◌<◌, ◌≤◌, true, false, [], length, None, Some};
 ghost use Rattle.std.specs.Int.{w8, w16, w32};
 ghost use Rattle.krb_file.specs.Fields.{succeed, called, next_octets_at, octets_at, number_at, signed_at, counted_at, component_at, names_at, rest_at, times, is_one_of, expect, version_at, Reader};
-ghost use Rattle.krb_file.specs.FieldReaders.{Cursor, Follows, Keeps, FetchesTo, LooksAheadTo, ended_at, skipped_at, bounded};
+ghost use Rattle.krb_file.specs.FieldReaders.{Cursor, HasRead, Follows, Keeps, FetchesTo, LooksAheadTo, ended_at, skipped_at, bounded};
 
 use crate::fault::{FileFault, FileWhy, called};
 use crate::field_name::FieldName;
@@ -49,6 +49,15 @@ pub trait FieldReader {
     fn look_ahead(&mut self, size: u64) -> Result<(), FileFault>
         ensures read { Follows (λ done. done) result (succeed tt) MayFail (cursor self.old) (cursor self.new) }
         ensures looks { LooksAheadTo size (cursor self.old) (cursor self.new) };
+
+    /// Fills `octets` with the next ones and returns true, if the reader has these at hand and they
+    /// do not pass the end that it knows. Else nothing changes.
+    fn fill_near(&mut self, octets: &mut [u8]) -> bool
+        requires { length octets.old ≤ 2 ^ 16 }
+        ensures read { result ≡ true → HasRead (next_octets_at None (length octets.old)) octets.new (cursor self.old) (cursor self.new) }
+        ensures keeps { Keeps (cursor self.old) (cursor self.new) }
+        ensures within { FetchesTo ((cursor self.old).place + length octets.old) (cursor self.old) (cursor self.new) }
+        ensures same { result ≡ false → cursor self.new ≡ cursor self.old };
 
     /// Reads the next octets of a field that is not a field of octets, at most 65536, and fills
     /// `octets` with them.

@@ -100,6 +100,10 @@ impl<'a> FieldReader for SliceReader<'a> {
         Ok(())
     }
 
+    fn fill_near(&mut self, _octets: &mut [u8]) -> bool {
+        false
+    }
+
     fn fill(&mut self, octets: &mut [u8]) -> Result<(), FileFault> {
         let taken = self.take(octets.len() as u64)?;
         octets.copy_from_slice(taken);

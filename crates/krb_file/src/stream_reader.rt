@@ -1,7 +1,7 @@
 //! A reader of files as they come.
 
 use crate::ahead::Ahead;
-use crate::fault::{FileFault, FileWhy};
+use crate::fault::{FileFault, FileWhy, ReadFailed};
 use crate::field_limit::FieldLimit;
 use crate::field_reader::FieldReader;
 use crate::slice_reader::are_zero;
@@ -64,24 +64,23 @@ pub(crate) fn ask<R: Read>(
     reader: &mut R,
     asks: &mut u64,
     octets: &mut [u8],
-) -> Result<usize, FileFault>
+) -> Result<usize, ReadFailed>
     requires some { 0 < length octets.old }
     requires few { asks.old ≤ 2 ^ 40 }
     ensures count { IfOk result (λ count. count ≤ length octets.new) }
     ensures taken { IfOk result (λ count. Consumes (R.remaining reader.old) (R.remaining reader.new) (take count octets.new)) }
     ensures end { IfOk result (λ count. count ≡ 0 → IsAtEnd (R.remaining reader.new)) }
-    ensures fault { IfErr result (λ e. e ≡ FileFault.Read) }
     ensures counted { OnOk result (asks.new ≡ asks.old + 1) }
     ensures asked { asks.old ≤ asks.new }
     ensures still_few { asks.new ≤ 2 ^ 40 }
 {
     if *asks == MOST_ASKS {
-        return Err(FileFault::Read);
+        return Err(ReadFailed);
     }
     *asks += 1;
     match reader.read(octets) {
         Ok(count) => Ok(count),
-        Err(_) => Err(FileFault::Read),
+        Err(_) => Err(ReadFailed),
     }
 }
 
@@ -113,12 +112,11 @@ impl<R: Read> StreamReader<R> {
 
     /// Reads ahead unless octets are left of those read before: what comes at once, at most `most`
     /// octets.
-    fn read_ahead(&mut self, most: u64) -> Result<(), FileFault>
+    fn read_ahead(&mut self, most: u64) -> Result<(), ReadFailed>
         requires { 0 < most }
         ensures same { OnOk result (Takes self.old self.new []) }
         ensures looks { LooksAheadTo most self.old self.new }
         ensures end { OnOk result (self.new.ahead ≡ [] → self.new.left ≡ Some []) }
-        ensures fault { IfErr result (λ e. e ≡ FileFault.Read) }
     {
         if self.ahead.count() == 0 && !self.ended {
             self.near = 0;
@@ -132,7 +130,8 @@ impl<R: Read> StreamReader<R> {
 
     /// Moves the octets that come at once into `octets`, and returns their number: 0 if none is
     /// left.
-    fn take(&mut self, octets: &mut [u8]) -> Result<usize, FileFault>
+    #[inline(always)]
+    fn take(&mut self, octets: &mut [u8]) -> Result<usize, ReadFailed>
         requires some { 0 < length octets.old }
         requires few { length octets.old ≤ 2 ^ 22 }
         ensures count { IfOk result (λ count. count ≤ length octets.new) }
@@ -140,7 +139,6 @@ impl<R: Read> StreamReader<R> {
         ensures stays { Stays self.old self.new }
         ensures within { Within (length octets.old) self.old self.new }
         ensures end { IfOk result (λ count. count ≡ 0 → MayRemain self.new []) }
-        ensures fault { IfErr result (λ e. e ≡ FileFault.Read) }
     {
         let count = octets.len().min(self.ahead.count());
         if count > 0 {
@@ -169,7 +167,7 @@ impl<R: Read> StreamReader<R> {
     }
 
     /// Fills `octets`. If there are too few left, the field that begins at `start` is Truncated.
-    #[inline(never)]
+    #[inline(always)]
     fn take_all(&mut self, start: u64, octets: &mut [u8]) -> Result<(), FileFault>
         requires { length octets.old ≤ 2 ^ 22 }
         ensures taken { OnOk result (Takes self.old self.new octets.new) }
@@ -194,6 +192,7 @@ impl<R: Read> StreamReader<R> {
 
     /// Reads `count` octets into `piece`, in place of its octets, as
     /// [`take_all`](StreamReader::take_all) does.
+    #[inline(always)]
     fn take_piece(&mut self, start: u64, count: usize, piece: &mut Vec<u8>) -> Result<(), FileFault>
         requires { count ≤ 2 ^ 22 }
         ensures taken { OnOk result (Takes self.old self.new piece.new.items) }
@@ -251,6 +250,7 @@ impl<R: Read> StreamReader<R> {
     }
 
     /// Refuses a field that passes the end of what it is in, or is longer than `most`.
+    #[inline(always)]
     fn check(&self, size: u64, most: Option<u64>) -> Result<(), FileFault>
         ensures inside { OnOk result (exceeds (self.now.place + size) self.now.bounds.end ≡ false) }
         ensures under { OnOk result (exceeds size most ≡ false) }
@@ -346,14 +346,23 @@ impl<R: Read> FieldReader for StreamReader<R> {
     }
 
     #[inline(always)]
-    fn fill(&mut self, octets: &mut [u8]) -> Result<(), FileFault> {
+    fn fill_near(&mut self, octets: &mut [u8]) -> bool {
         if octets.len() >= self.near {
-            return self.fill_slowly(octets);
+            return false;
         }
         self.near -= octets.len();
         self.ahead.fill(octets);
         self.place += octets.len() as u64;
-        Ok(())
+        true
+    }
+
+    #[inline(always)]
+    fn fill(&mut self, octets: &mut [u8]) -> Result<(), FileFault> {
+        if self.fill_near(octets) {
+            Ok(())
+        } else {
+            self.fill_slowly(octets)
+        }
     }
 
     #[inline(always)]
