@@ -2,6 +2,7 @@ pub mod Bodies
 pub mod Clocks
 pub mod Gathering
 pub mod Heads
+pub mod PacketHeads
 pub mod Options
 pub mod Parsing
 pub mod Skipping

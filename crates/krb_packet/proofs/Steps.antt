@@ -26,7 +26,7 @@ use Rattle.krb_packet.specs.declared.field.CaptureField.TheVariants as capture
 use Rattle.krb_packet.specs.declared.field.BlockField.TheVariants as block
 use Rattle.krb_packet.specs.Numbers.{in_order, number_in, checked_at, checked_number}
 use Rattle.krb_packet.specs.Parsers.{succeed, named, HasParsed}
-use Rattle.krb_packet.specs.Pcaps.{magic_of, magic_at, version, header_at, captured, packet_at, next_at}
+use Rattle.krb_packet.specs.Pcaps.{magic_of, magic_at, version, header_at, captured, packet_head_at, packet_at, next_at}
 use Rattle.krb_packet.specs.Bodies.{byte_order, body_size, after_byte_order, section_head_at, head_of, head_at, same_length, next_kind_at, content_at, in_body, block_kind}
 use Rattle.krb_packet.specs.Blocks.{head_in, content_in_file, read_body, body_in, block_in, after_content, block_after, after_kind}
 use Rattle.krb_packet.specs.Captures.{header_in, packet_in, after_magic, after_packet, next_in, blocks_of}
@@ -45,11 +45,12 @@ Passes-header form =
 pub Passes-packet : (header : Header) (count : ℕ) → Passes 16 (packet_at header count)
 Passes-packet header count =
     let order = header.form.order in
+    Passes-then 16 0 (packet_head_at order) _ (
     Passes-then 4 12 (number_in w32 order) _ (Passes-number w32 order) (λ seconds.
     Passes-then 4 8 (number_in w32 order) _ (Passes-number w32 order) (λ fraction.
     Passes-then 4 4 (checked_number w32 order captured) _ (Passes-checked_at w32 order captured) (λ size.
-    Passes-then 4 0 (number_in w32 order) _ (Passes-number w32 order) (λ original.
-    Passes-fewer size _ (Passes-made size (octets_at size) _ (Passes-octets size))))))
+    Passes-made 4 (number_in w32 order) _ (Passes-number w32 order))))
+    ) (λ head. Passes-fewer head.captured _ (Passes-made head.captured (octets_at head.captured) _ (Passes-octets head.captured)))
 
 -- the next packet, if there is one
 next_passes : (header : Header) (count : ℕ) (bounds : Bounds) (place : ℕ) (octets : List ℕ) (packet : Packet) (t : Source) → next_at header count bounds (at place octets) ≡ Ok (Some packet, t)

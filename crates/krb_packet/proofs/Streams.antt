@@ -1,6 +1,6 @@
 -- A capture file that is read one packet at a time: how each call changes the packets that are left.
-use Rattle.std.proofs.Common.{◌≡◌, ℕ, suc, ◌+◌, Option, Some, None, Ok, Err, List, [], ◌∷◌, ◌++◌, length, refl, sym, ◌∙◌, ap, subst, arith, append_assoc, append-nil, length-append}
-use Rattle.krb_file.specs.Fields.{Bounds, limited}
+use Rattle.std.proofs.Common.{◌≡◌, ℕ, suc, ◌+◌, Option, Some, None, Result, Ok, Err, List, [], ◌∷◌, ◌++◌, length, refl, sym, ◌∙◌, ap, subst, arith, append_assoc, append-nil, length-append}
+use Rattle.krb_file.specs.Fields.{Source, Bounds, limited}
 use Rattle.krb_file.specs.FieldReaders.{Cursor, source_at}
 use Rattle.krb_file.specs.declared.fault.FileFault.{FileFault}
 use Rattle.krb_file.specs.declared.fault.FileFault.TheVariants as faults
@@ -11,10 +11,12 @@ use Rattle.krb_packet.specs.declared.format.Format.TheVariants as formats
 use Rattle.krb_packet.specs.declared.format.Next.TheVariants as nexts
 use Rattle.krb_packet.specs.declared.field.CaptureField.{CaptureField}
 use Rattle.krb_packet.specs.declared.fault.CaptureFault.{CaptureFault}
+use Rattle.krb_packet.specs.declared.pcap.Header.{Header}
+use Rattle.krb_packet.specs.declared.packets.State.{State}
 use Rattle.krb_packet.specs.declared.packets.State.TheVariants as states
-use Rattle.krb_packet.specs.Parsers.{Refusal, HasParsed, FailsIn}
+use Rattle.krb_packet.specs.Parsers.{Refusal, and_then, succeed, HasParsed, FailsIn}
 use Rattle.krb_packet.specs.Pcaps.{most_captured}
-use Rattle.krb_packet.specs.Captures.{next_in, Packets, with_first, no_packets, packets_after, packets}
+use Rattle.krb_packet.specs.Captures.{packet_in, after_packet, next_in, Packets, with_first, no_packets, packets_after, packets}
 use Rattle.krb_packet.specs.Streaming.{PacketsModel, before, Reads, IsPacket, EndsBy, FailsAfter}
 use Rattle.krb_packet.proofs.Stepwise.{after-packet, after-passed, after-end, after-fault}
 
@@ -127,6 +129,23 @@ fault_given file count number format (faults.Refused place why unnamed) field Ma
     let whose : next_in format number limits s ≡ Err refusal = subst (λ (k : Bounds). next_in format number k s ≡ Err refusal) reads.bounds fails.refused in
     let e : next_in format count limits s ≡ Err refusal = subst (λ (n : ℕ). next_in format n limits s ≡ Err refusal) reads.same whose in
     ends_so file count (Some refusal) reads.given b.0 reads.counted (b.1 ∙ after-fault format count s refusal e) b.2
+
+-- ---- the step of a pcap whose header was read
+pub pcap_step : (header : Header) (count : ℕ) (packet : Option Packet) (old new : Cursor) → HasParsed (packet_in header count) packet old new → HasParsed (next_in (formats.Pcap header) count) (after_packet header packet) old new
+pcap_step header count packet old new read = record {
+  same_bounds = read.same_bounds;
+  from = λ rest there. let a = read.from rest there in (a.0, a.1, ap (λ (r : Result (Option Packet × Source) Refusal). and_then r (λ x. succeed (after_packet header x.0) old.bounds x.1)) a.2);
+}
+
+pub pcap_reads : (file : List ℕ) (count number : ℕ) (header : Header) (state : State) (cursor : Cursor) → state ≡ states.Open (formats.Pcap header) → Reads (record { cursor = cursor; state = state; count = number }) file count → Reads (opening cursor (formats.Pcap header) number) file count
+pcap_reads file count number header state cursor is reads = subst (λ (s : State). let model : PacketsModel = record { cursor = cursor; state = s; count = number } in Reads model file count) is reads
+
+pub pcap_given : (file : List ℕ) (count number : ℕ) (header : Header) (state : State) (x : Packet) (old new : Cursor) → state ≡ states.Open (formats.Pcap header) → Reads (record { cursor = old; state = state; count = number }) file count → HasParsed (packet_in header number) (Some x) old new
+    → IsPacket (packets file) count x × Reads (record { cursor = new; state = state; count = number + 1 }) file (suc count)
+pcap_given file count number header state x old new is reads read =
+    let format = formats.Pcap header in
+    let given = packet_given file count number (number + 1) format format x old new refl (pcap_reads file count number header state old is reads) (pcap_step header number (Some x) old new read) in
+    (given.0, subst (λ (s : State). let model : PacketsModel = record { cursor = new; state = s; count = number + 1 } in Reads model file (suc count)) (sym is) given.1)
 
 pub not_done : (file : List ℕ) (count number : ℕ) (cursor : Cursor) → Reads (record { cursor = cursor; state = states.Done; count = number }) file count → ⊥
 not_done file count number cursor reads = let now = some_rest cursor in (reads.rest now.rest now.there).1

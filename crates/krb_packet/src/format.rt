@@ -54,7 +54,7 @@ fn header<F: FieldReader>(form: Form, reader: &mut F) -> Result<Header, CaptureF
 }
 
 /// Reads the next packet of a pcap, if the file has not ended. The reader is at `start`.
-fn packet<F: FieldReader>(
+pub(crate) fn packet<F: FieldReader>(
     alloc: Global,
     header: Header,
     count: u64,

@@ -1,9 +1,9 @@
 //! The order of the octets of numbers, and numbers of either order, read.
 
-ghost use Rattle.std.specs.Prelude.{◌≡◌};
+ghost use Rattle.std.specs.Prelude.{◌≡◌, ◌+◌, ◌≤◌, length};
 ghost use Rattle.std.specs.Int.{w16, w32};
 ghost use Rattle.krb_file.specs.FieldReaders.{Follows, Keeps};
-ghost use Rattle.krb_packet.specs.Numbers.{highest_first, number_in, checked};
+ghost use Rattle.krb_packet.specs.Numbers.{highest_first, in_order, number_after, number_in, checked};
 
 use krb_file::{FieldReader, FileFault, FileWhy};
 
@@ -28,6 +28,26 @@ impl ByteOrder {
         }
         octets
     }
+
+    /// Returns the number of 32 bits that octets spell.
+    pub(crate) fn number32(self, octets: [u8; 4]) -> u32
+        ensures { result ≡ in_order w32 self octets }
+    {
+        match self {
+            ByteOrder::BigEndian => u32::from_be_bytes(octets),
+            ByteOrder::LittleEndian => u32::from_le_bytes(octets),
+        }
+    }
+
+    /// Returns the number of 32 bits after `at` octets.
+    pub(crate) fn number32_after(self, at: usize, octets: &[u8]) -> u32
+        requires { at + 4 ≤ length octets.now }
+        ensures { result ≡ number_after self at octets.now }
+    {
+        let mut number = [0; 4];
+        number.copy_from_slice(&octets[at..at + 4]);
+        self.number32(number)
+    }
 }
 
 /// Reads a number of 16 bits.
@@ -48,7 +68,7 @@ pub(crate) fn number32<F: FieldReader>(order: ByteOrder, reader: &mut F) -> Resu
 {
     let mut octets = [0; 4];
     reader.fill(&mut octets)?;
-    Ok(u32::from_be_bytes(order.highest_first(octets)))
+    Ok(order.number32(octets))
 }
 
 /// Returns the meaning of a field, or refuses it at its place.

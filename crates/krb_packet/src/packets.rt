@@ -1,10 +1,10 @@
 //! Capture files, read one packet at a time.
 
 use crate::fault::CaptureFault;
-use crate::format::{Format, Next, next_step};
+use crate::format::{Format, Next, next_step, packet};
 use crate::packet::Packet;
-use crate::pcap::MOST_CAPTURED;
-use krb_file::{FieldLimit, StreamReader};
+use crate::pcap::{Header, MOST_CAPTURED};
+use krb_file::{FieldLimit, FieldReader, StreamReader};
 use std::alloc::Global;
 use std::io::Read;
 use std::marker::Model;
@@ -42,9 +42,10 @@ impl<R: Read> Model for Packets<R> {
     ghost invariant = { λ packets. (packets.count ≤ packets.reader.place) × (blocks_before packets.state ≤ packets.reader.place) };
 }
 
-ghost use Rattle.std.specs.Prelude.{◌≡◌, ◌≤◌, ℕ, List, [], Some, None, Ok, Err, IfErr, OnOk};
+ghost use Rattle.std.specs.Prelude.{◌≡◌, ◌≤◌, ℕ, List, [], Some, None, Ok, Err, IfErr, IfSome, OnOk};
 ghost use Rattle.krb_file.specs.FieldReaders.{Stays};
 ghost use Rattle.krb_packet.specs.declared.packets.State.TheVariants as states;
+ghost use Rattle.krb_packet.specs.declared.format.Format.TheVariants as formats;
 ghost use Rattle.krb_packet.specs.declared.fault.CaptureFault.{CaptureFault as CaptureFaultValue};
 ghost use Rattle.krb_packet.specs.Captures.{blocks_of};
 ghost use Rattle.krb_packet.specs.Streaming.{Reads, ReturnsNext};
@@ -78,6 +79,9 @@ impl<R: Read> Packets<R> {
         ensures ended { self.old.state ≡ states.Done → (result ≡ Ok None) × (self.new ≡ self.old) }
         ensures failed { (fault : CaptureFaultValue) → self.old.state ≡ states.Failed fault → (result ≡ Err fault) × (self.new ≡ self.old) }
     {
+        if let Some(header) = self.pcap_header() {
+            return self.read_captured(header, alloc);
+        }
         match replace(&mut self.state, State::Done) {
             State::Open(format) => self.read_next(format, alloc),
             State::Done => Ok(None),
@@ -96,7 +100,50 @@ impl<R: Read> Packets<R> {
         self.reader.give_back(octets);
     }
 
+    /// Returns the header of a pcap, if that was read and the file has not ended yet.
+    #[inline(always)]
+    fn pcap_header(&self) -> Option<Header>
+        ensures { IfSome result (λ header. self.now.state ≡ states.Open (formats.Pcap header)) }
+    {
+        match &self.state {
+            State::Open(Format::Pcap(header)) => Some(*header),
+            _ => None,
+        }
+    }
+
+    /// Returns the next packet of a pcap whose header was read. Unlike
+    /// [`read_next`](Packets::read_next) it leaves the progress where it is.
+    #[inline(always)]
+    fn read_captured(
+        &mut self,
+        header: Header,
+        alloc: Global,
+    ) -> Result<Option<Packet>, CaptureFault>
+        requires { self.old.state ≡ states.Open (formats.Pcap header) }
+        ensures next { (file : List ℕ) (given : ℕ) → Reads self.old file given → ReturnsNext file given result self.new }
+        ensures stays { OnOk result (Stays self.old.cursor self.new.cursor) }
+        ensures ends { result ≡ Ok None → self.new.state ≡ states.Done }
+        ensures fails { IfErr result (λ fault. self.new.state ≡ states.Failed fault) }
+    {
+        let start = self.reader.place();
+        match packet(alloc, header, self.count, start, &mut self.reader) {
+            Ok(Some(packet)) => {
+                self.count += 1;
+                Ok(Some(packet))
+            }
+            Ok(None) => {
+                self.state = State::Done;
+                Ok(None)
+            }
+            Err(fault) => {
+                self.state = State::Failed(fault);
+                Err(fault)
+            }
+        }
+    }
+
     /// Returns the next packet of a file that was read so far.
+    #[inline(never)]
     fn read_next(&mut self, format: Format, alloc: Global) -> Result<Option<Packet>, CaptureFault>
         requires { blocks_of format ≤ self.old.cursor.place }
         ensures next { (file : List ℕ) (given : ℕ) → Reads (record self.old { state = states.Open format }) file given → ReturnsNext file given result self.new }

@@ -1,11 +1,11 @@
 //! The fields of pcap files, read.
 
-ghost use Rattle.std.specs.Prelude.{◌≡◌, ◌+◌, ◌*◌, ◌^◌, ◌<◌, ◌≤◌, OnOk};
+ghost use Rattle.std.specs.Prelude.{◌≡◌, ◌+◌, ◌*◌, ◌^◌, ◌<◌, ◌≤◌, length, OnOk};
 ghost use Rattle.krb_file.specs.FieldReaders.{Follows, Stays, Keeps};
 ghost use Rattle.std.specs.Int.{w32};
 ghost use Rattle.krb_packet.specs.Numbers.{checked_number};
 ghost use Rattle.krb_packet.specs.Values.{time_of};
-ghost use Rattle.krb_packet.specs.Pcaps.{pcap, magic_of, magic_at, version, header_at, unit, captured, packet_at, next_at};
+ghost use Rattle.krb_packet.specs.Pcaps.{pcap, magic_of, magic_at, version, header_at, unit, captured, packet_head_at, packet_head_of, packet_at, next_at};
 
 use crate::block::SECTION_HEADER;
 use crate::order::{ByteOrder, checked, number32};
@@ -157,6 +157,71 @@ fn captured_length<F: FieldReader>(order: ByteOrder, reader: &mut F) -> Result<u
     checked(place, captured(number))
 }
 
+/// The numbers before the octets of a packet.
+#[derive(Clone, Copy, PartialEq, Eq, Debug)]
+pub struct PacketHead {
+    /// The seconds of its time.
+    pub seconds: u32,
+    /// The fraction of a second.
+    pub fraction: u32,
+    /// How many octets were captured.
+    pub captured: u32,
+    /// How many octets it had on the wire.
+    pub original: u32,
+}
+
+/// How many octets are before the octets of a packet.
+const PACKET_HEAD: usize = 16;
+
+/// Returns the numbers that sixteen octets spell.
+fn packet_head_of(order: ByteOrder, octets: &[u8]) -> Result<PacketHead, FileWhy>
+    requires { length octets.now ≡ 16 }
+    ensures { result ≡ packet_head_of order octets.now }
+{
+    match captured(order.number32_after(8, octets)) {
+        Ok(captured) => Ok(PacketHead {
+            seconds: order.number32_after(0, octets),
+            fraction: order.number32_after(4, octets),
+            captured,
+            original: order.number32_after(12, octets),
+        }),
+        Err(why) => Err(why),
+    }
+}
+
+/// Reads the numbers before the octets of a packet one by one.
+#[inline(never)]
+fn packet_numbers<F: FieldReader>(order: ByteOrder, reader: &mut F) -> Result<PacketHead, FileFault>
+    ensures read { Follows (λ head. head) result (packet_head_at order) F.MayFail (F.cursor reader.old) (F.cursor reader.new) }
+    ensures keeps { Keeps (F.cursor reader.old) (F.cursor reader.new) }
+{
+    let seconds = number32(order, reader)?;
+    let fraction = number32(order, reader)?;
+    let captured = captured_length(order, reader)?;
+    let original = number32(order, reader)?;
+    Ok(PacketHead {
+        seconds,
+        fraction,
+        captured,
+        original,
+    })
+}
+
+/// Reads the numbers before the octets of a packet.
+#[inline(always)]
+fn packet_head<F: FieldReader>(order: ByteOrder, reader: &mut F) -> Result<PacketHead, FileFault>
+    ensures read { Follows (λ head. head) result (packet_head_at order) F.MayFail (F.cursor reader.old) (F.cursor reader.new) }
+    ensures keeps { Keeps (F.cursor reader.old) (F.cursor reader.new) }
+{
+    let place = reader.place();
+    let mut octets = [0; PACKET_HEAD];
+    if reader.fill_near(&mut octets) {
+        checked(place + 8, packet_head_of(order, &octets))
+    } else {
+        packet_numbers(order, reader)
+    }
+}
+
 /// Reads the packet after `count` others.
 fn packet<F: FieldReader>(
     alloc: Global,
@@ -169,23 +234,17 @@ fn packet<F: FieldReader>(
     ensures keeps { Keeps (F.cursor reader.old) (F.cursor reader.new) }
 {
     let order = header.form.order;
-    let seconds = number32(order, reader)?;
-    let fraction = number32(order, reader)?;
-    let captured = captured_length(order, reader)?;
-    let original = number32(order, reader)?;
+    let head = packet_head(order, reader)?;
     let mut octets = reader.spare_octets(alloc);
-    reader.octets(alloc, u64::from(captured), &mut octets)?;
+    reader.octets(alloc, u64::from(head.captured), &mut octets)?;
     Ok(Packet {
         number: count + 1,
-        time: time(header.form.precision, seconds, fraction),
+        time: time(header.form.precision, head.seconds, head.fraction),
         link: header.link,
         octets: Octets::new(octets),
-        size: captured.max(original),
+        size: head.captured.max(head.original),
     })
 }
-
-/// How many octets are before the octets of a packet.
-const PACKET_HEADER: u64 = 16;
 
 /// Reads the packet after `count` others, if the file has not ended.
 pub(crate) fn next_captured<F: FieldReader>(
@@ -199,7 +258,7 @@ pub(crate) fn next_captured<F: FieldReader>(
     ensures stays { OnOk result (Stays (F.cursor reader.old) (F.cursor reader.new)) }
     ensures on { (F.cursor reader.old).place ≤ (F.cursor reader.new).place }
 {
-    reader.look_ahead(PACKET_HEADER)?;
+    reader.look_ahead(PACKET_HEAD as u64)?;
     if reader.is_empty()? {
         return Ok(None);
     }
