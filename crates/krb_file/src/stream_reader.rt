@@ -208,6 +208,7 @@ impl<R: Read> StreamReader<R> {
     }
 
     /// Reads a field of octets, piece by piece.
+    #[inline(never)]
     fn take_octets(
         &mut self,
         alloc: Global,
@@ -311,7 +312,10 @@ impl<R: Read> StreamReader<R> {
         ensures within { FetchesTo (self.old.place + size) self.old self.new }
     {
         self.check_octets(size)?;
-        self.take_octets(alloc, size, octets)
+        if size > LEAST_PIECE {
+            return self.take_octets(alloc, size, octets);
+        }
+        self.take_piece(self.place, size as usize, octets)
     }
 }
 

@@ -1,9 +1,10 @@
 //! The formats of capture files, which differ in their first four octets.
 
-ghost use Rattle.std.specs.Prelude.{◌≡◌, ◌^◌, ◌<◌, ◌≤◌, OnOk, [], Ok};
+ghost use Rattle.std.specs.Prelude.{◌≡◌, ◌^◌, ◌<◌, ◌≤◌, OnOk, [], Ok, Err};
 ghost use Rattle.krb_file.specs.FieldReaders.{Stays, Keeps};
-ghost use Rattle.krb_packet.specs.Parsers.{Parses};
-ghost use Rattle.krb_packet.specs.Captures.{blocks_of, header_in, packet_in, begin_in, next_in};
+ghost use Rattle.krb_packet.specs.Parsers.{Parses, offset_of};
+ghost use Rattle.krb_packet.specs.declared.field.CaptureField.TheVariants as capture;
+ghost use Rattle.krb_packet.specs.Captures.{blocks_of, header_in, packet_field, packet_in, begin_in, next_in};
 
 use crate::block::{BlockKind, Section};
 use crate::blocks::{block_after, next_block};
@@ -13,7 +14,7 @@ use crate::order::ByteOrder;
 use crate::packet::Packet;
 use crate::pcap::{Form, Header, Magic, next_captured, read_header, read_magic};
 use krb_der::Many;
-use krb_file::FieldReader;
+use krb_file::{FieldReader, FileFault};
 use std::alloc::Global;
 
 /// The progress in a file: its format, once that is known, and what of it later fields depend on.
@@ -53,6 +54,18 @@ fn header<F: FieldReader>(form: Form, reader: &mut F) -> Result<Header, CaptureF
     }
 }
 
+/// Returns the fault of a packet of a pcap that begins at `start`, with the field at fault. It stands
+/// apart, so that a packet is returned where it was made.
+#[cold]
+#[inline(never)]
+fn refused_packet(count: u64, start: u64, fault: FileFault) -> Result<Option<Packet>, CaptureFault>
+    ensures { result ≡ Err (record { fault = fault; field = capture.Packet count (packet_field (offset_of fault start)) }) }
+{
+    let field = packet_field(offset(fault, start));
+    let field = CaptureField::Packet(count, field);
+    Err(CaptureFault { fault, field })
+}
+
 /// Reads the next packet of a pcap, if the file has not ended. The reader is at `start`.
 pub(crate) fn packet<F: FieldReader>(
     alloc: Global,
@@ -69,11 +82,7 @@ pub(crate) fn packet<F: FieldReader>(
 {
     match next_captured(alloc, header, count, reader) {
         Ok(packet) => Ok(packet),
-        Err(fault) => {
-            let field = packet_field(offset(fault, start));
-            let field = CaptureField::Packet(count, field);
-            Err(CaptureFault { fault, field })
-        }
+        Err(fault) => refused_packet(count, start, fault),
     }
 }
 

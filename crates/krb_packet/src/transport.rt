@@ -19,6 +19,7 @@ const RST: u8 = 4;
 
 /// Returns the datagram that a packet carries, or `None` if a header is cut or wrong.
 #[tactic(auto, unfolding(crate::specs::Contents::datagram))]
+#[inline(always)]
 fn datagram<'a>(source: IpAddr, target: IpAddr, packet: &Payload<'a>) -> Option<Contents<'a>>
     ensures { result ≡ datagram source target packet.now }
 {
@@ -44,6 +45,7 @@ fn datagram<'a>(source: IpAddr, target: IpAddr, packet: &Payload<'a>) -> Option<
 
 /// Returns the segment that a packet carries, or `None` if a header is cut or wrong.
 #[tactic(auto, unfolding(crate::specs::Contents::segment))]
+#[inline(always)]
 fn segment<'a>(source: IpAddr, target: IpAddr, packet: &Payload<'a>) -> Option<Contents<'a>>
     ensures { result ≡ segment source target packet.now }
 {
@@ -75,6 +77,7 @@ fn segment<'a>(source: IpAddr, target: IpAddr, packet: &Payload<'a>) -> Option<C
 
 /// Returns what a packet carries, by the number of its protocol.
 #[tactic(auto, unfolding(crate::specs::Contents::transport))]
+#[inline(always)]
 pub(crate) fn transport<'a>(
     source: IpAddr,
     target: IpAddr,
