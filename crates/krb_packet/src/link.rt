@@ -15,7 +15,6 @@ const IPV6: u16 = 0x86DD;
 
 /// Returns what a packet carries, by its EtherType.
 #[tactic(auto, unfolding(crate::specs::Contents::network))]
-#[inline(always)]
 fn network<'a>(kind: u16, packet: Payload<'a>) -> Option<Contents<'a>>
     ensures { result ≡ network kind packet.entry }
 {
@@ -62,7 +61,6 @@ fn tags<'a>(most: usize, kind: u16, packet: Payload<'a>) -> Option<(u16, Payload
 
 /// Returns what a frame of Ethernet carries.
 #[tactic(auto, unfolding(crate::specs::Contents::ethernet))]
-#[inline(always)]
 fn ethernet<'a>(packet: Payload<'a>) -> Option<Contents<'a>>
     ensures { result ≡ ethernet packet.entry }
 {
@@ -141,7 +139,6 @@ fn bsd_loopback<'a>(packet: Payload<'a>) -> Option<Contents<'a>>
 
 /// Returns what a packet of a link carries, or `None` if it cannot be read.
 #[tactic(auto, unfolding(crate::specs::Contents::frame))]
-#[inline(always)]
 pub(crate) fn frame<'a>(link: LinkType, packet: Payload<'a>) -> Option<Contents<'a>>
     ensures { result ≡ frame link packet.entry }
 {
