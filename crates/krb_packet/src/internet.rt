@@ -38,13 +38,14 @@ fn announced<'a>(size: u16, packet: Payload<'a>) -> Payload<'a>
 pub(crate) fn ipv4<'a>(packet: Payload<'a>) -> Option<Contents<'a>>
     ensures { result ≡ ipv4 packet.entry }
 {
+    // With this field all others were captured, too.
+    let target = packet.field::<4>(16)?;
     let first = packet.number8(0)?;
     let total = packet.number16(2)?;
     let identification = packet.number16(4)?;
     let flags = packet.number16(6)?;
     let protocol = packet.number8(9)?;
     let source = packet.field::<4>(12)?;
-    let target = packet.field::<4>(16)?;
     let words = first % 16;
     let payload = announced(total, packet).after(usize::from(words) * 4)?;
     if first / 16 != 4 || words < 5 {
@@ -187,12 +188,13 @@ pub(crate) fn after_headers<'a>(
 pub(crate) fn ipv6<'a>(packet: Payload<'a>) -> Option<Contents<'a>>
     ensures { result ≡ ipv6 packet.entry }
 {
+    // With these octets all fields were captured.
+    let rest = packet.after(IPV6_HEADER)?;
     let first = packet.number8(0)?;
     let size = packet.number16(4)?;
     let kind = packet.number8(6)?;
     let source = packet.field::<16>(8)?;
     let target = packet.field::<16>(24)?;
-    let rest = packet.after(IPV6_HEADER)?;
     if first / 16 != 6 {
         return None;
     }

@@ -126,20 +126,13 @@ impl<R: Read> Packets<R> {
         ensures fails { IfErr result (λ fault. self.new.state ≡ states.Failed fault) }
     {
         let start = self.reader.place();
-        match packet(alloc, header, self.count, start, &mut self.reader) {
-            Ok(Some(packet)) => {
-                self.count += 1;
-                Ok(Some(packet))
-            }
-            Ok(None) => {
-                self.state = State::Done;
-                Ok(None)
-            }
-            Err(fault) => {
-                self.state = State::Failed(fault);
-                Err(fault)
-            }
+        let read = packet(alloc, header, self.count, start, &mut self.reader);
+        match &read {
+            Ok(Some(_)) => self.count += 1,
+            Ok(None) => self.state = State::Done,
+            Err(fault) => self.state = State::Failed(*fault),
         }
+        read
     }
 
     /// Returns the next packet of a file that was read so far.

@@ -23,10 +23,11 @@ const RST: u8 = 4;
 fn datagram<'a>(source: IpAddr, target: IpAddr, packet: &Payload<'a>) -> Option<Contents<'a>>
     ensures { result ≡ datagram source target packet.now }
 {
+    // With these octets all fields were captured.
+    let rest = packet.after(8)?;
     let source_port = packet.number16(0)?;
     let target_port = packet.number16(2)?;
     let length = packet.number16(4)?;
-    let rest = packet.after(8)?;
     if length < UDP_HEADER {
         return None;
     }
@@ -49,11 +50,12 @@ fn datagram<'a>(source: IpAddr, target: IpAddr, packet: &Payload<'a>) -> Option<
 fn segment<'a>(source: IpAddr, target: IpAddr, packet: &Payload<'a>) -> Option<Contents<'a>>
     ensures { result ≡ segment source target packet.now }
 {
+    // With this field all others were captured, too.
+    let flags = packet.number8(13)?;
     let source_port = packet.number16(0)?;
     let target_port = packet.number16(2)?;
     let sequence = packet.number32(4)?;
     let words = packet.number8(12)? / 16;
-    let flags = packet.number8(13)?;
     let payload = packet.after(usize::from(words) * 4)?;
     if words < 5 {
         return None;

@@ -10,20 +10,25 @@ invariant_of-self g c =
     let s = c.self.inside in
     let format = formats.Pcap c.args.header in
     let begun : s.state ≡ states.Open format = rw (sym c.self.view_is) at c.requires in
-    let read = rw c.in-Ok-Some.field-0-is at c.in-Ok-Some.ensures.read in
-    let goes = packet_goes format s.count c.in-Ok-Some.packet format s.reader c.packet.new.reader (pcap_step c.args.header s.count (Some c.in-Ok-Some.packet) s.reader c.packet.new.reader read) in
+    let is : c.in-Ok-Some.field-0 ≡ Some c.in-Ok-Some.field-0-0 = rw c.in-Ok-Some.is at c.in-Ok-Some.field-0-is in
+    let read = rw (c.in-Ok-Some.is, is) at c.packet-read.ensures.read in
+    let goes = packet_goes format s.count c.in-Ok-Some.field-0-0 format s.reader c.packet-read.new.reader (pcap_step c.args.header s.count (Some c.in-Ok-Some.field-0-0) s.reader c.packet-read.new.reader read) in
     (omega (arith, c.self.invariant.0, goes.0), rw begun (omega arith))
 
 pub returns-in-Ok-Some-clause-next : goal.returns-in-Ok-Some-clause-next
 returns-in-Ok-Some-clause-next g c =
     let s = c.self.inside in
     let begun : s.state ≡ states.Open (formats.Pcap c.args.header) = rw (sym c.self.view_is) at c.requires in
-    rw (sym c.self.view_is)
-    (λ file given reads. pcap_given file given s.count c.args.header s.state c.in-Ok-Some.packet s.reader c.packet.new.reader begun reads (rw c.in-Ok-Some.field-0-is at c.in-Ok-Some.ensures.read))
+    let is : c.in-Ok-Some.field-0 ≡ Some c.in-Ok-Some.field-0-0 = rw c.in-Ok-Some.is at c.in-Ok-Some.field-0-is in
+    let read = rw (c.in-Ok-Some.is, is) at c.packet-read.ensures.read in
+    rw (sym c.self.view_is, c.in-Ok-Some.is, is)
+    (λ file given reads. pcap_given file given s.count c.args.header s.state c.in-Ok-Some.field-0-0 s.reader c.packet-read.new.reader begun reads read)
 
 pub returns-in-Ok-None-clause-next : goal.returns-in-Ok-None-clause-next
 returns-in-Ok-None-clause-next g c =
     let s = c.self.inside in
     let begun : s.state ≡ states.Open (formats.Pcap c.args.header) = rw (sym c.self.view_is) at c.requires in
-    rw (sym c.self.view_is)
-    (λ file given reads. end_given file given s.count (formats.Pcap c.args.header) s.reader c.packet.new.reader (pcap_reads file given s.count c.args.header s.state s.reader begun reads) (pcap_step c.args.header s.count None s.reader c.packet.new.reader (rw c.in-Ok-None.field-0-is at c.in-Ok-None.ensures.read)))
+    let is : c.in-Ok-None.field-0 ≡ None = rw c.in-Ok-None.is at c.in-Ok-None.field-0-is in
+    let read = rw (c.in-Ok-None.is, is) at c.packet-read.ensures.read in
+    rw (sym c.self.view_is, c.in-Ok-None.is, is)
+    (λ file given reads. end_given file given s.count (formats.Pcap c.args.header) s.reader c.packet-read.new.reader (pcap_reads file given s.count c.args.header s.state s.reader begun reads) (pcap_step c.args.header s.count None s.reader c.packet-read.new.reader read))
