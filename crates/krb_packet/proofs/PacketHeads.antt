@@ -1,5 +1,5 @@
 -- The numbers before the octets of a packet of a pcap, read at once.
-use Rattle.std.proofs.Common.{◌≡◌, ℕ, ◌+◌, ◌≤◌, false, ltb, None, Result, Ok, Err, List, length, take, drop, refl, ap, sym, ◌∙◌, arith, length-drop, take-take, le-ltb}
+use Rattle.std.proofs.Common.{◌≡◌, ℕ, ◌+◌, false, ltb, None, Result, Ok, Err, List, length, take, drop, refl, ap, sym, ◌∙◌, arith, length-drop, take-take, le-ltb}
 use Rattle.std.proofs.lemmas.List.{drop-drop, drop-take}
 use Rattle.std.specs.Int.{w32}
 use Rattle.krb_file.specs.Fields.{Source, Fault, Bounds, Reader, and_then, ◌>>=◌, succeed, exceeds, next_octets_at}
@@ -10,8 +10,9 @@ use Rattle.krb_file.proofs.Fields.{Inside-before, piece-ok}
 use Rattle.krb_file.proofs.FieldReaders.{some_rest}
 use Rattle.krb_packet.specs.declared.order.ByteOrder.{ByteOrder}
 use Rattle.krb_packet.specs.declared.pcap.PacketHead.{PacketHead}
-use Rattle.krb_packet.specs.Numbers.{in_order, number_after, number_in, checked_at, checked_number, checked}
-use Rattle.krb_packet.specs.Pcaps.{captured, packet_head_at, with_captured, packet_head_of}
+use Rattle.krb_packet.specs.Numbers.{in_order, number_in, checked_at, checked_number, checked}
+use Rattle.krb_packet.specs.Pcaps.{captured, packet_head_at}
+use Rattle.krb_packet.specs.inner.PacketHeads.{number_after, with_captured, packet_head_of}
 
 module _ (order : ByteOrder) where
   abbrev after_size : ℕ → ℕ → ℕ → Reader PacketHead

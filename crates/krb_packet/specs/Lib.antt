@@ -15,3 +15,4 @@ pub mod Captures
 pub mod FieldNames
 pub mod Streaming
 pub mod Examples
+pub mod inner

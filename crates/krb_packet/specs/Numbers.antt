@@ -1,6 +1,6 @@
 -- Numbers in either byte order, and fields that are refused if their number has no meaning.
-use Rattle.std.specs.Prelude.{ℕ, None, Result, Ok, Err, List, reverse, take, drop}
-use Rattle.std.specs.Int.{Width, w32, byte_len, from_be_bytes}
+use Rattle.std.specs.Prelude.{ℕ, None, Result, Ok, Err, List, reverse}
+use Rattle.std.specs.Int.{Width, byte_len, from_be_bytes}
 use Rattle.krb_file.specs.Fields.{Fault, Reader, ◌>>=◌, succeed, next_octets_at}
 use Rattle.krb_file.specs.declared.fault.FileWhy.{FileWhy}
 use Rattle.krb_file.specs.declared.fault.FileFault.{FileFault}
@@ -15,10 +15,6 @@ highest_first orders.LittleEndian octets = reverse octets
 
 abbrev pub in_order : Width → ByteOrder → List ℕ → ℕ
 in_order width order octets = from_be_bytes width (highest_first order octets)
-
--- the number of 32 bits after `at` octets
-abbrev pub number_after : ByteOrder → ℕ → List ℕ → ℕ
-number_after order at octets = in_order w32 order (take 4 (drop at octets))
 
 abbrev pub number_in : Width → ByteOrder → Reader ℕ
 number_in width order = do

@@ -1,5 +1,5 @@
 -- The fields of a pcap (draft-ietf-opsawg-pcap, 4 and 5), and the magic, which says which format a capture file has.
-use Rattle.std.specs.Prelude.{ℕ, ◌+◌, ◌*◌, ◌%◌, ◌^◌, max, ◌==◌, nat_lt, Option, Some, None, Result, Ok, Err, List}
+use Rattle.std.specs.Prelude.{ℕ, ◌+◌, ◌*◌, ◌%◌, ◌^◌, max, ◌==◌, nat_lt, Option, Some, None, Result, Ok, Err}
 use Rattle.std.specs.Int.{w32}
 use Rattle.krb_der.specs.Octets.{when}
 use Rattle.krb_file.specs.Fields.{Reader, ◌>>=◌, succeed, octets_at, number_at, is_empty}
@@ -15,7 +15,7 @@ use Rattle.krb_packet.specs.declared.pcap.Header.{Header}
 use Rattle.krb_packet.specs.declared.pcap.PacketHead.{PacketHead}
 use Rattle.krb_packet.specs.declared.pcap.Magic.{Magic}
 use Rattle.krb_packet.specs.declared.pcap.Magic.TheVariants as magics
-use Rattle.krb_packet.specs.Numbers.{number_in, number_after, checked_number}
+use Rattle.krb_packet.specs.Numbers.{number_in, checked_number}
 use Rattle.krb_packet.specs.Values.{link_type, time_of}
 
 -- ---- the magic: the format and, of a pcap, the byte order and the unit of the fractions of seconds
@@ -83,14 +83,6 @@ packet_at header count = do
   head ← packet_head_at header.form.order
   octets ← octets_at head.captured
   succeed (record { number = count + 1; time = time_of (head.seconds * 10 ^ 9 + head.fraction * unit header.form.precision); link = header.link; octets = octets; size = max head.captured head.original })
-
--- the numbers that sixteen octets spell
-abbrev pub with_captured : ByteOrder → List ℕ → Result ℕ FileWhy → Result PacketHead FileWhy
-with_captured order octets (Ok size) = Ok (record { seconds = number_after order 0 octets; fraction = number_after order 4 octets; captured = size; original = number_after order 12 octets })
-with_captured order octets (Err reason) = Err reason
-
-abbrev pub packet_head_of : ByteOrder → List ℕ → Result PacketHead FileWhy
-packet_head_of order octets = with_captured order octets (captured (number_after order 8 octets))
 
 -- the next packet, or none at the end of the file
 abbrev pub next_at : Header → ℕ → Reader (Option Packet)

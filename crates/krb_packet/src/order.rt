@@ -3,7 +3,8 @@
 ghost use Rattle.std.specs.Prelude.{◌≡◌, ◌+◌, ◌≤◌, length};
 ghost use Rattle.std.specs.Int.{w16, w32};
 ghost use Rattle.krb_file.specs.FieldReaders.{Follows, Keeps};
-ghost use Rattle.krb_packet.specs.Numbers.{highest_first, in_order, number_after, number_in, checked};
+ghost use Rattle.krb_packet.specs.Numbers.{highest_first, in_order, number_in, checked};
+ghost use Rattle.krb_packet.specs.inner.PacketHeads.{number_after};
 
 use krb_file::{FieldReader, FileFault, FileWhy};
 

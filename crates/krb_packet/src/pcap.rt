@@ -5,7 +5,8 @@ ghost use Rattle.krb_file.specs.FieldReaders.{Follows, Stays, Keeps};
 ghost use Rattle.std.specs.Int.{w32};
 ghost use Rattle.krb_packet.specs.Numbers.{checked_number};
 ghost use Rattle.krb_packet.specs.Values.{time_of};
-ghost use Rattle.krb_packet.specs.Pcaps.{pcap, magic_of, magic_at, version, header_at, unit, captured, packet_head_at, packet_head_of, packet_at, next_at};
+ghost use Rattle.krb_packet.specs.Pcaps.{pcap, magic_of, magic_at, version, header_at, unit, captured, packet_head_at, packet_at, next_at};
+ghost use Rattle.krb_packet.specs.inner.PacketHeads.{packet_head_of};
 
 use crate::block::SECTION_HEADER;
 use crate::order::{ByteOrder, checked, number32};

@@ -1,4 +1,4 @@
-use Rattle.std.proofs.Common.{◌≡◌, ◌+◌, Some, None, sym, arith}
+use Rattle.std.proofs.Common.{◌≡◌, Some, None, sym, arith}
 use Rattle.krb_packet.specs.declared.format.Format.TheVariants as formats
 use Rattle.krb_packet.specs.declared.packets.State.TheVariants as states
 use Rattle.krb_packet.proofs.Steps.{packet_goes}
