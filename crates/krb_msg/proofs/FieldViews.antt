@@ -1,19 +1,19 @@
 -- Views of fields, of items and of scalars.
-use Rattle.std.proofs.Common.{◌≡◌, ℕ, ◌+◌, ◌<◌, ◌≤◌, inl, inr, ℤ, pos, negsuc, true, false, not, List, [], ◌∷◌, ◌++◌, length, Option, Some, None, MatchOption, refl, sym, ap, ◌∙◌, subst, arith, eq-eqb, eqb-true}
+use Rattle.std.proofs.Common.{◌≡◌, ℕ, get_or, ◌+◌, ◌<◌, ◌≤◌, inl, inr, ℤ, pos, negsuc, true, false, not, List, [], ◌∷◌, ◌++◌, length, Option, Some, None, MatchOption, refl, sym, ap, ◌∙◌, subst, arith, eq-eqb, eqb-true}
 use Rattle.std.specs.Prelude.{◌≤ℤ◌}
 use Rattle.std.specs.List.{AllByRecursion}
 use Rattle.std.proofs.lemmas.Bool.{not-true, true≢false}
 use Rattle.std.proofs.lemmas.Int.{ints}
-use Rattle.krb_der.specs.Octets.{item, integer_octets, integer_value, AreOctets}
+use Rattle.krb_der.specs.Octets.{item, number, integer_octets, integer_value, AreOctets}
 use Rattle.krb_der.specs.inner.Items.{same_from_item}
-use Rattle.krb_der.specs.inner.Numbers.{IsShortestInteger, IsShortestInteger-integer_octets, integer_octets-integer_value, integer_value-integer_octets, length-integer_octets-le}
+use Rattle.krb_der.specs.inner.Numbers.{IsShortestInteger, IsShortestInteger-integer_octets, integer_octets-integer_value, integer_value-integer_octets, length-integer_octets-le, spelled-number}
 use Rattle.krb_msg.specs.Term.{Term, Fields, Integer, Text, Octets, Sequence, Tagged, Application, End, Required, Optional, tag_of, Value, Values, der, der_of_fields}
 use Rattle.krb_msg.specs.Judgement.{is_padded}
 use Rattle.krb_msg.specs.ValueOfDer.{begins_with}
 use Rattle.krb_msg.specs.Shape.{may_begin}
 use Rattle.krb_msg.specs.inner.Values.{contents, der_is, may_begin_from_der}
 use Rattle.krb_msg.proofs.Integers.{is_padded-shortest, IsShortestInteger-from_unpadded}
-use Rattle.krb_msg.specs.Viewed.{HasNoItem, IsNoItem, AreContents, AreNoContents, AreFields, AreNoFields, BeginsWithValue, BeginsWithNoValue, MayBeginWithValue, IsMalformedField, IsNumberIn, IsNoNumberIn}
+use Rattle.krb_msg.specs.Viewed.{HasNoField, IsNoItem, AreContents, AreNoContents, AreFields, AreNoFields, BeginsWithValue, BeginsWithNoValue, MayBeginWithValue, IsMalformedField, IsNumberIn, IsNoNumberIn}
 
 -- a fact of a result, from what is known of it
 pub match_map : {A : Type 0} (o : Option A) (P P' : Type 0) (Q Q' : A → Type 0) → (P → P') → ((a : A) → Q a → Q' a) → MatchOption o P Q → MatchOption o P' Q'
@@ -32,13 +32,9 @@ pub same_contents : (tag : ℕ) (a b : List ℕ) → item tag a ≡ item tag b �
 same_contents tag a b e = (same_from_item tag tag a b [] [] (ap (λ l. l ++ []) e)).1
 
 -- ---- the first field
-pub field_none : (index : ℕ) (term : Term) (octets : List ℕ) → HasNoItem (0xA0 + index) octets → BeginsWithNoValue (Tagged index term) octets
-field_none index term octets none value rest s = none (der term value) rest s.form
-
-pub inner_none : (index tag : ℕ) (term : Term) (octets inner rest : List ℕ) → tag ≡ tag_of term → octets ≡ item (0xA0 + index) inner ++ rest → IsNoItem tag inner → BeginsWithNoValue (Tagged index term) octets
-inner_none index tag term octets inner rest t e none value more s =
-    let p = same_from_item (0xA0 + index) (0xA0 + index) inner (der term value) rest more (sym e ∙ s.form) in
-    none (contents term value) (p.1 ∙ der_is term value ∙ ap (λ n. item n (contents term value)) (sym t))
+pub field_none : (index tag : ℕ) (term : Term) (octets : List ℕ) → tag ≡ tag_of term → HasNoField (0xA0 + index) tag octets → BeginsWithNoValue (Tagged index term) octets
+field_none index tag term octets t none value rest s =
+    none (contents term value) rest (s.form ∙ ap (λ l. item (0xA0 + index) l ++ rest) (der_is term value ∙ ap (λ n. item n (contents term value)) (sym t)))
 
 pub contents_none : (index tag : ℕ) (term : Term) (octets inner own rest : List ℕ) → tag ≡ tag_of term → octets ≡ item (0xA0 + index) inner ++ rest → inner ≡ item tag own → AreNoContents term own → BeginsWithNoValue (Tagged index term) octets
 contents_none index tag term octets inner own rest t e i none value more s =
@@ -149,6 +145,14 @@ number_some low high octets number a p t e l h = record {
   le_high = h;
   form = sym (integer_octets-integer_value octets a (IsShortestInteger-from_unpadded octets a p t)) ∙ ap integer_octets (sym e);
 }
+
+-- an INTEGER of one octet
+pub one_octet_number : (octets : List ℕ) (that : ℤ) → AreOctets octets → 1 ≤ length octets → length octets < 2 → get_or octets 0 0 < 128 → that ≡ pos (get_or octets 0 0) → octets ≡ integer_octets that
+one_octet_number [] that a some one small e = absurd (omega (arith, some))
+one_octet_number (octet ∷ []) that a some one small e =
+    let n : number (octet ∷ []) ≡ octet = omega arith in
+    sym (ap integer_octets (e ∙ ap pos (sym n)) ∙ spelled-number 128 (octet ∷ []) (omega arith) a small)
+one_octet_number (first ∷ second ∷ octets) that a some one small e = absurd (omega (arith, one))
 
 pub integer_none : (low high : ℤ) (octets : List ℕ) → IsNoNumberIn low high octets → AreNoContents (Integer low high) octets
 integer_none low high octets none value a = none value (record { low_le = a.fits.0; le_high = a.fits.1; form = same_contents 0x02 octets (integer_octets value) a.form })

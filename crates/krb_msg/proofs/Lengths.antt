@@ -1,12 +1,12 @@
 -- Lengths of several octets, and the first of several items.
-use Rattle.std.proofs.Common.{◌≡◌, ℕ, suc, ◌+◌, ◌-◌, ◌^◌, ◌<◌, ◌≤◌, ◌⊎◌, inl, inr, List, [], ◌∷◌, ◌++◌, length, take, drop, get_or, refl, sym, ◌∙◌, ap, arith, append-nil, length-append, ◌≢◌}
+use Rattle.std.proofs.Common.{◌≡◌, ℕ, suc, ◌+◌, ◌-◌, ◌*◌, ◌^◌, ◌<◌, ◌≤◌, ◌⊎◌, inl, inr, List, [], ◌∷◌, ◌++◌, length, take, drop, get_or, refl, sym, ◌∙◌, ap, arith, append-nil, length-append, ◌≢◌}
 use Rattle.std.proofs.lemmas.Bool.{cases_lt}
 use Rattle.std.proofs.lemmas.List.{take_at}
 use Rattle.krb_der.specs.Octets.{AreOctets, number, length_octets, item}
 use Rattle.krb_der.specs.inner.Numbers.{spelled, IsShortest, IsShortest-spelled, number-fewest, AreOctets-spelled, length-spelled-le, spelled-number}
 use Rattle.std.proofs.lemmas.List.{take_all}
 use Rattle.krb_der.specs.inner.Items.{same_from_length_octets, length_octets-short, length_octets-long, length-item, item-append, same_from_cons, same_from_item}
-use Rattle.krb_msg.specs.Viewed.{HasNoItem, IsNoItem}
+use Rattle.krb_msg.specs.Viewed.{HasNoItem, HasNoField, IsNoItem}
 
 -- ---- a long length that is present
 shortest : (digits : List ℕ) → AreOctets digits → 0 < length digits → get_or digits 0 0 ≢ 0 → IsShortest 256 digits
@@ -17,6 +17,15 @@ shortest (first ∷ second ∷ digits) a p h = (a.0, omega (arith, h))
 pub is_length : (first size : ℕ) (digits rest octets : List ℕ) → AreOctets digits → first ≡ 128 + length digits → 0 < length digits → get_or digits 0 0 ≢ 0 → size ≡ number digits → 128 ≤ size → octets ≡ digits ++ rest → first ∷ octets ≡ length_octets size ++ rest
 is_length first size digits rest octets a f p h n large e =
     rw (f, e, n, length_octets-long (number digits) (omega (arith, n, large)), spelled-number 256 digits (omega arith) a (shortest digits a p h)) refl
+
+-- a length of two digits
+pub is_two_length : (first size : ℕ) (octets : List ℕ) → AreOctets octets → 2 ≤ length octets → first ≡ 130 → get_or octets 0 0 ≢ 0 → size ≡ get_or octets 0 0 * 256 + get_or octets 1 0 → first ∷ octets ≡ length_octets size ++ take (length octets - 2) (drop 2 octets)
+is_two_length first size [] a h f lead n = absurd (omega (arith, h))
+is_two_length first size (high ∷ []) a h f lead n = absurd (omega (arith, h))
+is_two_length first size (high ∷ low ∷ octets) a h f lead n =
+    let e : suc (suc (length octets)) - 2 ≡ length octets = omega arith in
+    let rest : octets ≡ take (suc (suc (length octets)) - 2) octets = sym (ap (λ k. take k octets) e ∙ take_all (length octets) octets (omega arith)) in
+    is_length first size (high ∷ low ∷ []) (take (suc (suc (length octets)) - 2) octets) (high ∷ low ∷ octets) (a.0, (a.1.0, tt)) f (omega arith) lead (omega (arith, n)) (omega (arith, n, lead)) (ap (λ l. high ∷ low ∷ l) rest)
 
 -- ---- and one that is not
 -- the parts of a long length
@@ -112,6 +121,14 @@ only_none tag octets none contents e = none contents [] (e ∙ sym (append-nil (
 
 pub only_some : (tag : ℕ) (octets contents rest : List ℕ) → octets ≡ item tag contents ++ rest → rest ≡ [] → octets ≡ item tag contents
 only_some tag octets contents rest e n = e ∙ ap (λ l. item tag contents ++ l) n ∙ append-nil (item tag contents)
+
+-- ---- a field that holds an item
+pub no_field : (outer tag : ℕ) (octets : List ℕ) → HasNoItem outer octets → HasNoField outer tag octets
+no_field outer tag octets none contents rest e = none (item tag contents) rest e
+
+pub no_item_in : (outer tag : ℕ) (octets inner rest : List ℕ) → octets ≡ item outer inner ++ rest → IsNoItem tag inner → HasNoField outer tag octets
+no_item_in outer tag octets inner rest e none contents more f =
+    none contents (same_from_item outer outer inner (item tag contents) rest more (sym e ∙ f)).1
 
 -- ---- the octets of a first item whose length is long
 pub two_first : (octets : List ℕ) → 2 ≤ length octets → octets ≡ get_or octets 0 0 ∷ get_or octets 1 0 ∷ take (length octets - 2) (drop 2 octets)

@@ -89,7 +89,7 @@ impl<'a> View<'a> for PrincipalName {
         0x30
     }
 
-    #[inline(always)]
+    #[inline(never)]
     fn view(contents: &'a [u8]) -> Option<PrincipalNameView<'a>> {
         match Layout::<Owned>::view(contents) {
             Some((name_type, (name, ()))) => Some(PrincipalNameView { name_type, name }),

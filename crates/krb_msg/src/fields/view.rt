@@ -8,7 +8,7 @@ ghost use Rattle.krb_msg.specs.Shape.{is_unambiguous, are_unambiguous, has_octet
 ghost use Rattle.krb_msg.specs.Viewed.{AreContents, AreNoContents, AreFields, AreNoFields, BeginsWithValue, BeginsWithNoValue, MayBeginWithValue, IsMalformedField, OfSome};
 
 use crate::fields::{Application, End, Fixed, Optional, Required, Sequence};
-use crate::view::head::{first_item, only_item};
+use crate::view::head::{first_field, only_item};
 use crate::view::scalars::Exactly;
 
 /// A type whose items are judged and viewed in place.
@@ -68,10 +68,13 @@ fn view_field<'a, const INDEX: u8, T: View<'a>>(octets: &'a [u8]) -> Option<(T::
     requires unambiguous { is_unambiguous T.term ≡ true }
     ensures { MatchOption result (BeginsWithNoValue (Tagged INDEX T.term) octets.now) (λ (seen, rest). BeginsWithValue (Tagged INDEX T.term) octets.now (T.value seen) rest.now × T.Lists seen) }
 {
-    let (inner, rest) = first_item(0xA0 + INDEX, octets)?;
-    let contents = only_item(T::tag(), inner)?;
-    let seen = T::view(contents)?;
-    Some((seen, rest))
+    let Some((contents, rest)) = first_field(0xA0 + INDEX, T::tag(), octets) else {
+        return None;
+    };
+    match T::view(contents) {
+        Some(seen) => Some((seen, rest)),
+        None => None,
+    }
 }
 
 /// Returns the field `[INDEX]`, if octets begin with its tag, and what follows it.
@@ -86,7 +89,9 @@ fn view_optional<'a, const INDEX: u8, T: View<'a>>(
 {
     match octets.first() {
         Some(tag) if *tag == 0xA0 + INDEX => {
-            let (seen, rest) = view_field::<INDEX, T>(octets)?;
+            let Some((seen, rest)) = view_field::<INDEX, T>(octets) else {
+                return None;
+            };
             Some((Some(seen), rest))
         }
         _ => Some((None, octets)),
@@ -119,9 +124,13 @@ impl<'a, const INDEX: u8, T: View<'a>, F: ViewFields<'a>> ViewFields<'a> for Req
 
     #[inline(always)]
     fn view_fields(octets: &'a [u8]) -> Option<(T::Of, F::Of)> {
-        let (value, rest) = view_field::<INDEX, T>(octets)?;
-        let fields = F::view_fields(rest)?;
-        Some((value, fields))
+        let Some(first) = view_field::<INDEX, T>(octets) else {
+            return None;
+        };
+        match F::view_fields(first.1) {
+            Some(fields) => Some((first.0, fields)),
+            None => None,
+        }
     }
 }
 
@@ -136,9 +145,13 @@ impl<'a, const INDEX: u8, T: View<'a>, F: ViewFields<'a>> ViewFields<'a> for Opt
 
     #[inline(always)]
     fn view_fields(octets: &'a [u8]) -> Option<(Option<T::Of>, F::Of)> {
-        let (value, rest) = view_optional::<INDEX, T>(octets)?;
-        let fields = F::view_fields(rest)?;
-        Some((value, fields))
+        let Some((value, rest)) = view_optional::<INDEX, T>(octets) else {
+            return None;
+        };
+        match F::view_fields(rest) {
+            Some(fields) => Some((value, fields)),
+            None => None,
+        }
     }
 }
 
@@ -154,8 +167,10 @@ impl<'a, const INDEX: u8, const NUMBER: u8, F: ViewFields<'a>> ViewFields<'a>
 
     #[inline(always)]
     fn view_fields(octets: &'a [u8]) -> Option<F::Of> {
-        let (_, rest) = view_field::<INDEX, Exactly<NUMBER>>(octets)?;
-        F::view_fields(rest)
+        match view_field::<INDEX, Exactly<NUMBER>>(octets) {
+            Some((_, rest)) => F::view_fields(rest),
+            None => None,
+        }
     }
 }
 
@@ -195,7 +210,9 @@ impl<'a, const NUMBER: u8, E: View<'a>> View<'a> for Application<NUMBER, E> {
 
     #[inline(always)]
     fn view(contents: &'a [u8]) -> Option<E::Of> {
-        let inner = only_item(E::tag(), contents)?;
-        E::view(inner)
+        match only_item(E::tag(), contents) {
+            Some(inner) => E::view(inner),
+            None => None,
+        }
     }
 }

@@ -1,8 +1,8 @@
 //! Items found in place (X.690, 8.1 and 10.1).
 
-ghost use Rattle.std.specs.Prelude.{◌≡◌, ◌^◌, ◌<◌, ◌≤◌, ◌++◌, ◌∷◌, length, MatchOption};
+ghost use Rattle.std.specs.Prelude.{◌≡◌, ◌^◌, ◌<◌, ◌≤◌, ◌++◌, ◌∷◌, length, MatchOption, IfSome};
 ghost use Rattle.krb_der.specs.Octets.{item, length_octets};
-ghost use Rattle.krb_msg.specs.Viewed.{HasNoItem, IsNoItem, HasNoLength};
+ghost use Rattle.krb_msg.specs.Viewed.{HasNoItem, HasNoField, IsNoItem, HasNoLength};
 
 use krb_der::number_of;
 
@@ -21,9 +21,96 @@ pub fn first_item(tag: u8, octets: &[u8]) -> Option<(&[u8], &[u8])>
     if *octet < 0x80 {
         return split(rest, usize::from(*octet));
     }
-    match long_length(*octet, rest) {
+    long_item(tag, octets)
+}
+
+/// Returns the same; of most items the length has one octet. It is a function of its own so that
+/// only a long length costs room for what the call returns.
+#[inline(always)]
+fn long_item(tag: u8, octets: &[u8]) -> Option<(&[u8], &[u8])>
+    requires { length octets.now < 2 ^ 31 }
+    ensures { MatchOption result (HasNoItem tag octets.now) (λ (contents, rest). octets.now ≡ item tag contents.now ++ rest.now) }
+{
+    find_item(tag, octets)
+}
+
+/// Returns the same, by a call.
+#[inline(never)]
+fn find_item(tag: u8, octets: &[u8]) -> Option<(&[u8], &[u8])>
+    requires { length octets.now < 2 ^ 31 }
+    ensures { MatchOption result (HasNoItem tag octets.now) (λ (contents, rest). octets.now ≡ item tag contents.now ++ rest.now) }
+{
+    any_item(tag, octets)
+}
+
+/// Returns the same, whatever the length is.
+#[inline(always)]
+fn any_item(tag: u8, octets: &[u8]) -> Option<(&[u8], &[u8])>
+    requires { length octets.now < 2 ^ 31 }
+    ensures { MatchOption result (HasNoItem tag octets.now) (λ (contents, rest). octets.now ≡ item tag contents.now ++ rest.now) }
+{
+    let [first, octet, rest @ ..] = octets else {
+        return None;
+    };
+    if *first != tag {
+        return None;
+    }
+    match first_length(*octet, rest) {
         Some((size, contents)) => split(contents, size),
         None => None,
+    }
+}
+
+/// Returns the contents of the item in a field with which octets begin, if both have their tags,
+/// and what follows the field.
+#[inline(always)]
+pub fn first_field(outer: u8, tag: u8, octets: &[u8]) -> Option<(&[u8], &[u8])>
+    requires { length octets.now < 2 ^ 31 }
+    ensures { MatchOption result (HasNoField outer tag octets.now) (λ (contents, rest). octets.now ≡ item outer (item tag contents.now) ++ rest.now) }
+{
+    match short_field(outer, tag, octets) {
+        Some(found) => Some(found),
+        None => long_field(outer, tag, octets),
+    }
+}
+
+/// Returns the same, if both lengths have one octet.
+#[inline(always)]
+fn short_field(outer: u8, tag: u8, octets: &[u8]) -> Option<(&[u8], &[u8])>
+    ensures { IfSome result (λ (contents, rest). octets.now ≡ item outer (item tag contents.now) ++ rest.now) }
+{
+    let [first, size, second, inner, rest @ ..] = octets else {
+        return None;
+    };
+    let inner_size = usize::from(*inner);
+    if *first == outer && *size < 0x80 && *second == tag && inner_size + 2 == usize::from(*size) {
+        split(rest, inner_size)
+    } else {
+        None
+    }
+}
+
+/// Returns the same, whatever the lengths are.
+#[inline(always)]
+fn long_field(outer: u8, tag: u8, octets: &[u8]) -> Option<(&[u8], &[u8])>
+    requires { length octets.now < 2 ^ 31 }
+    ensures { MatchOption result (HasNoField outer tag octets.now) (λ (contents, rest). octets.now ≡ item outer (item tag contents.now) ++ rest.now) }
+{
+    find_field(outer, tag, octets)
+}
+
+/// Returns the same, by a call.
+#[inline(never)]
+fn find_field(outer: u8, tag: u8, octets: &[u8]) -> Option<(&[u8], &[u8])>
+    requires { length octets.now < 2 ^ 31 }
+    ensures { MatchOption result (HasNoField outer tag octets.now) (λ (contents, rest). octets.now ≡ item outer (item tag contents.now) ++ rest.now) }
+{
+    let (inner, rest) = any_item(outer, octets)?;
+    let (contents, others) = any_item(tag, inner)?;
+    if others.is_empty() {
+        Some((contents, rest))
+    } else {
+        None
     }
 }
 
@@ -36,6 +123,34 @@ fn split(octets: &[u8], size: usize) -> Option<(&[u8], &[u8])>
         Some(octets.split_at(size))
     } else {
         None
+    }
+}
+
+/// Returns a length, by its first octet and those after it, and what follows it.
+#[inline(always)]
+fn first_length(first: u8, octets: &[u8]) -> Option<(usize, &[u8])>
+    ensures { MatchOption result (HasNoLength (first ∷ octets.now)) (λ (size, rest). first ∷ octets.now ≡ length_octets size ++ rest.now) }
+{
+    if first < 0x80 {
+        return Some((usize::from(first), octets));
+    }
+    match short_length(first, octets) {
+        Some(found) => Some(found),
+        None => long_length(first, octets),
+    }
+}
+
+/// Returns the same, if the length is spelled in one or two octets after its first.
+#[inline(always)]
+fn short_length(first: u8, octets: &[u8]) -> Option<(usize, &[u8])>
+    ensures { IfSome result (λ (size, rest). first ∷ octets.now ≡ length_octets size ++ rest.now) }
+{
+    match octets {
+        [high, low, rest @ ..] if first == 0x82 && *high != 0 => {
+            Some((usize::from(*high) * 256 + usize::from(*low), rest))
+        }
+        [size, rest @ ..] if first == 0x81 && *size >= 0x80 => Some((usize::from(*size), rest)),
+        _ => None,
     }
 }
 

@@ -1,7 +1,7 @@
 //! The contents of INTEGERs.
 
-ghost use Rattle.std.specs.Prelude.{◌≡◌, ◌≤◌, ◌≤ℤ◌, ◌&&◌, length, pos, negsuc, MatchOption};
-ghost use Rattle.krb_der.specs.Octets.{integer_value as value_of_octets};
+ghost use Rattle.std.specs.Prelude.{◌≡◌, ◌≤ℤ◌, ◌&&◌, pos, negsuc, MatchOption, IfSome};
+ghost use Rattle.krb_der.specs.Octets.{integer_octets};
 ghost use Rattle.krb_msg.specs.Judgement.{int_le};
 ghost use Rattle.krb_msg.specs.Viewed.{IsNumberIn, IsNoNumberIn};
 
@@ -15,36 +15,39 @@ pub fn number(low: i64, high: i64, contents: &[u8]) -> Option<i64>
     requires high { high ≤ℤ pos 4294967295 }
     ensures { MatchOption result (IsNoNumberIn low high contents.now) (λ number. IsNumberIn low high contents.now number) }
 {
+    match short_number(contents) {
+        Some(number) if is_between(low, high, number) => Some(number),
+        _ => long_number(low, high, contents),
+    }
+}
+
+/// Returns the number of an INTEGER's contents, if it is one octet below 80.
+#[inline(always)]
+fn short_number(contents: &[u8]) -> Option<i64>
+    ensures { IfSome result (λ number. contents.now ≡ integer_octets number) }
+{
+    match contents {
+        [octet] if *octet < 0x80 => Some(i64::from(*octet)),
+        _ => None,
+    }
+}
+
+/// Returns the same as [`number`]; of most messages most numbers have one octet.
+#[inline(never)]
+fn long_number(low: i64, high: i64, contents: &[u8]) -> Option<i64>
+    requires low { negsuc 2147483647 ≤ℤ low }
+    requires high { high ≤ℤ pos 4294967295 }
+    ensures { MatchOption result (IsNoNumberIn low high contents.now) (λ number. IsNumberIn low high contents.now number) }
+{
     if contents.is_empty() || contents.len() > 5 || is_padded(contents) {
         return None;
     }
-    let number = value(contents);
+    let number = integer_value(contents);
     if is_between(low, high, number) {
         Some(number)
     } else {
         None
     }
-}
-
-/// Returns the number of an INTEGER's contents of at most five octets.
-#[inline(always)]
-fn value(contents: &[u8]) -> i64
-    requires { length contents.now ≤ 5 }
-    ensures { result ≡ value_of_octets contents.now }
-{
-    match contents {
-        [octet] if *octet < 0x80 => i64::from(*octet),
-        _ => long_value(contents),
-    }
-}
-
-/// Returns the same; of most messages most numbers have one octet.
-#[inline(never)]
-fn long_value(contents: &[u8]) -> i64
-    requires { length contents.now ≤ 5 }
-    ensures { result ≡ value_of_octets contents.now }
-{
-    integer_value(contents)
 }
 
 /// Returns whether a number is in a range.
