@@ -19,6 +19,7 @@ pub mod ProfileValues
 pub mod Judged
 pub mod FramePrefixes
 pub mod Table
+pub mod HighOctets
 pub mod Noted
 pub mod Strictness
 pub mod StrictViews

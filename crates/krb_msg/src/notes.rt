@@ -100,7 +100,11 @@ trait Noted {
 fn has_high_octet(octets: &[u8]) -> bool
     ensures { result ≡ list_any (λ octet. nat_lt 0x7F octet) octets.now }
 {
-    octets.iter().any(|octet| *octet > 0x7F)
+    let mut bits = 0;
+    'octets: for octet in octets {
+        bits |= *octet;
+    }
+    bits > 0x7F
 }
 
 impl Noted for KString {
