@@ -20,8 +20,8 @@ or_high a b = go (cases_lt a 128) (cases_lt b 128)
 pub next_octet : (octets : List ℕ) (place bits : ℕ) → place < length octets → list_any (λ octet. nat_lt 0x7F octet) octets ≡ (nat_lt 0x7F bits || list_any (λ octet. nat_lt 0x7F octet) (drop place octets)) → list_any (λ octet. nat_lt 0x7F octet) octets ≡ (nat_lt 0x7F (bit_or bits (get_or octets place 0)) || list_any (λ octet. nat_lt 0x7F octet) (drop (place + 1) octets))
 next_octet octets place bits h e =
     e ∙ ap (λ l. nat_lt 0x7F bits || list_any (λ octet. nat_lt 0x7F octet) l) (drop_more octets place 0 h)
-      ∙ sym (or_assoc (nat_lt 0x7F bits) (nat_lt 0x7F (get_or octets place 0)) (list_any (λ octet. nat_lt 0x7F octet) (drop (place + 1) octets)))
-      ∙ ap (λ b. b || list_any (λ octet. nat_lt 0x7F octet) (drop (place + 1) octets)) (sym (or_high bits (get_or octets place 0)))
+    ∙ sym (or_assoc (nat_lt 0x7F bits) (nat_lt 0x7F (get_or octets place 0)) (list_any (λ octet. nat_lt 0x7F octet) (drop (place + 1) octets)))
+    ∙ ap (λ b. b || list_any (λ octet. nat_lt 0x7F octet) (drop (place + 1) octets)) (sym (or_high bits (get_or octets place 0)))
 
 pub no_octet_left : (octets : List ℕ) (place bits : ℕ) → length octets ≤ place → list_any (λ octet. nat_lt 0x7F octet) octets ≡ (nat_lt 0x7F bits || list_any (λ octet. nat_lt 0x7F octet) (drop place octets)) → nat_lt 0x7F bits ≡ list_any (λ octet. nat_lt 0x7F octet) octets
 no_octet_left octets place bits h e =

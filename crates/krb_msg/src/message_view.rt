@@ -152,10 +152,10 @@ fn view_as_req(octets: &[u8]) -> Option<MessageView<'_>>
     requires { BeginAs kind.AsReq octets.now }
     ensures { MatchOption result (IsNoMessage octets.now) (λ m. IsMessageView octets.now m) }
 {
-    match KdcReq::view::<10>(octets) {
-        Some(m) => Some(MessageView::AsReq(m)),
-        None => None,
-    }
+    let Some(m) = KdcReq::view::<10>(octets) else {
+        return None;
+    };
+    Some(MessageView::AsReq(m))
 }
 
 /// Returns a view of the AS-REP that octets are, if they are one.
@@ -163,10 +163,10 @@ fn view_as_rep(octets: &[u8]) -> Option<MessageView<'_>>
     requires { BeginAs kind.AsRep octets.now }
     ensures { MatchOption result (IsNoMessage octets.now) (λ m. IsMessageView octets.now m) }
 {
-    match KdcRep::view::<11>(octets) {
-        Some(m) => Some(MessageView::AsRep(m)),
-        None => None,
-    }
+    let Some(m) = KdcRep::view::<11>(octets) else {
+        return None;
+    };
+    Some(MessageView::AsRep(m))
 }
 
 /// Returns a view of the TGS-REQ that octets are, if they are one.
@@ -174,10 +174,10 @@ fn view_tgs_req(octets: &[u8]) -> Option<MessageView<'_>>
     requires { BeginAs kind.TgsReq octets.now }
     ensures { MatchOption result (IsNoMessage octets.now) (λ m. IsMessageView octets.now m) }
 {
-    match KdcReq::view::<12>(octets) {
-        Some(m) => Some(MessageView::TgsReq(m)),
-        None => None,
-    }
+    let Some(m) = KdcReq::view::<12>(octets) else {
+        return None;
+    };
+    Some(MessageView::TgsReq(m))
 }
 
 /// Returns a view of the TGS-REP that octets are, if they are one.
@@ -185,10 +185,10 @@ fn view_tgs_rep(octets: &[u8]) -> Option<MessageView<'_>>
     requires { BeginAs kind.TgsRep octets.now }
     ensures { MatchOption result (IsNoMessage octets.now) (λ m. IsMessageView octets.now m) }
 {
-    match KdcRep::view::<13>(octets) {
-        Some(m) => Some(MessageView::TgsRep(m)),
-        None => None,
-    }
+    let Some(m) = KdcRep::view::<13>(octets) else {
+        return None;
+    };
+    Some(MessageView::TgsRep(m))
 }
 
 /// Returns a view of the AP-REQ that octets are, if they are one.
@@ -196,10 +196,10 @@ fn view_ap_req(octets: &[u8]) -> Option<MessageView<'_>>
     requires { BeginAs kind.ApReq octets.now }
     ensures { MatchOption result (IsNoMessage octets.now) (λ m. IsMessageView octets.now m) }
 {
-    match view_whole::<ApReq>(octets) {
-        Some(m) => Some(MessageView::ApReq(m)),
-        None => None,
-    }
+    let Some(m) = view_whole::<ApReq>(octets) else {
+        return None;
+    };
+    Some(MessageView::ApReq(m))
 }
 
 /// Returns a view of the AP-REP that octets are, if they are one.
@@ -207,10 +207,10 @@ fn view_ap_rep(octets: &[u8]) -> Option<MessageView<'_>>
     requires { BeginAs kind.ApRep octets.now }
     ensures { MatchOption result (IsNoMessage octets.now) (λ m. IsMessageView octets.now m) }
 {
-    match view_whole::<ApRep>(octets) {
-        Some(m) => Some(MessageView::ApRep(m)),
-        None => None,
-    }
+    let Some(m) = view_whole::<ApRep>(octets) else {
+        return None;
+    };
+    Some(MessageView::ApRep(m))
 }
 
 /// Returns a view of the KRB-SAFE that octets are, if they are one.
@@ -218,10 +218,10 @@ fn view_krb_safe(octets: &[u8]) -> Option<MessageView<'_>>
     requires { BeginAs kind.KrbSafe octets.now }
     ensures { MatchOption result (IsNoMessage octets.now) (λ m. IsMessageView octets.now m) }
 {
-    match view_whole::<KrbSafe>(octets) {
-        Some(m) => Some(MessageView::KrbSafe(m)),
-        None => None,
-    }
+    let Some(m) = view_whole::<KrbSafe>(octets) else {
+        return None;
+    };
+    Some(MessageView::KrbSafe(m))
 }
 
 /// Returns a view of the KRB-PRIV that octets are, if they are one.
@@ -229,10 +229,10 @@ fn view_krb_priv(octets: &[u8]) -> Option<MessageView<'_>>
     requires { BeginAs kind.KrbPriv octets.now }
     ensures { MatchOption result (IsNoMessage octets.now) (λ m. IsMessageView octets.now m) }
 {
-    match view_whole::<KrbPriv>(octets) {
-        Some(m) => Some(MessageView::KrbPriv(m)),
-        None => None,
-    }
+    let Some(m) = view_whole::<KrbPriv>(octets) else {
+        return None;
+    };
+    Some(MessageView::KrbPriv(m))
 }
 
 /// Returns a view of the KRB-CRED that octets are, if they are one.
@@ -240,10 +240,10 @@ fn view_krb_cred(octets: &[u8]) -> Option<MessageView<'_>>
     requires { BeginAs kind.KrbCred octets.now }
     ensures { MatchOption result (IsNoMessage octets.now) (λ m. IsMessageView octets.now m) }
 {
-    match view_whole::<KrbCred>(octets) {
-        Some(m) => Some(MessageView::KrbCred(m)),
-        None => None,
-    }
+    let Some(m) = view_whole::<KrbCred>(octets) else {
+        return None;
+    };
+    Some(MessageView::KrbCred(m))
 }
 
 /// Returns a view of the KRB-ERROR that octets are, if they are one.
@@ -251,8 +251,8 @@ fn view_krb_error(octets: &[u8]) -> Option<MessageView<'_>>
     requires { BeginAs kind.KrbError octets.now }
     ensures { MatchOption result (IsNoMessage octets.now) (λ m. IsMessageView octets.now m) }
 {
-    match view_whole::<KrbError>(octets) {
-        Some(m) => Some(MessageView::KrbError(m)),
-        None => None,
-    }
+    let Some(m) = view_whole::<KrbError>(octets) else {
+        return None;
+    };
+    Some(MessageView::KrbError(m))
 }

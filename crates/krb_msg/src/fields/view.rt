@@ -71,10 +71,10 @@ fn view_field<'a, const INDEX: u8, T: View<'a>>(octets: &'a [u8]) -> Option<(T::
     let Some((contents, rest)) = first_field(0xA0 + INDEX, T::tag(), octets) else {
         return None;
     };
-    match T::view(contents) {
-        Some(seen) => Some((seen, rest)),
-        None => None,
-    }
+    let Some(seen) = T::view(contents) else {
+        return None;
+    };
+    Some((seen, rest))
 }
 
 /// Returns the field `[INDEX]`, if octets begin with its tag, and what follows it.
@@ -127,10 +127,10 @@ impl<'a, const INDEX: u8, T: View<'a>, F: ViewFields<'a>> ViewFields<'a> for Req
         let Some(first) = view_field::<INDEX, T>(octets) else {
             return None;
         };
-        match F::view_fields(first.1) {
-            Some(fields) => Some((first.0, fields)),
-            None => None,
-        }
+        let Some(fields) = F::view_fields(first.1) else {
+            return None;
+        };
+        Some((first.0, fields))
     }
 }
 
@@ -148,10 +148,10 @@ impl<'a, const INDEX: u8, T: View<'a>, F: ViewFields<'a>> ViewFields<'a> for Opt
         let Some((value, rest)) = view_optional::<INDEX, T>(octets) else {
             return None;
         };
-        match F::view_fields(rest) {
-            Some(fields) => Some((value, fields)),
-            None => None,
-        }
+        let Some(fields) = F::view_fields(rest) else {
+            return None;
+        };
+        Some((value, fields))
     }
 }
 
@@ -167,10 +167,10 @@ impl<'a, const INDEX: u8, const NUMBER: u8, F: ViewFields<'a>> ViewFields<'a>
 
     #[inline(always)]
     fn view_fields(octets: &'a [u8]) -> Option<F::Of> {
-        match view_field::<INDEX, Exactly<NUMBER>>(octets) {
-            Some((_, rest)) => F::view_fields(rest),
-            None => None,
-        }
+        let Some((_, rest)) = view_field::<INDEX, Exactly<NUMBER>>(octets) else {
+            return None;
+        };
+        F::view_fields(rest)
     }
 }
 
@@ -210,9 +210,9 @@ impl<'a, const NUMBER: u8, E: View<'a>> View<'a> for Application<NUMBER, E> {
 
     #[inline(always)]
     fn view(contents: &'a [u8]) -> Option<E::Of> {
-        match only_item(E::tag(), contents) {
-            Some(inner) => E::view(inner),
-            None => None,
-        }
+        let Some(inner) = only_item(E::tag(), contents) else {
+            return None;
+        };
+        E::view(inner)
     }
 }

@@ -6,9 +6,9 @@ use Rattle.krb_msg.specs.ViewValues.{krb_priv_view_value}
 use Rattle.krb_msg.proofs.MessageViews.{none_of_kind, viewed_message}
 use Rattle.krb_msg.proofs.message_view.view_krb_priv.Goals as goal
 
-pub returns-in-Some : goal.returns-in-Some
-returns-in-Some c =
+pub returns : goal.returns
+returns c =
     viewed_message kind.KrbPriv c.args.octets.now (view.KrbPriv c.in-Some.m) (krb_priv_view_value c.in-Some.m) refl (AreOctets-slice c.args.octets.now c.type_inv.octets) c.requires c.in-Some.ensures.0 c.in-Some.ensures.1
 
-pub returns-in-None : goal.returns-in-None
-returns-in-None c = none_of_kind kind.KrbPriv c.args.octets.now c.requires c.in-None.ensures
+pub returns-in_default : goal.returns-in_default
+returns-in_default c = none_of_kind kind.KrbPriv c.args.octets.now c.requires c.in_default.ensures

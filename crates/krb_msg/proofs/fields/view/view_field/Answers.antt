@@ -6,6 +6,6 @@ use Rattle.krb_msg.proofs.fields.view.view_field.Goals as goal
 pub returns-in_default : goal.returns-in_default
 returns-in_default g c = field_none g.row.INDEX c.tag.result g.T.View.term c.args.octets.now c.tag.ensures c.in_default.ensures
 
-pub returns-in-None : goal.returns-in-None
-returns-in-None g c =
-    contents_none g.row.INDEX c.tag.result g.T.View.term c.args.octets.now (item c.tag.result c.in-Some.contents.now) c.in-Some.contents.now c.in-Some.rest.now c.tag.ensures c.in-Some.ensures refl c.in-None.ensures
+pub returns-in_default-view : goal.returns-in_default-view
+returns-in_default-view g c =
+    contents_none g.row.INDEX c.tag.result g.T.View.term c.args.octets.now (item c.tag.result c.in-Some.contents.now) c.in-Some.contents.now c.in-Some.rest.now c.tag.ensures c.in-Some.ensures refl c.in_default-view.ensures
