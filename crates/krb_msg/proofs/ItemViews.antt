@@ -1,5 +1,5 @@
 -- Items one after another, as they are viewed.
-use Rattle.std.proofs.Common.{◌≡◌, ℕ, ◌^◌, ◌<◌, ◌≤◌, true, List, [], ◌∷◌, ◌++◌, length, refl, sym, ap, ap₂, ◌∙◌, subst, arith, length-append}
+use Rattle.std.proofs.Common.{◌≡◌, ℕ, ◌^◌, ◌<◌, ◌≤◌, ◌==◌, true, false, List, [], ◌∷◌, ◌++◌, length, refl, sym, ap, ap₂, ◌∙◌, subst, arith, length-append, ne_eqb}
 use Rattle.std.specs.List.{flat_map, AllByRecursion}
 use Rattle.krb_der.specs.Octets.{item}
 use Rattle.krb_der.specs.inner.Items.{same_from_item, length-item}
@@ -8,6 +8,7 @@ use Rattle.krb_msg.specs.Shape.{is_unambiguous}
 use Rattle.krb_msg.specs.inner.Values.{contents, der_is}
 use Rattle.krb_msg.proofs.ValueOfDer.{contents-read}
 use Rattle.krb_msg.specs.Viewed.{HasNoItem, AreContents, AreNoContents, AreItems, AreViewed, IsFirstItem, items_of}
+use Rattle.krb_msg.specs.Notes.{EmptyList, list_has}
 use Rattle.krb_msg.proofs.FieldViews.{same_contents}
 
 -- ---- the first of some items
@@ -101,3 +102,11 @@ is_first term tag octets own rest value u t v e c =
       viewed = many_some term rest u (omega (arith, small, shorter)) left;
       shorter = shorter;
     }
+
+some_items : (term : Term) (octet : ℕ) (octets : List ℕ) (values : List (Value term)) → octet ∷ octets ≡ flat_map (der term) values → false ≡ list_has EmptyList values
+some_items term octet octets [] e = absurd (omega (arith, ap length e))
+some_items term octet octets (value ∷ values) e = refl
+
+pub empty_items : (term : Term) (octets : List ℕ) → AreViewed term octets → (length octets == 0) ≡ list_has EmptyList (items_of term octets)
+empty_items term [] v = refl
+empty_items term (octet ∷ octets) v = ne_eqb (length (octet ∷ octets)) 0 (omega arith) ∙ some_items term octet octets (items_of term (octet ∷ octets)) (same_contents 0x30 (octet ∷ octets) (flat_map (der term) (items_of term (octet ∷ octets))) v.items.form)

@@ -7,7 +7,7 @@ ghost use Rattle.krb_msg.specs.Shape.{has_octet_tags, is_unambiguous};
 ghost use Rattle.krb_msg.specs.Views.{principal_name_value, encrypted_data_value, ticket_value, kdc_req_body_value, kdc_req_value, kdc_rep_value, ap_req_value, ap_rep_value, krb_safe_body_value, krb_safe_value, krb_priv_value, krb_cred_value, krb_error_value, is_strict};
 ghost use Rattle.krb_msg.specs.Viewed.{AreViewed, OfSome, items_of};
 ghost use Rattle.krb_msg.specs.ViewValues.{ApReqLists, KdcRepLists, KdcReqBodyLists, KdcReqLists, KrbCredLists, KrbErrorLists, MessageLists, PrincipalNameLists, TicketLists, ap_rep_of_view, ap_req_of_view, encrypted_data_of_view, flags_of_view, kdc_rep_of_view, kdc_req_body_of_view, kdc_req_of_view, krb_cred_of_view, krb_error_of_view, krb_priv_of_view, krb_safe_body_of_view, krb_safe_of_view, message_of_view, principal_name_of_view, ticket_of_view};
-ghost use Rattle.krb_msg.specs.Notes.{text_has, flags_have, number_has, list_has, option_any, has, notes_by, notes_of};
+ghost use Rattle.krb_msg.specs.Notes.{EmptyList, text_has, flags_have, number_has, list_has, option_any, has, notes_by, notes_of};
 
 use crate::ap_rep::ApRepView;
 use crate::ap_req::ApReqView;
@@ -137,6 +137,15 @@ fn items_notes<'a, T: NotedItem<'a>>(items: ItemsView<'a>) -> Notes
     notes
 }
 
+/// Returns whether a list has no items.
+#[inline(always)]
+fn is_empty<'a, T: View<'a>>(items: ItemsView<'a>) -> bool
+    requires { AreViewed T.term items.octets.now }
+    ensures { result ≡ list_has EmptyList (items_of T.term items.entry.octets.now) }
+{
+    items.octets.is_empty()
+}
+
 /// Returns the note of a list that may be left out, if it is there and empty.
 fn list_notes<'a, T: View<'a>>(items: Option<ItemsView<'a>>) -> Notes
     requires tags { has_octet_tags T.term ≡ true }
@@ -145,7 +154,7 @@ fn list_notes<'a, T: View<'a>>(items: Option<ItemsView<'a>>) -> Notes
     ensures { result ≡ notes_by (λ note. option_any (λ those. list_has note (items_of T.term those.octets.now)) items.entry) }
 {
     let empty_list = match items {
-        Some(those) => next_item::<T>(those).is_none(),
+        Some(those) => is_empty::<T>(those),
         None => false,
     };
     Notes {

@@ -155,8 +155,17 @@ fn short_length(first: u8, octets: &[u8]) -> Option<(usize, &[u8])>
 }
 
 /// Returns a length of several octets, by its first octet and those after it, and what follows it.
-#[inline(never)]
+#[inline(always)]
 fn long_length(first: u8, octets: &[u8]) -> Option<(usize, &[u8])>
+    requires { 128 ≤ first }
+    ensures { MatchOption result (HasNoLength (first ∷ octets.now)) (λ (size, rest). first ∷ octets.now ≡ length_octets size ++ rest.now) }
+{
+    find_length(first, octets)
+}
+
+/// Returns the same, by a call.
+#[inline(never)]
+fn find_length(first: u8, octets: &[u8]) -> Option<(usize, &[u8])>
     requires { 128 ≤ first }
     ensures { MatchOption result (HasNoLength (first ∷ octets.now)) (λ (size, rest). first ∷ octets.now ≡ length_octets size ++ rest.now) }
 {

@@ -2,9 +2,9 @@ use Rattle.std.proofs.Common.{◌≡◌, ◌+◌, ◌-◌, ◌<◌, ◌++◌, le
 use Rattle.krb_der.specs.Octets.{AreOctets, number}
 use Rattle.krb_der.specs.inner.Numbers.{AreOctets-slice, AreOctets-take}
 use Rattle.krb_msg.proofs.Lengths.{long_length, long_digits, is_length}
-use Rattle.krb_msg.proofs.view.head.long_length.Goals.{then-count-eq0-via-then-count-eq0, then-count-eq0-via-else-count-eq0+then-count-gt4, then-count-eq0-via-else-count-eq0+else-count-gt4+then-octets-count}
-use Rattle.krb_msg.proofs.view.head.long_length.Goals.{then-digits-eq0-via-then-digits-eq0, then-digits-eq0-via-else-digits-eq0+then-size-lt128}
-use Rattle.krb_msg.proofs.view.head.long_length.Goals as goal
+use Rattle.krb_msg.proofs.view.head.find_length.Goals.{then-count-eq0-via-then-count-eq0, then-count-eq0-via-else-count-eq0+then-count-gt4, then-count-eq0-via-else-count-eq0+else-count-gt4+then-octets-count}
+use Rattle.krb_msg.proofs.view.head.find_length.Goals.{then-digits-eq0-via-then-digits-eq0, then-digits-eq0-via-else-digits-eq0+then-size-lt128}
+use Rattle.krb_msg.proofs.view.head.find_length.Goals as goal
 
 pub returns-then-count-eq0 : goal.returns-then-count-eq0
 returns-then-count-eq0 c = λ size rest small e.
