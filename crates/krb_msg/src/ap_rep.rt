@@ -105,9 +105,9 @@ impl<'a> View<'a> for ApRep {
 
     #[inline(always)]
     fn view(contents: &'a [u8]) -> Option<ApRepView<'a>> {
-        match Layout::<Owned>::view(contents) {
-            Some(seen) => Some(ApRepView::of_fields(&seen)),
-            None => None,
-        }
+        let Some(seen) = Layout::<Owned>::view(contents) else {
+            return None;
+        };
+        Some(ApRepView::of_fields(&seen))
     }
 }

@@ -136,9 +136,9 @@ impl<'a> View<'a> for ApReq {
 
     #[inline(always)]
     fn view(contents: &'a [u8]) -> Option<ApReqView<'a>> {
-        match Layout::<Owned>::view(contents) {
-            Some(seen) => Some(ApReqView::of_fields(&seen)),
-            None => None,
-        }
+        let Some(seen) = Layout::<Owned>::view(contents) else {
+            return None;
+        };
+        Some(ApReqView::of_fields(&seen))
     }
 }

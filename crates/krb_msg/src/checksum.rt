@@ -88,12 +88,12 @@ impl<'a> View<'a> for Checksum {
 
     #[inline(always)]
     fn view(contents: &'a [u8]) -> Option<ChecksumView<'a>> {
-        match Layout::<Owned>::view(contents) {
-            Some((cksumtype, (checksum, ()))) => Some(ChecksumView {
-                cksumtype,
-                checksum,
-            }),
-            None => None,
-        }
+        let Some((cksumtype, (checksum, ()))) = Layout::<Owned>::view(contents) else {
+            return None;
+        };
+        Some(ChecksumView {
+            cksumtype,
+            checksum,
+        })
     }
 }

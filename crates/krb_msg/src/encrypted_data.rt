@@ -101,13 +101,13 @@ impl<'a> View<'a> for EncryptedData {
 
     #[inline(always)]
     fn view(contents: &'a [u8]) -> Option<EncryptedDataView<'a>> {
-        match Layout::<Owned>::view(contents) {
-            Some((etype, (kvno, (cipher, ())))) => Some(EncryptedDataView {
-                etype,
-                kvno,
-                cipher,
-            }),
-            None => None,
-        }
+        let Some((etype, (kvno, (cipher, ())))) = Layout::<Owned>::view(contents) else {
+            return None;
+        };
+        Some(EncryptedDataView {
+            etype,
+            kvno,
+            cipher,
+        })
     }
 }

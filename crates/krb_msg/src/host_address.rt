@@ -88,9 +88,9 @@ impl<'a> View<'a> for HostAddress {
 
     #[inline(always)]
     fn view(contents: &'a [u8]) -> Option<HostAddressView<'a>> {
-        match Layout::<Owned>::view(contents) {
-            Some((addr_type, (address, ()))) => Some(HostAddressView { addr_type, address }),
-            None => None,
-        }
+        let Some((addr_type, (address, ()))) = Layout::<Owned>::view(contents) else {
+            return None;
+        };
+        Some(HostAddressView { addr_type, address })
     }
 }

@@ -128,10 +128,10 @@ impl KdcRep {
         requires tags { has_octet_tags (ApplicationTerm N (kdc_rep N)) ≡ true }
         ensures { MatchOption result (IsNotWhole (ApplicationTerm N (kdc_rep N)) octets.now) (λ seen. IsViewOf (ApplicationTerm N (kdc_rep N)) octets.now (kdc_rep_view_value N seen) × KdcRepLists seen) }
     {
-        match view_whole::<Layout<Owned, N>>(octets) {
-            Some(seen) => Some(KdcRepView::of_fields::<N>(&seen)),
-            None => None,
-        }
+        let Some(seen) = view_whole::<Layout<Owned, N>>(octets) else {
+            return None;
+        };
+        Some(KdcRepView::of_fields::<N>(&seen))
     }
 }
 

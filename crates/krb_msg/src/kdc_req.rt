@@ -93,10 +93,10 @@ impl KdcReq {
         requires tags { has_octet_tags (ApplicationTerm N (kdc_req N)) ≡ true }
         ensures { MatchOption result (IsNotWhole (ApplicationTerm N (kdc_req N)) octets.now) (λ seen. IsViewOf (ApplicationTerm N (kdc_req N)) octets.now (kdc_req_view_value N seen) × KdcReqLists seen) }
     {
-        match view_whole::<Layout<Owned, N>>(octets) {
-            Some(seen) => Some(KdcReqView::of_fields::<N>(&seen)),
-            None => None,
-        }
+        let Some(seen) = view_whole::<Layout<Owned, N>>(octets) else {
+            return None;
+        };
+        Some(KdcReqView::of_fields::<N>(&seen))
     }
 }
 

@@ -283,10 +283,10 @@ impl<'a> ViewFields<'a> for Cut<Rest<Owned>> {
 
     #[inline(always)]
     fn view_fields(octets: &'a [u8]) -> Option<RestView<'a>> {
-        match Rest::<Owned>::view_fields(octets) {
-            Some(seen) => Some(RestView::of_fields(&seen)),
-            None => None,
-        }
+        let Some(seen) = Rest::<Owned>::view_fields(octets) else {
+            return None;
+        };
+        Some(RestView::of_fields(&seen))
     }
 }
 
@@ -333,9 +333,9 @@ impl<'a> View<'a> for KdcReqBody {
 
     #[inline(always)]
     fn view(contents: &'a [u8]) -> Option<KdcReqBodyView<'a>> {
-        match Layout::<Owned>::view(contents) {
-            Some(seen) => Some(KdcReqBodyView::of_fields(&seen)),
-            None => None,
-        }
+        let Some(seen) = Layout::<Owned>::view(contents) else {
+            return None;
+        };
+        Some(KdcReqBodyView::of_fields(&seen))
     }
 }

@@ -125,9 +125,9 @@ impl<'a> View<'a> for KrbCred {
 
     #[inline(always)]
     fn view(contents: &'a [u8]) -> Option<KrbCredView<'a>> {
-        match Layout::<Owned>::view(contents) {
-            Some(seen) => Some(KrbCredView::of_fields(&seen)),
-            None => None,
-        }
+        let Some(seen) = Layout::<Owned>::view(contents) else {
+            return None;
+        };
+        Some(KrbCredView::of_fields(&seen))
     }
 }

@@ -263,10 +263,10 @@ impl<'a> ViewFields<'a> for Cut<Names<Owned>> {
 
     #[inline(always)]
     fn view_fields(octets: &'a [u8]) -> Option<NamesView<'a>> {
-        match Names::<Owned>::view_fields(octets) {
-            Some(seen) => Some(NamesView::of_fields(&seen)),
-            None => None,
-        }
+        let Some(seen) = Names::<Owned>::view_fields(octets) else {
+            return None;
+        };
+        Some(NamesView::of_fields(&seen))
     }
 }
 
@@ -312,9 +312,9 @@ impl<'a> View<'a> for KrbError {
 
     #[inline(always)]
     fn view(contents: &'a [u8]) -> Option<KrbErrorView<'a>> {
-        match Layout::<Owned>::view(contents) {
-            Some(seen) => Some(KrbErrorView::of_fields(&seen)),
-            None => None,
-        }
+        let Some(seen) = Layout::<Owned>::view(contents) else {
+            return None;
+        };
+        Some(KrbErrorView::of_fields(&seen))
     }
 }

@@ -105,9 +105,9 @@ impl<'a> View<'a> for KrbPriv {
 
     #[inline(always)]
     fn view(contents: &'a [u8]) -> Option<KrbPrivView<'a>> {
-        match Layout::<Owned>::view(contents) {
-            Some(seen) => Some(KrbPrivView::of_fields(&seen)),
-            None => None,
-        }
+        let Some(seen) = Layout::<Owned>::view(contents) else {
+            return None;
+        };
+        Some(KrbPrivView::of_fields(&seen))
     }
 }

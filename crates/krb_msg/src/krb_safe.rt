@@ -124,9 +124,9 @@ impl<'a> View<'a> for KrbSafe {
 
     #[inline(always)]
     fn view(contents: &'a [u8]) -> Option<KrbSafeView<'a>> {
-        match Layout::<Owned>::view(contents) {
-            Some(seen) => Some(KrbSafeView::of_fields(&seen)),
-            None => None,
-        }
+        let Some(seen) = Layout::<Owned>::view(contents) else {
+            return None;
+        };
+        Some(KrbSafeView::of_fields(&seen))
     }
 }

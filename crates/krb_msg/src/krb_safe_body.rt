@@ -169,9 +169,9 @@ impl<'a> View<'a> for KrbSafeBody {
 
     #[inline(always)]
     fn view(contents: &'a [u8]) -> Option<KrbSafeBodyView<'a>> {
-        match Layout::<Owned>::view(contents) {
-            Some(seen) => Some(KrbSafeBodyView::of_fields(&seen)),
-            None => None,
-        }
+        let Some(seen) = Layout::<Owned>::view(contents) else {
+            return None;
+        };
+        Some(KrbSafeBodyView::of_fields(&seen))
     }
 }

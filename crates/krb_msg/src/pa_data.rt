@@ -88,12 +88,12 @@ impl<'a> View<'a> for PaData {
 
     #[inline(always)]
     fn view(contents: &'a [u8]) -> Option<PaDataView<'a>> {
-        match Layout::<Owned>::view(contents) {
-            Some((padata_type, (padata_value, ()))) => Some(PaDataView {
-                padata_type,
-                padata_value,
-            }),
-            None => None,
-        }
+        let Some((padata_type, (padata_value, ()))) = Layout::<Owned>::view(contents) else {
+            return None;
+        };
+        Some(PaDataView {
+            padata_type,
+            padata_value,
+        })
     }
 }

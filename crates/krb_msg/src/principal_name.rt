@@ -91,9 +91,9 @@ impl<'a> View<'a> for PrincipalName {
 
     #[inline(never)]
     fn view(contents: &'a [u8]) -> Option<PrincipalNameView<'a>> {
-        match Layout::<Owned>::view(contents) {
-            Some((name_type, (name, ()))) => Some(PrincipalNameView { name_type, name }),
-            None => None,
-        }
+        let Some((name_type, (name, ()))) = Layout::<Owned>::view(contents) else {
+            return None;
+        };
+        Some(PrincipalNameView { name_type, name })
     }
 }

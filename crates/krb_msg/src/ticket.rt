@@ -133,9 +133,9 @@ impl<'a> View<'a> for Ticket {
 
     #[inline(always)]
     fn view(contents: &'a [u8]) -> Option<TicketView<'a>> {
-        match Layout::<Owned>::view(contents) {
-            Some(seen) => Some(TicketView::of_fields(&seen)),
-            None => None,
-        }
+        let Some(seen) = Layout::<Owned>::view(contents) else {
+            return None;
+        };
+        Some(TicketView::of_fields(&seen))
     }
 }

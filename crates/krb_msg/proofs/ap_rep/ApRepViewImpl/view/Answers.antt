@@ -3,5 +3,5 @@ use Rattle.krb_msg.specs.Grammar.{ap_rep}
 use Rattle.krb_msg.specs.Viewed.{AreContents}
 use Rattle.krb_msg.proofs.ap_rep.ApRepViewImpl.view.Goals as goal
 
-pub returns-in-Some : goal.returns-in-Some
-returns-in-Some c = (subst (AreContents ap_rep c.args.contents.now) (sym c.of_fields.ensures.value) c.in-Some.ensures.0, c.of_fields.ensures.lists c.in-Some.ensures.1)
+pub returns : goal.returns
+returns c = (subst (AreContents ap_rep c.args.contents.now) (sym c.of_fields.ensures.value) c.in-Some.ensures.0, c.of_fields.ensures.lists c.in-Some.ensures.1)

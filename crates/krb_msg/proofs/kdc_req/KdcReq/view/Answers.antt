@@ -4,5 +4,5 @@ use Rattle.krb_msg.specs.Grammar.{kdc_req}
 use Rattle.krb_msg.specs.Viewed.{IsViewOf}
 use Rattle.krb_msg.proofs.kdc_req.KdcReq.view.Goals as goal
 
-pub returns-in-Some : goal.returns-in-Some
-returns-in-Some g c = (subst (IsViewOf (Application g.row.N (kdc_req g.row.N)) c.args.octets.now) (sym c.of_fields.ensures.value) c.in-Some.ensures.0, c.of_fields.ensures.lists c.in-Some.ensures.1)
+pub returns : goal.returns
+returns g c = (subst (IsViewOf (Application g.row.N (kdc_req g.row.N)) c.args.octets.now) (sym c.of_fields.ensures.value) c.in-Some.ensures.0, c.of_fields.ensures.lists c.in-Some.ensures.1)

@@ -3,5 +3,5 @@ use Rattle.krb_msg.specs.Grammar.{krb_cred}
 use Rattle.krb_msg.specs.Viewed.{AreContents}
 use Rattle.krb_msg.proofs.krb_cred.KrbCredViewImpl.view.Goals as goal
 
-pub returns-in-Some : goal.returns-in-Some
-returns-in-Some c = (subst (AreContents krb_cred c.args.contents.now) (sym c.of_fields.ensures.value) c.in-Some.ensures.0, c.of_fields.ensures.lists c.in-Some.ensures.1)
+pub returns : goal.returns
+returns c = (subst (AreContents krb_cred c.args.contents.now) (sym c.of_fields.ensures.value) c.in-Some.ensures.0, c.of_fields.ensures.lists c.in-Some.ensures.1)
