@@ -13,7 +13,8 @@ use Rattle.krb_msg.specs.ValueOfDer.{begins_with}
 use Rattle.krb_msg.specs.Shape.{may_begin}
 use Rattle.krb_msg.specs.inner.Values.{contents, der_is, may_begin_from_der}
 use Rattle.krb_msg.proofs.Integers.{is_padded-shortest, IsShortestInteger-from_unpadded}
-use Rattle.krb_msg.specs.Viewed.{HasNoField, IsNoItem, AreContents, AreNoContents, AreFields, AreNoFields, BeginsWithValue, BeginsWithNoValue, MayBeginWithValue, IsMalformedField, IsNumberIn, IsNoNumberIn}
+use Rattle.krb_msg.specs.inner.Fields.{HasNoField}
+use Rattle.krb_msg.specs.Viewed.{IsNoItem, AreContents, AreNoContents, AreFields, AreNoFields, BeginsWithValue, BeginsWithNoValue, MayBeginWithValue, IsMalformedField, IsNumberIn, IsNoNumberIn}
 
 -- a fact of a result, from what is known of it
 pub match_map : {A : Type 0} (o : Option A) (P P' : Type 0) (Q Q' : A → Type 0) → (P → P') → ((a : A) → Q a → Q' a) → MatchOption o P Q → MatchOption o P' Q'

@@ -6,7 +6,8 @@ use Rattle.krb_der.specs.Octets.{AreOctets, number, length_octets, item}
 use Rattle.krb_der.specs.inner.Numbers.{spelled, IsShortest, IsShortest-spelled, number-fewest, AreOctets-spelled, length-spelled-le, spelled-number}
 use Rattle.std.proofs.lemmas.List.{take_all}
 use Rattle.krb_der.specs.inner.Items.{same_from_length_octets, length_octets-short, length_octets-long, length-item, item-append, same_from_cons, same_from_item}
-use Rattle.krb_msg.specs.Viewed.{HasNoItem, HasNoField, IsNoItem}
+use Rattle.krb_msg.specs.inner.Fields.{HasNoField}
+use Rattle.krb_msg.specs.Viewed.{HasNoItem, IsNoItem}
 
 -- ---- a long length that is present
 shortest : (digits : List ℕ) → AreOctets digits → 0 < length digits → get_or digits 0 0 ≢ 0 → IsShortest 256 digits

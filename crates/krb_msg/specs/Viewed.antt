@@ -13,10 +13,6 @@ use Rattle.krb_der.specs.declared.verdict.Verdict.TheVariants as verdict
 abbrev pub HasNoItem : ℕ → List ℕ → Type 0
 HasNoItem tag octets = (contents rest : List ℕ) → octets ≡ item tag contents ++ rest → ⊥
 
--- the octets do not begin with a field of a tag that holds an item of another
-abbrev pub HasNoField : ℕ → ℕ → List ℕ → Type 0
-HasNoField outer tag octets = (contents rest : List ℕ) → octets ≡ item outer (item tag contents) ++ rest → ⊥
-
 -- the octets are no item of a tag
 abbrev pub IsNoItem : ℕ → List ℕ → Type 0
 IsNoItem tag octets = (contents : List ℕ) → octets ≡ item tag contents → ⊥

@@ -4,3 +4,4 @@ pub mod MessagePrefixFree
 pub mod RoundTrips
 pub mod Fitting
 pub mod Copies
+pub mod Fields

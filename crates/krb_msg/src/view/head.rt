@@ -2,7 +2,8 @@
 
 ghost use Rattle.std.specs.Prelude.{◌≡◌, ◌^◌, ◌<◌, ◌≤◌, ◌++◌, ◌∷◌, length, MatchOption, IfSome};
 ghost use Rattle.krb_der.specs.Octets.{item, length_octets};
-ghost use Rattle.krb_msg.specs.Viewed.{HasNoItem, HasNoField, IsNoItem, HasNoLength};
+ghost use Rattle.krb_msg.specs.inner.Fields.{HasNoField};
+ghost use Rattle.krb_msg.specs.Viewed.{HasNoItem, IsNoItem, HasNoLength};
 
 use krb_der::number_of;
 
