@@ -1,4 +1,8 @@
 //! Items found in place (X.690, 8.1 and 10.1).
+//!
+//! Of most items and fields the lengths have one octet, which is read in place. The rarer forms are
+//! read by calls, each from a function of its own: what a call returns has room of its own, which is
+//! filled with zeros where that function begins, and so costs nothing where it is not called.
 
 ghost use Rattle.std.specs.Prelude.{◌≡◌, ◌^◌, ◌<◌, ◌≤◌, ◌++◌, ◌∷◌, length, MatchOption, IfSome};
 ghost use Rattle.krb_der.specs.Octets.{item, length_octets};
@@ -25,8 +29,7 @@ pub fn first_item(tag: u8, octets: &[u8]) -> Option<(&[u8], &[u8])>
     long_item(tag, octets)
 }
 
-/// Returns the same; of most items the length has one octet. It is a function of its own so that
-/// only a long length costs room for what the call returns.
+/// Returns the same as [`first_item`], for a length of several octets.
 #[inline(always)]
 fn long_item(tag: u8, octets: &[u8]) -> Option<(&[u8], &[u8])>
     requires { length octets.now < 2 ^ 31 }
@@ -35,7 +38,7 @@ fn long_item(tag: u8, octets: &[u8]) -> Option<(&[u8], &[u8])>
     find_item(tag, octets)
 }
 
-/// Returns the same, by a call.
+/// Returns the same as [`first_item`], by a call.
 #[inline(never)]
 fn find_item(tag: u8, octets: &[u8]) -> Option<(&[u8], &[u8])>
     requires { length octets.now < 2 ^ 31 }
@@ -44,7 +47,7 @@ fn find_item(tag: u8, octets: &[u8]) -> Option<(&[u8], &[u8])>
     any_item(tag, octets)
 }
 
-/// Returns the same, whatever the length is.
+/// Returns the same as [`first_item`], whatever the length is.
 #[inline(always)]
 fn any_item(tag: u8, octets: &[u8]) -> Option<(&[u8], &[u8])>
     requires { length octets.now < 2 ^ 31 }
@@ -75,7 +78,7 @@ pub fn first_field(outer: u8, tag: u8, octets: &[u8]) -> Option<(&[u8], &[u8])>
     }
 }
 
-/// Returns the same, if both lengths have one octet.
+/// Returns the same as [`first_field`], if both lengths have one octet.
 #[inline(always)]
 fn short_field(outer: u8, tag: u8, octets: &[u8]) -> Option<(&[u8], &[u8])>
     ensures { IfSome result (λ (contents, rest). octets.now ≡ item outer (item tag contents.now) ++ rest.now) }
@@ -91,7 +94,7 @@ fn short_field(outer: u8, tag: u8, octets: &[u8]) -> Option<(&[u8], &[u8])>
     }
 }
 
-/// Returns the same, whatever the lengths are.
+/// Returns the same as [`first_field`], for other lengths.
 #[inline(always)]
 fn long_field(outer: u8, tag: u8, octets: &[u8]) -> Option<(&[u8], &[u8])>
     requires { length octets.now < 2 ^ 31 }
@@ -100,7 +103,7 @@ fn long_field(outer: u8, tag: u8, octets: &[u8]) -> Option<(&[u8], &[u8])>
     find_field(outer, tag, octets)
 }
 
-/// Returns the same, by a call.
+/// Returns the same as [`first_field`], by a call.
 #[inline(never)]
 fn find_field(outer: u8, tag: u8, octets: &[u8]) -> Option<(&[u8], &[u8])>
     requires { length octets.now < 2 ^ 31 }
@@ -141,7 +144,7 @@ fn first_length(first: u8, octets: &[u8]) -> Option<(usize, &[u8])>
     }
 }
 
-/// Returns the same, if the length is spelled in one or two octets after its first.
+/// Returns the same as [`first_length`], if one or two octets after the first spell the length.
 #[inline(always)]
 fn short_length(first: u8, octets: &[u8]) -> Option<(usize, &[u8])>
     ensures { IfSome result (λ (size, rest). first ∷ octets.now ≡ length_octets size ++ rest.now) }
@@ -164,7 +167,7 @@ fn long_length(first: u8, octets: &[u8]) -> Option<(usize, &[u8])>
     find_length(first, octets)
 }
 
-/// Returns the same, by a call.
+/// Returns the same as [`long_length`], by a call.
 #[inline(never)]
 fn find_length(first: u8, octets: &[u8]) -> Option<(usize, &[u8])>
     requires { 128 ≤ first }
