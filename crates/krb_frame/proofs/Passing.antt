@@ -1,6 +1,6 @@
 -- Whole frames with which octets begin.
 use Rattle.std.proofs.Common.{◌≡◌, ℕ, ◌+◌, ◌/◌, ◌%◌, ◌<◌, List, [], ◌∷◌, ◌++◌, length, take, drop, Option, Some, None, Result, Ok, Err, refl, sym, ◌∙◌, ap, ap₂, subst, arith, append_assoc, append-nil, length-append, length-take, take-append-drop, drop_at}
-use Rattle.std.specs.Prelude.{MatchResult, IfSome}
+use Rattle.std.specs.Prelude.{MatchOption, MatchResult, IfSome}
 use Rattle.std.specs.Result.{result_ok}
 use Rattle.std.specs.List.{IsSplitAt}
 use Rattle.krb_der.specs.Octets.{AreOctets, number}
@@ -20,7 +20,7 @@ use Rattle.krb_msg.specs.ViewValues.{IsMessageView}
 use Rattle.krb_frame.specs.Decoded.{HasDecoded, after_frames}
 use Rattle.krb_frame.specs.declared.pass.Passed.{Passed}
 use Rattle.krb_frame.specs.inner.Phases.{IsAccepted, HasFrame, IsRefusedLength}
-use Rattle.krb_frame.specs.inner.Passing.{BeginWithFrame, IsPassedOf}
+use Rattle.krb_frame.specs.inner.Passing.{BeginWithContents, BeginWithFrame, HaveNoFrame, IsPassedOf}
 use Rattle.krb_frame.proofs.DecoderFrames.{Announces, announces, number_of, length_is_there, found-frame}
 use Rattle.krb_frame.proofs.Ends.{refused_more}
 use Rattle.krb_frame.proofs.Feeding.{counted-more}
@@ -162,3 +162,16 @@ module _ (messages : List Term) (limit : ℕ) where
     view = p.view;
     decoded = HasDecoded-frame d piece (contents_of passed) passed.rest.now n e p.begin;
   }
+
+-- ---- the contents of a frame, if it is all there
+module _ (limit : ℕ) (octets announced after : List ℕ) (size : ℕ) (h : HasLength limit octets announced after size) where
+  begins : (contents rest : List ℕ) → IsSplitAt after size contents rest → BeginWithContents limit octets contents rest
+  begins contents rest cut = record {
+    short = omega (arith, cut.3, h.accepted.short);
+    frame = λ messages. begin messages limit octets announced after size h contents rest cut;
+    none = λ messages. first-other messages limit octets announced after size h contents rest cut;
+  }
+
+  pub cut_contents : {Parts : Type 0} (contents rest : Parts → List ℕ) (parts : Option Parts) → MatchOption parts (length after < size) (λ p. IsSplitAt after size (contents p) (rest p)) → MatchOption parts (HaveNoFrame limit octets) (λ p. BeginWithContents limit octets (contents p) (rest p))
+  cut_contents contents rest None few = λ messages. first-part messages limit octets announced after size h few
+  cut_contents contents rest (Some p) cut = begins (contents p) (rest p) cut

@@ -4,8 +4,9 @@ use crate::contents::{clear_contents, clear_marks, take_contents};
 use crate::framed::Framed;
 use crate::length::accepted_size;
 use crate::limit::Limit;
-use crate::pass::{Passed, first_frame};
+use crate::pass::{Passed, first_contents};
 use krb_der::{Memory, Profile, Refusal, Why};
+use krb_msg::view_message_in;
 use krb_scan::Scanner;
 use std::alloc::Global;
 use std::marker::Model;
@@ -202,7 +203,12 @@ impl Decoder {
         let Phase::Length(0) = self.phase else {
             return None;
         };
-        first_frame(self.scanner.profile(), self.limit, piece)
+        let (contents, rest) = first_contents(self.limit, piece)?;
+        // With `?` the view would be moved more often, which takes longer than what else is done here.
+        let Some(message) = view_message_in(self.scanner.profile(), contents) else {
+            return None;
+        };
+        Some(Passed { message, rest })
     }
 
     /// Uses octets of the length, as many as are missing and come, and judges it with its last one.
