@@ -1,6 +1,6 @@
 -- Octets that are copied over others.
-use Rattle.std.proofs.Common.{◌≡◌, ℕ, ◌+◌, ◌-◌, ◌≤◌, List, ◌++◌, length, take, drop, sym, ap, ◌∙◌, arith, append_assoc, length-drop}
-use Rattle.std.proofs.lemmas.List.{length-take-le, take-append-drop, take-take}
+use Rattle.std.proofs.Common.{◌≡◌, ℕ, ◌+◌, ◌-◌, ◌≤◌, List, ◌++◌, length, take, drop, sym, ap, ◌∙◌, arith, append_assoc}
+use Rattle.std.proofs.lemmas.List.{length-take-le, take-append-drop, take-take, take_rest}
 use Rattle.std.proofs.Math.Seq.{take-append-add}
 
 -- the first k of n octets that are copied
@@ -14,20 +14,18 @@ first_copied place n k old first octets within few copied =
     ∙ take-append-add (take place old) (take n octets) k
     ∙ ap (λ (xs : List ℕ). take place old ++ xs) (take-take k n octets few)
 
--- the first n octets are copied, and then those after the first k
-pub ends_copied : (place n k : ℕ) (old first last octets front back : List ℕ) → front ≡ take n octets → back ≡ drop k octets
-    → place ≤ length old → n ≤ length octets → k ≤ n
-    → take (place + length front) first ≡ take place old ++ front
-    → take (place + k + length back) last ≡ take (place + k) first ++ back
+-- the first n octets are copied, and then the n after the first k, which are the last
+pub ends_copied : (place n k : ℕ) (old first last octets : List ℕ) → place ≤ length old → k ≤ n → length octets ≡ k + n
+    → take (place + n) first ≡ take place old ++ take n octets
+    → take (place + k + n) last ≡ take (place + k) first ++ take n (drop k octets)
     → take (place + length octets) last ≡ take place old ++ octets
-ends_copied place n k old first last octets front back f b within many few copied others =
-    let front_length : length front ≡ n = ap length f ∙ length-take-le n octets many in
-    let back_length : length back ≡ length octets - k = ap length b ∙ length-drop k octets in
-    let end : place + length octets ≡ place + k + length back = omega (arith, back_length) in
-    let copied_first : take (place + n) first ≡ take place old ++ take n octets = rw (front_length, f) at copied in
+ends_copied place n k old first last octets within few all copied others =
+    let count : n ≡ length octets - k = omega (arith, all) in
+    let back : take n (drop k octets) ≡ drop k octets = ap (λ (m : ℕ). take m (drop k octets)) count ∙ take_rest octets k in
+    let end : place + length octets ≡ place + k + n = omega (arith, all) in
     ap (λ (m : ℕ). take m last) end
     ∙ others
-    ∙ ap (λ (xs : List ℕ). take (place + k) first ++ xs) b
-    ∙ ap (λ (xs : List ℕ). xs ++ drop k octets) (first_copied place n k old first octets within few copied_first)
+    ∙ ap (λ (xs : List ℕ). take (place + k) first ++ xs) back
+    ∙ ap (λ (xs : List ℕ). xs ++ drop k octets) (first_copied place n k old first octets within few copied)
     ∙ append_assoc (take place old) (take k octets) (drop k octets)
     ∙ ap (λ (xs : List ℕ). take place old ++ xs) (take-append-drop k octets)

@@ -1,14 +1,16 @@
 //! Octets as printable text.
 
-ghost use Rattle.std.specs.Prelude.{◌≡◌, ◌++◌, ◌≤◌, OnOk, length};
+ghost use Rattle.std.specs.Prelude.{◌≡◌, ◌++◌, ◌<◌, false, OnOk};
 ghost use Rattle.std.specs.List.{list_all};
-ghost use Rattle.krb_list.specs.Text.{is_plain, hex, escape_octet, escape};
+ghost use Rattle.std.specs.Str.{IsAscii};
+ghost use Rattle.std.specs.Fmt.{digit_glyph};
+ghost use Rattle.krb_list.specs.Text.{is_plain, hex, two_hex, escape_octet, escape};
 
 use crate::text_buffer::TextBuffer;
 use std::alloc::AllocError;
 
-/// How many octets become hexadecimal digits at once.
-const PIECE: usize = 16;
+/// The hexadecimal digits, in lower case.
+static DIGITS: [u8; 16] = *b"0123456789abcdef";
 
 /// In the table below, an octet that is not escaped.
 const Y: bool = true;
@@ -57,27 +59,59 @@ fn are_plain(octets: &[u8]) -> bool
     plain
 }
 
-/// Appends octets in hexadecimal, with digits in lower case.
-pub(crate) fn put_hex(line: &mut TextBuffer, octets: &[u8]) -> Result<(), AllocError>
+/// Returns a hexadecimal digit, in lower case.
+#[inline(always)]
+fn digit(value: u8) -> u8
+    requires { value < 16 }
+    ensures { result ≡ digit_glyph false value }
+{
+    DIGITS[usize::from(value)]
+}
+
+/// Returns the two hexadecimal digits of an octet.
+#[inline(always)]
+fn two_digits(octet: u8) -> [u8; 2]
+    ensures digits { result ≡ two_hex octet }
+    ensures ascii { IsAscii result }
+{
+    [digit(octet / 16), digit(octet % 16)]
+}
+
+/// Returns the digits of four octets.
+#[inline(always)]
+fn eight_digits(octets: &[u8; 4]) -> [u8; 8]
+    ensures digits { result ≡ hex octets.now }
+    ensures ascii { IsAscii result }
+{
+    let [first, second, third, fourth] = *octets;
+    let [a, b] = two_digits(first);
+    let [c, d] = two_digits(second);
+    let [e, f] = two_digits(third);
+    let [g, h] = two_digits(fourth);
+    [a, b, c, d, e, f, g, h]
+}
+
+/// Appends octets in hexadecimal, one after another.
+fn put_hex_octets(line: &mut TextBuffer, octets: &[u8]) -> Result<(), AllocError>
     ensures { OnOk result (line.new ≡ line.old ++ hex octets.now) }
 {
-    for piece in octets.chunks(PIECE) {
-        put_hex_piece(line, piece)?;
+    for octet in octets {
+        line.push_ascii(&two_digits(*octet))?;
     }
     Ok(())
 }
 
-/// Appends at most sixteen octets in hexadecimal.
-fn put_hex_piece(line: &mut TextBuffer, octets: &[u8]) -> Result<(), AllocError>
-    requires { length octets.now ≤ PIECE }
+/// Appends octets in hexadecimal, with digits in lower case. Flags and addresses of IPv4 are four, whose
+/// digits are appended at once.
+pub(crate) fn put_hex(line: &mut TextBuffer, octets: &[u8]) -> Result<(), AllocError>
     ensures { OnOk result (line.new ≡ line.old ++ hex octets.now) }
 {
-    let mut buffer = [0; 2 * PIECE];
-    let digits = &mut buffer[..2 * octets.len()];
-    match hex::encode_to_slice(octets, digits) {
-        Ok(()) => line.push_ascii(digits),
-        Err(_) => unreachable!(),
+    let mut others = octets;
+    'others: while let Some((four, rest)) = others.split_first_chunk::<4>() {
+        line.push_ascii(&eight_digits(four))?;
+        others = rest;
     }
+    put_hex_octets(line, others)
 }
 
 fn put_octet(line: &mut TextBuffer, octet: u8) -> Result<(), AllocError>
@@ -86,8 +120,8 @@ fn put_octet(line: &mut TextBuffer, octet: u8) -> Result<(), AllocError>
     if is_plain(octet) {
         line.push_octet(octet)
     } else {
-        line.push_str("\\x")?;
-        put_hex(line, &[octet])
+        let [high, low] = two_digits(octet);
+        line.push_ascii(&[b'\\', b'x', high, low])
     }
 }
 

@@ -1,6 +1,6 @@
 //! Numbers of registries and octets, as lists have them.
 
-ghost use Rattle.std.specs.Prelude.{◌≡◌, ◌++◌, OnOk, codes};
+ghost use Rattle.std.specs.Prelude.{◌≡◌, ◌++◌, OnOk, codes, true};
 ghost use Rattle.krb_registry.specs.Rows.{name_of};
 ghost use Rattle.krb_list.specs.Forms.{name_string, number_text};
 ghost use Rattle.krb_list.specs.Text.{or_dash};
@@ -51,7 +51,17 @@ pub(crate) fn put_name_string(
     }
 }
 
+/// Appends a number, `:` and its name, or `-` if it has none.
+fn put_with_name(line: &mut TextBuffer, registry: Registry, number: i64) -> Result<(), AllocError>
+    ensures { OnOk result (line.new ≡ line.old ++ number_text true registry number) }
+{
+    line.push_signed(number)?;
+    line.push_str(":")?;
+    put_name(line, registry, number)
+}
+
 /// Appends a number, and with names `:` and its name, or `-` if it has none.
+#[inline(always)]
 pub(crate) fn put_named(
     line: &mut TextBuffer,
     names: bool,
@@ -61,9 +71,7 @@ pub(crate) fn put_named(
     ensures { OnOk result (line.new ≡ line.old ++ number_text names registry number) }
 {
     if names {
-        line.push_signed(number)?;
-        line.push_str(":")?;
-        put_name(line, registry, number)
+        put_with_name(line, registry, number)
     } else {
         line.push_signed(number)
     }
@@ -84,6 +92,7 @@ pub(crate) fn put_name_member(
 }
 
 /// Appends a number.
+#[inline(always)]
 pub(crate) fn put_number_item(
     text: &mut TextBuffer,
     form: ItemForm,
@@ -92,7 +101,7 @@ pub(crate) fn put_number_item(
     ensures { OnOk result (text.new ≡ text.old ++ number_item form number) }
 {
     match form {
-        ItemForm::Named(registry) => put_named(text, true, registry, number),
+        ItemForm::Named(registry) => put_with_name(text, registry, number),
         ItemForm::Name(registry) => put_name_string(text, registry, number),
         ItemForm::Line | ItemForm::Part | ItemForm::Object => text.push_signed(number),
     }

@@ -1,7 +1,7 @@
 //! The notes of a message.
 
 ghost use Rattle.std.specs.Prelude.{◌≡◌, ◌++◌, ◌∷◌, [], map, pos, codes, OnOk};
-ghost use Rattle.std.specs.List.{filter};
+ghost use Rattle.std.specs.List.{filter, list_any};
 ghost use Rattle.krb_msg.specs.Notes.{notes_have};
 ghost use Rattle.krb_list.specs.Messages.{notes};
 ghost use Rattle.krb_list.specs.Text.{joined, list_text};
@@ -38,15 +38,27 @@ fn put_numbers(text: &mut TextBuffer, form: ItemForm, notes: &Notes) -> Result<(
     Ok(())
 }
 
+/// Returns whether a note holds. Mostly none does.
+#[inline(always)]
+fn has_any(notes: &Notes) -> bool
+    ensures { result ≡ list_any (notes_have notes.now) (1 ∷ 2 ∷ 3 ∷ 4 ∷ []) }
+{
+    notes.has(1) | notes.has(2) | notes.has(3) | notes.has(4)
+}
+
 /// Appends the numbers of the notes in brackets, with commas between them.
 #[inline(always)]
 #[tactic(auto, using(crate::proofs::Items::list_text_map))]
 fn put_number_list(text: &mut TextBuffer, form: ItemForm, notes: &Notes) -> Result<(), AllocError>
     ensures { OnOk result (text.new ≡ text.old ++ list_text (number_item form) (map pos (filter (notes_have notes.now) (1 ∷ 2 ∷ 3 ∷ 4 ∷ [])))) }
 {
-    text.push_str("[")?;
-    put_numbers(text, form, notes)?;
-    text.push_str("]")
+    if has_any(notes) {
+        text.push_str("[")?;
+        put_numbers(text, form, notes)?;
+        text.push_str("]")
+    } else {
+        text.push_str("[]")
+    }
 }
 
 /// The numbers of the notes, in brackets, with commas between them.

@@ -52,13 +52,13 @@ fn put_dotted(text: &mut TextBuffer, octets: [u8; 4]) -> Result<(), AllocError>
     ensures { OnOk result (text.new ≡ text.old ++ ipv4_text octets) }
 {
     let [a, b, c, d] = octets;
-    text.push_integer(a)?;
+    text.push_number(u64::from(a))?;
     text.push_str(".")?;
-    text.push_integer(b)?;
+    text.push_number(u64::from(b))?;
     text.push_str(".")?;
-    text.push_integer(c)?;
+    text.push_number(u64::from(c))?;
     text.push_str(".")?;
-    text.push_integer(d)
+    text.push_number(u64::from(d))
 }
 
 /// Appends an address: one of IPv4 in decimal, one of IPv6 as RFC 5952 has it.
@@ -91,7 +91,7 @@ fn put_endpoint(text: &mut TextBuffer, endpoint: &Endpoint) -> Result<(), AllocE
 {
     put_host(text, endpoint.address)?;
     text.push_str(":")?;
-    text.push_integer(endpoint.port)
+    text.push_number(u64::from(endpoint.port))
 }
 
 /// Appends what an object has after the text of its address: the port.
@@ -99,7 +99,7 @@ fn put_port_end(object: &mut TextBuffer, port: u16) -> Result<(), AllocError>
     ensures { OnOk result (object.new ≡ object.old ++ codes "\",\"port\":" ++ decimal port ++ codes "}") }
 {
     object.push_str("\",\"port\":")?;
-    object.push_integer(port)?;
+    object.push_number(u64::from(port))?;
     object.push_str("}")
 }
 

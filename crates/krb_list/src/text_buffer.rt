@@ -9,6 +9,7 @@ use std::alloc::{AllocError, Global};
 use std::fmt;
 use std::fmt::{Display, Write};
 use std::marker::Model;
+use std::simd::Simd;
 
 /// Text that grows, as a `String` does. What is appended is copied in place, without a call, unless memory
 /// has to be allocated for it. Contracts see the octets of the text.
@@ -75,31 +76,40 @@ fn overwrite(to: &mut [u8], place: usize, octets: &[u8])
     to[place..place + octets.len()].copy_from_slice(octets);
 }
 
-/// Copies the first n octets and the last n, which are all of them.
+/// Copies the first N octets over others, from a place on, by one load and one store.
 #[inline(always)]
-fn overwrite_ends(to: &mut [u8], place: usize, octets: &[u8], count: usize)
-    requires fits { place + length octets.now ≤ length to.old }
-    requires many { count ≤ length octets.now }
-    requires few { length octets.now ≤ count + count }
-    ensures { take (place + length octets.now) to.new ≡ take place to.old ++ octets.now }
+fn overwrite_first<const N: usize>(to: &mut [u8], place: usize, octets: &[u8])
+    requires fits { place + N ≤ length to.old }
+    requires many { N ≤ length octets.now }
+    ensures { take (place + N) to.new ≡ take place to.old ++ take N octets.now }
 {
-    let others = octets.len() - count;
-    let (first, _) = octets.split_at(count);
-    let (_, last) = octets.split_at(others);
-    overwrite(to, place, first);
-    overwrite(to, place + others, last);
+    Simd::<u8, N>::from_slice(octets).copy_to_slice(&mut to[place..]);
 }
 
-/// Copies octets over others, from a place on. Up to 32 are copied without a call of `memcpy`.
+/// Copies the first N octets and the last N, which are all of them.
+#[inline(always)]
+fn overwrite_ends<const N: usize>(to: &mut [u8], place: usize, octets: &[u8])
+    requires fits { place + length octets.now ≤ length to.old }
+    requires many { N ≤ length octets.now }
+    requires few { length octets.now ≤ N + N }
+    ensures { take (place + length octets.now) to.new ≡ take place to.old ++ octets.now }
+{
+    let others = octets.len() - N;
+    overwrite_first::<N>(to, place, octets);
+    overwrite_first::<N>(to, place + others, &octets[others..]);
+}
+
+/// Copies octets over others, from a place on. One, and 4 to 32, are copied without a call of `memcpy`.
 #[inline(always)]
 fn copy_at(to: &mut [u8], place: usize, octets: &[u8])
     requires { place + length octets.now ≤ length to.old }
     ensures { take (place + length octets.now) to.new ≡ take place to.old ++ octets.now }
 {
     match octets.len() {
-        4..8 => overwrite_ends(to, place, octets, 4),
-        8..16 => overwrite_ends(to, place, octets, 8),
-        16..=32 => overwrite_ends(to, place, octets, 16),
+        1 => to[place] = octets[0],
+        4..8 => overwrite_ends::<4>(to, place, octets),
+        8..16 => overwrite_ends::<8>(to, place, octets),
+        16..=32 => overwrite_ends::<16>(to, place, octets),
         _ => overwrite(to, place, octets),
     }
 }
@@ -114,6 +124,26 @@ fn put_after(octets: &mut Vec<u8>, used: usize, new: &[u8]) -> Result<(), AllocE
 {
     make_fit(octets, used, new.len())?;
     copy_at(octets, used, new);
+    Ok(())
+}
+
+/// Copies octets, and others after them, after those that are used, which stay. Out of memory, nothing
+/// changes.
+#[inline(always)]
+fn put_both_after(
+    octets: &mut Vec<u8>,
+    used: usize,
+    first: &[u8],
+    second: &[u8],
+) -> Result<(), AllocError>
+    requires { used ≤ length octets.old.items }
+    ensures fits { OnOk result (used + length first.now + length second.now ≤ length octets.new.items) }
+    ensures text { OnOk result (take (used + length first.now + length second.now) octets.new.items ≡ take used octets.old.items ++ first.now ++ second.now) }
+    ensures memory { OnErr result (octets.new.items ≡ octets.old.items) }
+{
+    make_fit(octets, used, first.len() + second.len())?;
+    copy_at(octets, used, first);
+    copy_at(octets, used + first.len(), second);
     Ok(())
 }
 
@@ -176,6 +206,27 @@ impl TextBuffer {
         self.append(text.as_bytes())
     }
 
+    /// Appends octets of UTF-8 and then others, for both of which memory is looked for at once.
+    #[inline(always)]
+    fn append_both(&mut self, first: &[u8], second: &[u8]) -> Result<(), AllocError>
+        requires first { IsUtf8 first.now }
+        requires second { IsUtf8 second.now }
+        ensures { OnOk result (self.new ≡ self.old ++ first.now ++ second.now) }
+    {
+        put_both_after(&mut self.octets, self.size, first, second)?;
+        self.size += first.len();
+        self.size += second.len();
+        Ok(())
+    }
+
+    /// Appends text and then other text, for both of which memory is looked for at once.
+    #[inline(always)]
+    pub(crate) fn push_both(&mut self, first: &str, second: &str) -> Result<(), AllocError>
+        ensures { OnOk result (self.new ≡ self.old ++ first.now ++ second.now) }
+    {
+        self.append_both(first.as_bytes(), second.as_bytes())
+    }
+
     /// Appends octets of ASCII.
     #[inline(always)]
     pub fn push_ascii(&mut self, octets: &[u8]) -> Result<(), AllocError>
@@ -194,7 +245,7 @@ impl TextBuffer {
         self.append(&[octet])
     }
 
-    /// Appends a number in decimal. Most have one digit or two.
+    /// Appends a number in decimal. Most have one digit or two, or three.
     #[inline(always)]
     pub fn push_number(&mut self, number: u64) -> Result<(), AllocError>
         ensures { OnOk result (self.new ≡ self.old ++ decimal number) }
@@ -204,7 +255,7 @@ impl TextBuffer {
         } else if number < 100 {
             self.push_two_digits(number as u8)
         } else {
-            self.push_integer(number)
+            self.push_more_digits(number)
         }
     }
 
@@ -217,12 +268,39 @@ impl TextBuffer {
         self.push_ascii(&[b'0' + number / 10, b'0' + number % 10])
     }
 
+    /// Appends a number of three digits or more.
+    #[inline(never)]
+    fn push_more_digits(&mut self, number: u64) -> Result<(), AllocError>
+        requires { 100 ≤ number }
+        ensures { OnOk result (self.new ≡ self.old ++ decimal number) }
+    {
+        if number < 1000 {
+            self.push_three_digits(number as u16)
+        } else {
+            self.push_integer(number)
+        }
+    }
+
+    /// Appends a number of three digits.
+    #[inline(always)]
+    fn push_three_digits(&mut self, number: u16) -> Result<(), AllocError>
+        requires { (100 ≤ number) × (number < 1000) }
+        ensures { OnOk result (self.new ≡ self.old ++ decimal number) }
+    {
+        let (hundreds, others) = (number / 100, number % 100);
+        self.push_ascii(&[
+            b'0' + hundreds as u8,
+            b'0' + (others / 10) as u8,
+            b'0' + (others % 10) as u8,
+        ])
+    }
+
     /// Appends a number that may be negative in decimal.
     #[inline(always)]
     pub fn push_signed(&mut self, number: i64) -> Result<(), AllocError>
         ensures { OnOk result (self.new ≡ self.old ++ signed_decimal number) }
     {
-        if (0 <= number) & (number < 100) {
+        if 0 <= number {
             self.push_number(number as u64)
         } else {
             self.push_integer(number)

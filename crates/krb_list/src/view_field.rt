@@ -18,7 +18,7 @@ use crate::form::Form;
 use crate::list::{EncryptionTypes, PaDataTypes, count_items};
 use crate::number::{Address, Digest, Sealed};
 use crate::principal::{Principal, ViewedStrings};
-use crate::shown::{Plain, QuotedText, Text};
+use crate::shown::{Plain, QuotedText, Shown, Text};
 use crate::text_buffer::TextBuffer;
 use krb_msg::{
     ChecksumView, EncryptedDataView, FlagsView, HostAddress, HostAddressView, ItemsView,
@@ -29,6 +29,7 @@ use std::alloc::AllocError;
 
 /// Appends a field of what is not there.
 #[inline(always)]
+#[tactic(auto, unfolding(crate::specs::Forms::labelled, crate::specs::Forms::value_text))]
 pub(crate) fn put_absent_field(
     text: &mut TextBuffer,
     form: Form,
@@ -37,7 +38,10 @@ pub(crate) fn put_absent_field(
 ) -> Result<(), AllocError>
     ensures { OnOk result (text.new ≡ text.old ++ labelled form label.now begin.now Absent) }
 {
-    put_field(text, form, label, begin, &None::<u64>)
+    match form {
+        Form::Lines | Form::NamedLines => text.push_both(label, "-"),
+        Form::Json => None::<u64>.put_members(text, begin),
+    }
 }
 
 /// Appends a field of a string.
