@@ -1,13 +1,14 @@
 //! Octets as printable text.
 
-ghost use Rattle.std.specs.Prelude.{◌≡◌, ◌++◌, ◌<◌, false, OnOk};
-ghost use Rattle.std.specs.List.{list_all};
+ghost use Rattle.std.specs.Prelude.{◌≡◌, ◌++◌, ◌-◌, ◌<◌, ◌≤◌, drop, false, length, nat_eq, nat_lt, take, OnOk};
+ghost use Rattle.std.specs.List.{list_all, list_any};
 ghost use Rattle.std.specs.Str.{IsAscii};
 ghost use Rattle.std.specs.Fmt.{digit_glyph};
 ghost use Rattle.krb_list.specs.Text.{is_plain, hex, two_hex, escape_octet, escape};
 
 use crate::text_buffer::TextBuffer;
 use std::alloc::AllocError;
+use std::simd::Simd;
 
 /// The hexadecimal digits, in lower case.
 static DIGITS: [u8; 16] = *b"0123456789abcdef";
@@ -46,10 +47,92 @@ pub(crate) fn is_plain(octet: u8) -> bool
     PLAIN[usize::from(octet)]
 }
 
+/// Returns whether an octet is one of N others.
+#[inline(always)]
+fn have<const N: usize>(octets: Simd<u8, N>, octet: u8) -> bool
+    requires few { N ≤ 64 }
+    requires count { length octets ≡ N }
+    ensures { result ≡ list_any (λ one. nat_eq one octet) octets.entry }
+{
+    octets.simd_eq(Simd::splat(octet)).any()
+}
+
+/// Returns whether one of N octets is less than another.
+#[inline(always)]
+fn have_less<const N: usize>(octets: Simd<u8, N>, octet: u8) -> bool
+    requires few { N ≤ 64 }
+    requires count { length octets ≡ N }
+    ensures { result ≡ list_any (λ one. nat_lt one octet) octets.entry }
+{
+    octets.simd_lt(Simd::splat(octet)).any()
+}
+
+/// Returns whether one of N octets is greater than another.
+#[inline(always)]
+fn have_greater<const N: usize>(octets: Simd<u8, N>, octet: u8) -> bool
+    requires few { N ≤ 64 }
+    requires count { length octets ≡ N }
+    ensures { result ≡ list_any (λ one. nat_lt octet one) octets.entry }
+{
+    octets.simd_gt(Simd::splat(octet)).any()
+}
+
+/// Returns whether none of N octets needs an escape. All are looked at at once.
+#[inline(always)]
+fn are_all_plain<const N: usize>(octets: Simd<u8, N>) -> bool
+    requires few { N ≤ 64 }
+    requires count { length octets ≡ N }
+    ensures { result ≡ list_all is_plain octets.entry }
+{
+    let escaped = have_less(octets, 0x21)
+        | have_greater(octets, 0x7E)
+        | have(octets, b'/')
+        | have(octets, b'@')
+        | have(octets, b'\\');
+    !escaped
+}
+
+/// Returns the first four octets and the last four.
+#[inline(always)]
+fn first_and_last_four(octets: &[u8]) -> Simd<u8, 8>
+    requires { 4 ≤ length octets.now }
+    ensures { result ≡ take 4 octets.now ++ drop (length octets.now - 4) octets.now }
+{
+    let others = octets.len() - 4;
+    let last = Simd::<u8, 4>::from_slice(&octets[others..]);
+    Simd::<u8, 4>::from_slice(octets).shuffle::<8>(last, [0, 1, 2, 3, 4, 5, 6, 7])
+}
+
+/// Returns the first eight octets and the last eight.
+#[inline(always)]
+fn first_and_last_eight(octets: &[u8]) -> Simd<u8, 16>
+    requires { 8 ≤ length octets.now }
+    ensures { result ≡ take 8 octets.now ++ drop (length octets.now - 8) octets.now }
+{
+    let others = octets.len() - 8;
+    let last = Simd::<u8, 8>::from_slice(&octets[others..]);
+    Simd::<u8, 8>::from_slice(octets).shuffle::<16>(
+        last,
+        [0, 1, 2, 3, 4, 5, 6, 7, 8, 9, 10, 11, 12, 13, 14, 15],
+    )
+}
+
+/// Returns whether none of 16 to 32 octets needs an escape.
+#[inline(always)]
+fn are_ends_plain(octets: &[u8]) -> bool
+    requires many { 16 ≤ length octets.now }
+    requires few { length octets.now ≤ 32 }
+    ensures { result ≡ list_all is_plain octets.now }
+{
+    let others = octets.len() - 16;
+    are_all_plain(Simd::<u8, 16>::from_slice(octets))
+        & are_all_plain(Simd::<u8, 16>::from_slice(&octets[others..]))
+}
+
 /// Returns whether no octet needs an escape. Each is looked at, which costs less than to stop at the first
 /// that needs one: nearly none does.
-#[inline(always)]
-fn are_plain(octets: &[u8]) -> bool
+#[inline(never)]
+fn are_each_plain(octets: &[u8]) -> bool
     ensures { result ≡ list_all is_plain octets.now }
 {
     let mut plain = true;
@@ -57,6 +140,19 @@ fn are_plain(octets: &[u8]) -> bool
         plain = plain & is_plain(*octet);
     }
     plain
+}
+
+/// Returns whether no octet needs an escape. Most names have 4 to 32, which are looked at many at a time.
+#[inline(always)]
+fn are_plain(octets: &[u8]) -> bool
+    ensures { result ≡ list_all is_plain octets.now }
+{
+    match octets.len() {
+        4..8 => are_all_plain(first_and_last_four(octets)),
+        8..16 => are_all_plain(first_and_last_eight(octets)),
+        16..=32 => are_ends_plain(octets),
+        _ => are_each_plain(octets),
+    }
 }
 
 /// Returns a hexadecimal digit, in lower case.

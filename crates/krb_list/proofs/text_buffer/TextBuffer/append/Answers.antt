@@ -1,5 +1,3 @@
-use Rattle.std.proofs.Common.{◌≡◌, take, sym, ap, subst}
-use Rattle.std.specs.Str.{IsUtf8}
 use Rattle.std.proofs.lemmas.Str.{IsUtf8-append}
 use Rattle.krb_list.proofs.text_buffer.TextBuffer.append.Goals as goal
 
