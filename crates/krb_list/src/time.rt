@@ -1,24 +1,18 @@
 //! Times of files and of packets.
 
-ghost use Rattle.std.specs.Prelude.{◌≡◌, ◌++◌, ◌/◌, ◌%◌, ◌<◌, IfOk, OnOk, length, pos, string_bytes};
+ghost use Rattle.std.specs.Prelude.{◌≡◌, ◌++◌, ◌<◌, IfOk, OnOk, pos, string_bytes};
 ghost use Rattle.std.specs.Str.{IsAscii};
-ghost use Rattle.krb_list.specs.Time.{file_time, instant_text, moment_text, time_text};
+ghost use Rattle.krb_list.specs.Time.{civil_date, clock_text, date_text, file_time, instant_text, last_digits, moment_text, time_text, two_digits};
 ghost use Rattle.krb_list.specs.Values.{Word};
 ghost use Rattle.jiff_core.specs.Date.{epoch_day};
-ghost use Rattle.jiff_core.specs.Time.{time_seconds};
 
 use crate::json::put_string;
 use crate::shown::{Shown, put_begin};
 use crate::text_buffer::TextBuffer;
-use arrayvec::ArrayString;
-use jiff_core::civil::{Date, DateTime, Time};
-use jiff_fmt::temporal::DateTimePrinter;
+use jiff_core::civil::Date;
 use krb_der::Memory;
 use krb_packet::Time as Instant;
 use std::alloc::{AllocError, Global};
-
-/// How many nanoseconds a second has.
-const NANOSECONDS: u32 = 1_000_000_000;
 
 fn day_after(days: u32) -> Date
     requires { days < 50_000 }
@@ -30,41 +24,83 @@ fn day_after(days: u32) -> Date
     }
 }
 
-/// Returns what a clock in UTC shows n seconds and some nanoseconds after the beginning of 1970.
-fn clock_after(seconds: u32, nanoseconds: u32) -> DateTime
-    requires { nanoseconds < NANOSECONDS }
-    ensures date { epoch_day result.date ≡ pos (seconds / 86400) }
-    ensures time { time_seconds result.time ≡ seconds % 86400 }
-    ensures fraction { result.time.subsec_nanosecond ≡ nanoseconds }
+/// Returns two digits of a number.
+#[inline(always)]
+#[tactic(auto, unfolding(crate::specs::Time::two_digits))]
+fn two_digits(number: u32) -> [u8; 2]
+    requires { number < 100 }
+    ensures { result ≡ two_digits number }
 {
-    DateTime {
-        date: day_after(seconds / 86_400),
-        time: Time::from_second(seconds % 86_400, nanoseconds),
-    }
+    [b'0' + (number / 10) as u8, b'0' + (number % 10) as u8]
+}
+
+/// Returns the ten characters of the date n days after the beginning of 1970.
+fn date_text(days: u32) -> [u8; 10]
+    requires { days < 50_000 }
+    ensures { result ≡ date_text (civil_date days) }
+{
+    let date = day_after(days);
+    let year = u32::from(date.year.unsigned_abs());
+    let [a, b] = two_digits(year / 100);
+    let [c, d] = two_digits(year % 100);
+    let [e, f] = two_digits(u32::from(date.month));
+    let [g, h] = two_digits(u32::from(date.day));
+    [a, b, c, d, b'-', e, f, b'-', g, h]
+}
+
+/// Returns the eight characters of a second of a day.
+#[tactic(auto, unfolding(crate::specs::Time::clock_text))]
+fn clock_text(seconds: u32) -> [u8; 8]
+    requires { seconds < 86_400 }
+    ensures { result ≡ clock_text seconds }
+{
+    let [a, b] = two_digits(seconds / 3600);
+    let [c, d] = two_digits(seconds / 60 % 60);
+    let [e, f] = two_digits(seconds % 60);
+    [a, b, b':', c, d, b':', e, f]
+}
+
+/// Returns the last nine digits of a number.
+fn nine_digits(number: u32) -> [u8; 9]
+    ensures { result ≡ last_digits 9 number }
+{
+    [
+        b'0' + (number / 100_000_000 % 10) as u8,
+        b'0' + (number / 10_000_000 % 10) as u8,
+        b'0' + (number / 1_000_000 % 10) as u8,
+        b'0' + (number / 100_000 % 10) as u8,
+        b'0' + (number / 10_000 % 10) as u8,
+        b'0' + (number / 1000 % 10) as u8,
+        b'0' + (number / 100 % 10) as u8,
+        b'0' + (number / 10 % 10) as u8,
+        b'0' + (number % 10) as u8,
+    ]
 }
 
 /// Returns the twenty characters of the moment n seconds after the beginning of 1970.
-pub(crate) fn moment(seconds: u32) -> ArrayString<32>
-    ensures text { result.bytes ≡ moment_text seconds }
-    ensures length { length result.bytes ≡ 20 }
-    ensures ascii { IsAscii result.bytes }
+fn moment(seconds: u32) -> [u8; 20]
+    ensures text { result ≡ moment_text seconds }
+    ensures ascii { IsAscii result }
 {
-    let mut text = DateTimePrinter::new().datetime_text(clock_after(seconds, 0));
-    text.push_str("Z");
-    text
+    let [a, b, c, d, e, f, g, h, i, j] = date_text(seconds / 86_400);
+    let [k, l, m, n, o, p, q, r] = clock_text(seconds % 86_400);
+    [
+        a, b, c, d, e, f, g, h, i, j, b'T', k, l, m, n, o, p, q, r, b'Z',
+    ]
 }
 
 /// Returns the thirty characters of the moment of a packet.
-fn instant(time: Instant) -> ArrayString<32>
-    ensures text { result.bytes ≡ instant_text time }
-    ensures ascii { IsAscii result.bytes }
+fn instant(time: Instant) -> [u8; 30]
+    ensures text { result ≡ instant_text time }
+    ensures ascii { IsAscii result }
 {
-    let clock = clock_after(time.seconds, time.nanoseconds % NANOSECONDS);
-    let mut text = DateTimePrinter::new()
-        .precision(Some(9))
-        .datetime_text(clock);
-    text.push_str("Z");
-    text
+    let [a, b, c, d, e, f, g, h, i, j] = date_text(time.seconds / 86_400);
+    let [k, l, m, n, o, p, q, r] = clock_text(time.seconds % 86_400);
+    let [s, t, u, v, w, x, y, z, end] = nine_digits(time.nanoseconds);
+    [
+        a, b, c, d, e, f, g, h, i, j, b'T', k, l, m, n, o, p, q, r, b'.', s, t, u, v, w, x, y, z,
+        end, b'Z',
+    ]
 }
 
 /// Appends the moment n seconds after the beginning of 1970, or `-` at 0.
@@ -74,7 +110,7 @@ pub fn put_time(line: &mut TextBuffer, seconds: u32) -> Result<(), AllocError>
     if seconds == 0 {
         line.push_str("-")
     } else {
-        line.push_str(moment(seconds).as_str())
+        line.push_ascii(&moment(seconds))
     }
 }
 
@@ -106,7 +142,7 @@ impl Shown for FileTime {
         if self.0 == 0 {
             object.push_str("null")
         } else {
-            put_string(object, moment(self.0).as_str().as_bytes())
+            put_string(object, &moment(self.0))
         }
     }
 }
@@ -117,12 +153,12 @@ impl Shown for Instant {
 
     #[tactic(auto, unfolding(crate::specs::Forms::value_text))]
     fn put_text(&self, line: &mut TextBuffer, _names: bool) -> Result<(), AllocError> {
-        line.push_str(instant(*self).as_str())
+        line.push_ascii(&instant(*self))
     }
 
     #[tactic(auto, unfolding(crate::specs::Forms::members, crate::specs::Forms::json_value, crate::specs::Forms::names_member))]
     fn put_members(&self, object: &mut TextBuffer, begin: &str) -> Result<(), AllocError> {
         put_begin(object, begin)?;
-        put_string(object, instant(*self).as_str().as_bytes())
+        put_string(object, &instant(*self))
     }
 }

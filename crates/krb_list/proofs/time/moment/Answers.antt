@@ -1,18 +1,12 @@
-use Rattle.std.proofs.Common.{ap, length, ◌∙◌}
+use Rattle.std.proofs.Common.{refl}
+use Rattle.krb_list.specs.Time.{date_text, clock_text, two_digits}
 use Rattle.krb_list.proofs.Ascii.{ascii_same}
-use Rattle.krb_list.proofs.Moments.{printed, moment_length, moment_ascii}
+use Rattle.krb_list.proofs.Moments.{moment_ascii}
 use Rattle.krb_list.proofs.time.moment.Goals as goal
 
 pub returns-clause-text : goal.returns-clause-text
-returns-clause-text c =
-    printed c.new.result c.clock_after.result c.args.seconds c.datetime_text-text.result.bytes _ c.new.ensures c.clock_after.ensures.date c.clock_after.ensures.time c.clock_after.ensures.fraction c.datetime_text-text.ensures c.push_str.ensures.bytes
-
-pub returns-clause-length : goal.returns-clause-length
-returns-clause-length c =
-    let text = printed c.new.result c.clock_after.result c.args.seconds c.datetime_text-text.result.bytes _ c.new.ensures c.clock_after.ensures.date c.clock_after.ensures.time c.clock_after.ensures.fraction c.datetime_text-text.ensures c.push_str.ensures.bytes in
-    ap length text ∙ moment_length c.args.seconds
+unfolding date_text clock_text two_digits
+returns-clause-text c = rw (c.date_text.ensures, c.clock_text.ensures) refl
 
 pub returns-clause-ascii : goal.returns-clause-ascii
-returns-clause-ascii c =
-    let text = printed c.new.result c.clock_after.result c.args.seconds c.datetime_text-text.result.bytes _ c.new.ensures c.clock_after.ensures.date c.clock_after.ensures.time c.clock_after.ensures.fraction c.datetime_text-text.ensures c.push_str.ensures.bytes in
-    ascii_same text (moment_ascii c.args.seconds c.ranges.seconds.fits)
+returns-clause-ascii c = ascii_same (returns-clause-text c) (moment_ascii c.args.seconds c.ranges.seconds.fits)
