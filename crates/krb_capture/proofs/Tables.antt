@@ -1,14 +1,18 @@
 -- Directions that are kept by their numbers, and the table that they represent.
 use Rattle.std.proofs.Common.{◌≡◌, ℕ, Bool, true, false, List, [], ◌∷◌, length, Option, Some, None, Box, ◌<◌, arith, refl, sym, ◌∙◌, ap, subst}
-use Rattle.std.specs.Prelude.{cond, not, ◌&&◌, if◌then◌else◌, nat_lt}
+use Rattle.std.specs.Prelude.{cond, not, ◌&&◌, ◌||◌, if◌then◌else◌, nat_lt}
 use Rattle.std.specs.declared.alloc.Global.{Global}
 use Rattle.std.specs.declared.cmp.Ordering.{Ordering}
 use Rattle.std.specs.declared.cmp.Ordering.TheVariants.{Less, Equal, Greater}
-use Rattle.std.specs.Ordering.{match_ordering, nat_cmp}
+use Rattle.std.specs.Ordering.{eq_by_cmp, is_eq, match_ordering, nat_cmp}
+use Rattle.std.specs.Cmp.{Equal-is}
+use Rattle.std.proofs.lemmas.Cmp.{nat_cmp_total, tied_itself}
+use Rattle.krb_capture.specs.contracts.flow.FlowOrd.TheImpl.Laws as flow_laws
 use Rattle.std.specs.Map.{lookup, remove_entry}
 use Rattle.std.specs.BTreeMap.{insert_entry, is_at}
-use Rattle.krb_capture.specs.Directions.{AllRepresented, HoldsTable, Table, after_found, begins, begun, by_number, flow_cmp, flow_of, followed, forgotten, in_flow, kept, last_of, nothing_found, of_known, with_room}
-use Rattle.krb_capture.specs.Sending.{Sent, Represents, last_found, nothing_sent}
+use Rattle.krb_capture.specs.Directions.{AllRepresented, HoldsMaps, HoldsTable, HoldsWith, IsAmong, IsKnown, Table, after_found, begins, begun, by_number, flow_cmp, flow_of, followed, forgotten, gone_on, in_flow, kept, last_of, nothing_found, of_known, with_room, without}
+use Rattle.krb_capture.specs.Sending.{Sent, Represents, last_found, nothing_sent, step_of}
+use Rattle.krb_flow.specs.declared.direction.State.TheVariants as states
 use Rattle.krb_packet.specs.declared.contents.Segment.{Segment}
 use Rattle.krb_list.specs.declared.origin.Transport.TheVariants as transports
 use Rattle.krb_capture.specs.Captures.{over_tcp, with_each}
@@ -17,10 +21,14 @@ use Rattle.krb_capture.specs.Found.{Written, with_all}
 use Rattle.krb_capture.specs.declared.flow.Due.{Due}
 use Rattle.krb_capture.proofs.Written.{flow-found, over_tcp-append, with_each-append}
 use Rattle.krb_capture.specs.declared.directions.Directions.{Directions}
+use Rattle.krb_capture.specs.declared.directions.Last.{Last}
 use Rattle.krb_capture.specs.declared.flow.Flow.{Flow}
 use Rattle.krb_capture.specs.declared.flow.Service.{Service}
 use Rattle.krb_capture.specs.declared.sending.Sending.{Sending}
 use Rattle.krb_capture.specs.declared.sending.Step.{Step}
+
+pub no-true : false ≡ true → ⊥
+no-true e = cc
 
 -- a direction that is kept
 abbrev pub Kept : Type 0
@@ -67,8 +75,8 @@ represented-insert limit number (k ∷ ks) (s ∷ ss) kept sent one a =
     by Greater rest = (a.0, a.1, rest)
 
 -- a direction is kept by its number, or that it ended
-pub HoldsTable-kept : (old new : Directions) (limit number : ℕ) (flow : Flow) (step : Step) (table : Table) (one : Kept) (sent : Sent) → HoldsTable old limit table → Represents one.value limit sent → new.limit ≡ old.limit → new.numbers.entries ≡ (if step.began then insert_entry flow_cmp old.numbers.entries flow number else old.numbers.entries) → new.active.entries ≡ (if step.ended then old.active.entries else insert_entry nat_cmp old.active.entries number one) → new.ended.entries ≡ (if step.ended then insert_entry nat_cmp old.ended.entries number flow else old.ended.entries) → HoldsTable new limit (kept flow number step sent table)
-HoldsTable-kept old new limit number flow step table one sent h s l n a d = record {
+pub HoldsMaps-kept : (old new : Directions) (limit number : ℕ) (flow : Flow) (step : Step) (table : Table) (one : Kept) (sent : Sent) → HoldsMaps old limit table → Represents one.value limit sent → new.limit ≡ old.limit → new.numbers.entries ≡ (if step.began then insert_entry flow_cmp old.numbers.entries flow number else old.numbers.entries) → new.active.entries ≡ (if step.ended then old.active.entries else insert_entry nat_cmp old.active.entries number one) → new.ended.entries ≡ (if step.ended then insert_entry nat_cmp old.ended.entries number flow else old.ended.entries) → HoldsMaps new limit (kept flow number step sent table)
+HoldsMaps-kept old new limit number flow step table one sent h s l n a d = record {
   limit_is = l ∙ h.limit_is;
   numbers = n ∙ ap (λ es. if step.began then insert_entry flow_cmp es flow number else es) h.numbers;
   active = subst (λ es. AllRepresented limit es (if step.ended then table.active else insert_entry nat_cmp table.active number sent)) (sym a) (by step.ended);
@@ -78,6 +86,72 @@ HoldsTable-kept old new limit number flow step table one sent h s l n a d = reco
     by : (b : Bool) → AllRepresented limit (if b then old.active.entries else insert_entry nat_cmp old.active.entries number one) (if b then table.active else insert_entry nat_cmp table.active number sent)
     by true = h.active
     by false = represented-insert limit number old.active.entries table.active one sent s h.active
+
+-- ---- the last direction
+
+-- there is none, or it is put back
+pub holds-none : (d : Directions) (limit : ℕ) (table : Table) → d.last ≡ None → HoldsMaps d limit table → HoldsTable d limit table
+holds-none d limit table e m = subst (λ o. HoldsWith o d limit table) (sym e) m
+
+pub maps-none : (d : Directions) (limit : ℕ) (table : Table) → d.last ≡ None → HoldsTable d limit table → HoldsMaps d limit table
+maps-none d limit table e h = subst (λ o. HoldsWith o d limit table) e h
+
+pub is-among : (d : Directions) (limit : ℕ) (table : Table) (last : Last) → d.last ≡ Some last → HoldsTable d limit table → IsAmong last d limit table
+is-among d limit table last e h = subst (λ o. HoldsWith o d limit table) e h
+
+pub maps-back : (old new : Directions) (limit : ℕ) (table : Table) (last : Last) → IsAmong last old limit table → new.limit ≡ old.limit → new.numbers.entries ≡ old.numbers.entries → new.active.entries ≡ insert_entry nat_cmp old.active.entries last.number last.sending → new.ended.entries ≡ old.ended.entries → HoldsMaps new limit table
+maps-back old new limit table last h l n a d = record {
+  limit_is = l ∙ h.maps.limit_is;
+  numbers = n ∙ h.maps.numbers;
+  active = subst (λ es. AllRepresented limit es table.active) (sym a) (subst (λ ss. AllRepresented limit (insert_entry nat_cmp old.active.entries last.number last.sending) ss) (sym h.active) (represented-insert limit last.number old.active.entries h.others last.sending h.sent h.represents h.maps.active));
+  ended = d ∙ h.maps.ended;
+}
+
+-- it is kept
+pub among-kept : (old new : Directions) (limit : ℕ) (flow : Flow) (last : Last) (step : Step) (table : Table) (sent : Sent) → HoldsMaps old limit table → IsKnown step.began flow last old.numbers.entries → Represents last.sending.value limit sent → step.ended ≡ false → new.last ≡ Some last → new.limit ≡ old.limit → new.numbers.entries ≡ (if step.began then insert_entry flow_cmp old.numbers.entries flow last.number else old.numbers.entries) → (step.began ≡ true → lookup (is_at (flow_cmp flow)) new.numbers.entries ≡ Some last.number) → new.active.entries ≡ old.active.entries → lookup (is_at (nat_cmp last.number)) old.active.entries ≡ None → new.ended.entries ≡ old.ended.entries → HoldsTable new limit (kept flow last.number step sent table)
+among-kept old new limit flow last step table sent h k s stays is l n inserted a alone d = subst (λ o. HoldsWith o new limit (kept flow last.number step sent table)) (sym is) (record {
+  sent = sent;
+  others = table.active;
+  maps = record {
+    limit_is = l ∙ h.limit_is;
+    numbers = n ∙ ap (λ es. if step.began then insert_entry flow_cmp es flow last.number else es) h.numbers;
+    active = subst (λ es. AllRepresented limit es table.active) (sym a) h.active;
+    ended = d ∙ h.ended ∙ sym (ap (λ b. if b then insert_entry nat_cmp table.ended last.number flow else table.ended) stays);
+  };
+  represents = s;
+  known = by step.began refl k;
+  alone = ap (λ es. lookup (is_at (nat_cmp last.number)) es) a ∙ alone;
+  active = ap (λ b. if b then table.active else insert_entry nat_cmp table.active last.number sent) stays;
+})
+  where
+    by : (b : Bool) → step.began ≡ b → IsKnown b flow last old.numbers.entries → lookup (is_at (flow_cmp last.flow)) new.numbers.entries ≡ Some last.number
+    by true e k = ap (λ f. lookup (is_at (flow_cmp f)) new.numbers.entries) k ∙ inserted e
+    by false e k = ap (λ es. lookup (is_at (flow_cmp last.flow)) es) (n ∙ ap (λ b. if b then insert_entry flow_cmp old.numbers.entries flow last.number else old.numbers.entries) e) ∙ k
+
+-- it is found again
+some_is_none : {X : Type 0} (x : X) → Some x ≡ None → ⊥
+some_is_none x e = cc
+
+module _ {X : Type 0} (n : ℕ) (v : X) where
+  pub lookup-inserted : (es : List (ℕ × X)) → lookup (is_at (nat_cmp n)) (insert_entry nat_cmp es n v) ≡ Some v
+  lookup-inserted [] = ap (λ o. cond (is_eq o) (Some v) None) (tied_itself nat_cmp_total n)
+  lookup-inserted (e ∷ es) = by (nat_cmp n e.0) refl (lookup-inserted es)
+    where
+      by : (o : Ordering) → nat_cmp n e.0 ≡ o → lookup (is_at (nat_cmp n)) (insert_entry nat_cmp es n v) ≡ Some v → lookup (is_at (nat_cmp n)) (match_ordering o ((n, v) ∷ e ∷ es) ((e.0, v) ∷ es) (e ∷ insert_entry nat_cmp es n v)) ≡ Some v
+      by Less q rest = ap (λ o. cond (is_eq o) (Some v) (lookup (is_at (nat_cmp n)) (e ∷ es))) (tied_itself nat_cmp_total n)
+      by Equal q rest = ap (λ o. cond (is_eq o) (Some v) (lookup (is_at (nat_cmp n)) es)) q
+      by Greater q rest = ap (λ o. cond (is_eq o) (Some e.1) (lookup (is_at (nat_cmp n)) (insert_entry nat_cmp es n v))) q ∙ rest
+
+  pub remove-inserted : (es : List (ℕ × X)) → lookup (is_at (nat_cmp n)) es ≡ None → remove_entry (is_at (nat_cmp n)) (insert_entry nat_cmp es n v) ≡ es
+  remove-inserted [] h = ap (λ o. cond (is_eq o) [] ((n, v) ∷ [])) (tied_itself nat_cmp_total n)
+  remove-inserted (e ∷ es) h = by (nat_cmp n e.0) refl (remove-inserted es)
+    where
+      by : (o : Ordering) → nat_cmp n e.0 ≡ o → (lookup (is_at (nat_cmp n)) es ≡ None → remove_entry (is_at (nat_cmp n)) (insert_entry nat_cmp es n v) ≡ es) → remove_entry (is_at (nat_cmp n)) (match_ordering o ((n, v) ∷ e ∷ es) ((e.0, v) ∷ es) (e ∷ insert_entry nat_cmp es n v)) ≡ e ∷ es
+      by Less q rest = ap (λ o. cond (is_eq o) (e ∷ es) ((n, v) ∷ remove_entry (is_at (nat_cmp n)) (e ∷ es))) (tied_itself nat_cmp_total n)
+      by Equal q rest = absurd (some_is_none e.1 (sym (ap (λ o. cond (is_eq o) (Some e.1) (lookup (is_at (nat_cmp n)) es)) q) ∙ h))
+      by Greater q rest =
+          ap (λ o. cond (is_eq o) (insert_entry nat_cmp es n v) (e ∷ remove_entry (is_at (nat_cmp n)) (insert_entry nat_cmp es n v))) q
+          ∙ ap (λ l. e ∷ l) (rest (sym (ap (λ o. cond (is_eq o) (Some e.1) (lookup (is_at (nat_cmp n)) es)) q) ∙ h))
 
 -- ---- a direction that is looked up
 pub both-none : (limit : ℕ) (m : Option Sent) → BothStand limit None m → m ≡ None
@@ -104,6 +178,26 @@ kept-same d limit flow flow' number number' step step' sent table f n e h =
     (subst (λ x. HoldsTable d limit (kept x number step sent table)) f h))
 
 -- ---- one that begins
+pub known-begun : (began : Bool) (flow : Flow) (last : Last) (numbers : List (Flow × ℕ)) → began ≡ true → last.flow ≡ flow → IsKnown began flow last numbers
+known-begun began flow last numbers b f = subst (λ b. IsKnown b flow last numbers) (sym b) f
+
+pub syn-begins : (segment : Segment) → (segment.syn && not segment.rst) ≡ true → begins segment ≡ true
+syn-begins segment = by segment.syn segment.rst
+  where
+    by : (s r : Bool) → (s && not r) ≡ true → (not r && (s || nat_lt 0 segment.payload.size)) ≡ true
+    by true true b = absurd (no-true b)
+    by true false b = refl
+    by false r b = absurd (no-true b)
+
+pub began-first : (segment : Segment) → begins segment ≡ true → (step_of states.Fresh segment).began ≡ true
+began-first segment = by segment.rst segment.syn (nat_lt 0 segment.payload.size) refl refl refl
+  where
+    by : (r s n : Bool) → segment.rst ≡ r → segment.syn ≡ s → nat_lt 0 segment.payload.size ≡ n → (not r && (s || n)) ≡ true → (step_of states.Fresh segment).began ≡ true
+    by true s n er es en b = absurd (no-true b)
+    by false true n er es en b = rw (er, es) refl
+    by false false true er es en b = rw (er, es, en) refl
+    by false false false er es en b = absurd (no-true b)
+
 pub represents-begun : (one : Sending) (limit limit' : ℕ) (flow flow' : Flow) (service : Service) → Represents one limit (nothing_sent flow service) → limit ≡ limit' → flow ≡ flow' → Represents one limit' (nothing_sent flow' service)
 represents-begun one limit limit' flow flow' service s l f =
     subst (λ x. Represents one limit' (nothing_sent x service)) f (subst (λ x. Represents one x (nothing_sent flow service)) l s)
@@ -132,9 +226,6 @@ pub no-entries : {K X : Type 0} (es : List (K × X)) → (0 < length es → ⊥)
 no-entries [] f = refl
 no-entries (x ∷ es) f = absurd (f (omega arith))
 
-pub no-true : false ≡ true → ⊥
-no-true e = cc
-
 -- ---- what is found with a segment, by what is known of its flow
 module _ (limit packet : ℕ) (service : Service) (segment : Segment) (table : Table) where
   pub followed-known : (number : ℕ) → lookup (is_at (flow_cmp (flow_of segment))) table.numbers ≡ Some number → followed limit packet service segment table ≡ of_known limit packet number (lookup (is_at (nat_cmp number)) table.active) service segment table
@@ -159,6 +250,40 @@ module _ (limit packet : ℕ) (service : Service) (segment : Segment) (table : T
       ap (λ o. of_known limit packet number o service segment table) e
       ∙ ap (λ x. if x then begun limit packet service segment (record table { ended = remove_entry (is_at (nat_cmp number)) table.ended }) else nothing_found table) b
 
+-- ---- the last direction, by its flow
+pub same-lookup : (f g : Flow) (es : List (Flow × ℕ)) → eq_by_cmp flow_cmp f g ≡ true → lookup (is_at (flow_cmp f)) es ≡ lookup (is_at (flow_cmp g)) es
+same-lookup f g es e = ap (λ c. lookup (is_at c) es) (λ i z. flow_laws.total-law.congr f g z ((Equal-is (flow_cmp f g)).0 e) i)
+
+-- it is found, and without it the others are there
+pub record TakesLast (last : Last) (d : Directions) (limit packet : ℕ) (service : Service) (segment : Segment) (table : Table) : Type 0 where
+  pub sent : Sent
+  pub represents : Represents last.sending.value limit sent
+  pub known : lookup (is_at (flow_cmp last.flow)) d.numbers.entries ≡ Some last.number
+  pub maps : HoldsMaps d limit (without last.number table)
+  pub followed_is : followed limit packet service segment table ≡ gone_on limit packet last.number sent segment table
+
+pub takes-last : (last : Last) (d : Directions) (limit packet : ℕ) (service : Service) (segment : Segment) (table : Table) → IsAmong last d limit table → eq_by_cmp flow_cmp last.flow (flow_of segment) ≡ true → TakesLast last d limit packet service segment table
+takes-last last d limit packet service segment table h e = record {
+  sent = h.sent;
+  represents = h.represents;
+  known = h.known;
+  maps = subst (λ ss. HoldsMaps d limit (record table { active = ss })) (sym (ap (remove_entry (is_at (nat_cmp last.number))) h.active ∙ remove-inserted last.number h.sent h.others none)) h.maps;
+  followed_is =
+      followed-known limit packet service segment table last.number (sym (same-lookup last.flow (flow_of segment) table.numbers e) ∙ ap (λ es. lookup (is_at (flow_cmp last.flow)) es) (sym h.maps.numbers) ∙ h.known)
+      ∙ ap (λ m. of_known limit packet last.number m service segment table) (ap (λ es. lookup (is_at (nat_cmp last.number)) es) h.active ∙ lookup-inserted last.number h.sent h.others);
+}
+  where
+    none : lookup (is_at (nat_cmp last.number)) h.others ≡ None
+    none = both-none limit (lookup (is_at (nat_cmp last.number)) h.others) (subst (λ m. BothStand limit m (lookup (is_at (nat_cmp last.number)) h.others)) h.alone (represented-lookup limit (is_at (nat_cmp last.number)) d.active.entries h.others h.maps.active))
+
+-- one that goes on is known
+pub known-after : (step : Step) (flow : Flow) (last kept : Last) (packet : ℕ) (numbers : List (Flow × ℕ)) → kept.flow ≡ (if step.began then flow else last.flow) → kept.number ≡ (if step.began then packet else last.number) → lookup (is_at (flow_cmp last.flow)) numbers ≡ Some last.number → IsKnown step.began flow kept numbers
+known-after step flow last kept packet numbers f n k = by step.began f n
+  where
+    by : (b : Bool) → kept.flow ≡ (if b then flow else last.flow) → kept.number ≡ (if b then packet else last.number) → IsKnown b flow kept numbers
+    by true f n = f
+    by false f n = ap (λ x. lookup (is_at (flow_cmp x)) numbers) f ∙ k ∙ ap Some (sym n)
+
 -- ---- the directions that are left at the end
 pub record Left (limit : ℕ) (table : Table) (due : Due) (initial : Written) (now : Directions) (written : Written) : Type 0 where
   pub rest : List (ℕ × Sent)
@@ -167,7 +292,7 @@ pub record Left (limit : ℕ) (table : Table) (due : Due) (initial : Written) (n
 
 -- those that ended are listed
 pub record EndsSome (old : Directions) (due : Due) (initial : Written) (now : Directions) (written : Written) : Type 0 where
-  pub ends : (limit : ℕ) (table : Table) → HoldsTable old limit table → Left limit table due initial now written
+  pub ends : (limit : ℕ) (table : Table) → HoldsMaps old limit table → Left limit table due initial now written
 
 pub EndsSome-start : (old : Directions) (due : Due) (initial : Written) → EndsSome old due initial old initial
 EndsSome-start old due initial = record { ends = λ limit table h. record { rest = table.active; all = h.active; listed = refl } }
@@ -189,7 +314,7 @@ EndsSome-next old now next due initial written more number one e first found = r
       };
 }
 
-pub EndsSome-end : (old now : Directions) (due : Due) (initial written : Written) → EndsSome old due initial now written → now.active.entries ≡ [] → (limit : ℕ) (table : Table) → HoldsTable old limit table → written ≡ with_each (over_tcp due (last_of limit table.active)) initial
+pub EndsSome-end : (old now : Directions) (due : Due) (initial written : Written) → EndsSome old due initial now written → now.active.entries ≡ [] → (limit : ℕ) (table : Table) → HoldsMaps old limit table → written ≡ with_each (over_tcp due (last_of limit table.active)) initial
 EndsSome-end old now due initial written e none limit table h = by left.rest (subst (λ es. AllRepresented limit es left.rest) none left.all) left.listed
   where
     left : Left limit table due initial now written

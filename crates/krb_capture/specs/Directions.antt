@@ -1,5 +1,5 @@
 -- The directions of TCP connections that are kept, by their flows. Each has the number of the packet that began it, so that they are in the order in which they began.
-use Rattle.std.specs.Prelude.{ℕ, ◌≡◌, ◌&&◌, ◌||◌, not, nat_lt, Bool, if◌then◌else◌, List, [], ◌∷◌, ◌++◌, length, map, Option, Some, None, Box}
+use Rattle.std.specs.Prelude.{ℕ, ◌≡◌, ◌&&◌, ◌||◌, not, nat_lt, Bool, true, false, if◌then◌else◌, List, [], ◌∷◌, ◌++◌, length, map, Option, Some, None, Box}
 use Rattle.std.specs.Ordering.{nat_cmp}
 use Rattle.std.specs.Map.{lookup, remove_entry}
 use Rattle.std.specs.BTreeMap.{insert_entry, is_at}
@@ -11,6 +11,7 @@ use Rattle.krb_capture.specs.Flows.{flow_between}
 use Rattle.krb_capture.specs.Found.{Found}
 use Rattle.krb_capture.specs.Sending.{Sent, Represents, after_segment, last_found, nothing_sent, segment_found, step_of}
 use Rattle.krb_capture.specs.declared.directions.Directions.{Directions}
+use Rattle.krb_capture.specs.declared.directions.Last.{Last}
 use Rattle.krb_capture.specs.declared.flow.Flow.{Flow}
 use Rattle.krb_capture.specs.declared.flow.Service.{Service}
 use Rattle.krb_capture.specs.declared.sending.Sending.{Sending}
@@ -130,8 +131,31 @@ AllRepresented limit [] (first ∷ others) = ⊥
 AllRepresented limit (first ∷ others) [] = ⊥
 AllRepresented limit (first ∷ others) (sent ∷ rest) = (first.0 ≡ sent.0) × Represents first.1.value limit sent.1 × AllRepresented limit others rest
 
-pub record HoldsTable (directions : Directions) (limit : ℕ) (table : Table) : Type 0 where
+-- The maps hold a table. The last direction is not in it, if it is not among them.
+pub record HoldsMaps (directions : Directions) (limit : ℕ) (table : Table) : Type 0 where
   pub limit_is : directions.limit ≡ limit
   pub numbers : directions.numbers.entries ≡ table.numbers
   pub active : AllRepresented limit directions.active.entries table.active
   pub ended : directions.ended.entries ≡ table.ended
+
+-- what is known of a direction that is to be kept: if it begins its number is that of its flow, and else it is found by a flow already
+abbrev pub IsKnown : Bool → Flow → Last → List (Flow × ℕ) → Type 0
+IsKnown true flow last numbers = last.flow ≡ flow
+IsKnown false flow last numbers = lookup (is_at (flow_cmp last.flow)) numbers ≡ Some last.number
+
+-- The last direction is in a table, and the maps hold the others; it is found by its flow, and has a number of its own.
+pub record IsAmong (last : Last) (directions : Directions) (limit : ℕ) (table : Table) : Type 0 where
+  pub sent : Sent
+  pub others : List (ℕ × Sent)
+  pub maps : HoldsMaps directions limit (record table { active = others })
+  pub represents : Represents last.sending.value limit sent
+  pub known : lookup (is_at (flow_cmp last.flow)) directions.numbers.entries ≡ Some last.number
+  pub alone : lookup (is_at (nat_cmp last.number)) directions.active.entries ≡ None
+  pub active : table.active ≡ insert_entry nat_cmp others last.number sent
+
+abbrev pub HoldsWith : Option Last → Directions → ℕ → Table → Type 0
+HoldsWith None directions limit table = HoldsMaps directions limit table
+HoldsWith (Some last) directions limit table = IsAmong last directions limit table
+
+abbrev pub HoldsTable : Directions → ℕ → Table → Type 0
+HoldsTable directions limit table = HoldsWith directions.last directions limit table

@@ -1,11 +1,11 @@
 //! The directions of TCP connections, by their flows.
 
-ghost use Rattle.std.specs.Prelude.{◌≡◌, ℕ, if◌then◌else◌, OnOk};
+ghost use Rattle.std.specs.Prelude.{◌≡◌, ℕ, true, None, Some, if◌then◌else◌, OnOk, IfSome, IfNone};
 ghost use Rattle.std.specs.BTreeMap.{insert_entry, is_at};
 ghost use Rattle.std.specs.Map.{lookup};
-ghost use Rattle.std.specs.Ordering.{nat_cmp};
+ghost use Rattle.std.specs.Ordering.{eq_by_cmp, nat_cmp};
 ghost use Rattle.krb_capture.specs.Captures.{over_tcp, with_each};
-ghost use Rattle.krb_capture.specs.Directions.{HoldsTable, Table, begins, begun, flow_cmp, flow_of, followed, gone_on, kept, last_of, no_directions, of_ended, of_known, with_room, without};
+ghost use Rattle.krb_capture.specs.Directions.{HoldsMaps, HoldsTable, IsKnown, Table, begins, begun, flow_cmp, flow_of, followed, gone_on, kept, last_of, no_directions, of_ended, of_known, with_room, without};
 ghost use Rattle.krb_capture.specs.Sending.{Sent, Represents};
 
 use crate::flow::{Due, Flow, Service};
@@ -20,6 +20,17 @@ use std::collections::BTreeMap;
 /// How many directions are kept, those that ended with them.
 const MOST_DIRECTIONS: usize = 65536;
 
+/// A direction that has not ended.
+#[derive(Drop)]
+pub(crate) struct Last {
+    /// The flow whose direction it is.
+    flow: Flow,
+    /// Its number.
+    number: u64,
+    /// What is kept of it.
+    sending: Box<Sending>,
+}
+
 /// The directions that are kept. Each has the number of the packet that began it, so that they are in
 /// the order in which they began.
 #[derive(Drop)]
@@ -30,6 +41,9 @@ pub(crate) struct Directions {
     numbers: BTreeMap<Flow, u64>,
     /// The directions that have not ended. A direction has some 400 octets, so the map moves boxes.
     active: BTreeMap<u64, Box<Sending>>,
+    /// The direction of the last segment, if it has not ended, since the next one is mostly of that, too.
+    /// It is not among `active` meanwhile.
+    last: Option<Last>,
     /// The flows of those that ended.
     ended: BTreeMap<u64, Flow>,
     /// Octets that waited.
@@ -41,6 +55,13 @@ fn begins(segment: &Segment<'_>) -> bool
     ensures { result ≡ begins segment.now }
 {
     !segment.rst & (segment.syn | (segment.payload.size() > 0))
+}
+
+/// Returns the flow by which a direction is found after a step: its own if it began with that.
+fn flow_after(found: Flow, own: Flow, step: Step) -> Flow
+    ensures { result ≡ (if step.began then own else found) }
+{
+    if step.began { own } else { found }
 }
 
 /// Returns the number of a direction after a step: that of the packet if it began with that.
@@ -60,6 +81,7 @@ impl Directions {
             limit,
             numbers: BTreeMap::new(alloc),
             active: BTreeMap::new(alloc),
+            last: None,
             ended: BTreeMap::new(alloc),
             waited: Vec::new(alloc),
         }
@@ -77,6 +99,52 @@ impl Directions {
         ensures found { OnOk result ((limit : ℕ) (table : Table) → HoldsTable self.old limit table → listing.new ≡ with_each (over_tcp due (followed limit due.packet service segment.now table).found) listing.old) }
     {
         let flow = Flow::between(segment.source, segment.target);
+        match self.last_of(&flow) {
+            Some(last) => self.go_on(last, segment, due, listing),
+            None => {
+                self.put_back()?;
+                self.take_other(flow, segment, service, due, listing)
+            }
+        }
+    }
+
+    /// Takes the direction of the last segment out, if it is of a flow.
+    fn last_of(&mut self, flow: &Flow) -> Option<Last>
+        ensures last { IfSome result (λ last. (self.old.last ≡ Some last) × (eq_by_cmp flow_cmp last.flow flow.now ≡ true)) }
+        ensures left { IfSome result (λ last. self.new ≡ record self.old { last = None }) }
+        ensures same { IfNone result (self.new ≡ self.old) }
+    {
+        match &self.last {
+            Some(last) if last.flow == *flow => self.last.take(),
+            _ => None,
+        }
+    }
+
+    /// Puts the direction of the last segment back among the others.
+    fn put_back(&mut self) -> Result<(), Memory>
+        ensures none { OnOk result (self.new.last ≡ None) }
+        ensures maps { OnOk result ((limit : ℕ) (table : Table) → HoldsTable self.old limit table → HoldsMaps self.new limit table) }
+    {
+        if let Some(last) = self.last.take() {
+            self.active.insert(last.number, last.sending)?;
+        }
+        Ok(())
+    }
+
+    /// Takes a segment that is not of the direction of the last one.
+    fn take_other(
+        &mut self,
+        flow: Flow,
+        segment: &Segment<'_>,
+        service: Service,
+        due: Due,
+        listing: &mut Listing,
+    ) -> Result<(), Memory>
+        requires of_segment { flow ≡ flow_of segment.now }
+        requires none { self.old.last ≡ None }
+        ensures table { OnOk result ((limit : ℕ) (table : Table) → HoldsMaps self.old limit table → HoldsTable self.new limit (followed limit due.packet service segment.now table).table) }
+        ensures found { OnOk result ((limit : ℕ) (table : Table) → HoldsMaps self.old limit table → listing.new ≡ with_each (over_tcp due (followed limit due.packet service segment.now table).found) listing.old) }
+    {
         match self.numbers.get(&flow).copied() {
             Some(number) => self.take_known(flow, number, segment, service, due, listing),
             None if begins(segment) => {
@@ -97,12 +165,23 @@ impl Directions {
         due: Due,
         listing: &mut Listing,
     ) -> Result<(), Memory>
-        requires { flow ≡ flow_of segment.now }
-        ensures table { OnOk result ((limit : ℕ) (table : Table) → HoldsTable self.old limit table → HoldsTable self.new limit (of_known limit due.packet number (lookup (is_at (nat_cmp number)) table.active) service segment.now table).table) }
-        ensures found { OnOk result ((limit : ℕ) (table : Table) → HoldsTable self.old limit table → listing.new ≡ with_each (over_tcp due (of_known limit due.packet number (lookup (is_at (nat_cmp number)) table.active) service segment.now table).found) listing.old) }
+        requires of_segment { flow ≡ flow_of segment.now }
+        requires none { self.old.last ≡ None }
+        requires known { lookup (is_at (flow_cmp flow)) self.old.numbers.entries ≡ Some number }
+        ensures table { OnOk result ((limit : ℕ) (table : Table) → HoldsMaps self.old limit table → HoldsTable self.new limit (of_known limit due.packet number (lookup (is_at (nat_cmp number)) table.active) service segment.now table).table) }
+        ensures found { OnOk result ((limit : ℕ) (table : Table) → HoldsMaps self.old limit table → listing.new ≡ with_each (over_tcp due (of_known limit due.packet number (lookup (is_at (nat_cmp number)) table.active) service segment.now table).found) listing.old) }
     {
         match self.active.remove(&number) {
-            Some(sending) => self.go_on(number, sending, segment, due, listing),
+            Some(sending) => self.go_on(
+                Last {
+                    flow,
+                    number,
+                    sending,
+                },
+                segment,
+                due,
+                listing,
+            ),
             None => self.take_ended(flow, number, segment, service, due, listing),
         }
     }
@@ -117,9 +196,10 @@ impl Directions {
         due: Due,
         listing: &mut Listing,
     ) -> Result<(), Memory>
-        requires { flow ≡ flow_of segment.now }
-        ensures table { OnOk result ((limit : ℕ) (table : Table) → HoldsTable self.old limit table → HoldsTable self.new limit (of_ended limit due.packet number service segment.now table).table) }
-        ensures found { OnOk result ((limit : ℕ) (table : Table) → HoldsTable self.old limit table → listing.new ≡ with_each (over_tcp due (of_ended limit due.packet number service segment.now table).found) listing.old) }
+        requires of_segment { flow ≡ flow_of segment.now }
+        requires none { self.old.last ≡ None }
+        ensures table { OnOk result ((limit : ℕ) (table : Table) → HoldsMaps self.old limit table → HoldsTable self.new limit (of_ended limit due.packet number service segment.now table).table) }
+        ensures found { OnOk result ((limit : ℕ) (table : Table) → HoldsMaps self.old limit table → listing.new ≡ with_each (over_tcp due (of_ended limit due.packet number service segment.now table).found) listing.old) }
     {
         if segment.syn & !segment.rst {
             self.ended.remove(&number);
@@ -129,23 +209,27 @@ impl Directions {
         }
     }
 
-    /// Takes a segment of a direction that has not ended, which has this number and is not in the
-    /// table meanwhile.
+    /// Takes a segment of a direction that has not ended, which is not in the table meanwhile.
     fn go_on(
         &mut self,
-        number: u64,
-        sending: Box<Sending>,
+        last: Last,
         segment: &Segment<'_>,
         due: Due,
         listing: &mut Listing,
     ) -> Result<(), Memory>
-        ensures table { OnOk result ((limit : ℕ) (table : Table) (sent : Sent) → HoldsTable self.old limit (without number table) → Represents sending.value limit sent → HoldsTable self.new limit (gone_on limit due.packet number sent segment.now table).table) }
-        ensures found { OnOk result ((limit : ℕ) (table : Table) (sent : Sent) → Represents sending.value limit sent → listing.new ≡ with_each (over_tcp due (gone_on limit due.packet number sent segment.now table).found) listing.old) }
+        requires { self.old.last ≡ None }
+        ensures table { OnOk result ((limit : ℕ) (table : Table) (sent : Sent) → HoldsMaps self.old limit (without last.number table) → lookup (is_at (flow_cmp last.flow)) self.old.numbers.entries ≡ Some last.number → Represents last.sending.value limit sent → HoldsTable self.new limit (gone_on limit due.packet last.number sent segment.now table).table) }
+        ensures found { OnOk result ((limit : ℕ) (table : Table) (sent : Sent) → Represents last.sending.value limit sent → listing.new ≡ with_each (over_tcp due (gone_on limit due.packet last.number sent segment.now table).found) listing.old) }
     {
-        let mut sending = sending;
+        let mut sending = last.sending;
         let step = sending.take(segment, due, &mut self.waited, listing)?;
         let flow = sending.flow();
-        self.keep(flow, number_after(number, step, due), sending, step)
+        let kept = Last {
+            flow: flow_after(last.flow, flow, step),
+            number: number_after(last.number, step, due),
+            sending,
+        };
+        self.keep(flow, kept, step)
     }
 
     /// Begins the direction of a flow that has none.
@@ -157,30 +241,34 @@ impl Directions {
         due: Due,
         listing: &mut Listing,
     ) -> Result<(), Memory>
-        requires { flow ≡ flow_of segment.now }
-        ensures table { OnOk result ((limit : ℕ) (table : Table) → HoldsTable self.old limit table → HoldsTable self.new limit (begun limit due.packet service segment.now table).table) }
-        ensures found { OnOk result ((limit : ℕ) (table : Table) → HoldsTable self.old limit table → listing.new ≡ with_each (over_tcp due (begun limit due.packet service segment.now table).found) listing.old) }
+        requires of_segment { flow ≡ flow_of segment.now }
+        requires begins { begins segment.now ≡ true }
+        requires none { self.old.last ≡ None }
+        ensures table { OnOk result ((limit : ℕ) (table : Table) → HoldsMaps self.old limit table → HoldsTable self.new limit (begun limit due.packet service segment.now table).table) }
+        ensures found { OnOk result ((limit : ℕ) (table : Table) → HoldsMaps self.old limit table → listing.new ≡ with_each (over_tcp due (begun limit due.packet service segment.now table).found) listing.old) }
     {
         let mut sending = Sending::new(self.alloc, self.limit, flow, service);
         let step = sending.take(segment, due, &mut self.waited, listing)?;
-        self.keep(flow, due.packet, Box::new(self.alloc, sending)?, step)
+        let kept = Last {
+            flow,
+            number: due.packet,
+            sending: Box::new(self.alloc, sending)?,
+        };
+        self.keep(flow, kept, step)
     }
 
-    /// Keeps a direction by its number, or that it ended.
-    fn keep(
-        &mut self,
-        flow: Flow,
-        number: u64,
-        sending: Box<Sending>,
-        step: Step,
-    ) -> Result<(), Memory>
-        ensures { OnOk result ((limit : ℕ) (table : Table) (sent : Sent) → HoldsTable self.old limit table → Represents sending.value limit sent → HoldsTable self.new limit (kept flow number step sent table)) }
+    /// Keeps a direction of a flow by its number, or that it ended.
+    fn keep(&mut self, flow: Flow, last: Last, step: Step) -> Result<(), Memory>
+        requires { self.old.last ≡ None }
+        ensures { OnOk result ((limit : ℕ) (table : Table) (sent : Sent) → HoldsMaps self.old limit table → IsKnown step.began flow last self.old.numbers.entries → Represents last.sending.value limit sent → HoldsTable self.new limit (kept flow last.number step sent table)) }
     {
-        self.keep_number(flow, number, step.began)?;
+        self.keep_number(flow, last.number, step.began)?;
         if step.ended {
-            self.ended.insert(number, flow)?;
+            self.ended.insert(last.number, flow)?;
+        } else if self.active.contains_key(&last.number) {
+            self.active.insert(last.number, last.sending)?;
         } else {
-            self.active.insert(number, sending)?;
+            self.last = Some(last);
         }
         Ok(())
     }
@@ -189,6 +277,7 @@ impl Directions {
     fn keep_number(&mut self, flow: Flow, number: u64, began: bool) -> Result<(), Memory>
         ensures same { self.new ≡ record self.old { numbers = self.new.numbers } }
         ensures numbers { OnOk result (self.new.numbers.entries ≡ (if began then insert_entry flow_cmp self.old.numbers.entries flow number else self.old.numbers.entries)) }
+        ensures known { OnOk result (began ≡ true → lookup (is_at (flow_cmp flow)) self.new.numbers.entries ≡ Some number) }
     {
         if began {
             self.numbers.insert(flow, number)?;
@@ -199,8 +288,9 @@ impl Directions {
     /// Forgets a direction if no more are kept: the one that began first among those that ended, or,
     /// if none has ended, the one that began first, which ends.
     fn make_room(&mut self, due: Due, listing: &mut Listing) -> Result<(), Memory>
-        ensures table { OnOk result ((limit : ℕ) (table : Table) → HoldsTable self.old limit table → HoldsTable self.new limit (with_room limit table).table) }
-        ensures found { OnOk result ((limit : ℕ) (table : Table) → HoldsTable self.old limit table → listing.new ≡ with_each (over_tcp due (with_room limit table).found) listing.old) }
+        ensures last { self.new.last ≡ self.old.last }
+        ensures table { OnOk result ((limit : ℕ) (table : Table) → HoldsMaps self.old limit table → HoldsMaps self.new limit (with_room limit table).table) }
+        ensures found { OnOk result ((limit : ℕ) (table : Table) → HoldsMaps self.old limit table → listing.new ≡ with_each (over_tcp due (with_room limit table).found) listing.old) }
     {
         if self.numbers.len() < MOST_DIRECTIONS {
             return Ok(());
@@ -218,6 +308,7 @@ impl Directions {
     pub(crate) fn finish(&mut self, due: Due, listing: &mut Listing) -> Result<(), Memory>
         ensures { OnOk result ((limit : ℕ) (table : Table) → HoldsTable self.old limit table → listing.new ≡ with_each (over_tcp due (last_of limit table.active)) listing.old) }
     {
+        self.put_back()?;
         while let Some((_, mut sending)) = self.active.pop_first() {
             sending.finish(due, listing)?;
         }

@@ -1,11 +1,12 @@
-use Rattle.std.proofs.Common.{refl, ◌∙◌, ap}
-use Rattle.krb_capture.proofs.Tables.{HoldsTable-kept}
+use Rattle.std.proofs.Common.{refl, sym, ◌∙◌, ap}
+use Rattle.krb_capture.proofs.Tables.{HoldsMaps-kept, among-kept, holds-none}
 use Rattle.krb_capture.proofs.directions.Directions.keep.Goals as goal
 
 pub returns-in_ok-insert-2 : goal.returns-in_ok-insert-2
-returns-in_ok-insert-2 c = λ limit table sent h s.
-    HoldsTable-kept c.args.self.now _ limit c.args.number c.args.flow c.args.step table c.args.sending sent h s
+returns-in_ok-insert-2 c = λ limit table sent h k s.
+    holds-none _ limit _ (ap (λ d. d.last) c.in_ok-keep_number.ensures.same ∙ c.requires)
+    (HoldsMaps-kept c.args.self.now _ limit c.args.last.number c.args.flow c.args.step table c.args.last.sending sent h s
     (ap (λ d. d.limit) c.in_ok-keep_number.ensures.same)
     c.in_ok-keep_number.ensures.numbers
     (c.in_ok-insert-2.ensures.entries ∙ rw (c.if-step.false, c.in_ok-keep_number.ensures.same) refl)
-    (ap (λ d. d.ended.entries) c.in_ok-keep_number.ensures.same ∙ rw c.if-step.false refl)
+    (ap (λ d. d.ended.entries) c.in_ok-keep_number.ensures.same ∙ rw c.if-step.false refl))

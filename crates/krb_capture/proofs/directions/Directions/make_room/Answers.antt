@@ -2,7 +2,7 @@ use Rattle.std.proofs.Common.{length, sym, ◌∙◌, ap, subst}
 use Rattle.std.specs.Prelude.{nat_lt}
 use Rattle.std.proofs.lemmas.Bool.{le-ltb}
 use Rattle.krb_capture.specs.Captures.{over_tcp, with_each}
-use Rattle.krb_capture.specs.Directions.{HoldsTable, flow_cmp}
+use Rattle.krb_capture.specs.Directions.{HoldsMaps, flow_cmp}
 use Rattle.krb_capture.specs.Sending.{Represents, last_found}
 use Rattle.std.specs.BTreeMap.{is_at}
 use Rattle.std.specs.Map.{remove_entry}
@@ -16,7 +16,7 @@ returns-in_ok-finish-clause-table c = λ limit table h.
     let none = no-entries c.args.self.now.ended.entries (λ p. no-true (c.in_default.ensures.variant.1 p)) in
     let full = ap (λ n. nat_lt n 65536) (ap (λ l. length l) (sym h.numbers)) ∙ ap (λ n. nat_lt n 65536) (sym c.len.ensures.len) ∙ le-ltb c.len.result 65536 c.if-len-lt-MOST_DIRECTIONS.false in
     let gone = c.flow.ensures ∙ ap (λ x. x.flow) c.deref.ensures ∙ c.in_ok-finish.ensures.flow ∙ ap (λ x. x.flow) c.deref_mut.ensures.value ∙ first.represents.flow in
-    subst (λ f. HoldsTable (record { alloc = c.args.self.now.alloc; limit = c.args.self.now.limit; numbers = c.remove-in-Some-pop_first.new.self; active = c.pop_first-in_default.new.self; ended = c.pop_first.new.self; waited = c.args.self.now.waited }) limit f.table) (sym (room-first limit table first.sent first.rest full (sym h.ended ∙ none) first.is))
+    subst (λ f. HoldsMaps (record { alloc = c.args.self.now.alloc; limit = c.args.self.now.limit; numbers = c.remove-in-Some-pop_first.new.self; active = c.pop_first-in_default.new.self; last = c.args.self.now.last; ended = c.pop_first.new.self; waited = c.args.self.now.waited }) limit f.table) (sym (room-first limit table first.sent first.rest full (sym h.ended ∙ none) first.is))
     (record {
       limit_is = h.limit_is;
       numbers = c.remove-in-Some-pop_first.ensures.entries ∙ ap (λ f. remove_entry (is_at (flow_cmp f)) c.args.self.now.numbers.entries) gone ∙ ap (λ es. remove_entry (is_at (flow_cmp first.sent.1.flow)) es) h.numbers;

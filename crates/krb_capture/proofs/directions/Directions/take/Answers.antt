@@ -1,53 +1,39 @@
-use Rattle.std.proofs.Common.{sym, ◌∙◌, ap, subst}
+use Rattle.std.proofs.Common.{◌≡◌, true, sym, ◌∙◌, ap, subst}
 use Rattle.std.specs.BTreeMap.{is_at}
 use Rattle.std.specs.Map.{lookup}
+use Rattle.std.specs.Ordering.{eq_by_cmp}
 use Rattle.krb_capture.specs.Captures.{over_tcp, with_each}
-use Rattle.krb_capture.specs.Directions.{HoldsTable, begun, flow_cmp, flow_of, with_room}
-use Rattle.krb_capture.proofs.Tables.{followed-begins, followed-known, followed-passed}
-use Rattle.krb_capture.proofs.Written.{on_ok-map, over_tcp-append, with_each-append}
+use Rattle.krb_capture.specs.Directions.{HoldsMaps, HoldsTable, flow_cmp, without}
+use Rattle.krb_capture.proofs.Tables.{is-among, takes-last}
+use Rattle.krb_capture.proofs.Written.{on_ok-map}
 use Rattle.krb_capture.proofs.directions.Directions.take.Goals as goal
 
 pub returns-in-Some-clause-table : goal.returns-in-Some-clause-table
-returns-in-Some-clause-table c = on_ok-map c.take_known.result
+returns-in-Some-clause-table c = on_ok-map c.go_on.result
     (λ k limit table h.
-    let e = ap (λ es. lookup (is_at (flow_cmp (flow_of c.args.segment.now))) es) (sym h.numbers) ∙ ap (λ f. lookup (is_at (flow_cmp f)) c.args.self.now.numbers.entries) (sym c.between-flow.ensures) ∙ sym c.get.ensures.value ∙ sym c.copied.ensures ∙ c.in-Some.is in
-    subst (λ f. HoldsTable c.take_known.new.self limit f.table) (sym (followed-known limit c.args.due.packet c.args.service c.args.segment.now table c.in-Some.number e)) (k limit table h))
-    c.take_known.ensures.table
+    let same = subst (λ f. eq_by_cmp flow_cmp c.in-Some.last.flow f ≡ true) c.between-flow.ensures c.in-Some.ensures.last.1 in
+    let t = takes-last c.in-Some.last c.args.self.now limit c.args.due.packet c.args.service c.args.segment.now table (is-among c.args.self.now limit table c.in-Some.last c.in-Some.ensures.last.0 h) same in
+    subst (λ f. HoldsTable c.go_on.new.self limit f.table) (sym t.followed_is)
+    (k limit table t.sent
+    (subst (λ d. HoldsMaps d limit (without c.in-Some.last.number table)) (sym c.in-Some.ensures.left) (record { limit_is = t.maps.limit_is; numbers = t.maps.numbers; active = t.maps.active; ended = t.maps.ended }))
+    (ap (λ d. lookup (is_at (flow_cmp c.in-Some.last.flow)) d.numbers.entries) c.in-Some.ensures.left ∙ t.known)
+    t.represents))
+    c.go_on.ensures.table
 
 pub returns-in-Some-clause-found : goal.returns-in-Some-clause-found
-returns-in-Some-clause-found c = on_ok-map c.take_known.result
+returns-in-Some-clause-found c = on_ok-map c.go_on.result
     (λ k limit table h.
-    let e = ap (λ es. lookup (is_at (flow_cmp (flow_of c.args.segment.now))) es) (sym h.numbers) ∙ ap (λ f. lookup (is_at (flow_cmp f)) c.args.self.now.numbers.entries) (sym c.between-flow.ensures) ∙ sym c.get.ensures.value ∙ sym c.copied.ensures ∙ c.in-Some.is in
-    k limit table h ∙ ap (λ f. with_each (over_tcp c.args.due f.found) c.args.listing.now) (sym (followed-known limit c.args.due.packet c.args.service c.args.segment.now table c.in-Some.number e)))
-    c.take_known.ensures.found
+    let same = subst (λ f. eq_by_cmp flow_cmp c.in-Some.last.flow f ≡ true) c.between-flow.ensures c.in-Some.ensures.last.1 in
+    let t = takes-last c.in-Some.last c.args.self.now limit c.args.due.packet c.args.service c.args.segment.now table (is-among c.args.self.now limit table c.in-Some.last c.in-Some.ensures.last.0 h) same in
+    k limit table t.sent t.represents ∙ ap (λ f. with_each (over_tcp c.args.due f.found) c.args.listing.now) (sym t.followed_is))
+    c.go_on.ensures.found
 
-pub returns-in_ok-make_room-in-None-clause-table : goal.returns-in_ok-make_room-in-None-clause-table
-returns-in_ok-make_room-in-None-clause-table c = on_ok-map c.begin.result
-    (λ k limit table h.
-    let e = ap (λ es. lookup (is_at (flow_cmp (flow_of c.args.segment.now))) es) (sym h.numbers) ∙ ap (λ f. lookup (is_at (flow_cmp f)) c.args.self.now.numbers.entries) (sym c.between-flow.ensures) ∙ sym c.get.ensures.value ∙ sym c.copied.ensures ∙ c.in-None.is in
-    subst (λ f. HoldsTable c.begin.new.self limit f.table) (sym (followed-begins limit c.args.due.packet c.args.service c.args.segment.now table e (sym c.begins.ensures ∙ c.if-begins.true)))
-    (k limit (with_room limit table).table (c.in_ok-make_room-in-None.ensures.table limit table h)))
-    c.begin.ensures.table
+pub returns-in_ok-put_back-in-None-clause-table : goal.returns-in_ok-put_back-in-None-clause-table
+returns-in_ok-put_back-in-None-clause-table c = on_ok-map c.take_other.result
+    (λ k limit table h. k limit table (c.in_ok-put_back-in-None.ensures.maps limit table (subst (λ d. HoldsTable d limit table) (sym c.in-None.ensures.same) h)))
+    c.take_other.ensures.table
 
-pub returns-in_ok-make_room-in-None-clause-found : goal.returns-in_ok-make_room-in-None-clause-found
-returns-in_ok-make_room-in-None-clause-found c = on_ok-map c.begin.result
-    (λ k limit table h.
-    let e = ap (λ es. lookup (is_at (flow_cmp (flow_of c.args.segment.now))) es) (sym h.numbers) ∙ ap (λ f. lookup (is_at (flow_cmp f)) c.args.self.now.numbers.entries) (sym c.between-flow.ensures) ∙ sym c.get.ensures.value ∙ sym c.copied.ensures ∙ c.in-None.is in
-    let room = with_room limit table in
-    let after = begun limit c.args.due.packet c.args.service c.args.segment.now room.table in
-    k limit room.table (c.in_ok-make_room-in-None.ensures.table limit table h)
-    ∙ ap (λ l. with_each (over_tcp c.args.due after.found) l) (c.in_ok-make_room-in-None.ensures.found limit table h)
-    ∙ sym (with_each-append (over_tcp c.args.due room.found) (over_tcp c.args.due after.found) c.args.listing.now)
-    ∙ ap (λ l. with_each l c.args.listing.now) (sym (over_tcp-append c.args.due room.found after.found))
-    ∙ ap (λ f. with_each (over_tcp c.args.due f.found) c.args.listing.now) (sym (followed-begins limit c.args.due.packet c.args.service c.args.segment.now table e (sym c.begins.ensures ∙ c.if-begins.true))))
-    c.begin.ensures.found
-
-pub returns-in-None-2-clause-table : goal.returns-in-None-2-clause-table
-returns-in-None-2-clause-table c = λ limit table h.
-    let e = ap (λ es. lookup (is_at (flow_cmp (flow_of c.args.segment.now))) es) (sym h.numbers) ∙ ap (λ f. lookup (is_at (flow_cmp f)) c.args.self.now.numbers.entries) (sym c.between-flow.ensures) ∙ sym c.get.ensures.value ∙ sym c.copied.ensures ∙ c.in-None-2.is in
-    subst (λ f. HoldsTable c.args.self.now limit f.table) (sym (followed-passed limit c.args.due.packet c.args.service c.args.segment.now table e (sym c.begins.ensures ∙ c.if-begins.false))) h
-
-pub returns-in-None-2-clause-found : goal.returns-in-None-2-clause-found
-returns-in-None-2-clause-found c = λ limit table h.
-    let e = ap (λ es. lookup (is_at (flow_cmp (flow_of c.args.segment.now))) es) (sym h.numbers) ∙ ap (λ f. lookup (is_at (flow_cmp f)) c.args.self.now.numbers.entries) (sym c.between-flow.ensures) ∙ sym c.get.ensures.value ∙ sym c.copied.ensures ∙ c.in-None-2.is in
-    ap (λ f. with_each (over_tcp c.args.due f.found) c.args.listing.now) (sym (followed-passed limit c.args.due.packet c.args.service c.args.segment.now table e (sym c.begins.ensures ∙ c.if-begins.false)))
+pub returns-in_ok-put_back-in-None-clause-found : goal.returns-in_ok-put_back-in-None-clause-found
+returns-in_ok-put_back-in-None-clause-found c = on_ok-map c.take_other.result
+    (λ k limit table h. k limit table (c.in_ok-put_back-in-None.ensures.maps limit table (subst (λ d. HoldsTable d limit table) (sym c.in-None.ensures.same) h)))
+    c.take_other.ensures.found

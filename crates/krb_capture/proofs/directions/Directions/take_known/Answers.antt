@@ -14,7 +14,7 @@ returns-in-Some-clause-table c = on_ok-map c.go_on.result
     let test = is_at (nat_cmp c.args.number) in
     let found = is-found limit (lookup test c.args.self.now.active.entries) (lookup test table.active) c.in-Some.sending (represented-lookup limit test c.args.self.now.active.entries table.active h.active) (sym c.in-Some.ensures.value) in
     subst (λ m. HoldsTable c.go_on.new.self limit (of_known limit c.args.due.packet c.args.number m c.args.service c.args.segment.now table).table) (sym found.is)
-    (k limit table found.sent (record { limit_is = h.limit_is; numbers = h.numbers; active = subst (λ es. AllRepresented limit es (remove_entry test table.active)) (sym c.in-Some.ensures.entries) (represented-remove limit test c.args.self.now.active.entries table.active h.active); ended = h.ended }) found.represents))
+    (k limit table found.sent (record { limit_is = h.limit_is; numbers = h.numbers; active = subst (λ es. AllRepresented limit es (remove_entry test table.active)) (sym c.in-Some.ensures.entries) (represented-remove limit test c.args.self.now.active.entries table.active h.active); ended = h.ended }) c.requires.known found.represents))
     c.go_on.ensures.table
 
 pub returns-in-Some-clause-found : goal.returns-in-Some-clause-found
