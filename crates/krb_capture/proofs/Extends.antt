@@ -1,8 +1,9 @@
 -- What is found with more octets of a stream, and with others after them.
 use Rattle.std.proofs.Common.{◌≡◌, ℕ, Bool, true, false, List, [], ◌++◌, map, drop, refl, sym, ◌∙◌, ap, subst, append_assoc, append-nil}
+use Rattle.krb_frame.specs.GoingOn.{Skipping}
 use Rattle.krb_capture.specs.Found.{Found}
 use Rattle.krb_capture.specs.Streams.{Framed, entry_found, found_with, framed}
-use Rattle.krb_capture.specs.Taken.{IsOver, Keeps, KeepsUnless, PasswordsAreOver, Took, TookMessages, TookPasswords, Waits, WaitsUnless, passwords, service_of}
+use Rattle.krb_capture.specs.Taken.{IsOver, Keeps, KeepsUnless, PasswordsAreOver, Took, TookMessages, TookPasswords, Waits, WaitsUnless, WaitsWith, fed_with, passwords, service_of}
 use Rattle.krb_capture.specs.declared.flow.Service.{Service}
 use Rattle.krb_capture.specs.declared.flow.Service.TheVariants as services
 use Rattle.krb_capture.specs.declared.frames.Frames.{Frames}
@@ -11,6 +12,7 @@ use Rattle.krb_capture.specs.declared.message_frames.MessageFrames.{MessageFrame
 use Rattle.krb_capture.specs.declared.password_frames.PasswordFrames.{PasswordFrames}
 use Rattle.krb_capture.proofs.Framed.{found_with-of, found-more, found-waiting}
 use Rattle.krb_capture.proofs.Passed.{keeps-found}
+use Rattle.krb_capture.proofs.Unfinished.{waits-all}
 
 -- what was found stays
 abbrev pub Extends : Service → ℕ → List ℕ → List ℕ → Type 0
@@ -35,11 +37,13 @@ messages-extend taker limit stream t more = by taker.is_over refl
   where
     by : (b : Bool) → taker.is_over ≡ b → Extends services.Kerberos limit stream more
     by true e =
-        let o : IsOver limit stream = subst (λ b. WaitsUnless b taker.decoder limit stream) e t.state in
+        let o : IsOver limit stream = subst (λ b. WaitsUnless b taker limit stream) e t.state in
         extends-of services.Kerberos limit stream more (framed services.Kerberos limit stream).found [] refl ((o more).0 ∙ sym (append-nil (framed services.Kerberos limit stream).found))
     by false e =
-        let w : Waits taker.decoder stream = subst (λ b. WaitsUnless b taker.decoder limit stream) e t.state in
-        extends-of services.Kerberos limit stream more (map entry_found w.before) _ (found-waiting limit taker.decoder stream w t.limit_is) (found-more limit taker.decoder stream w t.limit_is more)
+        let with_part : WaitsWith taker limit stream = subst (λ b. WaitsUnless b taker limit stream) e t.state in
+        let s : Skipping = fed_with taker.part taker.decoder in
+        let w : Waits s stream = (waits-all taker limit stream with_part t.limit_is).waits in
+        extends-of services.Kerberos limit stream more (map entry_found w.before) _ (found-waiting limit s stream w t.limit_is) (found-more limit s stream w t.limit_is more)
 
 passwords-extend_at : (taker : PasswordFrames) (stream : List ℕ) → KeepsUnless taker.is_over taker stream → (more : List ℕ) → Extends services.Passwords taker.limit stream more
 passwords-extend_at taker stream state more = by taker.is_over refl

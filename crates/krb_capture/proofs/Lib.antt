@@ -17,3 +17,4 @@ mod Tables
 mod Taken
 mod Whole
 mod Written
+mod Unfinished

@@ -1,5 +1,5 @@
 -- What the frames of messages answer at the end.
-use Rattle.std.proofs.Common.{◌≡◌, ℕ, Bool, true, false, List, [], ◌∷◌, Some, refl, sym, ◌∙◌, ap, subst, append-nil}
+use Rattle.std.proofs.Common.{◌≡◌, ℕ, Bool, true, false, List, [], ◌∷◌, Some, None, refl, sym, ◌∙◌, ap, subst, append-nil}
 use Rattle.std.specs.Result.{result_err}
 use Rattle.krb_der.specs.declared.profile.Profile.TheVariants.{Lenient}
 use Rattle.krb_der.specs.declared.why.Why.TheVariants as why
@@ -11,23 +11,32 @@ use Rattle.krb_frame.specs.GoingOn.{GoesOn, Skipping}
 use Rattle.krb_frame.specs.declared.decoder.Status.TheVariants as status
 use Rattle.krb_frame.proofs.DecoderFrames.{more-nothing}
 use Rattle.krb_capture.specs.Streams.{Framed, cut_refusal, framed}
-use Rattle.krb_capture.specs.Taken.{IsOver, TookMessages, Waits, WaitsUnless}
+use Rattle.krb_capture.specs.Taken.{IsOver, TookMessages, Waits, WaitsUnless, WaitsWith, fed_with, kept_of}
 use Rattle.krb_capture.specs.declared.flow.Service.TheVariants as services
 use Rattle.krb_capture.specs.declared.message_frames.MessageFrames.{MessageFrames}
+use Rattle.std.specs.declared.alloc.Global.{Global}
 use Rattle.krb_capture.proofs.Framed.{framed-waiting}
+use Rattle.krb_capture.proofs.Unfinished.{waits-all}
 
 -- of a direction of which nothing came
-pub took-new : (decoder : Decoding) (s : Skipping) (limit looks : ℕ) (room : Capacity) → decoder ≡ record { profile = Lenient; limit = limit; octets = []; looks = looks; capacity = room } → s ≡ record { current = decoder; skipped = 0 } → (decoder.octets ≡ [] → GoesOn (messages decoder.profile) s [] []) → TookMessages (record { decoder = s; is_over = false }) limit []
-took-new decoder s limit looks room e f g =
+pub took-new : (alloc : Global) (decoder : Decoding) (s : Skipping) (limit looks : ℕ) (room : Capacity) → decoder ≡ record { profile = Lenient; limit = limit; octets = []; looks = looks; capacity = room } → s ≡ record { current = decoder; skipped = 0 } → (decoder.octets ≡ [] → GoesOn (messages decoder.profile) s [] []) → TookMessages (record { alloc = alloc; limit = limit; decoder = s; is_clear = true; part = None; is_over = false }) limit []
+took-new alloc decoder s limit looks room e f g =
     let same : s.current ≡ decoder = ap (λ (t : Skipping). t.current) f in
     record {
       profile = ap (λ (d : Decoding). d.profile) (same ∙ e);
       limit_is = ap (λ (d : Decoding). d.limit) (same ∙ e);
+      own_limit = refl;
       state = record {
-        before = [];
-        done = tt;
-        goes_on = subst (λ p. GoesOn (messages p) s [] []) (ap (λ (d : Decoding). d.profile) e) (g (ap (λ (d : Decoding). d.octets) e));
-        waits = ap (λ d. status_of (messages Lenient) d) (same ∙ e) ∙ more-nothing (messages Lenient) Lenient limit looks room;
+        fed = [];
+        parts = refl;
+        waits = record {
+          before = [];
+          done = tt;
+          goes_on = subst (λ p. GoesOn (messages p) s [] []) (ap (λ (d : Decoding). d.profile) e) (g (ap (λ (d : Decoding). d.octets) e));
+          waits = ap (λ d. status_of (messages Lenient) d) (same ∙ e) ∙ more-nothing (messages Lenient) Lenient limit looks room;
+        };
+        clear = λ t. record { nothing = ap (λ (d : Decoding). d.octets) (same ∙ e); none = ap (λ (t : Skipping). t.skipped) f };
+        part = tt;
       };
     }
 
@@ -37,15 +46,17 @@ over-is taker limit stream t = by taker.is_over refl
   where
     by : (b : Bool) → taker.is_over ≡ b → taker.is_over ≡ (framed services.Kerberos limit stream).over
     by true e =
-        let o : IsOver limit stream = subst (λ b. WaitsUnless b taker.decoder limit stream) e t.state in
+        let o : IsOver limit stream = subst (λ b. WaitsUnless b taker limit stream) e t.state in
         e ∙ sym (o []).1 ∙ ap (λ s. (framed services.Kerberos limit s).over) (append-nil stream)
     by false e =
-        let w : Waits taker.decoder stream = subst (λ b. WaitsUnless b taker.decoder limit stream) e t.state in
-        e ∙ ap (λ (f : Framed). f.over) (sym (framed-waiting limit taker.decoder stream w t.limit_is))
+        let w : WaitsWith taker limit stream = subst (λ b. WaitsUnless b taker limit stream) e t.state in
+        e ∙ ap (λ (f : Framed). f.over) (sym (framed-waiting limit (fed_with taker.part taker.decoder) stream (waits-all taker limit stream w t.limit_is).waits t.limit_is))
 
 -- the octets of the frame that is not whole
-pub partial-is : (taker : MessageFrames) (limit : ℕ) (stream : List ℕ) → TookMessages taker limit stream → taker.is_over ≡ false → taker.decoder.current.octets ≡ (framed services.Kerberos limit stream).partial
-partial-is taker limit stream t e = ap (λ (f : Framed). f.partial) (sym (framed-waiting limit taker.decoder stream (subst (λ b. WaitsUnless b taker.decoder limit stream) e t.state) t.limit_is))
+pub partial-is : (taker : MessageFrames) (limit : ℕ) (stream : List ℕ) → TookMessages taker limit stream → taker.is_over ≡ false → kept_of taker.part taker.decoder.current.octets ≡ (framed services.Kerberos limit stream).partial
+partial-is taker limit stream t e =
+    let w : WaitsWith taker limit stream = subst (λ b. WaitsUnless b taker limit stream) e t.state in
+    ap (λ (f : Framed). f.partial) (sym (framed-waiting limit (fed_with taker.part taker.decoder) stream (waits-all taker limit stream w t.limit_is).waits t.limit_is))
 
 -- why it is refused
 cut_at : (octets : List ℕ) (f : Frames) → (octets ≡ [] → f ≡ ends Boundary) → AreOfOne octets f.contents f.end → status_at f.contents f.end ≡ status.More → result_err (finish_at f.end) ≡ cut_refusal octets
@@ -67,5 +78,6 @@ cut-is s stream w = cut_at s.current.octets (frames (messages Lenient) s.current
 
 pub finish-is : (taker : MessageFrames) (limit : ℕ) (stream : List ℕ) → TookMessages taker limit stream → taker.is_over ≡ false → result_err (finish_of (messages taker.decoder.current.profile) taker.decoder.current) ≡ cut_refusal taker.decoder.current.octets
 finish-is taker limit stream t e =
+    let w : WaitsWith taker limit stream = subst (λ b. WaitsUnless b taker limit stream) e t.state in
     ap (λ p. result_err (finish_of (messages p) taker.decoder.current)) t.profile
-    ∙ cut-is taker.decoder stream (subst (λ b. WaitsUnless b taker.decoder limit stream) e t.state)
+    ∙ cut-is taker.decoder w.fed w.waits

@@ -1,6 +1,6 @@
 -- What the frames of messages have to do with the octets that they took.
-use Rattle.std.proofs.Common.{◌≡◌, ℕ, Bool, true, false, List, [], ◌∷◌, ◌++◌, map, None, refl, sym, ◌∙◌, ap, subst, append_assoc, append-nil}
-use Rattle.std.specs.Prelude.{not}
+use Rattle.std.proofs.Common.{◌≡◌, ℕ, Bool, true, false, List, [], ◌∷◌, ◌++◌, length, map, drop, None, refl, sym, ◌∙◌, ap, ap₂, subst, append_assoc, append-nil}
+use Rattle.std.specs.Option.{option_map}
 use Rattle.std.specs.List.{AllByRecursion}
 use Rattle.std.proofs.lemmas.List.{map-append}
 use Rattle.krb_der.specs.declared.profile.Profile.TheVariants.{Lenient}
@@ -10,13 +10,14 @@ use Rattle.krb_frame.specs.GoingOn.{Entry, Fault, Skipping, GoesOn, rest_to_come
 use Rattle.krb_frame.specs.declared.decoder.Status.TheVariants as status
 use Rattle.krb_list.specs.declared.origin.Origin.{Origin}
 use Rattle.krb_capture.specs.Found.{Written, with_all, with_found}
-use Rattle.krb_capture.specs.Listed.{Lists, ListsLast, ListsPiece, status_in}
+use Rattle.krb_capture.specs.Listed.{Lists, ListsLast, ListsNext, ListsPiece, ListsWith, status_in}
 use Rattle.krb_capture.specs.Streams.{Framed, entry_found, found_with, framed}
-use Rattle.krb_capture.specs.Taken.{IsDone, IsOver, TookMessages, Waits, WaitsUnless}
+use Rattle.krb_capture.specs.Taken.{IsClear, IsDone, IsOver, TookMessages, Waits, WaitsUnless, WaitsWith, fed_with, kept_of}
 use Rattle.krb_capture.specs.declared.flow.Service.TheVariants as services
 use Rattle.krb_capture.specs.declared.message_frames.MessageFrames.{MessageFrames}
 use Rattle.krb_capture.proofs.Found.{with_all-append}
 use Rattle.krb_capture.proofs.Framed.{all_done, found_with-of, found-waiting, framed-last, last_framed}
+use Rattle.krb_capture.proofs.Unfinished.{rest-is, stands-is, waits-all}
 
 -- ---- nothing more is found
 pub over-more : (limit : ℕ) (stream octets : List ℕ) → IsOver limit stream → IsOver limit (stream ++ octets)
@@ -108,32 +109,86 @@ takes-none old piece origin w e = record {
   took = λ limit stream t. record {
     profile = t.profile;
     limit_is = t.limit_is;
-    state = subst (λ b. WaitsUnless b old.decoder limit (stream ++ piece)) (sym e) (over-more limit stream piece (subst (λ b. WaitsUnless b old.decoder limit stream) e t.state));
+    own_limit = t.own_limit;
+    state = subst (λ b. WaitsUnless b old limit (stream ++ piece)) (sym e) (over-more limit stream piece (subst (λ b. WaitsUnless b old limit stream) e t.state));
   };
-  listed = λ limit stream t. ap (λ x. with_all origin x w) (sym (over-none limit stream piece (subst (λ b. WaitsUnless b old.decoder limit stream) e t.state)));
+  listed = λ limit stream t. ap (λ x. with_all origin x w) (sym (over-none limit stream piece (subst (λ b. WaitsUnless b old limit stream) e t.state)));
 }
 
--- frames were listed, and more can follow, or none
-pub takes-some : (old new : MessageFrames) (more : Bool) (piece : List ℕ) (origin : Origin) (before after : Written) → old.is_over ≡ false → new.is_over ≡ not more → ListsPiece more old.decoder new.decoder piece origin before after → TakesMessages old new piece origin before after
-takes-some old new true piece origin before after o e l = record {
-  took = λ limit stream t. record {
-    profile = l.0.profile ∙ t.profile;
-    limit_is = l.0.limit ∙ t.limit_is;
-    state = subst (λ b. WaitsUnless b new.decoder limit (stream ++ piece)) (sym e) (lists-waits old.decoder new.decoder piece origin before after t.profile l.0 stream (waits limit stream t) l.1);
-  };
-  listed = λ limit stream t. l.0.listed ∙ ap (λ x. with_all origin x before) (sym (lists-found old.decoder new.decoder piece origin before after t.profile l.0 stream (waits limit stream t) limit t.limit_is l.1));
+-- ---- frames were listed, of the octets that are kept and those that follow
+module _ (old new : MessageFrames) (piece octets : List ℕ) (origin : Origin) (before after : Written) (parts : piece ≡ kept_of old.part [] ++ octets) (limit : ℕ) (stream : List ℕ) (t : TookMessages old limit stream) (w : WaitsWith old limit stream) where
+  joined : w.fed ++ piece ≡ stream ++ octets
+  joined = ap (λ x. w.fed ++ x) parts ∙ sym (append_assoc w.fed (kept_of old.part []) octets) ∙ ap (λ x. x ++ octets) (sym w.parts)
+
+  found-before : (framed services.Kerberos limit stream).found ≡ map entry_found w.waits.before
+  found-before =
+      let all = waits-all old limit stream w t.limit_is in
+      found-waiting limit (fed_with old.part old.decoder) stream all.waits t.limit_is ∙ ap (map entry_found) all.same
+
+  module _ (l : ListsWith old.limit new.is_clear (option_map (λ p. p.octets) new.part) old.decoder new.decoder piece origin before after) where
+    pub with-waits : WaitsWith new limit (stream ++ octets)
+    with-waits = record {
+      fed = w.fed ++ l.prefix.used;
+      parts = sym joined ∙ ap (λ x. w.fed ++ x) (l.prefix.parts ∙ ap (λ x. l.prefix.used ++ x) (rest-is new.part)) ∙ sym (append_assoc w.fed l.prefix.used (kept_of new.part []));
+      waits = lists-waits old.decoder new.decoder l.prefix.used origin before after t.profile l.prefix.lists w.fed w.waits l.waits;
+      clear = l.clear_is;
+      part = stands-is limit old.limit new.decoder new.part t.own_limit l.stands;
+    }
+
+    with-found : found_with services.Kerberos limit stream octets ≡ map entry_found l.prefix.lists.frames
+    unfolding lists-waits with-waits
+    with-found =
+        let all = waits-all new limit (stream ++ octets) with-waits (l.prefix.lists.limit ∙ t.limit_is) in
+        found_with-of services.Kerberos limit stream octets (map entry_found w.waits.before) (map entry_found l.prefix.lists.frames) found-before
+        (found-waiting limit (fed_with new.part new.decoder) (stream ++ octets) all.waits (l.prefix.lists.limit ∙ t.limit_is) ∙ ap (map entry_found) all.same ∙ map-append entry_found w.waits.before l.prefix.lists.frames)
+
+    pub with-listed : after ≡ with_all origin (found_with services.Kerberos limit stream octets) before
+    with-listed = l.prefix.lists.listed ∙ ap (λ x. with_all origin x before) (sym with-found)
+
+  module _ (l : ListsLast old.decoder new.decoder piece origin before after) where
+    pub past-over : IsOver limit (stream ++ octets)
+    past-over = subst (IsOver limit) joined (last-over old.decoder new.decoder piece origin before after t.profile l w.fed w.waits limit t.limit_is)
+
+    pub past-listed : after ≡ with_all origin (found_with services.Kerberos limit stream octets) before
+    unfolding found_with
+    past-listed =
+        last-listed old.decoder new.decoder piece origin before after t.profile l w.fed w.waits limit t.limit_is
+        ∙ ap (λ x. with_all origin x before)
+        (ap₂ (λ a b. drop (length a) b)
+        (found-waiting limit old.decoder w.fed w.waits t.limit_is ∙ sym found-before)
+        (ap (λ s. (framed services.Kerberos limit s).found) joined))
+
+abbrev pub ListsBy : MessageFrames → MessageFrames → List ℕ → Origin → Written → Written → Bool → Type 0
+ListsBy old new piece origin before after b = ListsPiece b old.limit new.is_clear (option_map (λ p. p.octets) new.part) old.decoder new.decoder piece origin before after
+
+pub takes-piece : (old new : MessageFrames) (clear : Bool) (piece octets : List ℕ) (origin : Origin) (before after : Written) → old.is_over ≡ false → (clear ≡ true → old.is_clear ≡ true) → piece ≡ kept_of old.part [] ++ octets → ((clear ≡ true → IsClear old.decoder) → ListsNext (record old { part = None }) new piece origin before after) → TakesMessages old new octets origin before after
+takes-piece old new clear piece octets origin before after o is parts f = record {
+  took = λ limit stream t.
+      let w = waits limit stream t in
+      let l = f (λ e. w.clear (is e)) in
+      record {
+        profile = (kept-profile limit stream t w l new.is_over refl l.lists).0 ∙ t.profile;
+        limit_is = (kept-profile limit stream t w l new.is_over refl l.lists).1 ∙ t.limit_is;
+        own_limit = l.limit ∙ t.own_limit;
+        state = state limit stream t w l new.is_over refl l.lists;
+      };
+  listed = λ limit stream t.
+      let w = waits limit stream t in
+      let l = f (λ e. w.clear (is e)) in
+      listed limit stream t w l new.is_over l.lists;
 }
   where
-    waits : (limit : ℕ) (stream : List ℕ) → TookMessages old limit stream → Waits old.decoder stream
-    waits limit stream t = subst (λ b. WaitsUnless b old.decoder limit stream) o t.state
-takes-some old new false piece origin before after o e l = record {
-  took = λ limit stream t. record {
-    profile = l.prefix.lists.profile ∙ t.profile;
-    limit_is = l.prefix.lists.limit ∙ t.limit_is;
-    state = subst (λ b. WaitsUnless b new.decoder limit (stream ++ piece)) (sym e) (last-over old.decoder new.decoder piece origin before after t.profile l stream (waits limit stream t) limit t.limit_is);
-  };
-  listed = λ limit stream t. last-listed old.decoder new.decoder piece origin before after t.profile l stream (waits limit stream t) limit t.limit_is;
-}
-  where
-    waits : (limit : ℕ) (stream : List ℕ) → TookMessages old limit stream → Waits old.decoder stream
-    waits limit stream t = subst (λ b. WaitsUnless b old.decoder limit stream) o t.state
+    waits : (limit : ℕ) (stream : List ℕ) → TookMessages old limit stream → WaitsWith old limit stream
+    waits limit stream t = subst (λ b. WaitsUnless b old limit stream) o t.state
+
+    kept-profile : (limit : ℕ) (stream : List ℕ) → TookMessages old limit stream → WaitsWith old limit stream → ListsNext (record old { part = None }) new piece origin before after → (b : Bool) → new.is_over ≡ b → ListsBy old new piece origin before after b → (new.decoder.current.profile ≡ old.decoder.current.profile) × (new.decoder.current.limit ≡ old.decoder.current.limit)
+    kept-profile limit stream t w n true e l = (l.prefix.lists.profile, l.prefix.lists.limit)
+    kept-profile limit stream t w n false e l = (l.prefix.lists.profile, l.prefix.lists.limit)
+
+    state : (limit : ℕ) (stream : List ℕ) → TookMessages old limit stream → WaitsWith old limit stream → ListsNext (record old { part = None }) new piece origin before after → (b : Bool) → new.is_over ≡ b → ListsBy old new piece origin before after b → WaitsUnless new.is_over new limit (stream ++ octets)
+    state limit stream t w n true e l = subst (λ b. WaitsUnless b new limit (stream ++ octets)) (sym e) (past-over old new piece octets origin before after parts limit stream t w l)
+    state limit stream t w n false e l = subst (λ b. WaitsUnless b new limit (stream ++ octets)) (sym e) (with-waits old new piece octets origin before after parts limit stream t w l)
+
+    listed : (limit : ℕ) (stream : List ℕ) → TookMessages old limit stream → WaitsWith old limit stream → ListsNext (record old { part = None }) new piece origin before after → (b : Bool) → ListsBy old new piece origin before after b → after ≡ with_all origin (found_with services.Kerberos limit stream octets) before
+    listed limit stream t w n true l = past-listed old new piece octets origin before after parts limit stream t w l
+    listed limit stream t w n false l = with-listed old new piece octets origin before after parts limit stream t w l

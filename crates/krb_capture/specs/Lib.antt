@@ -11,3 +11,4 @@ pub mod Sending
 pub mod Directions
 pub mod Captures
 pub mod Laws
+pub mod Unfinished

@@ -1,5 +1,6 @@
 -- What is listed of the frames of messages, one after another, as their octets come.
-use Rattle.std.specs.Prelude.{ℕ, ◌≡◌, Bool, true, false, List, [], ◌++◌, map, None}
+use Rattle.std.specs.Prelude.{ℕ, ◌≡◌, Bool, true, false, Option, List, [], ◌++◌, map, None}
+use Rattle.std.specs.Option.{option_map, unwrap_or}
 use Rattle.std.specs.List.{AllByRecursion}
 use Rattle.krb_der.specs.declared.verdict.Refusal.{Refusal}
 use Rattle.krb_msg.specs.Grammar.{messages}
@@ -10,7 +11,8 @@ use Rattle.krb_frame.specs.declared.decoder.Status.TheVariants as status
 use Rattle.krb_list.specs.declared.origin.Origin.{Origin}
 use Rattle.krb_capture.specs.Found.{Written, with_all, with_found}
 use Rattle.krb_capture.specs.Streams.{entry_found}
-use Rattle.krb_capture.specs.Taken.{IsDone}
+use Rattle.krb_capture.specs.Taken.{IsClear, IsDone, StandsPart}
+use Rattle.krb_capture.specs.declared.message_frames.MessageFrames.{MessageFrames}
 
 -- Octets were used; the frames that are whole with them or refused were listed, and cleared or skipped.
 pub record Lists (old new : Skipping) (octets : List ℕ) (origin : Origin) (before after : Written) : Type 0 where
@@ -54,7 +56,19 @@ pub record ListsLast (old new : Skipping) (piece : List ℕ) (origin : Origin) (
   pub prefix : ListsPrefix old new piece rest origin before between
   pub stopped : IsStopped new refusal origin between after
 
--- the frames of a piece were listed, and more can follow, or none
-abbrev pub ListsPiece : Bool → Skipping → Skipping → List ℕ → Origin → Written → Written → Type 0
-ListsPiece true old new piece origin before after = Lists old new piece origin before after × (status_in new ≡ status.More)
-ListsPiece false old new piece origin before after = ListsLast old new piece origin before after
+-- The frames of a piece were listed, but for octets at its end: none, or a part of the next frame, if the decoder is clear.
+pub record ListsWith (limit : ℕ) (clear : Bool) (part : Option (List ℕ)) (old new : Skipping) (piece : List ℕ) (origin : Origin) (before after : Written) : Type 0 where
+  pub prefix : ListsPrefix old new piece (unwrap_or part []) origin before after
+  pub waits : status_in new ≡ status.More
+  pub clear_is : clear ≡ true → IsClear new
+  pub stands : StandsPart limit new (option_map (λ octets. record { limit = limit; octets = octets }) part)
+
+-- the frames of a piece were listed, and none can follow, or more
+abbrev pub ListsPiece : Bool → ℕ → Bool → Option (List ℕ) → Skipping → Skipping → List ℕ → Origin → Written → Written → Type 0
+ListsPiece true limit clear part old new piece origin before after = ListsLast old new piece origin before after
+ListsPiece false limit clear part old new piece origin before after = ListsWith limit clear part old new piece origin before after
+
+-- the frames of a piece that follows what the decoder was fed were listed
+pub record ListsNext (old new : MessageFrames) (piece : List ℕ) (origin : Origin) (before after : Written) : Type 0 where
+  pub limit : new.limit ≡ old.limit
+  pub lists : ListsPiece new.is_over old.limit new.is_clear (option_map (λ p. p.octets) new.part) old.decoder new.decoder piece origin before after

@@ -1,5 +1,5 @@
 -- What the frames of a direction have to do with the octets that they took.
-use Rattle.std.specs.Prelude.{ℕ, ◌≡◌, ◌⊎◌, ◌+◌, ◌^◌, ◌<◌, ◌≤◌, Bool, true, false, List, [], ◌++◌, length, take, drop}
+use Rattle.std.specs.Prelude.{ℕ, ◌≡◌, ◌⊎◌, ◌+◌, ◌^◌, ◌<◌, ◌≤◌, Bool, true, false, Option, Some, None, List, [], ◌++◌, length, take, drop}
 use Rattle.std.specs.List.{AllByRecursion}
 use Rattle.krb_der.specs.Octets.{number}
 use Rattle.krb_der.specs.declared.profile.Profile.TheVariants.{Lenient}
@@ -8,6 +8,7 @@ use Rattle.krb_frame.specs.Decoding.{status_of}
 use Rattle.krb_frame.specs.GoingOn.{Entry, Skipping, GoesOn}
 use Rattle.krb_frame.specs.declared.decoder.Status.TheVariants as status
 use Rattle.krb_capture.specs.Found.{Found}
+use Rattle.krb_capture.specs.Unfinished.{IsUnfinished, Unfinished}
 use Rattle.krb_capture.specs.Streams.{Framed, before_frames, framed, is_cut, is_unknown}
 use Rattle.krb_capture.specs.declared.flow.Service.{Service}
 use Rattle.krb_capture.specs.declared.flow.Service.TheVariants as services
@@ -32,15 +33,43 @@ abbrev pub IsOver : ℕ → List ℕ → Type 0
 IsOver limit stream =
     (more : List ℕ) → ((framed services.Kerberos limit (stream ++ more)).found ≡ (framed services.Kerberos limit stream).found) × ((framed services.Kerberos limit (stream ++ more)).over ≡ true)
 
-abbrev pub WaitsUnless : Bool → Skipping → ℕ → List ℕ → Type 0
-WaitsUnless false decoder limit stream = Waits decoder stream
-WaitsUnless true decoder limit stream = IsOver limit stream
+-- no octets of a frame were used, and none are to be skipped
+pub record IsClear (decoder : Skipping) : Type 0 where
+  pub nothing : decoder.current.octets ≡ []
+  pub none : decoder.skipped ≡ 0
+
+-- the octets of the frame that is not whole: those of a part, or else others
+abbrev pub kept_of : Option Unfinished → List ℕ → List ℕ
+kept_of None octets = octets
+kept_of (Some part) octets = part.octets
+
+-- a part is of the next frame
+abbrev pub StandsPart : ℕ → Skipping → Option Unfinished → Type 0
+StandsPart limit decoder None = Unit {0}
+StandsPart limit decoder (Some part) = IsClear decoder × IsUnfinished limit part.octets
+
+-- the decoder, as if it had been fed the part
+abbrev pub fed_with : Option Unfinished → Skipping → Skipping
+fed_with part decoder = record { current = record decoder.current { octets = kept_of part decoder.current.octets }; skipped = decoder.skipped }
+
+-- The decoder waits for the octets after the first ones of a stream, and those after them are the part that it was not fed.
+pub record WaitsWith (taker : MessageFrames) (limit : ℕ) (stream : List ℕ) : Type 0 where
+  pub fed : List ℕ
+  pub parts : stream ≡ fed ++ kept_of taker.part []
+  pub waits : Waits taker.decoder fed
+  pub clear : taker.is_clear ≡ true → IsClear taker.decoder
+  pub part : StandsPart limit taker.decoder taker.part
+
+abbrev pub WaitsUnless : Bool → MessageFrames → ℕ → List ℕ → Type 0
+WaitsUnless false taker limit stream = WaitsWith taker limit stream
+WaitsUnless true taker limit stream = IsOver limit stream
 
 -- they took a stream, with frames of at most n octets
 pub record TookMessages (taker : MessageFrames) (limit : ℕ) (stream : List ℕ) : Type 0 where
   pub profile : taker.decoder.current.profile ≡ Lenient
   pub limit_is : taker.decoder.current.limit ≡ limit
-  pub state : WaitsUnless taker.is_over taker.decoder limit stream
+  pub own_limit : taker.limit ≡ limit
+  pub state : WaitsUnless taker.is_over taker limit stream
 
 -- ---- messages that change passwords
 
@@ -94,5 +123,5 @@ over_in (frames.Passwords taker) = taker.is_over
 
 -- the octets of the frame that is not whole
 abbrev pub kept_in : Frames → List ℕ
-kept_in (frames.Messages taker) = taker.decoder.current.octets
+kept_in (frames.Messages taker) = kept_of taker.part taker.decoder.current.octets
 kept_in (frames.Passwords taker) = taker.octets.items

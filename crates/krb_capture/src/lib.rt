@@ -25,6 +25,7 @@ pub mod law;
 mod listing;
 mod message;
 mod message_frames;
+mod part;
 mod password;
 mod password_frames;
 mod sending;

@@ -1,21 +1,40 @@
-use Rattle.std.proofs.Common.{refl}
-use Rattle.std.specs.Prelude.{not}
-use Rattle.krb_capture.specs.declared.message_frames.MessageFrames.{MessageFrames}
-use Rattle.krb_capture.proofs.Taken.{takes-none, takes-some}
+use Rattle.std.proofs.Common.{◌++◌, [], false, sym, ◌∙◌, ap}
+use Rattle.krb_capture.specs.Taken.{kept_of}
+use Rattle.krb_capture.proofs.Tables.{no-true}
+use Rattle.krb_capture.proofs.Taken.{takes-none, takes-piece}
+use Rattle.krb_capture.proofs.Written.{on_ok-map}
 use Rattle.krb_capture.proofs.message_frames.MessageFrames.take.Goals as goal
 
-pub returns-in_ok-self-clause-took : goal.returns-in_ok-self-clause-took
-returns-in_ok-self-clause-took c =
-    let new : MessageFrames = record { decoder = c.list_frames.new.decoder; is_over = not c.in_ok-self.field-0 } in
-    (takes-some c.args.self.now new c.in_ok-self.field-0 c.args.octets.now c.args.origin.now c.args.listing.now c.list_frames.new.listing c.if-not-self.true refl c.in_ok-self.ensures).took
+pub returns-then-self-clause-took : goal.returns-then-self-clause-took
+returns-then-self-clause-took c = (takes-none c.args.self.now c.args.octets.now c.args.origin.now c.args.listing.now c.if-self.true).took
 
-pub returns-in_ok-self-clause-listed : goal.returns-in_ok-self-clause-listed
-returns-in_ok-self-clause-listed c =
-    let new : MessageFrames = record { decoder = c.list_frames.new.decoder; is_over = not c.in_ok-self.field-0 } in
-    (takes-some c.args.self.now new c.in_ok-self.field-0 c.args.octets.now c.args.origin.now c.args.listing.now c.list_frames.new.listing c.if-not-self.true refl c.in_ok-self.ensures).listed
+pub returns-then-self-clause-listed : goal.returns-then-self-clause-listed
+returns-then-self-clause-listed c = (takes-none c.args.self.now c.args.octets.now c.args.origin.now c.args.listing.now c.if-self.true).listed
 
-pub returns-else-not-self-clause-took : goal.returns-else-not-self-clause-took
-returns-else-not-self-clause-took c = (takes-none c.args.self.now c.args.octets.now c.args.origin.now c.args.listing.now c.if-not-self.false).took
+pub returns-in-None-clause-took : goal.returns-in-None-clause-took
+returns-in-None-clause-took c = on_ok-map c.list.result
+    (λ k. (takes-piece c.args.self.now c.list.new.self c.args.self.now.is_clear c.args.octets.now c.args.octets.now c.args.origin.now c.args.listing.now c.list.new.listing c.if-self.false (λ e. e)
+    (ap (λ p. kept_of p [] ++ c.args.octets.now) (sym (sym c.take.ensures.value ∙ c.in-None.is)))
+    (λ f. let l = k f in record { limit = l.limit; lists = l.lists })).took)
+    c.list.ensures
 
-pub returns-else-not-self-clause-listed : goal.returns-else-not-self-clause-listed
-returns-else-not-self-clause-listed c = (takes-none c.args.self.now c.args.octets.now c.args.origin.now c.args.listing.now c.if-not-self.false).listed
+pub returns-in-None-clause-listed : goal.returns-in-None-clause-listed
+returns-in-None-clause-listed c = on_ok-map c.list.result
+    (λ k. (takes-piece c.args.self.now c.list.new.self c.args.self.now.is_clear c.args.octets.now c.args.octets.now c.args.origin.now c.args.listing.now c.list.new.listing c.if-self.false (λ e. e)
+    (ap (λ p. kept_of p [] ++ c.args.octets.now) (sym (sym c.take.ensures.value ∙ c.in-None.is)))
+    (λ f. let l = k f in record { limit = l.limit; lists = l.lists })).listed)
+    c.list.ensures
+
+pub returns-in_ok-piece-in-Some-clause-took : goal.returns-in_ok-piece-in-Some-clause-took
+returns-in_ok-piece-in-Some-clause-took c = on_ok-map c.list-in-Some.result
+    (λ k. (takes-piece c.args.self.now c.list-in-Some.new.self false c.as_slice.result.now c.args.octets.now c.args.origin.now c.args.listing.now c.list-in-Some.new.listing c.if-self.false (λ e. absurd (no-true e))
+    (c.as_slice.ensures.value ∙ c.in_ok-piece-in-Some.ensures ∙ ap (λ p. kept_of p [] ++ c.args.octets.now) (sym (sym c.take.ensures.value ∙ c.in-Some.is)))
+    (λ f. let l = k f in record { limit = l.limit; lists = l.lists })).took)
+    c.list-in-Some.ensures
+
+pub returns-in_ok-piece-in-Some-clause-listed : goal.returns-in_ok-piece-in-Some-clause-listed
+returns-in_ok-piece-in-Some-clause-listed c = on_ok-map c.list-in-Some.result
+    (λ k. (takes-piece c.args.self.now c.list-in-Some.new.self false c.as_slice.result.now c.args.octets.now c.args.origin.now c.args.listing.now c.list-in-Some.new.listing c.if-self.false (λ e. absurd (no-true e))
+    (c.as_slice.ensures.value ∙ c.in_ok-piece-in-Some.ensures ∙ ap (λ p. kept_of p [] ++ c.args.octets.now) (sym (sym c.take.ensures.value ∙ c.in-Some.is)))
+    (λ f. let l = k f in record { limit = l.limit; lists = l.lists })).listed)
+    c.list-in-Some.ensures
