@@ -9,6 +9,7 @@ ghost use Rattle.krb_capture.specs.Taken.{TookPasswords};
 ghost use Rattle.krb_capture.specs.declared.flow.Service.TheVariants as services;
 
 use crate::listing::Listing;
+use crate::part::frame_length;
 use crate::password::list_password;
 use krb_der::{Memory, Refusal, Why};
 use krb_frame::Limit;
@@ -123,10 +124,7 @@ impl PasswordFrames {
     fn length(&self) -> Option<u32>
         ensures { result ≡ frame_length self.now.octets.items }
     {
-        match self.octets.as_slice() {
-            [a, b, c, d, ..] => Some(u32::from_be_bytes([*a, *b, *c, *d])),
-            _ => None,
-        }
+        frame_length(self.octets.as_slice())
     }
 
     /// Begins the next frame, which comes after octets that are not kept, and frees the memory of the
