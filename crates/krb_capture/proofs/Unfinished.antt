@@ -1,9 +1,8 @@
 -- The first octets of a frame that is not whole: what a decoder that was fed them would be.
-use Rattle.std.proofs.Common.{◌≡◌, ℕ, zero, suc, ◌+◌, ◌^◌, ◌<◌, ◌≤◌, inl, inr, List, [], ◌∷◌, ◌++◌, length, map, take, drop, Some, None, refl, sym, ◌∙◌, ap, ap₂, subst, arith, append_assoc, append-nil}
+use Rattle.std.proofs.Common.{◌≡◌, ℕ, zero, suc, ◌^◌, ◌<◌, ◌≤◌, inl, List, [], ◌∷◌, ◌++◌, length, drop, Some, None, refl, sym, ◌∙◌, ap, ap₂, subst, arith, append_assoc, append-nil}
 use Rattle.std.specs.Prelude.{Option}
 use Rattle.std.specs.Option.{option_map, unwrap_or}
 use Rattle.std.proofs.lemmas.List.{take_all}
-use Rattle.krb_der.specs.Octets.{number}
 use Rattle.krb_der.specs.declared.profile.Profile.TheVariants.{Lenient}
 use Rattle.krb_der.specs.declared.verdict.Verdict.TheVariants as verdict
 use Rattle.krb_msg.specs.Grammar.{messages}
@@ -11,8 +10,8 @@ use Rattle.krb_msg.specs.Judgement.{judgement, message_outcome}
 use Rattle.krb_msg.specs.Stream.{Frames, Within, ends, frames}
 use Rattle.krb_msg.proofs.FramePrefixes.{frames-open}
 use Rattle.krb_msg.proofs.Grammars.{open_outcome}
-use Rattle.krb_frame.specs.Decoding.{AreOfOne, Decoding, IsOfOneFrame, found, status_at, status_of}
-use Rattle.krb_frame.specs.GoingOn.{Entry, GoesOn, Skipping, entries, passed_by, unless_skipping}
+use Rattle.krb_frame.specs.Decoding.{AreOfOne, IsOfOneFrame, found, status_at, status_of}
+use Rattle.krb_frame.specs.GoingOn.{Entry, Skipping, entries, passed_by, unless_skipping}
 use Rattle.krb_frame.specs.Passes.{first_frame, passed_after}
 use Rattle.krb_frame.specs.declared.decoder.Status.TheVariants as status
 use Rattle.krb_frame.proofs.DecoderFrames.{more-nothing}

@@ -1,5 +1,5 @@
-use Rattle.std.proofs.Common.{refl, sym, ◌∙◌, ap}
-use Rattle.krb_capture.proofs.Tables.{HoldsMaps-kept, among-kept, holds-none}
+use Rattle.std.proofs.Common.{refl, ◌∙◌, ap}
+use Rattle.krb_capture.proofs.Tables.{HoldsMaps-kept, holds-none}
 use Rattle.krb_capture.proofs.directions.Directions.keep.Goals as goal
 
 pub returns-in_ok-insert-2 : goal.returns-in_ok-insert-2
