@@ -1,5 +1,6 @@
-"""Times bin/krbls on captures of real messages that are made here, in datagrams of UDP and in connections of TCP,
-beside krbls on the same messages in frames, cat and, if it is installed, tshark; and says how much memory each used.
+"""Times bin/krbls on captures of real messages that are made here, in datagrams of UDP and in connections of TCP of
+one message and of twenty, beside krbls on the same messages in frames, cat and, if it is installed, tshark; and says
+how much memory each used, and how many times as long as the stream the capture takes.
 First captures of a quarter of the octets, so that the growth is seen."""
 
 import itertools
@@ -45,17 +46,32 @@ def datagram(number, frame):
     return [internet(client, UDP, struct.pack(">HHHH", port, KERBEROS, 8 + len(message), 0) + message)]
 
 
-def connection(number, frame):
-    """The packets of a client that sends a frame and has nothing more to send."""
-    client, port = ends(number)
+def segment(client, port, sequence, flags, octets):
+    """The packet of a segment that a client sends to the KDC."""
+    header = struct.pack(">HHIIBBHHH", port, KERBEROS, sequence, 0, 0x50, flags, 0xFFFF, 0, 0)
+    return internet(client, TCP, header + octets)
 
-    def segment(place, flags, octets):
-        header = struct.pack(">HHIIBBHHH", port, KERBEROS, 1000 + place, 0, 0x50, flags, 0xFFFF, 0, 0)
-        return internet(client, TCP, header + octets)
 
-    places = range(0, len(frame), SEGMENT)
-    data = [segment(place, ACK, frame[place : place + SEGMENT]) for place in places]
-    return [segment(-1, SYN, b""), *data, segment(len(frame), FIN | ACK, b"")]
+class Connections:
+    """The packets of clients that each send this many frames, one after another, and have nothing more to send."""
+
+    def __init__(self, frames):
+        self.frames = frames
+        self.sequence = None
+
+    def __call__(self, number, frame):
+        connection, earlier = divmod(number, self.frames)
+        client, port = ends(connection)
+        packets = []
+        if earlier == 0:
+            packets.append(segment(client, port, 999, SYN, b""))
+            self.sequence = 1000
+        for place in range(0, len(frame), SEGMENT):
+            packets.append(segment(client, port, self.sequence + place, ACK, frame[place : place + SEGMENT]))
+        self.sequence += len(frame)
+        if earlier + 1 == self.frames:
+            packets.append(segment(client, port, self.sequence, FIN | ACK, b""))
+        return packets
 
 
 def made(packets_of, frames, size):
@@ -78,7 +94,7 @@ def made(packets_of, frames, size):
 
 
 def print_cost(name, command, file, messages):
-    """Prints what a command costs on a file with some messages."""
+    """Prints what a command costs on a file with some messages, and returns its seconds."""
     size = file.tell()
     seconds = best_run(command, file.name)
     memory = peak_octets(command, file.name) / 1e6
@@ -87,21 +103,27 @@ def print_cost(name, command, file, messages):
         f"{memory:.1f} MB of memory",
         flush=True,
     )
+    return seconds
 
 
 def main():
     most = int(sys.argv[1]) * MIB
     frames = real_frames()
-    for name, packets_of in (("datagrams", datagram), ("connections", connection)):
-        for size in (most // 4, most):
-            capture, stream, messages = made(packets_of, frames, size)
-            with capture, stream:
-                print(f"{messages} messages in {name}:")
-                print_cost("capture", CAPTURE, capture, messages)
-                print_cost("the same as a stream", STREAM, stream, messages)
-                print_cost("cat of the capture", ["cat"], capture, messages)
-                if shutil.which("tshark"):
-                    print_cost("tshark of the capture", TSHARK, capture, messages)
+    kinds = {
+        "datagrams": lambda: datagram,
+        "connections of one": lambda: Connections(1),
+        "connections of twenty": lambda: Connections(20),
+    }
+    for (name, packets_of), size in itertools.product(kinds.items(), (most // 4, most)):
+        capture, stream, messages = made(packets_of(), frames, size)
+        with capture, stream:
+            print(f"{messages} messages in {name}:")
+            of_capture = print_cost("capture", CAPTURE, capture, messages)
+            of_stream = print_cost("the same as a stream", STREAM, stream, messages)
+            print(f"    the capture takes {of_capture / of_stream:.2f} times the time of the stream")
+            print_cost("cat of the capture", ["cat"], capture, messages)
+            if shutil.which("tshark"):
+                print_cost("tshark of the capture", TSHARK, capture, messages)
 
 
 main()
