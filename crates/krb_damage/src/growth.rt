@@ -7,7 +7,6 @@ mod octets;
 mod readers;
 
 use calls::{CALLS, Given};
-use krb_der::{GiveBack, SpareVectors};
 use krb_frame::{Decoder, Limit};
 use krb_judge::parse;
 use krb_msg::Message;
@@ -77,7 +76,7 @@ pub(crate) fn report_calls<R: Print + AllocGlobal>(rt: &R) -> io::Result<bool> {
     match parse(rt.alloc(), message_of(KRB_ERROR)) {
         Ok(message) => {
             let right = report_with(rt, &message);
-            message.give_back(&mut SpareVectors::new());
+            drop(message);
             right
         }
         Err(_) => Ok(true),

@@ -5,7 +5,7 @@ ghost use Rattle.std.specs.Prelude.{◌^◌, ◌<◌, length};
 use crate::Counts;
 use crate::ends::Run;
 use crate::scanning::scanned;
-use krb_der::{GiveBack, Profile, Refusal, SpareVectors, Verdict, Why};
+use krb_der::{Profile, Refusal, Verdict, Why};
 use krb_frame::{Decoder, Limit, Status};
 use krb_judge::{ParseFault, judge_in, parse_in};
 use krb_msg::{Message, encode};
@@ -49,7 +49,7 @@ fn parsed(alloc: Global, profile: Profile, octets: &[u8]) -> Option<Verdict> {
     match parse_in(alloc, profile, octets) {
         Ok(message) => {
             let comes_again = is_encoded(alloc, &message, octets);
-            message.give_back(&mut SpareVectors::new());
+            drop(message);
             comes_again.then_some(Verdict::Whole)
         }
         Err(ParseFault::Refused(refusal)) => Some(Verdict::Refused(refusal)),

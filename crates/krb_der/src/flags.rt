@@ -66,14 +66,6 @@ impl Flags {
         self.octets.as_slice()
     }
 
-    /// Returns the octets in their vector.
-    pub(crate) fn into_octets(self) -> Vec<u8>
-        ensures { result.items ≡ self.1 }
-    {
-        let Flags { octets, .. } = self;
-        octets
-    }
-
     /// Returns the number of bits: 8 for each octet, less the unused ones. It is at most
     /// `u64::MAX`, and no memory holds so many octets that they have more bits.
     pub fn bits(&self) -> u64

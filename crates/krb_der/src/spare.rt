@@ -2,7 +2,6 @@
 
 ghost use Rattle.std.specs.Prelude.{◌≡◌, ◌≤◌, [], length, IfOk};
 
-use crate::flags::Flags;
 use crate::kstring::KString;
 use crate::many::Many;
 use crate::octets::Octets;
@@ -127,20 +126,6 @@ impl GiveBack for KString {
 impl GiveBack for Octets {
     fn give_back(self, spare: &mut SpareVectors) {
         spare.keep(self.into_vec());
-    }
-}
-
-impl GiveBack for Flags {
-    fn give_back(self, spare: &mut SpareVectors) {
-        spare.keep(self.into_octets());
-    }
-}
-
-impl<T: GiveBack> GiveBack for Option<T> {
-    fn give_back(self, spare: &mut SpareVectors) {
-        if let Some(value) = self {
-            value.give_back(spare);
-        }
     }
 }
 

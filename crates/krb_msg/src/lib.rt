@@ -38,7 +38,6 @@ mod copying;
 mod encoding;
 mod encrypted_data;
 mod fields;
-mod give_back;
 pub mod grammar;
 mod host_address;
 mod item;

@@ -13,7 +13,6 @@
 mod judging;
 
 use judging::{Judging, is_whole};
-use krb_der::{GiveBack, SpareVectors};
 use krb_judge::parse;
 use krb_msg::{Message, encode};
 use krb_scan::Scanner;
@@ -52,14 +51,13 @@ impl Work {
 }
 
 /// Returns whether octets are parsed as a message which, with `encodes`, is encoded as the same
-/// octets. The message gives its vectors to `spare`, so that no drop of a message has to be proved.
-/// This is a function of its own so that its values need no stack when octets are only judged.
+/// octets. This is a function of its own so that its values need no stack when octets are only judged.
 #[inline(never)]
-fn is_parsed(alloc: Global, spare: &mut SpareVectors, octets: &[u8], encodes: bool) -> bool {
+fn is_parsed(alloc: Global, octets: &[u8], encodes: bool) -> bool {
     match parse(alloc, octets) {
         Ok(message) => {
             let comes_again = !encodes || is_encoded(alloc, &message, octets);
-            message.give_back(spare);
+            drop(message);
             comes_again
         }
         Err(_) => false,
@@ -84,23 +82,14 @@ fn first_frame(octets: &[u8]) -> Option<(&[u8], &[u8])> {
     Some(rest.split_at(size))
 }
 
-/// What is used again for each message.
-#[derive(Drop)]
-struct Kept {
-    scanner: Scanner,
-    spare: SpareVectors,
-}
-
-impl Kept {
-    /// Does the work with the contents of a frame; returns whether they are a message, and are
-    /// encoded as the same octets if that is asked for.
-    fn is_done(&mut self, alloc: Global, octets: &[u8], work: Work) -> bool {
-        match work {
-            Work::Frames => true,
-            Work::Judge(judging) => is_whole(&mut self.scanner, octets, judging),
-            Work::Parse => is_parsed(alloc, &mut self.spare, octets, false),
-            Work::Encode => is_parsed(alloc, &mut self.spare, octets, true),
-        }
+/// Does the work with the contents of a frame; returns whether they are a message, and are encoded as
+/// the same octets if that is asked for. The scanner's memory is used again.
+fn is_done(alloc: Global, scanner: &mut Scanner, octets: &[u8], work: Work) -> bool {
+    match work {
+        Work::Frames => true,
+        Work::Judge(judging) => is_whole(scanner, octets, judging),
+        Work::Parse => is_parsed(alloc, octets, false),
+        Work::Encode => is_parsed(alloc, octets, true),
     }
 }
 
@@ -116,7 +105,7 @@ struct Outcome {
 }
 
 /// Does the work with each frame of a stream up to the first that fails.
-fn work_on(alloc: Global, kept: &mut Kept, stream: &[u8], work: Work) -> Outcome {
+fn work_on(alloc: Global, scanner: &mut Scanner, stream: &[u8], work: Work) -> Outcome {
     let mut rest = stream;
     let mut messages = 0u64;
     let mut is_other = false;
@@ -124,7 +113,7 @@ fn work_on(alloc: Global, kept: &mut Kept, stream: &[u8], work: Work) -> Outcome
         let Some((contents, others)) = first_frame(rest) else {
             break;
         };
-        if !kept.is_done(alloc, contents, work) {
+        if !is_done(alloc, scanner, contents, work) {
             is_other = true;
             break;
         }
@@ -159,13 +148,10 @@ fn main(rt: HostRuntime) -> io::Result<ExitCode> {
     };
     let mut stream = Vec::new(alloc);
     rt.stdin().read_to_end(&mut stream)?;
-    let mut kept = Kept {
-        scanner: Scanner::new(alloc, 1),
-        spare: SpareVectors::new(),
-    };
-    let mut outcome = work_on(alloc, &mut kept, stream.as_slice(), work);
+    let mut scanner = Scanner::new(alloc, 1);
+    let mut outcome = work_on(alloc, &mut scanner, stream.as_slice(), work);
     for _ in 0..times {
-        outcome = work_on(alloc, &mut kept, stream.as_slice(), work);
+        outcome = work_on(alloc, &mut scanner, stream.as_slice(), work);
     }
     let Outcome {
         messages,

@@ -6,7 +6,7 @@ use super::decoders::{fed_twice, reserved_answers, reserved_feeds, reserves, ste
 use super::octets::{AP_REP, CACHE, KEYTAB, KRB_ERROR, METHOD_DATA, TICKET, message_of};
 use super::readers::{credentials, records, upgrades};
 use krb_ccache::{Ccache, CcacheFault, TicketState, ticket_of};
-use krb_der::{GiveBack, Many, Memory, Profile, Refusal, SpareVectors, Why};
+use krb_der::{Memory, Profile, Refusal, Why};
 use krb_file::FileFault;
 use krb_frame::{Decoder, Framed, Limit, Status, frame};
 use krb_judge::{ParseFault, parse, parse_method_data, parse_ticket};
@@ -285,52 +285,42 @@ impl Encoding {
     }
 }
 
+/// Returns whether a call returned a value, which is dropped, or `Memory` if its fault is `memory`.
+fn is_returned<T: Drop, E: PartialEq + Drop>(
+    answer: Result<T, E>,
+    memory: E,
+) -> Result<bool, Memory> {
+    Ok(tried(answer, memory)?.is_some())
+}
+
 impl Reading {
     /// Returns whether the call returns a value.
     fn make(self, alloc: Global, given: Given<'_>) -> Result<bool, Memory> {
-        let mut spare = SpareVectors::new();
         match self {
-            Reading::Framed => given.frame.message(alloc)?.give_back(&mut spare),
-            Reading::Message => match tried(
-                parse(alloc, message_of(KRB_ERROR)),
-                ParseFault::Memory,
-            )? {
-                Some(message) => message.give_back(&mut spare),
-                None => return Ok(false),
-            },
-            Reading::Ticket => match tried(parse_ticket(alloc, TICKET), ParseFault::Memory)? {
-                Some(ticket) => ticket.give_back(&mut spare),
-                None => return Ok(false),
-            },
+            Reading::Framed => is_returned(given.frame.message(alloc), Memory),
+            Reading::Message => {
+                is_returned(parse(alloc, message_of(KRB_ERROR)), ParseFault::Memory)
+            }
+            Reading::Ticket => is_returned(parse_ticket(alloc, TICKET), ParseFault::Memory),
             Reading::MethodData => {
-                match tried(parse_method_data(alloc, METHOD_DATA), ParseFault::Memory)? {
-                    Some(items) => Many::new(items).give_back(&mut spare),
-                    None => return Ok(false),
-                }
+                is_returned(parse_method_data(alloc, METHOD_DATA), ParseFault::Memory)
             }
-            Reading::Keytab => {
-                let read = tried(krb_keytab::read(alloc, KEYTAB), FileFault::Memory)?;
-                return Ok(read.is_some());
-            }
-            Reading::Cache => {
-                let read = tried(krb_ccache::read(alloc, CACHE), FileFault::Memory)?;
-                return Ok(read.is_some());
-            }
-            Reading::TicketState => return is_refused(alloc, given.cache, &mut spare),
+            Reading::Keytab => is_returned(krb_keytab::read(alloc, KEYTAB), FileFault::Memory),
+            Reading::Cache => is_returned(krb_ccache::read(alloc, CACHE), FileFault::Memory),
+            Reading::TicketState => is_refused(alloc, given.cache),
         }
-        Ok(true)
     }
 }
 
 /// Returns whether the ticket of the last credential is refused.
-fn is_refused(alloc: Global, cache: &Ccache, spare: &mut SpareVectors) -> Result<bool, Memory> {
+fn is_refused(alloc: Global, cache: &Ccache) -> Result<bool, Memory> {
     let [_, credential] = cache.credentials.as_slice() else {
         return Ok(false);
     };
     match ticket_of(alloc, credential)? {
         TicketState::Refused(_) => Ok(true),
         TicketState::Ticket(ticket) => {
-            ticket.give_back(spare);
+            drop(ticket);
             Ok(false)
         }
         TicketState::Absent | TicketState::Config => Ok(false),
