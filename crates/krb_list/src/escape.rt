@@ -40,6 +40,7 @@ static PLAIN: [bool; 256] = [
     N, N, N, N, N, N, N, N, N, N, N, N, N, N, N, N,
 ];
 
+/// Returns whether an octet is not escaped.
 #[inline(always)]
 pub(crate) fn is_plain(octet: u8) -> bool
     ensures { result ≡ is_plain octet }
@@ -49,7 +50,7 @@ pub(crate) fn is_plain(octet: u8) -> bool
 
 /// Returns whether an octet is one of N others.
 #[inline(always)]
-fn have<const N: usize>(octets: Simd<u8, N>, octet: u8) -> bool
+fn any_is<const N: usize>(octets: Simd<u8, N>, octet: u8) -> bool
     requires few { N ≤ 64 }
     requires count { length octets ≡ N }
     ensures { result ≡ list_any (λ one. nat_eq one octet) octets.entry }
@@ -59,7 +60,7 @@ fn have<const N: usize>(octets: Simd<u8, N>, octet: u8) -> bool
 
 /// Returns whether one of N octets is less than another.
 #[inline(always)]
-fn have_less<const N: usize>(octets: Simd<u8, N>, octet: u8) -> bool
+fn any_is_less<const N: usize>(octets: Simd<u8, N>, octet: u8) -> bool
     requires few { N ≤ 64 }
     requires count { length octets ≡ N }
     ensures { result ≡ list_any (λ one. nat_lt one octet) octets.entry }
@@ -69,7 +70,7 @@ fn have_less<const N: usize>(octets: Simd<u8, N>, octet: u8) -> bool
 
 /// Returns whether one of N octets is greater than another.
 #[inline(always)]
-fn have_greater<const N: usize>(octets: Simd<u8, N>, octet: u8) -> bool
+fn any_is_greater<const N: usize>(octets: Simd<u8, N>, octet: u8) -> bool
     requires few { N ≤ 64 }
     requires count { length octets ≡ N }
     ensures { result ≡ list_any (λ one. nat_lt octet one) octets.entry }
@@ -84,11 +85,11 @@ fn are_all_plain<const N: usize>(octets: Simd<u8, N>) -> bool
     requires count { length octets ≡ N }
     ensures { result ≡ list_all is_plain octets.entry }
 {
-    let escaped = have_less(octets, 0x21)
-        | have_greater(octets, 0x7E)
-        | have(octets, b'/')
-        | have(octets, b'@')
-        | have(octets, b'\\');
+    let escaped = any_is_less(octets, 0x21)
+        | any_is_greater(octets, 0x7E)
+        | any_is(octets, b'/')
+        | any_is(octets, b'@')
+        | any_is(octets, b'\\');
     !escaped
 }
 

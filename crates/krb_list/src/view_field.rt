@@ -210,11 +210,11 @@ pub(crate) fn put_sealed_field(
     form: Form,
     label: &str,
     begin: &str,
-    data: &EncryptedDataView<'_>,
+    encrypted: &EncryptedDataView<'_>,
 ) -> Result<(), AllocError>
-    ensures { OnOk result (text.new ≡ text.old ++ labelled form label.now begin.now (sealed (encrypted_data_of_view data.now))) }
+    ensures { OnOk result (text.new ≡ text.old ++ labelled form label.now begin.now (sealed (encrypted_data_of_view encrypted.now))) }
 {
-    put_field(text, form, label, begin, &Sealed::of(data))
+    put_field(text, form, label, begin, &Sealed::of(encrypted))
 }
 
 /// Appends a field of what is sealed, if it is there.
@@ -224,13 +224,13 @@ pub(crate) fn put_optional_sealed_field(
     form: Form,
     label: &str,
     begin: &str,
-    data: &Option<EncryptedDataView<'_>>,
+    encrypted: &Option<EncryptedDataView<'_>>,
 ) -> Result<(), AllocError>
-    ensures { OnOk result (text.new ≡ text.old ++ labelled form label.now begin.now (if_there sealed (option_map encrypted_data_of (option_map encrypted_data_view_value data.now)))) }
+    ensures { OnOk result (text.new ≡ text.old ++ labelled form label.now begin.now (if_there sealed (option_map encrypted_data_of (option_map encrypted_data_view_value encrypted.now)))) }
 {
-    match data {
+    match encrypted {
         None => put_absent_field(text, form, label, begin),
-        Some(data) => put_sealed_field(text, form, label, begin, data),
+        Some(encrypted) => put_sealed_field(text, form, label, begin, encrypted),
     }
 }
 
