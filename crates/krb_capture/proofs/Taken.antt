@@ -17,7 +17,7 @@ use Rattle.krb_capture.specs.declared.flow.Service.TheVariants as services
 use Rattle.krb_capture.specs.declared.message_frames.MessageFrames.{MessageFrames}
 use Rattle.krb_capture.proofs.Found.{with_all-append}
 use Rattle.krb_capture.proofs.Framed.{all_done, found_with-of, found-waiting, framed-last, last_framed}
-use Rattle.krb_capture.proofs.Unfinished.{rest-is, stands-is, waits-all}
+use Rattle.krb_capture.proofs.Unfinished.{rest-is, next-part-is, waits-all}
 
 -- ---- nothing more is found
 pub over-more : (limit : ℕ) (stream octets : List ℕ) → IsOver limit stream → IsOver limit (stream ++ octets)
@@ -132,7 +132,7 @@ module _ (old new : MessageFrames) (piece octets : List ℕ) (origin : Origin) (
       parts = sym joined ∙ ap (λ x. w.fed ++ x) (l.prefix.parts ∙ ap (λ x. l.prefix.used ++ x) (rest-is new.part)) ∙ sym (append_assoc w.fed l.prefix.used (kept_of new.part []));
       waits = lists-waits old.decoder new.decoder l.prefix.used origin before after t.profile l.prefix.lists w.fed w.waits l.waits;
       clear = l.clear_is;
-      part = stands-is limit old.limit new.decoder new.part t.own_limit l.stands;
+      part = next-part-is limit old.limit new.decoder new.part t.own_limit l.next_part;
     }
 
     with-found : found_with services.Kerberos limit stream octets ≡ map entry_found l.prefix.lists.frames

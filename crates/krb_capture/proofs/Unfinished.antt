@@ -17,7 +17,7 @@ use Rattle.krb_frame.specs.declared.decoder.Status.TheVariants as status
 use Rattle.krb_frame.proofs.DecoderFrames.{more-nothing}
 use Rattle.krb_capture.specs.Listed.{status_in}
 use Rattle.krb_capture.specs.Passed.{frame_length}
-use Rattle.krb_capture.specs.Taken.{IsClear, StandsPart, Waits, WaitsWith, fed_with, kept_of}
+use Rattle.krb_capture.specs.Taken.{IsClear, IsNextPart, Waits, WaitsWith, fed_with, kept_of}
 use Rattle.krb_capture.specs.Unfinished.{IsUnfinished, Unfinished}
 use Rattle.krb_capture.specs.declared.message_frames.MessageFrames.{MessageFrames}
 use Rattle.krb_capture.proofs.Whole.{length_four, length_is}
@@ -90,7 +90,7 @@ pub waits-all : (taker : MessageFrames) (limit : ℕ) (stream : List ℕ) (w : W
 unfolding part-waits
 waits-all taker limit stream w n = by taker.part w.parts w.part
   where
-    by : (part : Option Unfinished) → stream ≡ w.fed ++ kept_of part [] → StandsPart limit taker.decoder part → WaitsAll (record taker { part = part }) stream w.waits.before
+    by : (part : Option Unfinished) → stream ≡ w.fed ++ kept_of part [] → IsNextPart limit taker.decoder part → WaitsAll (record taker { part = part }) stream w.waits.before
     by None e p = subst (λ x. WaitsAll (record taker { part = None }) x w.waits.before) (sym (e ∙ append-nil w.fed)) (record { waits = w.waits; same = refl })
     by (Some part) e p = subst (λ x. WaitsAll (record taker { part = Some part }) x w.waits.before) (sym e) (record { waits = part-waits taker.decoder limit n w.fed w.waits part.octets p.0 p.1; same = refl })
 
@@ -103,6 +103,6 @@ pub rest-is : (part : Option Unfinished) → unwrap_or (option_map (λ p. p.octe
 rest-is None = refl
 rest-is (Some part) = refl
 
-pub stands-is : (limit own : ℕ) (s : Skipping) (part : Option Unfinished) → own ≡ limit → StandsPart own s (option_map (λ octets. record { limit = own; octets = octets }) (option_map (λ p. p.octets) part)) → StandsPart limit s part
-stands-is limit own s None e p = tt
-stands-is limit own s (Some part) e p = (p.0, subst (λ n. IsUnfinished n part.octets) e p.1)
+pub next-part-is : (limit own : ℕ) (s : Skipping) (part : Option Unfinished) → own ≡ limit → IsNextPart own s (option_map (λ octets. record { limit = own; octets = octets }) (option_map (λ p. p.octets) part)) → IsNextPart limit s part
+next-part-is limit own s None e p = tt
+next-part-is limit own s (Some part) e p = (p.0, subst (λ n. IsUnfinished n part.octets) e p.1)

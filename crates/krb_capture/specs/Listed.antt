@@ -11,7 +11,7 @@ use Rattle.krb_frame.specs.declared.decoder.Status.TheVariants as status
 use Rattle.krb_list.specs.declared.origin.Origin.{Origin}
 use Rattle.krb_capture.specs.Found.{Written, with_all, with_found}
 use Rattle.krb_capture.specs.Streams.{entry_found}
-use Rattle.krb_capture.specs.Taken.{IsClear, IsDone, StandsPart}
+use Rattle.krb_capture.specs.Taken.{IsClear, IsDone, IsNextPart}
 use Rattle.krb_capture.specs.declared.message_frames.MessageFrames.{MessageFrames}
 
 -- Octets were used; the frames that are whole with them or refused were listed, and cleared or skipped.
@@ -61,7 +61,7 @@ pub record ListsWith (limit : ℕ) (clear : Bool) (part : Option (List ℕ)) (ol
   pub prefix : ListsPrefix old new piece (unwrap_or part []) origin before after
   pub waits : status_in new ≡ status.More
   pub clear_is : clear ≡ true → IsClear new
-  pub stands : StandsPart limit new (option_map (λ octets. record { limit = limit; octets = octets }) part)
+  pub next_part : IsNextPart limit new (option_map (λ octets. record { limit = limit; octets = octets }) part)
 
 -- the frames of a piece were listed, and none can follow, or more
 abbrev pub ListsPiece : Bool → ℕ → Bool → Option (List ℕ) → Skipping → Skipping → List ℕ → Origin → Written → Written → Type 0

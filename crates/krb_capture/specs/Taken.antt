@@ -44,9 +44,9 @@ kept_of None octets = octets
 kept_of (Some part) octets = part.octets
 
 -- a part is of the next frame
-abbrev pub StandsPart : ℕ → Skipping → Option Unfinished → Type 0
-StandsPart limit decoder None = Unit {0}
-StandsPart limit decoder (Some part) = IsClear decoder × IsUnfinished limit part.octets
+abbrev pub IsNextPart : ℕ → Skipping → Option Unfinished → Type 0
+IsNextPart limit decoder None = Unit {0}
+IsNextPart limit decoder (Some part) = IsClear decoder × IsUnfinished limit part.octets
 
 -- the decoder, as if it had been fed the part
 abbrev pub fed_with : Option Unfinished → Skipping → Skipping
@@ -58,7 +58,7 @@ pub record WaitsWith (taker : MessageFrames) (limit : ℕ) (stream : List ℕ) :
   pub parts : stream ≡ fed ++ kept_of taker.part []
   pub waits : Waits taker.decoder fed
   pub clear : taker.is_clear ≡ true → IsClear taker.decoder
-  pub part : StandsPart limit taker.decoder taker.part
+  pub part : IsNextPart limit taker.decoder taker.part
 
 abbrev pub WaitsUnless : Bool → MessageFrames → ℕ → List ℕ → Type 0
 WaitsUnless false taker limit stream = WaitsWith taker limit stream

@@ -20,7 +20,7 @@ returns-then-is_empty-clause-listed c = λ f.
       prefix = subst (λ r. ListsPrefix c.args.decoder.now c.frames.decoder c.args.octets.now r c.args.origin.now c.args.listing.now c.list_passed.new.listing) (empty_of c.in_ok-after.after.octets.now none) passed;
       waits = clear-waits c.frames.decoder is;
       clear_is = λ t. is;
-      stands = tt;
+      next_part = tt;
     }
 
 pub returns-then-is_part-clause-listed : goal.returns-then-is_part-clause-listed
@@ -30,7 +30,7 @@ returns-then-is_part-clause-listed c = λ f.
       prefix = prefix-both c.args.decoder.now c.frames.decoder c.frames.decoder c.args.octets.now c.frames.rest.now c.in_ok-after.after.octets.now c.args.origin.now c.args.listing.now c.frames.listing c.list_passed.new.listing c.frames.invariant.0 c.in_ok-after.ensures.listed;
       waits = clear-waits c.frames.decoder is;
       clear_is = λ t. is;
-      stands = (is, c.is_part.ensures c.if-is_part.true);
+      next_part = (is, c.is_part.ensures c.if-is_part.true);
     }
 
 pub returns-in-More-clause-listed : goal.returns-in-More-clause-listed
@@ -46,7 +46,7 @@ returns-in-More-clause-listed c = λ f.
       };
       waits = status_is c.frames.decoder c.feed-fed.new.self c.in_ok-after.after.octets.now c.feed-fed.result c.feed-fed.ensures status.More c.in-More.is memory_more;
       clear_is = λ e. absurd (no-true e);
-      stands = tt;
+      next_part = tt;
     }
 
 -- ---- a frame is ready
