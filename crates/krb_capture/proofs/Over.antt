@@ -19,7 +19,7 @@ use Rattle.krb_capture.proofs.Framed.{framed-waiting}
 use Rattle.krb_capture.proofs.Unfinished.{waits-all}
 
 -- of a direction of which nothing came
-pub took-new : (alloc : Global) (decoder : Decoding) (s : Skipping) (limit looks : ℕ) (room : Capacity) → decoder ≡ record { profile = Lenient; limit = limit; octets = []; looks = looks; capacity = room } → s ≡ record { current = decoder; skipped = 0 } → (decoder.octets ≡ [] → GoesOn (messages decoder.profile) s [] []) → TookMessages (record { alloc = alloc; limit = limit; decoder = s; is_clear = true; part = None; is_over = false }) limit []
+pub took-new : (alloc : Global) (decoder : Decoding) (s : Skipping) (limit looks : ℕ) (room : Capacity) → decoder ≡ record { profile = Lenient; limit = limit; octets = []; looks = looks; capacity = room } → s ≡ record { current = decoder; skipped = 0 } → (decoder.octets ≡ [] → GoesOn (messages decoder.profile) s [] []) → TookMessages (record { alloc = alloc; limit = limit; decoder = s; part = None; is_over = false }) limit []
 took-new alloc decoder s limit looks room e f g =
     let same : s.current ≡ decoder = ap (λ (t : Skipping). t.current) f in
     record {
@@ -35,7 +35,6 @@ took-new alloc decoder s limit looks room e f g =
           goes_on = subst (λ p. GoesOn (messages p) s [] []) (ap (λ (d : Decoding). d.profile) e) (g (ap (λ (d : Decoding). d.octets) e));
           waits = ap (λ d. status_of (messages Lenient) d) (same ∙ e) ∙ more-nothing (messages Lenient) Lenient limit looks room;
         };
-        clear = λ t. record { nothing = ap (λ (d : Decoding). d.octets) (same ∙ e); none = ap (λ (t : Skipping). t.skipped) f };
         part = tt;
       };
     }

@@ -12,7 +12,7 @@ use Rattle.krb_list.specs.declared.origin.Origin.{Origin}
 use Rattle.krb_capture.specs.Found.{Written, with_all, with_found}
 use Rattle.krb_capture.specs.Listed.{Lists, ListsLast, ListsNext, ListsPiece, ListsWith, status_in}
 use Rattle.krb_capture.specs.Streams.{Framed, entry_found, found_with, framed}
-use Rattle.krb_capture.specs.Taken.{IsClear, IsDone, IsOver, TookMessages, Waits, WaitsUnless, WaitsWith, fed_with, kept_of}
+use Rattle.krb_capture.specs.Taken.{IsDone, IsOver, TookMessages, Waits, WaitsUnless, WaitsWith, fed_with, kept_of}
 use Rattle.krb_capture.specs.declared.flow.Service.TheVariants as services
 use Rattle.krb_capture.specs.declared.message_frames.MessageFrames.{MessageFrames}
 use Rattle.krb_capture.proofs.Found.{with_all-append}
@@ -125,13 +125,12 @@ module _ (old new : MessageFrames) (piece octets : List ℕ) (origin : Origin) (
       let all = waits-all old limit stream w t.limit_is in
       found-waiting limit (fed_with old.part old.decoder) stream all.waits t.limit_is ∙ ap (map entry_found) all.same
 
-  module _ (l : ListsWith old.limit new.is_clear (option_map (λ p. p.octets) new.part) old.decoder new.decoder piece origin before after) where
+  module _ (l : ListsWith old.limit (option_map (λ p. p.octets) new.part) old.decoder new.decoder piece origin before after) where
     pub with-waits : WaitsWith new limit (stream ++ octets)
     with-waits = record {
       fed = w.fed ++ l.prefix.used;
       parts = sym joined ∙ ap (λ x. w.fed ++ x) (l.prefix.parts ∙ ap (λ x. l.prefix.used ++ x) (rest-is new.part)) ∙ sym (append_assoc w.fed l.prefix.used (kept_of new.part []));
       waits = lists-waits old.decoder new.decoder l.prefix.used origin before after t.profile l.prefix.lists w.fed w.waits l.waits;
-      clear = l.clear_is;
       part = next-part-is limit old.limit new.decoder new.part t.own_limit l.next_part;
     }
 
@@ -159,36 +158,32 @@ module _ (old new : MessageFrames) (piece octets : List ℕ) (origin : Origin) (
         (ap (λ s. (framed services.Kerberos limit s).found) joined))
 
 abbrev pub ListsBy : MessageFrames → MessageFrames → List ℕ → Origin → Written → Written → Bool → Type 0
-ListsBy old new piece origin before after b = ListsPiece b old.limit new.is_clear (option_map (λ p. p.octets) new.part) old.decoder new.decoder piece origin before after
+ListsBy old new piece origin before after b = ListsPiece b old.limit (option_map (λ p. p.octets) new.part) old.decoder new.decoder piece origin before after
 
-pub takes-piece : (old new : MessageFrames) (clear : Bool) (piece octets : List ℕ) (origin : Origin) (before after : Written) → old.is_over ≡ false → (clear ≡ true → old.is_clear ≡ true) → piece ≡ kept_of old.part [] ++ octets → ((clear ≡ true → IsClear old.decoder) → ListsNext (record old { part = None }) new piece origin before after) → TakesMessages old new octets origin before after
-takes-piece old new clear piece octets origin before after o is parts f = record {
+pub takes-piece : (old new : MessageFrames) (piece octets : List ℕ) (origin : Origin) (before after : Written) → old.is_over ≡ false → piece ≡ kept_of old.part [] ++ octets → ListsNext (record old { part = None }) new piece origin before after → TakesMessages old new octets origin before after
+takes-piece old new piece octets origin before after o parts l = record {
   took = λ limit stream t.
       let w = waits limit stream t in
-      let l = f (λ e. w.clear (is e)) in
       record {
-        profile = (kept-profile limit stream t w l new.is_over refl l.lists).0 ∙ t.profile;
-        limit_is = (kept-profile limit stream t w l new.is_over refl l.lists).1 ∙ t.limit_is;
+        profile = (kept-profile new.is_over l.lists).0 ∙ t.profile;
+        limit_is = (kept-profile new.is_over l.lists).1 ∙ t.limit_is;
         own_limit = l.limit ∙ t.own_limit;
-        state = state limit stream t w l new.is_over refl l.lists;
+        state = state limit stream t w new.is_over refl l.lists;
       };
-  listed = λ limit stream t.
-      let w = waits limit stream t in
-      let l = f (λ e. w.clear (is e)) in
-      listed limit stream t w l new.is_over l.lists;
+  listed = λ limit stream t. listed limit stream t (waits limit stream t) new.is_over l.lists;
 }
   where
     waits : (limit : ℕ) (stream : List ℕ) → TookMessages old limit stream → WaitsWith old limit stream
     waits limit stream t = subst (λ b. WaitsUnless b old limit stream) o t.state
 
-    kept-profile : (limit : ℕ) (stream : List ℕ) → TookMessages old limit stream → WaitsWith old limit stream → ListsNext (record old { part = None }) new piece origin before after → (b : Bool) → new.is_over ≡ b → ListsBy old new piece origin before after b → (new.decoder.current.profile ≡ old.decoder.current.profile) × (new.decoder.current.limit ≡ old.decoder.current.limit)
-    kept-profile limit stream t w n true e l = (l.prefix.lists.profile, l.prefix.lists.limit)
-    kept-profile limit stream t w n false e l = (l.prefix.lists.profile, l.prefix.lists.limit)
+    kept-profile : (b : Bool) → ListsBy old new piece origin before after b → (new.decoder.current.profile ≡ old.decoder.current.profile) × (new.decoder.current.limit ≡ old.decoder.current.limit)
+    kept-profile true l = (l.prefix.lists.profile, l.prefix.lists.limit)
+    kept-profile false l = (l.prefix.lists.profile, l.prefix.lists.limit)
 
-    state : (limit : ℕ) (stream : List ℕ) → TookMessages old limit stream → WaitsWith old limit stream → ListsNext (record old { part = None }) new piece origin before after → (b : Bool) → new.is_over ≡ b → ListsBy old new piece origin before after b → WaitsUnless new.is_over new limit (stream ++ octets)
-    state limit stream t w n true e l = subst (λ b. WaitsUnless b new limit (stream ++ octets)) (sym e) (past-over old new piece octets origin before after parts limit stream t w l)
-    state limit stream t w n false e l = subst (λ b. WaitsUnless b new limit (stream ++ octets)) (sym e) (with-waits old new piece octets origin before after parts limit stream t w l)
+    state : (limit : ℕ) (stream : List ℕ) → TookMessages old limit stream → WaitsWith old limit stream → (b : Bool) → new.is_over ≡ b → ListsBy old new piece origin before after b → WaitsUnless new.is_over new limit (stream ++ octets)
+    state limit stream t w true e l = subst (λ b. WaitsUnless b new limit (stream ++ octets)) (sym e) (past-over old new piece octets origin before after parts limit stream t w l)
+    state limit stream t w false e l = subst (λ b. WaitsUnless b new limit (stream ++ octets)) (sym e) (with-waits old new piece octets origin before after parts limit stream t w l)
 
-    listed : (limit : ℕ) (stream : List ℕ) → TookMessages old limit stream → WaitsWith old limit stream → ListsNext (record old { part = None }) new piece origin before after → (b : Bool) → ListsBy old new piece origin before after b → after ≡ with_all origin (found_with services.Kerberos limit stream octets) before
-    listed limit stream t w n true l = past-listed old new piece octets origin before after parts limit stream t w l
-    listed limit stream t w n false l = with-listed old new piece octets origin before after parts limit stream t w l
+    listed : (limit : ℕ) (stream : List ℕ) → TookMessages old limit stream → WaitsWith old limit stream → (b : Bool) → ListsBy old new piece origin before after b → after ≡ with_all origin (found_with services.Kerberos limit stream octets) before
+    listed limit stream t w true l = past-listed old new piece octets origin before after parts limit stream t w l
+    listed limit stream t w false l = with-listed old new piece octets origin before after parts limit stream t w l

@@ -11,13 +11,12 @@ use Rattle.krb_msg.specs.Stream.{Frames, Within, ends, frames}
 use Rattle.krb_msg.proofs.FramePrefixes.{frames-open}
 use Rattle.krb_msg.proofs.Grammars.{open_outcome}
 use Rattle.krb_frame.specs.Decoding.{AreOfOne, IsOfOneFrame, found, status_at, status_of}
-use Rattle.krb_frame.specs.GoingOn.{Entry, Skipping, entries, passed_by, unless_skipping}
-use Rattle.krb_frame.specs.Passes.{first_frame, passed_after}
+use Rattle.krb_frame.specs.GoingOn.{Entry, IsClear, Skipping, entries}
 use Rattle.krb_frame.specs.declared.decoder.Status.TheVariants as status
 use Rattle.krb_frame.proofs.DecoderFrames.{more-nothing}
 use Rattle.krb_capture.specs.Listed.{status_in}
 use Rattle.krb_capture.specs.Passed.{frame_length}
-use Rattle.krb_capture.specs.Taken.{IsClear, IsNextPart, Waits, WaitsWith, fed_with, kept_of}
+use Rattle.krb_capture.specs.Taken.{IsNextPart, Waits, WaitsWith, fed_with, kept_of}
 use Rattle.krb_capture.specs.Unfinished.{IsUnfinished, Unfinished}
 use Rattle.krb_capture.specs.declared.message_frames.MessageFrames.{MessageFrames}
 use Rattle.krb_capture.proofs.Whole.{length_four, length_is}
@@ -37,14 +36,6 @@ pub clear-waits : (s : Skipping) → IsClear s → status_in s ≡ status.More
 clear-waits s c =
     ap (λ o. status_of (messages s.current.profile) (record s.current { octets = o })) c.nothing
     ∙ more-nothing (messages s.current.profile) s.current.profile s.current.limit s.current.looks s.current.capacity
-
-pub pass-clear : (s : Skipping) (piece x : List ℕ) → passed_by s piece ≡ Some x → IsClear s
-pass-clear s piece x e = by s.skipped s.current.octets refl refl e
-  where
-    by : (k : ℕ) (octets : List ℕ) → s.skipped ≡ k → s.current.octets ≡ octets → unless_skipping k (passed_after octets (first_frame (messages s.current.profile) s.current.limit piece)) ≡ Some x → IsClear s
-    by zero [] a b e = record { nothing = b; none = a }
-    by zero (o ∷ os) a b e = absurd cc
-    by (suc k) octets a b e = absurd cc
 
 -- ---- fed the octets that are kept beside it
 fed-one : (f : Frames) (octets : List ℕ) → f ≡ ends (Within (length octets)) → AreOfOne octets f.contents f.end

@@ -11,7 +11,7 @@ use Rattle.krb_frame.specs.declared.decoder.Status.TheVariants as status
 use Rattle.krb_list.specs.declared.origin.Origin.{Origin}
 use Rattle.krb_capture.specs.Found.{Written, with_all, with_found}
 use Rattle.krb_capture.specs.Streams.{entry_found}
-use Rattle.krb_capture.specs.Taken.{IsClear, IsDone, IsNextPart}
+use Rattle.krb_capture.specs.Taken.{IsDone, IsNextPart}
 use Rattle.krb_capture.specs.declared.message_frames.MessageFrames.{MessageFrames}
 
 -- Octets were used; the frames that are whole with them or refused were listed, and cleared or skipped.
@@ -57,18 +57,17 @@ pub record ListsLast (old new : Skipping) (piece : List ℕ) (origin : Origin) (
   pub stopped : IsStopped new refusal origin between after
 
 -- The frames of a piece were listed, but for octets at its end: none, or a part of the next frame, if the decoder is clear.
-pub record ListsWith (limit : ℕ) (clear : Bool) (part : Option (List ℕ)) (old new : Skipping) (piece : List ℕ) (origin : Origin) (before after : Written) : Type 0 where
+pub record ListsWith (limit : ℕ) (part : Option (List ℕ)) (old new : Skipping) (piece : List ℕ) (origin : Origin) (before after : Written) : Type 0 where
   pub prefix : ListsPrefix old new piece (unwrap_or part []) origin before after
   pub waits : status_in new ≡ status.More
-  pub clear_is : clear ≡ true → IsClear new
   pub next_part : IsNextPart limit new (option_map (λ octets. record { limit = limit; octets = octets }) part)
 
 -- the frames of a piece were listed, and none can follow, or more
-abbrev pub ListsPiece : Bool → ℕ → Bool → Option (List ℕ) → Skipping → Skipping → List ℕ → Origin → Written → Written → Type 0
-ListsPiece true limit clear part old new piece origin before after = ListsLast old new piece origin before after
-ListsPiece false limit clear part old new piece origin before after = ListsWith limit clear part old new piece origin before after
+abbrev pub ListsPiece : Bool → ℕ → Option (List ℕ) → Skipping → Skipping → List ℕ → Origin → Written → Written → Type 0
+ListsPiece true limit part old new piece origin before after = ListsLast old new piece origin before after
+ListsPiece false limit part old new piece origin before after = ListsWith limit part old new piece origin before after
 
 -- the frames of a piece that follows what the decoder was fed were listed
 pub record ListsNext (old new : MessageFrames) (piece : List ℕ) (origin : Origin) (before after : Written) : Type 0 where
   pub limit : new.limit ≡ old.limit
-  pub lists : ListsPiece new.is_over old.limit new.is_clear (option_map (λ p. p.octets) new.part) old.decoder new.decoder piece origin before after
+  pub lists : ListsPiece new.is_over old.limit (option_map (λ p. p.octets) new.part) old.decoder new.decoder piece origin before after

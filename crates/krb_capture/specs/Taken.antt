@@ -5,7 +5,7 @@ use Rattle.krb_der.specs.Octets.{number}
 use Rattle.krb_der.specs.declared.profile.Profile.TheVariants.{Lenient}
 use Rattle.krb_msg.specs.Grammar.{messages}
 use Rattle.krb_frame.specs.Decoding.{status_of}
-use Rattle.krb_frame.specs.GoingOn.{Entry, Skipping, GoesOn}
+use Rattle.krb_frame.specs.GoingOn.{Entry, IsClear, Skipping, GoesOn}
 use Rattle.krb_frame.specs.declared.decoder.Status.TheVariants as status
 use Rattle.krb_capture.specs.Found.{Found}
 use Rattle.krb_capture.specs.Unfinished.{IsUnfinished, Unfinished}
@@ -33,11 +33,6 @@ abbrev pub IsOver : ℕ → List ℕ → Type 0
 IsOver limit stream =
     (more : List ℕ) → ((framed services.Kerberos limit (stream ++ more)).found ≡ (framed services.Kerberos limit stream).found) × ((framed services.Kerberos limit (stream ++ more)).over ≡ true)
 
--- no octets of a frame were used, and none are to be skipped
-pub record IsClear (decoder : Skipping) : Type 0 where
-  pub nothing : decoder.current.octets ≡ []
-  pub none : decoder.skipped ≡ 0
-
 -- the octets of the frame that is not whole: those of a part, or else others
 abbrev pub kept_of : Option Unfinished → List ℕ → List ℕ
 kept_of None octets = octets
@@ -57,7 +52,6 @@ pub record WaitsWith (taker : MessageFrames) (limit : ℕ) (stream : List ℕ) :
   pub fed : List ℕ
   pub parts : stream ≡ fed ++ kept_of taker.part []
   pub waits : Waits taker.decoder fed
-  pub clear : taker.is_clear ≡ true → IsClear taker.decoder
   pub part : IsNextPart limit taker.decoder taker.part
 
 abbrev pub WaitsUnless : Bool → MessageFrames → ℕ → List ℕ → Type 0

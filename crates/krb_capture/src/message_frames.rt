@@ -1,13 +1,13 @@
 //! Frames whose contents are messages of Kerberos.
 
-ghost use Rattle.std.specs.Prelude.{◌≡◌, ℕ, true, false, List, [], ◌++◌, IfOk, IfSome, OnOk, string_bytes};
+ghost use Rattle.std.specs.Prelude.{◌≡◌, ℕ, false, List, [], ◌++◌, IfOk, IfSome, OnOk, string_bytes};
 ghost use Rattle.std.specs.Option.{option_map};
 ghost use Rattle.krb_list.specs.Refusals.{path_in};
 ghost use Rattle.krb_frame.specs.declared.decoder.Status.TheVariants as status;
 ghost use Rattle.krb_capture.specs.Found.{with_all};
 ghost use Rattle.krb_capture.specs.Listed.{ListsNext, ListsPrefix, ListsOne, ListsPiece, ListsRefused, status_in};
 ghost use Rattle.krb_capture.specs.Streams.{cut_refusal, found_with, framed, frame_path};
-ghost use Rattle.krb_capture.specs.Taken.{IsClear, TookMessages, kept_of};
+ghost use Rattle.krb_capture.specs.Taken.{TookMessages, kept_of};
 ghost use Rattle.krb_capture.specs.Unfinished.{IsUnfinished};
 ghost use Rattle.krb_capture.specs.declared.flow.Service.TheVariants as services;
 
@@ -25,8 +25,6 @@ pub(crate) struct MessageFrames {
     alloc: Global,
     limit: Limit,
     decoder: SkippingDecoder,
-    /// The decoder has no octets of a frame, and none are to be skipped.
-    is_clear: bool,
     /// The first octets of the next frame, if the decoder was fed none of them. It is not, if the frame is
     /// whole with the next octets: then its message is viewed at once, which is faster.
     part: Option<Part>,
@@ -44,7 +42,6 @@ impl MessageFrames {
             alloc,
             limit,
             decoder: SkippingDecoder::new(Decoder::new(alloc, limit)),
-            is_clear: true,
             part: None,
             is_over: false,
         }
@@ -64,29 +61,29 @@ impl MessageFrames {
             return Ok(());
         }
         match self.part.take() {
-            None => self.list(octets, self.is_clear, origin, listing),
+            None => self.list(octets, false, origin, listing),
             Some(part) => {
                 let piece = part.followed_by(octets)?;
-                self.list(piece.as_slice(), false, origin, listing)
+                self.list(piece.as_slice(), true, origin, listing)
             }
         }
     }
 
     /// Lists the frames that are whole with octets or refused, which follow those that the decoder was fed.
-    /// If it is clear, the last octets may be kept as a part of the next frame.
+    /// The last octets may be kept as a part of the next frame, but not a second time.
     fn list(
         &mut self,
         octets: &[u8],
-        is_clear: bool,
+        were_kept: bool,
         origin: &Origin,
         listing: &mut Listing,
     ) -> Result<(), Memory>
-        ensures { OnOk result ((is_clear ≡ true → IsClear self.old.decoder) → ListsNext self.old self.new octets.now origin.now listing.old listing.new) }
+        ensures { OnOk result (ListsNext self.old self.new octets.now origin.now listing.old listing.new) }
     {
         let listed = list_frames(
             &mut self.decoder,
             self.limit,
-            is_clear,
+            were_kept,
             octets,
             origin,
             listing,
@@ -96,7 +93,6 @@ impl MessageFrames {
             Some(octets) => Some(Part::new(self.alloc, self.limit, octets)?),
         };
         self.is_over = listed.is_over;
-        self.is_clear = listed.is_clear;
         self.part = part;
         Ok(())
     }
@@ -134,46 +130,30 @@ impl MessageFrames {
     }
 }
 
-/// What is left of octets whose frames were listed where they lie.
-#[derive(Clone, Copy)]
-struct Rest<'a> {
-    /// The octets after the frames.
-    octets: &'a [u8],
-    /// The decoder is clear.
-    is_clear: bool,
-}
-
 /// What becomes of octets whose frames were listed.
 #[derive(Clone, Copy)]
 struct Listed<'a> {
     /// No frame can follow the last one.
     is_over: bool,
-    /// The decoder is clear.
-    is_clear: bool,
     /// The octets after those that the decoder was fed, if they are a part of a frame.
     part: Option<&'a [u8]>,
 }
 
-/// Lists the frames that lie whole at the beginning of octets, where they lie. The decoder stays as it is.
+/// Lists the frames that lie whole at the beginning of octets, where they lie, and returns what follows
+/// them. The decoder stays as it is.
 fn list_passed<'a>(
     decoder: &SkippingDecoder,
-    is_clear: bool,
     octets: &'a [u8],
     origin: &Origin,
     listing: &mut Listing,
-) -> Result<Rest<'a>, Memory>
-    ensures listed { IfOk result (λ rest. ListsPrefix decoder.now decoder.now octets.now rest.octets.now origin.now listing.old listing.new) }
-    ensures clear { IfOk result (λ rest. (is_clear ≡ true → IsClear decoder.now) → rest.is_clear ≡ true → IsClear decoder.now) }
+) -> Result<&'a [u8], Memory>
+    ensures { IfOk result (λ rest. ListsPrefix decoder.now decoder.now octets.now rest.now origin.now listing.old listing.new) }
 {
-    let mut rest = Rest { octets, is_clear };
-    while let Some(passed) = decoder.pass(rest.octets) {
+    let mut rest = octets;
+    while let Some(passed) = decoder.pass(rest) {
         listing.put_message(origin, &passed.message)?;
-        let octets = passed.rest;
-        rest = Rest {
-            octets,
-            is_clear: true,
-        };
-        if octets.is_empty() {
+        rest = passed.rest;
+        if rest.is_empty() {
             return Ok(rest);
         }
     }
@@ -181,43 +161,44 @@ fn list_passed<'a>(
 }
 
 /// Lists the frames that are whole with the next octets or refused. None can follow a frame whose length
-/// is not known. A part of a frame at the end is left to the caller, if the decoder is clear then.
+/// is not known. A part of a frame at the end is left to the caller, if the decoder is clear then; but not
+/// if the octets begin with it and were kept as a part before, so that none is judged more than twice.
 fn list_frames<'a>(
     decoder: &mut SkippingDecoder,
     limit: Limit,
-    is_clear: bool,
+    were_kept: bool,
     octets: &'a [u8],
     origin: &Origin,
     listing: &mut Listing,
 ) -> Result<Listed<'a>, Memory>
     ensures part { IfOk result (λ listed. IfSome listed.part (λ part. IsUnfinished limit part.now)) }
-    ensures listed { IfOk result (λ listed. (is_clear ≡ true → IsClear decoder.old) → ListsPiece listed.is_over limit listed.is_clear (option_map (λ part. part.now) listed.part) decoder.old decoder.new octets.now origin.now listing.old listing.new) }
+    ensures listed { IfOk result (λ listed. ListsPiece listed.is_over limit (option_map (λ part. part.now) listed.part) decoder.old decoder.new octets.now origin.now listing.old listing.new) }
 {
     let mut rest = octets;
-    let mut clear = is_clear;
+    let mut may_keep = !were_kept;
     'frames: loop {
-        let after = list_passed(decoder, clear, rest, origin, listing)?;
-        if after.is_clear && after.octets.is_empty() {
-            return Ok(Listed {
-                is_over: false,
-                is_clear: true,
-                part: None,
-            });
+        let after = list_passed(decoder, rest, origin, listing)?;
+        may_keep = may_keep | (after.len() < rest.len());
+        if decoder.is_clear() {
+            if after.is_empty() {
+                return Ok(Listed {
+                    is_over: false,
+                    part: None,
+                });
+            }
+            if may_keep && is_part(limit, after) {
+                return Ok(Listed {
+                    is_over: false,
+                    part: Some(after),
+                });
+            }
         }
-        if after.is_clear && is_part(limit, after.octets) {
-            return Ok(Listed {
-                is_over: false,
-                is_clear: true,
-                part: Some(after.octets),
-            });
-        }
-        let fed = decoder.feed(after.octets);
-        rest = &after.octets[fed.used..];
-        clear = false;
+        let fed = decoder.feed(after);
+        rest = &after[fed.used..];
+        may_keep = true;
         match fed.status {
             Status::More => return Ok(Listed {
                 is_over: false,
-                is_clear: false,
                 part: None,
             }),
             Status::Memory => return Err(Memory),
@@ -226,7 +207,6 @@ fn list_frames<'a>(
                 if !list_refused(decoder, refusal, origin, listing)? {
                     return Ok(Listed {
                         is_over: true,
-                        is_clear: false,
                         part: None,
                     });
                 }

@@ -82,6 +82,11 @@ pub record Skipping : Type 0 where
   pub current : Decoding
   pub skipped : ℕ
 
+-- no octets of a frame were used, and none are to be skipped
+pub record IsClear (s : Skipping) : Type 0 where
+  pub nothing : s.current.octets ≡ []
+  pub none : s.skipped ≡ 0
+
 -- A decoder that skips has decoded the octets of a stream, and these frames were cleared or skipped. Whatever octets come next, the frames of the stream are these and then those of the octets that the decoder has, without the octets that are to be skipped.
 pub record GoesOn (messages : List Term) (s : Skipping) (stream : List ℕ) (before : List Entry) : Type 0 where
   pub goes_on : (more : List ℕ) → entries messages s.current.limit (stream ++ more) ≡ before ++ entries messages s.current.limit (s.current.octets ++ drop s.skipped more)

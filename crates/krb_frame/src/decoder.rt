@@ -87,7 +87,7 @@ impl Model for Decoder {
     ghost invariant = { λ d. IsPhaseOf (messages (profile_of d.scanner)) d.limit d.length d.contents.items d.phase × IsScanned (profile_of d.scanner) d.scanner d.length d.contents.items d.phase };
 }
 
-ghost use Rattle.std.specs.Prelude.{◌≡◌, ◌≤◌, ◌<◌, ◌⊎◌, ◌^◌, ◌↔◌, true, [], length, vec_capacity, IfOk, IfSome, MatchOption};
+ghost use Rattle.std.specs.Prelude.{◌≡◌, ◌≤◌, ◌<◌, ◌⊎◌, ◌^◌, ◌↔◌, true, [], length, vec_capacity, IfOk, IfSome, IsTrue, MatchOption};
 ghost use Rattle.std.specs.Option.{option_map};
 ghost use Rattle.krb_msg.specs.Grammar.{messages};
 ghost use Rattle.krb_scan.specs.Scanner.{ledger_of, profile_of, capacity_of};
@@ -188,6 +188,17 @@ impl Decoder {
         Fed {
             used: used + fed.used,
             status: fed.status,
+        }
+    }
+
+    /// Returns whether no octets of the current frame were used.
+    #[inline(always)]
+    pub(crate) fn is_clear(&self) -> bool
+        ensures { IsTrue result ↔ (self.now.octets ≡ []) }
+    {
+        match self.phase {
+            Phase::Length(present) => present == 0,
+            Phase::Contents(_) | Phase::Ready | Phase::Refused(_) => false,
         }
     }
 

@@ -23,11 +23,11 @@ impl Model for SkippingDecoder {
     ghost view = { λ s. record { current = s.decoder; skipped = s.skipped } };
 }
 
-ghost use Rattle.std.specs.Prelude.{◌≡◌, [], IfSome};
+ghost use Rattle.std.specs.Prelude.{◌≡◌, ◌↔◌, [], IfSome, IsTrue};
 ghost use Rattle.std.specs.Option.{option_map};
 ghost use Rattle.krb_msg.specs.Grammar.{messages};
 ghost use Rattle.krb_frame.specs.Decoding.{borrowed, finish_of};
-ghost use Rattle.krb_frame.specs.GoingOn.{GoesOn, FeedsAfter, PassesEntry, ClearsEntry, Skips, passed_by};
+ghost use Rattle.krb_frame.specs.GoingOn.{GoesOn, FeedsAfter, IsClear, PassesEntry, ClearsEntry, Skips, passed_by};
 ghost use Rattle.krb_frame.specs.Passes.{contents_of};
 
 impl SkippingDecoder {
@@ -55,6 +55,14 @@ impl SkippingDecoder {
             used: count + fed.used,
             status: fed.status,
         }
+    }
+
+    /// Returns whether no octets of the current frame were used, and none of a skipped one are to come.
+    #[inline(always)]
+    pub fn is_clear(&self) -> bool
+        ensures { IsTrue result ↔ IsClear self.now }
+    {
+        self.skipped == 0 && self.decoder.is_clear()
     }
 
     /// Passes the frame with which a piece begins, as [`Decoder::pass`] does. Returns `None`, too,

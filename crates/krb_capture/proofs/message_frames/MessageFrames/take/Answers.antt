@@ -1,6 +1,5 @@
 use Rattle.std.proofs.Common.{◌++◌, [], false, sym, ◌∙◌, ap}
 use Rattle.krb_capture.specs.Taken.{kept_of}
-use Rattle.krb_capture.proofs.Tables.{no-true}
 use Rattle.krb_capture.proofs.Taken.{takes-none, takes-piece}
 use Rattle.krb_capture.proofs.Written.{on_ok-map}
 use Rattle.krb_capture.proofs.message_frames.MessageFrames.take.Goals as goal
@@ -13,28 +12,28 @@ returns-then-self-clause-listed c = (takes-none c.args.self.now c.args.octets.no
 
 pub returns-in-None-clause-took : goal.returns-in-None-clause-took
 returns-in-None-clause-took c = on_ok-map c.list.result
-    (λ k. (takes-piece c.args.self.now c.list.new.self c.args.self.now.is_clear c.args.octets.now c.args.octets.now c.args.origin.now c.args.listing.now c.list.new.listing c.if-self.false (λ e. e)
+    (λ k. (takes-piece c.args.self.now c.list.new.self c.args.octets.now c.args.octets.now c.args.origin.now c.args.listing.now c.list.new.listing c.if-self.false
     (ap (λ p. kept_of p [] ++ c.args.octets.now) (sym (sym c.take.ensures.value ∙ c.in-None.is)))
-    (λ f. let l = k f in record { limit = l.limit; lists = l.lists })).took)
+    (record { limit = k.limit; lists = k.lists })).took)
     c.list.ensures
 
 pub returns-in-None-clause-listed : goal.returns-in-None-clause-listed
 returns-in-None-clause-listed c = on_ok-map c.list.result
-    (λ k. (takes-piece c.args.self.now c.list.new.self c.args.self.now.is_clear c.args.octets.now c.args.octets.now c.args.origin.now c.args.listing.now c.list.new.listing c.if-self.false (λ e. e)
+    (λ k. (takes-piece c.args.self.now c.list.new.self c.args.octets.now c.args.octets.now c.args.origin.now c.args.listing.now c.list.new.listing c.if-self.false
     (ap (λ p. kept_of p [] ++ c.args.octets.now) (sym (sym c.take.ensures.value ∙ c.in-None.is)))
-    (λ f. let l = k f in record { limit = l.limit; lists = l.lists })).listed)
+    (record { limit = k.limit; lists = k.lists })).listed)
     c.list.ensures
 
 pub returns-in_ok-piece-in-Some-clause-took : goal.returns-in_ok-piece-in-Some-clause-took
 returns-in_ok-piece-in-Some-clause-took c = on_ok-map c.list-in-Some.result
-    (λ k. (takes-piece c.args.self.now c.list-in-Some.new.self false c.as_slice.result.now c.args.octets.now c.args.origin.now c.args.listing.now c.list-in-Some.new.listing c.if-self.false (λ e. absurd (no-true e))
+    (λ k. (takes-piece c.args.self.now c.list-in-Some.new.self c.as_slice.result.now c.args.octets.now c.args.origin.now c.args.listing.now c.list-in-Some.new.listing c.if-self.false
     (c.as_slice.ensures.value ∙ c.in_ok-piece-in-Some.ensures ∙ ap (λ p. kept_of p [] ++ c.args.octets.now) (sym (sym c.take.ensures.value ∙ c.in-Some.is)))
-    (λ f. let l = k f in record { limit = l.limit; lists = l.lists })).took)
+    (record { limit = k.limit; lists = k.lists })).took)
     c.list-in-Some.ensures
 
 pub returns-in_ok-piece-in-Some-clause-listed : goal.returns-in_ok-piece-in-Some-clause-listed
 returns-in_ok-piece-in-Some-clause-listed c = on_ok-map c.list-in-Some.result
-    (λ k. (takes-piece c.args.self.now c.list-in-Some.new.self false c.as_slice.result.now c.args.octets.now c.args.origin.now c.args.listing.now c.list-in-Some.new.listing c.if-self.false (λ e. absurd (no-true e))
+    (λ k. (takes-piece c.args.self.now c.list-in-Some.new.self c.as_slice.result.now c.args.octets.now c.args.origin.now c.args.listing.now c.list-in-Some.new.listing c.if-self.false
     (c.as_slice.ensures.value ∙ c.in_ok-piece-in-Some.ensures ∙ ap (λ p. kept_of p [] ++ c.args.octets.now) (sym (sym c.take.ensures.value ∙ c.in-Some.is)))
-    (λ f. let l = k f in record { limit = l.limit; lists = l.lists })).listed)
+    (record { limit = k.limit; lists = k.lists })).listed)
     c.list-in-Some.ensures
