@@ -3,7 +3,7 @@ use Rattle.std.proofs.Common.{◌≡◌, ℕ, Bool, true, false, List, [], Some,
 use Rattle.std.specs.Prelude.{Option, if◌then◌else◌}
 use Rattle.krb_der.specs.declared.verdict.Refusal.{Refusal}
 use Rattle.krb_flow.specs.declared.stream.End.{End}
-use Rattle.krb_list.specs.declared.origin.Origin.{Origin}
+use Rattle.krb_text.specs.declared.origin.Origin.{Origin}
 use Rattle.krb_capture.specs.Found.{Faulty, Written, with_all, with_found}
 use Rattle.krb_capture.specs.Streams.{cut_refusal, end_found, framed, known_end, open_path, refusal_found}
 use Rattle.krb_capture.specs.Taken.{Took, TookPasswords, kept_in, over_in, service_of}

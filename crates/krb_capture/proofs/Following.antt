@@ -3,10 +3,10 @@ use Rattle.std.proofs.Common.{◌≡◌, List, ◌++◌, Some, sym, ◌∙◌, a
 use Rattle.krb_packet.specs.Fragments.{unread}
 use Rattle.krb_packet.specs.declared.contents.Datagram.{Datagram}
 use Rattle.krb_packet.specs.declared.contents.Segment.{Segment}
-use Rattle.krb_list.specs.Captures.{capture_end_line}
-use Rattle.krb_list.specs.declared.capture.CaptureCounts.{CaptureCounts}
-use Rattle.krb_list.specs.declared.origin.Origin.{Origin}
-use Rattle.krb_list.specs.declared.origin.Transport.TheVariants as transports
+use Rattle.krb_text.specs.Captures.{capture_end_line}
+use Rattle.krb_text.specs.declared.capture.CaptureCounts.{CaptureCounts}
+use Rattle.krb_text.specs.declared.origin.Origin.{Origin}
+use Rattle.krb_text.specs.declared.origin.Transport.TheVariants as transports
 use Rattle.krb_capture.specs.Captures.{Finding, HasFollowed, Progress, Settings, and_counted, counted_each, datagram_taken, end_text, lines_of, over_tcp, over_udp, segment_taken, with_each}
 use Rattle.krb_capture.specs.Datagrams.{datagram_found}
 use Rattle.krb_capture.specs.Directions.{HoldsTable, Table, followed, last_of}

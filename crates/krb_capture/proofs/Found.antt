@@ -9,11 +9,11 @@ use Rattle.krb_der.specs.declared.verdict.Refusal.{Refusal}
 use Rattle.krb_der.specs.declared.verdict.Verdict.{Verdict}
 use Rattle.krb_der.specs.declared.verdict.Verdict.TheVariants as verdict
 use Rattle.krb_der.specs.declared.why.Why.TheVariants as why
-use Rattle.krb_list.specs.Captures.{captured_line}
-use Rattle.krb_list.specs.Refusals.{path_in}
-use Rattle.krb_list.specs.Values.{Field, Number, Reason, printed, the}
-use Rattle.krb_list.specs.declared.form.Form.{Form}
-use Rattle.krb_list.specs.declared.origin.Origin.{Origin}
+use Rattle.krb_text.specs.Captures.{captured_line}
+use Rattle.krb_text.specs.Refusals.{path_in}
+use Rattle.krb_text.specs.Values.{Field, Number, Reason, printed, the}
+use Rattle.krb_text.specs.declared.form.Form.{Form}
+use Rattle.krb_text.specs.declared.origin.Origin.{Origin}
 use Rattle.krb_msg.specs.Grammar.{messages}
 use Rattle.krb_msg.specs.Judgement.{judgement}
 use Rattle.krb_msg.proofs.Grammars.{refusal_is_final}

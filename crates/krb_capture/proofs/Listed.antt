@@ -18,7 +18,7 @@ use Rattle.krb_frame.specs.declared.decoder.Status.TheVariants as status
 use Rattle.krb_frame.specs.declared.pass.Passed.{Passed}
 use Rattle.krb_frame.proofs.Ends.{refused_end}
 use Rattle.krb_frame.proofs.DecoderFrames.{more-nothing}
-use Rattle.krb_list.specs.declared.origin.Origin.{Origin}
+use Rattle.krb_text.specs.declared.origin.Origin.{Origin}
 use Rattle.krb_capture.specs.Found.{Whole, Written, with_all, with_found}
 use Rattle.krb_capture.specs.Listed.{Lists, ListsPrefix, ListsLast, ListsOne, ListsRefused, status_in}
 use Rattle.krb_capture.specs.Streams.{entry_found}

@@ -3,7 +3,7 @@ use Rattle.std.proofs.Common.{◌≡◌, ℕ, zero, suc, ◌+◌, ◌-◌, ◌<�
 use Rattle.std.specs.Prelude.{get_or}
 use Rattle.std.proofs.lemmas.List.{take-append-le, take_all, take_more}
 use Rattle.krb_der.specs.Octets.{number}
-use Rattle.krb_list.specs.declared.origin.Origin.{Origin}
+use Rattle.krb_text.specs.declared.origin.Origin.{Origin}
 use Rattle.krb_capture.specs.Found.{Written, with_all}
 use Rattle.krb_capture.specs.Passed.{Holds, ListsWhole, TakesPasswords}
 use Rattle.krb_capture.specs.Streams.{before_frames, found_with, framed}

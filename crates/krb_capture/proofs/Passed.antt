@@ -6,7 +6,7 @@ use Rattle.std.proofs.lemmas.List.{drop_all, take-append-le, drop-append-le, tak
 use Rattle.std.proofs.Math.Seq.{drop-append-add}
 use Rattle.krb_der.specs.Octets.{number}
 use Rattle.krb_der.specs.declared.why.Why.TheVariants as why
-use Rattle.krb_list.specs.declared.origin.Origin.{Origin}
+use Rattle.krb_text.specs.declared.origin.Origin.{Origin}
 use Rattle.krb_capture.specs.Found.{Found, Written, with_all}
 use Rattle.krb_capture.specs.Passed.{Holds, ListsNext}
 use Rattle.krb_capture.specs.Passwords.{password_found}

@@ -1,7 +1,7 @@
 -- What is listed with a segment of a direction.
 use Rattle.std.proofs.Common.{◌≡◌, ℕ, List, ◌++◌, sym, ◌∙◌, ap, append_assoc}
 use Rattle.krb_flow.specs.Directions.{Outcome}
-use Rattle.krb_list.specs.declared.origin.Origin.{Origin}
+use Rattle.krb_text.specs.declared.origin.Origin.{Origin}
 use Rattle.krb_capture.specs.Found.{Found, Written, with_all}
 use Rattle.krb_capture.specs.Sending.{beginning_found, end_if, outcome_found, stream_at}
 use Rattle.krb_capture.specs.Streams.{found_with}

@@ -8,7 +8,7 @@ use Rattle.krb_msg.specs.Grammar.{messages}
 use Rattle.krb_frame.specs.Decoding.{status_of}
 use Rattle.krb_frame.specs.GoingOn.{Entry, Fault, Skipping, GoesOn, rest_to_come}
 use Rattle.krb_frame.specs.declared.decoder.Status.TheVariants as status
-use Rattle.krb_list.specs.declared.origin.Origin.{Origin}
+use Rattle.krb_text.specs.declared.origin.Origin.{Origin}
 use Rattle.krb_capture.specs.Found.{Written, with_all, with_found}
 use Rattle.krb_capture.specs.Listed.{Lists, ListsLast, ListsNext, ListsPiece, ListsWith, status_in}
 use Rattle.krb_capture.specs.Streams.{Framed, entry_found, found_with, framed}

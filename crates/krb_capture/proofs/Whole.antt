@@ -4,7 +4,7 @@ use Rattle.std.specs.Prelude.{Option, nat_lt, if◌then◌else◌}
 use Rattle.std.proofs.lemmas.Bool.{ltb-true, ltb-false}
 use Rattle.krb_der.specs.Octets.{number}
 use Rattle.krb_der.specs.declared.why.Why.TheVariants as why
-use Rattle.krb_list.specs.declared.origin.Origin.{Origin}
+use Rattle.krb_text.specs.declared.origin.Origin.{Origin}
 use Rattle.krb_capture.specs.Found.{Written, with_found}
 use Rattle.krb_capture.specs.Passed.{Holds, ListsContents, ListsContentsIf, ListsNext, PassesOver, frame_length}
 use Rattle.krb_capture.specs.Passwords.{password_found}

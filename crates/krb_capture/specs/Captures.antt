@@ -10,11 +10,11 @@ use Rattle.krb_packet.specs.Fragments.{contents_of_whole, no_fragments, step, un
 use Rattle.krb_packet.specs.Table.{Table as Fragments}
 use Rattle.krb_packet.specs.declared.contents.Segment.{Segment}
 use Rattle.krb_packet.specs.declared.packet.Packet.{Packet}
-use Rattle.krb_list.specs.Captures.{capture_end_line}
-use Rattle.krb_list.specs.declared.capture.CaptureCounts.{CaptureCounts}
-use Rattle.krb_list.specs.declared.form.Form.{Form}
-use Rattle.krb_list.specs.declared.origin.Origin.{Origin}
-use Rattle.krb_list.specs.declared.origin.Transport.TheVariants as transports
+use Rattle.krb_text.specs.Captures.{capture_end_line}
+use Rattle.krb_text.specs.declared.capture.CaptureCounts.{CaptureCounts}
+use Rattle.krb_text.specs.declared.form.Form.{Form}
+use Rattle.krb_text.specs.declared.origin.Origin.{Origin}
+use Rattle.krb_text.specs.declared.origin.Transport.TheVariants as transports
 use Rattle.krb_capture.specs.Datagrams.{datagram_found}
 use Rattle.krb_capture.specs.Directions.{Followed, HoldsTable, Table, followed, last_of, no_directions}
 use Rattle.krb_capture.specs.Flows.{due_with, origin_of, service_of}

@@ -2,8 +2,8 @@
 use Rattle.std.specs.Prelude.{ℕ, ◌||◌, ◌==◌, if◌then◌else◌, Option, Some, None}
 use Rattle.krb_packet.specs.declared.contents.Endpoint.{Endpoint}
 use Rattle.krb_packet.specs.declared.packet.Packet.{Packet}
-use Rattle.krb_list.specs.declared.origin.Origin.{Origin}
-use Rattle.krb_list.specs.declared.origin.Transport.{Transport}
+use Rattle.krb_text.specs.declared.origin.Origin.{Origin}
+use Rattle.krb_text.specs.declared.origin.Transport.{Transport}
 use Rattle.krb_capture.specs.declared.flow.Due.{Due}
 use Rattle.krb_capture.specs.declared.flow.Flow.{Flow}
 use Rattle.krb_capture.specs.declared.flow.Service.{Service}

@@ -2,10 +2,10 @@
 use Rattle.std.specs.Prelude.{ℕ, ◌+◌, ◌-◌, ◌^◌, min, List, [], ◌∷◌, ◌++◌, Option}
 use Rattle.krb_der.specs.declared.verdict.Refusal.{Refusal}
 use Rattle.krb_msg.specs.declared.message.Message.{Message}
-use Rattle.krb_list.specs.Captures.{captured_message_line, captured_refused_line, joined_line, lost_line, password_line}
-use Rattle.krb_list.specs.declared.capture.CaptureCounts.{CaptureCounts}
-use Rattle.krb_list.specs.declared.form.Form.{Form}
-use Rattle.krb_list.specs.declared.origin.Origin.{Origin}
+use Rattle.krb_text.specs.Captures.{captured_message_line, captured_refused_line, joined_line, lost_line, password_line}
+use Rattle.krb_text.specs.declared.capture.CaptureCounts.{CaptureCounts}
+use Rattle.krb_text.specs.declared.form.Form.{Form}
+use Rattle.krb_text.specs.declared.origin.Origin.{Origin}
 
 -- A message; a message or a frame that is refused, and the path of the field at fault; that a direction begins without its SYN; octets that are not in the capture, and the path of the field that has the first of them; a message that changes a password, with the lengths of its parts.
 pub data Found : Type 0 where

@@ -2,7 +2,7 @@
 
 ghost use Rattle.std.specs.Prelude.{◌≡◌, ℕ, ◌++◌, true, IfOk, IsErr, OnErr, OnOk};
 ghost use Rattle.std.specs.Option.{option_copied};
-ghost use Rattle.krb_list.specs.Captures.{capture_refused_line};
+ghost use Rattle.krb_text.specs.Captures.{capture_refused_line};
 ghost use Rattle.krb_packet.specs.Fragments.{unread};
 ghost use Rattle.krb_capture.specs.Captures.{HasFollowed, Progress, Settings, all_counts, and_counted, at_first, contents_taken, datagram_taken, end_taken, end_text, fragment_taken, is_clean, lines_of, packet_taken, segment_taken, whole_taken};
 ghost use Rattle.krb_capture.specs.Flows.{service_of};
@@ -15,8 +15,8 @@ use crate::listing::Listing;
 use krb_der::Memory;
 use krb_file::FileWhy;
 use krb_frame::Limit;
-use krb_list::{CaptureCounts, Form, TextBuffer};
 use krb_packet::{Contents, Datagram, Fragment, Fragments, Packet, Segment, contents_of};
+use krb_text::{CaptureCounts, Form, TextBuffer};
 use std::alloc::Global;
 
 /// What was found in the packets of a capture so far. It allocates for the fragments of datagrams that

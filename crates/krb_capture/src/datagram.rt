@@ -10,8 +10,8 @@ use crate::message::{list_cut_message, list_message};
 use crate::password::list_password;
 use krb_der::{Memory, Refusal, Why};
 use krb_flow::Lost;
-use krb_list::Origin;
 use krb_packet::Payload;
+use krb_text::Origin;
 
 /// Lists the message of a datagram.
 #[tactic(auto, unfolding(crate::specs::Datagrams::datagram_found))]

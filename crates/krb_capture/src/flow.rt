@@ -1,11 +1,11 @@
 //! Flows, and what they carry.
 
 ghost use Rattle.std.specs.Prelude.{◌≡◌};
-ghost use Rattle.krb_list.specs.declared.origin.Transport.TheVariants as transports;
+ghost use Rattle.krb_text.specs.declared.origin.Transport.TheVariants as transports;
 ghost use Rattle.krb_capture.specs.Flows.{due_with, flow_between, origin_of, service_of};
 
-use krb_list::{Origin, Transport};
 use krb_packet::{Endpoint, Packet};
+use krb_text::{Origin, Transport};
 
 /// The port of changes of passwords (RFC 3244, 2).
 const PASSWORD_PORT: u16 = 464;

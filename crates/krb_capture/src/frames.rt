@@ -12,7 +12,7 @@ use crate::password_frames::PasswordFrames;
 use krb_der::Memory;
 use krb_flow::{End, Lost};
 use krb_frame::Limit;
-use krb_list::Origin;
+use krb_text::Origin;
 use std::alloc::Global;
 
 /// The frames that one end of a connection sends.

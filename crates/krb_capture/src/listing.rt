@@ -3,17 +3,17 @@
 ghost use Rattle.std.specs.Prelude.{◌≡◌, ◌++◌, OnOk, string_bytes};
 ghost use Rattle.std.specs.Option.{option_copied, option_map};
 ghost use Rattle.krb_msg.specs.ViewValues.{MessageLists, message_of_view};
-ghost use Rattle.krb_list.specs.Captures.{capture_end_line, capture_refused_line};
+ghost use Rattle.krb_text.specs.Captures.{capture_end_line, capture_refused_line};
 ghost use Rattle.krb_capture.specs.Found.{Whole, Faulty, Joined, Missing, Password, and_more, nothing_written, totals, with_found};
 
 use krb_der::{Memory, Refusal};
 use krb_file::FileWhy;
 use krb_flow::Lost;
-use krb_list::{
+use krb_msg::MessageView;
+use krb_text::{
     CaptureCounts, Form, Origin, TextBuffer, put_capture_end, put_capture_refusal,
     put_captured_message, put_captured_refusal, put_joined, put_lost, put_password,
 };
-use krb_msg::MessageView;
 use std::alloc::Global;
 use std::marker::Model;
 use std::mem::swap;

@@ -2,7 +2,7 @@
 
 ghost use Rattle.std.specs.Prelude.{◌≡◌, ℕ, false, List, [], ◌++◌, IfOk, IfSome, OnOk, string_bytes};
 ghost use Rattle.std.specs.Option.{option_map};
-ghost use Rattle.krb_list.specs.Refusals.{path_in};
+ghost use Rattle.krb_text.specs.Refusals.{path_in};
 ghost use Rattle.krb_frame.specs.declared.decoder.Status.TheVariants as status;
 ghost use Rattle.krb_capture.specs.Found.{with_all};
 ghost use Rattle.krb_capture.specs.Listed.{ListsNext, ListsPrefix, ListsOne, ListsPiece, ListsRefused, status_in};
@@ -16,7 +16,7 @@ use crate::message::path_of;
 use crate::part::{Part, is_part};
 use krb_der::{Memory, Refusal, Why};
 use krb_frame::{Decoder, Limit, SkippingDecoder, Status};
-use krb_list::{Form, Origin};
+use krb_text::{Form, Origin};
 use std::alloc::Global;
 
 /// The frames of messages that one end sends. It keeps the octets of the frame that is not whole yet.

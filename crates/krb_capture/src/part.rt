@@ -4,7 +4,7 @@ use crate::message::path_of;
 use krb_der::{Memory, Verdict};
 use krb_frame::Limit;
 use krb_judge::judge;
-use krb_list::Form;
+use krb_text::Form;
 use std::alloc::Global;
 use std::marker::Model;
 
@@ -32,7 +32,7 @@ ghost use Rattle.std.specs.Prelude.{◌≡◌, ◌++◌, ◌<◌, ◌≤◌, ◌
 ghost use Rattle.std.specs.Option.{option_map};
 ghost use Rattle.krb_der.specs.declared.profile.Profile.TheVariants.{Lenient};
 ghost use Rattle.krb_der.specs.declared.verdict.Verdict.TheVariants.{Open};
-ghost use Rattle.krb_list.specs.Refusals.{path_in};
+ghost use Rattle.krb_text.specs.Refusals.{path_in};
 ghost use Rattle.krb_msg.specs.Judgement.{judgement};
 ghost use Rattle.krb_capture.specs.Passed.{frame_length};
 ghost use Rattle.krb_capture.specs.Streams.{frame_path};

@@ -13,7 +13,7 @@ use crate::part::frame_length;
 use crate::password::list_password;
 use krb_der::{Memory, Refusal, Why};
 use krb_frame::Limit;
-use krb_list::Origin;
+use krb_text::Origin;
 use std::alloc::Global;
 
 /// How many octets a frame's length has.

@@ -1,7 +1,7 @@
 //! What one end of a TCP connection sends.
 
 ghost use Rattle.std.specs.Prelude.{◌≡◌, ℕ, List, IfOk, OnOk};
-ghost use Rattle.krb_list.specs.declared.origin.Transport.TheVariants as transports;
+ghost use Rattle.krb_text.specs.declared.origin.Transport.TheVariants as transports;
 ghost use Rattle.krb_capture.specs.Flows.{origin_of};
 ghost use Rattle.krb_capture.specs.Found.{with_all};
 ghost use Rattle.krb_capture.specs.Sending.{Sent, Represents, after_segment, beginning_found, end_if, last_found, nothing_sent, segment_found, step_of, stream_at};
@@ -13,8 +13,8 @@ use crate::listing::Listing;
 use krb_der::Memory;
 use krb_flow::{Beginning, Direction, End};
 use krb_frame::Limit;
-use krb_list::Origin;
 use krb_packet::Segment;
+use krb_text::Origin;
 use std::alloc::Global;
 
 /// What became of a direction by a segment.

@@ -18,19 +18,20 @@ use Rattle.krb_ccache.specs.declared.value.Header.{Header}
 use Rattle.krb_ccache.specs.declared.ticket.TicketState.TheVariants as states
 use Rattle.krb_ccache.specs.Spelling.{offset, is_config}
 use Rattle.krb_ccache.specs.Tickets.{ticket_read, judged_state, field_state, state_of}
-use Rattle.krb_list.specs.declared.form.Form.{Form}
-use Rattle.krb_list.specs.Forms.{record_line}
-use Rattle.krb_list.specs.Laws.{IsOneLine, RecordIsOfOctets, PrincipalIsOfOctets, CredentialIsOfOctets}
-use Rattle.krb_list.specs.Text.{AllAreOctets}
-use Rattle.krb_list.specs.Time.{file_time, moment_text}
-use Rattle.krb_list.specs.Values.{Value, Absent, NoTicket, Word, RefusedTicket, sealed}
+use Rattle.krb_text.specs.declared.form.Form.{Form}
+use Rattle.krb_text.specs.Forms.{record_line}
+use Rattle.krb_text.specs.Laws.{IsOneLine}
+use Rattle.krb_list.specs.Laws.{RecordIsOfOctets, PrincipalIsOfOctets, CredentialIsOfOctets}
+use Rattle.krb_text.specs.Text.{AllAreOctets}
+use Rattle.krb_text.specs.Time.{file_time, moment_text}
+use Rattle.krb_text.specs.Values.{Value, Absent, NoTicket, Word, RefusedTicket, sealed}
 use Rattle.krb_list.specs.Keytabs.{printed_record, keytab_end}
 use Rattle.krb_list.specs.Ccaches.{offset_value, cache_record, state, ticket_server, ticketed_record, config_record, state_record, credential_record, cache_end}
-use Rattle.krb_list.proofs.EachForm.{IsShown}
-use Rattle.krb_list.proofs.EndOneLine.{one_line}
-use Rattle.krb_list.proofs.MessageOneLine.{always}
-use Rattle.krb_list.proofs.Printable.{word}
-use Rattle.krb_list.proofs.Times.{moment}
+use Rattle.krb_text.proofs.EachForm.{IsShown}
+use Rattle.krb_text.proofs.EndOneLine.{one_line}
+use Rattle.krb_text.proofs.MessageOneLine.{always}
+use Rattle.krb_text.proofs.Printable.{word}
+use Rattle.krb_text.proofs.Times.{moment}
 
 -- ---- times
 time_by : (seconds : ℕ) (is_zero : Bool) → seconds < 2 ^ 32 → IsShown (if is_zero then Absent else Word (moment_text seconds))

@@ -15,9 +15,9 @@ use Rattle.krb_ccache.specs.declared.ticket.TicketState.{TicketState}
 use Rattle.krb_ccache.specs.declared.ticket.TicketState.TheVariants as states
 use Rattle.krb_ccache.specs.Spelling.{masked as masked_cache, masked_credential, masked3, masked_credential3, upgraded, no_header}
 use Rattle.krb_ccache.specs.Tickets.{state_of}
-use Rattle.krb_list.specs.declared.form.Form.{Form}
-use Rattle.krb_list.specs.Forms.{record_line}
-use Rattle.krb_list.specs.Values.{Printed, Value}
+use Rattle.krb_text.specs.declared.form.Form.{Form}
+use Rattle.krb_text.specs.Forms.{record_line}
+use Rattle.krb_text.specs.Values.{Printed, Value}
 use Rattle.krb_list.specs.Keytabs.{printed_record, keytab_lines}
 use Rattle.krb_list.specs.Ccaches.{ticketed_record, config_record, state_record, credential_record, ccache_lines}
 

@@ -11,10 +11,10 @@ use Rattle.krb_ccache.specs.declared.ticket.TicketState.TheVariants as states
 use Rattle.krb_ccache.specs.Spelling.{offset}
 use Rattle.krb_ccache.specs.Tickets.{state_of}
 use Rattle.krb_registry.specs.declared.registry.Registry.TheVariants as registries
-use Rattle.krb_list.specs.declared.form.Form.{Form}
-use Rattle.krb_list.specs.Forms.{record_line}
-use Rattle.krb_list.specs.Time.{file_time}
-use Rattle.krb_list.specs.Values.{Value, Absent, NoTicket, Number, Named, Word, TicketFlags, Principal, Offset, RefusedTicket, Field, Printed, the, printed, if_there, count, sealed}
+use Rattle.krb_text.specs.declared.form.Form.{Form}
+use Rattle.krb_text.specs.Forms.{record_line}
+use Rattle.krb_text.specs.Time.{file_time}
+use Rattle.krb_text.specs.Values.{Value, Absent, NoTicket, Number, Named, Word, TicketFlags, Principal, Offset, RefusedTicket, Field, Printed, the, printed, if_there, count, sealed}
 
 abbrev pub file_principal : FilePrincipal → Value
 file_principal p = Principal p.name_type p.components p.realm

@@ -5,19 +5,17 @@ ghost use Rattle.std.specs.Fmt.{signed_decimal};
 ghost use Rattle.krb_registry.specs.declared.registry.Registry.TheVariants.{NameTypes};
 ghost use Rattle.krb_ccache.specs.Spelling.{offset};
 ghost use Rattle.krb_list.specs.Ccaches.{file_principal, offset_value, cache_record, credential_lines, cache_end, ccache_lines};
-ghost use Rattle.krb_list.specs.Forms.{fields_text, offset_object, record_line, record_text};
-ghost use Rattle.krb_list.specs.Values.{Named, count, if_there, the};
+ghost use Rattle.krb_text.specs.Forms.{fields_text, offset_object, record_line, record_text};
+ghost use Rattle.krb_text.specs.Values.{Named, count, if_there, the};
 
 use crate::credential::put_credential;
-use crate::field::{put_closing, put_field, put_opening};
-use crate::form::Form;
-use crate::number::Numbered;
-use crate::principal::{Principal, Strings};
-use crate::shown::{Shown, put_begin};
-use crate::text_buffer::TextBuffer;
 use krb_ccache::{Ccache, Credential, FilePrincipal, Header};
 use krb_der::Memory;
 use krb_registry::Registry;
+use krb_text::{
+    Form, Numbered, Principal, Shown, Strings, TextBuffer, put_begin, put_closing, put_field,
+    put_opening,
+};
 use std::alloc::{AllocError, Global};
 
 /// Returns what is shown of a principal.
@@ -63,21 +61,25 @@ fn put_offset_object(object: &mut TextBuffer, offset: (i32, i32)) -> Result<(), 
     object.push_str("}")
 }
 
-/// The offset of a clock: seconds and microseconds, with `:` between.
-impl Shown for (i32, i32) {
-    ghost shown = { offset_value };
+/// The offset of a clock, in seconds and microseconds, with `:` between.
+#[derive(Clone, Copy)]
+struct Offset((i32, i32));
 
-    #[tactic(auto, unfolding(crate::specs::Forms::value_text))]
+impl Shown for Offset {
+    ghost shown = { λ offset. offset_value offset.0 };
+
+    #[tactic(auto, unfolding(krb_text::specs::Forms::value_text))]
     fn put_text(&self, line: &mut TextBuffer, _names: bool) -> Result<(), AllocError> {
-        line.push_integer(self.0)?;
+        let (seconds, microseconds) = self.0;
+        line.push_integer(seconds)?;
         line.push_str(":")?;
-        line.push_integer(self.1)
+        line.push_integer(microseconds)
     }
 
-    #[tactic(auto, unfolding(crate::specs::Forms::members, crate::specs::Forms::json_value, crate::specs::Forms::names_member))]
+    #[tactic(auto, unfolding(krb_text::specs::Forms::members, krb_text::specs::Forms::json_value, krb_text::specs::Forms::names_member))]
     fn put_members(&self, object: &mut TextBuffer, begin: &str) -> Result<(), AllocError> {
         put_begin(object, begin)?;
-        put_offset_object(object, *self)
+        put_offset_object(object, self.0)
     }
 }
 
@@ -105,13 +107,14 @@ fn put_header(text: &mut TextBuffer, form: Form, header: &Header) -> Result<(), 
         ∷ the (codes "fields") (count header.now.fields)
         ∷ [])) }
 {
+    let offset = header.offset().map(Offset);
     let fields = header.fields.as_slice().len() as u64;
-    put_field(text, form, " offset=", ",\"offset", &header.offset())?;
+    put_field(text, form, " offset=", ",\"offset", &offset)?;
     put_field(text, form, " fields=", ",\"fields", &fields)
 }
 
 /// Appends the line of a cache without its line feed.
-#[tactic(auto, unfolding(crate::specs::Forms::record_text, crate::specs::Ccaches::cache_record))]
+#[tactic(auto, unfolding(krb_text::specs::Forms::record_text, crate::specs::Ccaches::cache_record))]
 fn put_cache_text(
     text: &mut TextBuffer,
     form: Form,
@@ -168,7 +171,7 @@ fn put_credentials(
 }
 
 /// Appends the line of the end of a cache without its line feed.
-#[tactic(auto, unfolding(crate::specs::Forms::record_text, crate::specs::Ccaches::cache_end))]
+#[tactic(auto, unfolding(krb_text::specs::Forms::record_text, crate::specs::Ccaches::cache_end))]
 fn put_end_text(text: &mut TextBuffer, form: Form, credentials: u64) -> Result<(), AllocError>
     ensures { OnOk result (text.new ≡ text.old ++ record_text form (cache_end credentials)) }
 {

@@ -6,23 +6,18 @@ ghost use Rattle.krb_msg.specs.ViewValues.{TicketLists, ticket_of_view};
 ghost use Rattle.krb_ccache.specs.Tickets.{StateLists, state_viewed};
 ghost use Rattle.krb_registry.specs.declared.registry.Registry.TheVariants.{EncryptionTypes};
 ghost use Rattle.krb_list.specs.Ccaches.{config_record, counts_fields, credential_record, flags_fields, key_fields, state, state_record, ticket_server, ticketed_record, tickets_fields, times_fields, who_fields};
-ghost use Rattle.krb_list.specs.Forms.{fields_text, json_string, record_line, record_text, refused_object, refused_ticket_text};
-ghost use Rattle.krb_list.specs.Values.{Absent, Named, NoTicket, Principal as IsPrincipal, RefusedTicket, Word, if_there};
+ghost use Rattle.krb_text.specs.Forms.{fields_text, json_string, record_line, record_text, refused_object, refused_ticket_text};
+ghost use Rattle.krb_text.specs.Values.{Absent, Named, NoTicket, Principal as IsPrincipal, RefusedTicket, Word, if_there};
 
 use crate::ccache::principal_of;
-use crate::field::{put_closing, put_field, put_opening};
-use crate::form::Form;
-use crate::json::put_string;
-use crate::number::{Numbered, Sealed};
-use crate::principal::{Principal, ViewedStrings};
-use crate::shown::{Plain, Shown, put_begin};
-use crate::text_buffer::TextBuffer;
-use crate::ticket_flags::TicketFlags;
-use crate::time::FileTime;
 use krb_ccache::{Credential, TicketStateView, ticket_view_of};
 use krb_der::{Memory, Refusal, Why, why_number, why_text};
 use krb_msg::TicketView;
 use krb_registry::Registry;
+use krb_text::{
+    FileTime, Form, Numbered, Plain, Principal, Sealed, Shown, TextBuffer, TicketFlags,
+    ViewedStrings, put_begin, put_closing, put_field, put_opening, put_string,
+};
 use std::alloc::{AllocError, Global};
 
 /// Appends the fields of the client and the server.
@@ -204,7 +199,7 @@ fn put_first_fields(
     put_times(text, form, credential)
 }
 
-#[tactic(auto, unfolding(crate::specs::Forms::record_text, crate::specs::Ccaches::ticketed_record))]
+#[tactic(auto, unfolding(krb_text::specs::Forms::record_text, crate::specs::Ccaches::ticketed_record))]
 fn put_ticketed<T: Shown, S: Shown>(
     text: &mut TextBuffer,
     form: Form,
@@ -223,7 +218,7 @@ fn put_ticketed<T: Shown, S: Shown>(
     put_closing(text, form)
 }
 
-#[tactic(auto, unfolding(crate::specs::Forms::record_text, crate::specs::Ccaches::config_record))]
+#[tactic(auto, unfolding(krb_text::specs::Forms::record_text, crate::specs::Ccaches::config_record))]
 fn put_config(text: &mut TextBuffer, form: Form, credential: &Credential) -> Result<(), AllocError>
     ensures { OnOk result (text.new ≡ text.old ++ record_text form (config_record credential.now)) }
 {
@@ -241,12 +236,12 @@ struct WithoutTicket;
 impl Shown for WithoutTicket {
     ghost shown = { λ without. NoTicket };
 
-    #[tactic(auto, unfolding(crate::specs::Forms::value_text))]
+    #[tactic(auto, unfolding(krb_text::specs::Forms::value_text))]
     fn put_text(&self, line: &mut TextBuffer, _names: bool) -> Result<(), AllocError> {
         line.push_str("absent")
     }
 
-    #[tactic(auto, unfolding(crate::specs::Forms::members, crate::specs::Forms::json_value, crate::specs::Forms::names_member))]
+    #[tactic(auto, unfolding(krb_text::specs::Forms::members, krb_text::specs::Forms::json_value, krb_text::specs::Forms::names_member))]
     fn put_members(&self, object: &mut TextBuffer, begin: &str) -> Result<(), AllocError> {
         put_begin(object, begin)?;
         object.push_str("null")
@@ -291,32 +286,36 @@ fn put_refused_object(object: &mut TextBuffer, refusal: Refusal) -> Result<(), A
 }
 
 /// Appends the name of a reason as a string.
-#[tactic(auto, using(crate::proofs::Reasons::reason_is_ascii))]
+#[tactic(auto, using(krb_text::proofs::Reasons::reason_is_ascii))]
 fn put_reason_name(object: &mut TextBuffer, why: Why) -> Result<(), AllocError>
     ensures { OnOk result (object.new ≡ object.old ++ json_string (reason_name why)) }
 {
     put_string(object, why_text(why).as_bytes())
 }
 
-/// `refused`, the place and the number of the reason, and with names its name, with `:` between.
-impl Shown for Refusal {
-    ghost shown = { λ refusal. RefusedTicket refusal };
+/// A ticket that is refused: `refused`, the place and the number of the reason, and with names its name,
+/// with `:` between.
+#[derive(Clone, Copy)]
+struct RefusedOctets(Refusal);
 
-    #[tactic(auto, unfolding(crate::specs::Forms::value_text))]
+impl Shown for RefusedOctets {
+    ghost shown = { λ ticket. RefusedTicket ticket.0 };
+
+    #[tactic(auto, unfolding(krb_text::specs::Forms::value_text))]
     fn put_text(&self, line: &mut TextBuffer, names: bool) -> Result<(), AllocError> {
-        put_refused(line, *self)?;
+        put_refused(line, self.0)?;
         if names {
             line.push_str(":")?;
-            line.push_str(why_text(self.why))
+            line.push_str(why_text(self.0.why))
         } else {
             Ok(())
         }
     }
 
-    #[tactic(auto, unfolding(crate::specs::Forms::members, crate::specs::Forms::json_value, crate::specs::Forms::names_member))]
+    #[tactic(auto, unfolding(krb_text::specs::Forms::members, krb_text::specs::Forms::json_value, krb_text::specs::Forms::names_member))]
     fn put_members(&self, object: &mut TextBuffer, begin: &str) -> Result<(), AllocError> {
         put_begin(object, begin)?;
-        put_refused_object(object, *self)
+        put_refused_object(object, self.0)
     }
 }
 
@@ -356,7 +355,7 @@ fn put_with_state(
             put_ticketed(text, form, now, credential, &sealed, &server_of(ticket))
         }
         TicketStateView::Refused(refusal) => {
-            put_ticketed(text, form, now, credential, refusal, &NONE)
+            put_ticketed(text, form, now, credential, &RefusedOctets(*refusal), &NONE)
         }
     }
 }

@@ -1,21 +1,5 @@
-//! Laws of what is printed. Each is the contract of a function that does nothing.
-ghost use Rattle.krb_list.specs.Laws.{CacheEndIsOneLine, CacheIsOneLine, CaptureEndIsOneLine, CaptureRefusalIsOneLine, CapturedMessageIsOneLine, CapturedRefusalIsOneLine, CountedStreamEndIsOneLine, CredentialIsOneLine, CredentialKeyIsNotShown, DatesAreTheCalendars, EscapeIsGraphic, FileNameIsOneLine, FileRefusalIsOneLine, InputRefusalIsOneLine, JoinedIsOneLine, KeysAreNotShown, KeytabEndIsOneLine, LostIsOneLine, MessageIsOneLine, MessageRefusalIsOneLine, PasswordIsOneLine, PrincipalTextIsInjective, RecordIsOneLine, RecordKeyIsNotShown, SessionKeys3AreNotShown, SessionKeysAreNotShown, StreamEndIsOneLine};
-
-/// Different components or realms have different texts.
-pub fn principal_text_is_injective()
-    ensures { PrincipalTextIsInjective }
-{}
-
-/// Escaped octets are graphic characters of ASCII: no blank, no line feed.
-pub fn escape_is_graphic()
-    ensures { EscapeIsGraphic }
-{}
-
-/// What is printed of a message is one line in each form: blanks and graphic characters of ASCII, and
-/// a line feed after them.
-pub fn message_is_one_line()
-    ensures { MessageIsOneLine }
-{}
+//! Laws of what is printed of keytabs and caches. Each is the contract of a function that does nothing.
+ghost use Rattle.krb_list.specs.Laws.{CacheEndIsOneLine, CacheIsOneLine, CredentialIsOneLine, CredentialKeyIsNotShown, KeysAreNotShown, KeytabEndIsOneLine, RecordIsOneLine, RecordKeyIsNotShown, SessionKeys3AreNotShown, SessionKeysAreNotShown};
 
 /// What is printed of a record of a keytab, and of its end, is one line in each form: blanks and
 /// graphic characters of ASCII, and a line feed after them.
@@ -30,34 +14,6 @@ pub fn ccache_is_one_line_each()
     ensures cache { CacheIsOneLine }
     ensures credential { CredentialIsOneLine }
     ensures end { CacheEndIsOneLine }
-{}
-
-/// What is printed of a refusal, of the end of a stream, and of a file's name, is one line in each
-/// form: blanks and graphic characters of ASCII, and a line feed after them.
-pub fn end_is_one_line()
-    ensures file { FileRefusalIsOneLine }
-    ensures message { MessageRefusalIsOneLine }
-    ensures input { InputRefusalIsOneLine }
-    ensures stream { StreamEndIsOneLine }
-    ensures counted { CountedStreamEndIsOneLine }
-    ensures name { FileNameIsOneLine }
-{}
-
-/// What is printed of each record of a capture, and of its end or of its refusal, is one line in each
-/// form: blanks and graphic characters of ASCII, and a line feed after them.
-pub fn capture_is_one_line_each()
-    ensures message { CapturedMessageIsOneLine }
-    ensures refusal { CapturedRefusalIsOneLine }
-    ensures joined { JoinedIsOneLine }
-    ensures lost { LostIsOneLine }
-    ensures password { PasswordIsOneLine }
-    ensures end { CaptureEndIsOneLine }
-    ensures file { CaptureRefusalIsOneLine }
-{}
-
-/// The date n days after 1970-01-01, found by counting, is the calendar's.
-pub fn dates_are_the_calendars()
-    ensures { DatesAreTheCalendars }
 {}
 
 /// What is printed of a keytab, in each form, and of each record, is as of the same with every octet

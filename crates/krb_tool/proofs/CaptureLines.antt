@@ -8,7 +8,7 @@ use Rattle.krb_packet.specs.Streaming.{ReturnsNext, PacketsModel, Reads}
 use Rattle.krb_packet.specs.declared.fault.CaptureFault.{CaptureFault}
 use Rattle.krb_packet.specs.declared.field.CaptureField.{CaptureField}
 use Rattle.krb_packet.specs.declared.packet.Packet.{Packet}
-use Rattle.krb_list.specs.declared.form.Form.{Form}
+use Rattle.krb_text.specs.declared.form.Form.{Form}
 use Rattle.krb_capture.specs.Captures.{HasFollowed, Progress, Settings, at_first, lines_of, packet_taken}
 use Rattle.krb_capture.specs.declared.capture.Capture.{Capture}
 use Rattle.krb_tool.specs.Captures.{capture_listing, listing_from}

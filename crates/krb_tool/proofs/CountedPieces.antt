@@ -12,7 +12,7 @@ use Rattle.krb_frame.specs.Decoding.{Decoding, found, status_at, finish_at, fini
 use Rattle.krb_frame.specs.GoingOn.{Entry, Fault, last_entry, entries}
 use Rattle.krb_frame.specs.declared.decoder.Status.TheVariants as status
 use Rattle.krb_frame.proofs.Skips.{entries-waiting, entries-last}
-use Rattle.krb_list.specs.declared.form.Form.{Form}
+use Rattle.krb_text.specs.declared.form.Form.{Form}
 use Rattle.krb_tool.specs.Lines.{refused_line, counted_end_line}
 use Rattle.krb_tool.specs.Paths.{frame_path}
 use Rattle.krb_tool.specs.GoingOn.{Listed, Faulty, entry_of, messages_in, refused_in, lines_after, IsCountedListing, counted_run_end, EndsUnknown, StopsInPiece, ListsAll, AreCountedLines}

@@ -5,10 +5,10 @@ use Rattle.krb_file.specs.declared.fault.FileFault.{FileFault}
 use Rattle.krb_file.specs.declared.fault.FileFault.TheVariants as faults
 use Rattle.krb_file.specs.declared.fault.FileWhy.{FileWhy}
 use Rattle.krb_file.specs.declared.field_name.FileField.{FileField}
-use Rattle.krb_list.specs.declared.form.Form.{Form}
-use Rattle.krb_list.specs.Forms.{record_line}
-use Rattle.krb_list.specs.Refusals.{path_in}
-use Rattle.krb_list.specs.Values.{Number, Reason, Field, the, printed}
+use Rattle.krb_text.specs.declared.form.Form.{Form}
+use Rattle.krb_text.specs.Forms.{record_line}
+use Rattle.krb_text.specs.Refusals.{path_in}
+use Rattle.krb_text.specs.Values.{Number, Reason, Field, the, printed}
 use Rattle.krb_tool.specs.Lines.{file_refused_line}
 use Rattle.krb_tool.specs.declared.run.RunEnd.{RunEnd}
 use Rattle.krb_tool.specs.declared.run.RunFault.{RunFault}

@@ -10,7 +10,7 @@ use Rattle.krb_keytab.specs.declared.reading.Next.TheVariants as nexts
 use Rattle.krb_keytab.specs.declared.records.State.{State}
 use Rattle.krb_keytab.specs.Reading.{Items, items}
 use Rattle.krb_keytab.specs.Streaming.{Reads, ReturnsNext}
-use Rattle.krb_list.specs.declared.form.Form.{Form}
+use Rattle.krb_text.specs.declared.form.Form.{Form}
 use Rattle.krb_tool.specs.Lines.{record_line, keytab_end_line}
 use Rattle.krb_tool.specs.declared.run.RunEnd.{RunEnd}
 use Rattle.krb_tool.specs.declared.run.RunEnd.TheVariants as run

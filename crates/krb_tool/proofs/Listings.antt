@@ -22,7 +22,7 @@ use Rattle.krb_frame.specs.declared.pass.Passed.{Passed}
 use Rattle.krb_frame.specs.declared.decoder.Status.{Status}
 use Rattle.krb_frame.specs.declared.decoder.Status.TheVariants as status
 use Rattle.krb_frame.proofs.DecoderFrames.{more-nothing, same-status}
-use Rattle.krb_list.specs.declared.form.Form.{Form}
+use Rattle.krb_text.specs.declared.form.Form.{Form}
 use Rattle.krb_tool.specs.Lines.{message_line}
 use Rattle.krb_tool.specs.inner.Pieces.{request_of, IsWaiting, IsFed, Goes, TakesPiece}
 use Rattle.krb_tool.specs.inner.Listers.{HasListed, ListsReady, AddsLine, stopping}

@@ -8,8 +8,8 @@ use Rattle.krb_msg.specs.ValueOfDer.{message_of_der}
 use Rattle.krb_msg.specs.declared.message.Message.{Message}
 use Rattle.krb_msg.proofs.MessageOfDer.{message_of_der_is_message}
 use Rattle.krb_judge.specs.Parses.{refusal_of, AreOf}
-use Rattle.krb_list.specs.declared.refusal.InputFault.TheVariants as input
-use Rattle.krb_list.specs.declared.form.Form.{Form}
+use Rattle.krb_text.specs.declared.refusal.InputFault.TheVariants as input
+use Rattle.krb_text.specs.declared.form.Form.{Form}
 use Rattle.krb_tool.specs.Lines.{message_line, message_refused_line, input_refused_line}
 use Rattle.krb_tool.specs.Files.{FileListing}
 use Rattle.krb_tool.specs.Paths.{refused_path}

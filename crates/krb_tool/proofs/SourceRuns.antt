@@ -1,7 +1,7 @@
 -- Sources that are listed one after another.
 use Rattle.std.proofs.Common.{◌≡◌, ℕ, max, true, false, List, [], ◌∷◌, Option, Result, Ok, Err, IfErr, refl, sym, ◌∙◌, subst, arith}
 use Rattle.std.specs.Ordering.{ord_max, nat_cmp}
-use Rattle.krb_list.specs.declared.form.Form.{Form}
+use Rattle.krb_text.specs.declared.form.Form.{Form}
 use Rattle.krb_tool.specs.Lines.{file_line}
 use Rattle.krb_tool.specs.declared.run.RunFault.{RunFault}
 use Rattle.krb_tool.specs.declared.run.RunFault.TheVariants as fault

@@ -4,7 +4,7 @@ use Rattle.krb_packet.specs.Captures.{packets}
 use Rattle.krb_packet.specs.FieldNames.{capture_field_text}
 use Rattle.krb_packet.specs.Parsers.{Refusal}
 use Rattle.krb_packet.specs.declared.packet.Packet.{Packet}
-use Rattle.krb_list.specs.Captures.{capture_refused_line}
+use Rattle.krb_text.specs.Captures.{capture_refused_line}
 use Rattle.krb_capture.specs.Captures.{Progress, Settings, all_counts, at_first, end_taken, end_text, is_clean, lines_of, packet_taken}
 use Rattle.krb_tool.specs.Files.{RecordListing}
 use Rattle.krb_tool.specs.declared.run.RunEnd.{RunEnd}

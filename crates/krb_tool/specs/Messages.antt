@@ -7,8 +7,8 @@ use Rattle.krb_der.specs.declared.profile.Profile.{Profile}
 use Rattle.krb_der.specs.declared.verdict.Refusal.{Refusal}
 use Rattle.krb_msg.specs.ValueOfDer.{message_of_der}
 use Rattle.krb_judge.specs.Parses.{refusal_of}
-use Rattle.krb_list.specs.declared.form.Form.{Form}
-use Rattle.krb_list.specs.declared.refusal.InputFault.TheVariants as input
+use Rattle.krb_text.specs.declared.form.Form.{Form}
+use Rattle.krb_text.specs.declared.refusal.InputFault.TheVariants as input
 use Rattle.krb_tool.specs.Lines.{message_line, message_refused_line, input_refused_line}
 use Rattle.krb_tool.specs.Files.{FileListing}
 use Rattle.krb_tool.specs.Paths.{refused_path}

@@ -1,7 +1,7 @@
 -- What a run over several sources does to its writer, and the status that it returns.
 use Rattle.std.specs.Prelude.{ℕ, ◌≡◌, ◌⊎◌, max, Bool, true, false, List, [], ◌∷◌, Option, Result, Ok, Err, IfErr}
 use Rattle.std.specs.Io.KnownBytes.{Appends}
-use Rattle.krb_list.specs.declared.form.Form.{Form}
+use Rattle.krb_text.specs.declared.form.Form.{Form}
 use Rattle.krb_tool.specs.Lines.{file_line}
 use Rattle.krb_tool.specs.declared.run.RunEnd.{RunEnd}
 use Rattle.krb_tool.specs.declared.run.RunFault.{RunFault}

@@ -3,7 +3,7 @@
 ghost use Rattle.std.specs.Prelude.{◌≡◌, ℕ, List, Some, IfErr, IfOk, string_bytes};
 ghost use Rattle.std.specs.Option.{option_map};
 ghost use Rattle.krb_packet.specs.FieldNames.{capture_field_text};
-ghost use Rattle.krb_list.specs.Refusals.{path_in};
+ghost use Rattle.krb_text.specs.Refusals.{path_in};
 ghost use Rattle.krb_tool.specs.Captures.{capture_listing};
 ghost use Rattle.krb_tool.specs.Faults.{IsWrite};
 ghost use Rattle.krb_tool.specs.Files.{ListsRecords};
@@ -14,8 +14,8 @@ use crate::run::{RunEnd, RunFault};
 use krb_capture::Capture;
 use krb_file::FileFault;
 use krb_frame::Limit;
-use krb_list::{Form, TextBuffer};
 use krb_packet::{CaptureFault, CaptureField, Packets};
+use krb_text::{Form, TextBuffer};
 use std::alloc::Global;
 use std::io::{Read, Write};
 

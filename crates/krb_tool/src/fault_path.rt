@@ -2,7 +2,7 @@
 
 ghost use Rattle.std.specs.Prelude.{◌≡◌, ◌++◌, IfErr, IfOk, OnOk, string_bytes};
 ghost use Rattle.std.specs.Option.{option_map};
-ghost use Rattle.krb_list.specs.Refusals.{path_in};
+ghost use Rattle.krb_text.specs.Refusals.{path_in};
 ghost use Rattle.krb_tool.specs.Lines.{refused_line, message_refused_line};
 ghost use Rattle.krb_tool.specs.Paths.{frame_path, refused_path};
 
@@ -10,7 +10,7 @@ use crate::run::RunFault;
 use krb_der::{Profile, Refusal};
 use krb_frame::Decoder;
 use krb_judge::path;
-use krb_list::{Form, TextBuffer, put_message_refusal, put_stream_refusal};
+use krb_text::{Form, TextBuffer, put_message_refusal, put_stream_refusal};
 use std::alloc::{AllocError, Global};
 
 /// The greatest number of octets of a message.

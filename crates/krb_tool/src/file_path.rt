@@ -2,14 +2,14 @@
 
 ghost use Rattle.std.specs.Prelude.{◌≡◌, IfErr, IfOk, string_bytes};
 ghost use Rattle.std.specs.Option.{option_map};
-ghost use Rattle.krb_list.specs.Refusals.{path_in};
+ghost use Rattle.krb_text.specs.Refusals.{path_in};
 ghost use Rattle.krb_tool.specs.Paths.{keytab_path, credential_path, start_path};
 
 use crate::run::RunFault;
 use krb_ccache::CredentialPath;
 use krb_file::FileField;
 use krb_keytab::KeytabPath;
-use krb_list::Form;
+use krb_text::Form;
 use std::alloc::Global;
 
 /// Returns the path of a field of a keytab after a number of records, if records of the form show

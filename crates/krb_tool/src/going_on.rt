@@ -16,8 +16,8 @@ use crate::stream_run::{ListStream, list_all};
 use crate::transfer::Asked;
 use krb_der::{Profile, Refusal};
 use krb_frame::{Decoder, Limit, SkippingDecoder, Status};
-use krb_list::{Form, TextBuffer, put_counted_stream_end, put_message_view};
 use krb_msg::MessageView;
+use krb_text::{Form, TextBuffer, put_counted_stream_end, put_message_view};
 use std::alloc::Global;
 use std::io::{Read, Write};
 

@@ -10,8 +10,8 @@
 //! - [`run_sources`] lists several sources one after another, each by what a [`ListSource`] does.
 //! - [`status`] returns the exit status for what a run returned.
 //!
-//! Nothing here opens a file or reads a command line: `krbls` and `krb_words` do. `krb_list` says what is
-//! in a record.
+//! Nothing here opens a file or reads a command line: `krbls` and `krb_words` do. `krb_text` and
+//! `krb_list` say what is in a record.
 #![tactic(auto)]
 
 mod capture_run;
@@ -32,7 +32,7 @@ pub use capture_run::run_capture;
 pub use going_on::run_stream_going_on;
 pub use krb_der::Profile;
 pub use krb_frame::Limit;
-pub use krb_list::Form;
+pub use krb_text::Form;
 pub use message_run::{run_message, run_message_in};
 pub use record_run::{run_ccache, run_ccache_in, run_keytab, run_keytab_in};
 pub use run::{RunEnd, RunFault, run_stream, run_stream_in, status};

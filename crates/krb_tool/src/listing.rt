@@ -14,8 +14,8 @@ use crate::run::{RunEnd, RunFault};
 use crate::stream_run::ListStream;
 use krb_der::Profile;
 use krb_frame::{Decoder, Limit, Status};
-use krb_list::{Form, TextBuffer, put_message_view, put_stream_end};
 use krb_msg::MessageView;
+use krb_text::{Form, TextBuffer, put_message_view, put_stream_end};
 use std::alloc::Global;
 
 /// A lister of a stream, up to its end or its first refusal: what allocates for it, its decoder, the form of its lines,

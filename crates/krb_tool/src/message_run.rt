@@ -14,8 +14,8 @@ use crate::transfer::Asked;
 use hex::FromHexError;
 use krb_der::{Profile, Refusal};
 use krb_judge::{ParseFault, parse_in};
-use krb_list::{Form, InputFault, TextBuffer, put_input_refusal, put_message};
 use krb_msg::Message;
+use krb_text::{Form, InputFault, TextBuffer, put_input_refusal, put_message};
 use std::alloc::{AllocError, Global};
 use std::io::{Read, Write};
 

@@ -16,10 +16,8 @@ use crate::transfer::{MOST_ASKS, too_many_reads, write_all};
 use krb_ccache::{Credential, Credentials, FilePrincipal, Header};
 use krb_file::{FieldLimit, FileFault, FileWhy};
 use krb_keytab::{Next, Record, Records, Stop};
-use krb_list::{
-    Form, TextBuffer, put_cache, put_cache_end, put_credential, put_file_refusal, put_keytab_end,
-    put_record,
-};
+use krb_list::{put_cache, put_cache_end, put_credential, put_keytab_end, put_record};
+use krb_text::{Form, TextBuffer, put_file_refusal};
 use std::alloc::Global;
 use std::cell::Cell;
 use std::io;

@@ -9,7 +9,7 @@ use crate::stream_run::list_all;
 use crate::transfer::Asked;
 use krb_der::{Memory, Profile};
 use krb_frame::Limit;
-use krb_list::Form;
+use krb_text::Form;
 use std::alloc::{AllocError, AllocFailed, Global};
 use std::io;
 use std::io::{Read, Write};

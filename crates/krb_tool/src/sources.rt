@@ -7,7 +7,7 @@ ghost use Rattle.krb_tool.specs.Sources.{Run, FailsName, ListsOne, Reports, List
 
 use crate::run::{RunEnd, RunFault, status};
 use crate::transfer::write_all;
-use krb_list::{Form, TextBuffer, put_file};
+use krb_text::{Form, TextBuffer, put_file};
 use std::alloc::Global;
 use std::io::Write;
 

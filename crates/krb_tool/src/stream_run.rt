@@ -8,7 +8,7 @@ use crate::run::{PIECE_OCTETS, RunEnd, RunFault};
 use crate::transfer::{Asked, write_all};
 use krb_der::Profile;
 use krb_frame::Limit;
-use krb_list::Form;
+use krb_text::Form;
 use std::alloc::Global;
 use std::io::{Read, Write};
 

@@ -11,8 +11,8 @@ use Rattle.clap.specs.declared.error.kind.ErrorKind.{ErrorKind}
 use Rattle.clap.specs.declared.error.kind.ErrorKind.TheVariants.{DisplayHelp, DisplayVersion}
 use Rattle.krb_der.specs.declared.profile.Profile.{Profile}
 use Rattle.krb_der.specs.declared.profile.Profile.TheVariants as profile
-use Rattle.krb_list.specs.declared.form.Form.{Form}
-use Rattle.krb_list.specs.declared.form.Form.TheVariants as form
+use Rattle.krb_text.specs.declared.form.Form.{Form}
+use Rattle.krb_text.specs.declared.form.Form.TheVariants as form
 use Rattle.krb_words.specs.declared.words.AfterRefusal.{AfterRefusal}
 use Rattle.krb_words.specs.declared.words.AfterRefusal.TheVariants as after
 use Rattle.krb_words.specs.declared.words.Job.{Job}

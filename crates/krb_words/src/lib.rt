@@ -17,6 +17,6 @@ mod words;
 
 pub use krb_der::Profile;
 pub use krb_frame::Limit;
-pub use krb_list::Form;
+pub use krb_text::Form;
 pub use sources::Source;
 pub use words::{AfterRefusal, Job, NOT_UTF8, Order, VERSION, WordsFault, read_words};

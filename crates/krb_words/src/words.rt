@@ -11,7 +11,7 @@ use clap::error::ErrorKind;
 use clap::{Arg, ArgAction, ArgMatches, Command, Error, value_parser};
 use krb_der::Profile;
 use krb_frame::Limit;
-use krb_list::Form;
+use krb_text::Form;
 use std::alloc::{AllocError, Global};
 
 /// What becomes of a stream after a frame that is refused.

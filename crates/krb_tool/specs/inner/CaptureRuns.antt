@@ -6,8 +6,8 @@ use Rattle.krb_packet.specs.Captures.{packets}
 use Rattle.krb_packet.specs.FieldNames.{capture_field_text}
 use Rattle.krb_packet.specs.Streaming.{PacketsModel, Reads}
 use Rattle.krb_packet.specs.declared.field.CaptureField.{CaptureField}
-use Rattle.krb_list.specs.Captures.{capture_refused_line}
-use Rattle.krb_list.specs.declared.form.Form.{Form}
+use Rattle.krb_text.specs.Captures.{capture_refused_line}
+use Rattle.krb_text.specs.declared.form.Form.{Form}
 use Rattle.krb_capture.specs.Captures.{HasFollowed, Progress, Settings, all_counts, end_text}
 use Rattle.krb_capture.specs.declared.capture.Capture.{Capture}
 use Rattle.krb_tool.specs.Captures.{capture_run_end, listing_from}

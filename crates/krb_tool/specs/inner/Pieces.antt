@@ -4,7 +4,7 @@ use Rattle.std.specs.Io.KnownBytes.{IsAtEnd}
 use Rattle.krb_msg.specs.Grammar.{messages}
 use Rattle.krb_frame.specs.Decoding.{Decoding, status_of}
 use Rattle.krb_frame.specs.declared.decoder.Status.TheVariants as status
-use Rattle.krb_list.specs.declared.form.Form.{Form}
+use Rattle.krb_text.specs.declared.form.Form.{Form}
 use Rattle.krb_tool.specs.inner.Streams.{Request, Rules, Taken, Listing}
 
 -- what the lister of a decoder was asked for

@@ -14,7 +14,7 @@ use Rattle.krb_ccache.specs.declared.reading.Start.{Start}
 use Rattle.krb_ccache.specs.Reading.{Items}
 use Rattle.krb_ccache.specs.Streaming.{Reads as ReadsCredentials, credentials}
 use Rattle.krb_ccache.specs.declared.credentials.State.{State as CredentialsState}
-use Rattle.krb_list.specs.declared.form.Form.{Form}
+use Rattle.krb_text.specs.declared.form.Form.{Form}
 use Rattle.krb_tool.specs.Lines.{record_line}
 use Rattle.krb_tool.specs.Lines.{credential_line}
 use Rattle.krb_tool.specs.Lines.{file_refused_line}

@@ -1,6 +1,6 @@
 use Rattle.std.proofs.Common.{sym, ◌∙◌, ap, drop}
 use Rattle.krb_frame.specs.Decoding.{Decoding}
-use Rattle.krb_list.specs.Refusals.{path_in}
+use Rattle.krb_text.specs.Refusals.{path_in}
 use Rattle.krb_capture.proofs.Found.{no_path}
 use Rattle.krb_capture.proofs.message_frames.path_in_frame.Goals as goal
 

@@ -1,5 +1,5 @@
 use Rattle.std.proofs.Common.{◌≡◌, ◌++◌, ◌∙◌, ap, subst}
-use Rattle.krb_list.specs.declared.capture.CaptureCounts.{CaptureCounts}
+use Rattle.krb_text.specs.declared.capture.CaptureCounts.{CaptureCounts}
 use Rattle.krb_capture.specs.Captures.{HasFollowed, Progress, and_counted, contents_taken, lines_of, packet_taken, with_packet}
 use Rattle.krb_capture.specs.Found.{Written, and_more}
 use Rattle.krb_capture.proofs.Written.{on_ok-map}

@@ -1,9 +1,0 @@
-use Rattle.krb_list.proofs.Methods.{none_seen, items_seen, match_as}
-use Rattle.krb_list.proofs.error.method_data.Goals as goal
-
-pub returns : goal.returns
-returns c =
-    match_as c.view_whole.result
-    (λ none. none_seen c.args.octets.now none)
-    (λ items seen. (seen.1, items_seen c.args.octets.now _ c.requires seen.0))
-    c.view_whole.ensures

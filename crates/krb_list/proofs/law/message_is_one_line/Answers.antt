@@ -1,5 +1,0 @@
-use Rattle.krb_list.proofs.MessageOneLine.{message_shown}
-use Rattle.krb_list.proofs.law.message_is_one_line.Goals as goal
-
-pub returns : goal.returns
-returns c = message_shown

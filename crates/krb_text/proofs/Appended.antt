@@ -1,0 +1,26 @@
+-- What is appended piece by piece.
+use Rattle.std.proofs.Common.{◌≡◌, ℕ, List, [], ◌++◌, codes, append_assoc}
+use Rattle.std.proofs.lemmas.List.{append-nil}
+use Rattle.krb_text.specs.declared.form.Form.{Form}
+use Rattle.krb_text.specs.Forms.{fields_text}
+use Rattle.krb_text.specs.Values.{Field}
+use Rattle.krb_text.proofs.Records.{fields_text_append}
+
+-- a member without names
+pub member_alone : (old : List ℕ) {mid new : List ℕ} (begin value : List ℕ) → mid ≡ old ++ begin ++ codes "\":" → new ≡ mid ++ value → new ≡ old ++ (begin ++ codes "\":" ++ value ++ [])
+member_alone old begin value first second = rw (second, first) (simp (append_assoc, append-nil))
+
+-- a record of one field
+pub one_field : (old : List ℕ) {opened put new : List ℕ} (opening field closing : List ℕ) → opened ≡ old ++ opening → put ≡ opened ++ field → new ≡ put ++ closing → new ≡ old ++ (opening ++ (field ++ []) ++ closing)
+one_field old opening field closing first second third = rw (third, second, first) (simp (append_assoc, append-nil))
+
+-- the opening of a record, its fields and its end
+pub two_fields : (old : List ℕ) {first second : List ℕ} (one two : List ℕ) → first ≡ old ++ one → second ≡ first ++ two → second ≡ old ++ (one ++ (two ++ []))
+two_fields old one two first second = rw (second, first) (simp (append_assoc, append-nil))
+
+-- a record of four lists of fields
+pub four_lists : (old : List ℕ) {l₁ l₂ l₃ l₄ l₅ l₆ : List ℕ} (form : Form) (opening closing : List ℕ) (a b c d : List Field) →
+    l₁ ≡ old ++ opening → l₂ ≡ l₁ ++ fields_text form a → l₃ ≡ l₂ ++ fields_text form b → l₄ ≡ l₃ ++ fields_text form c → l₅ ≡ l₄ ++ fields_text form d → l₆ ≡ l₅ ++ closing →
+    l₆ ≡ old ++ (opening ++ fields_text form (a ++ b ++ c ++ d) ++ closing)
+four_lists old form opening closing a b c d h₁ h₂ h₃ h₄ h₅ h₆ =
+    rw (h₆, h₅, h₄, h₃, h₂, h₁, fields_text_append form (a ++ b ++ c) d, fields_text_append form (a ++ b) c, fields_text_append form a b) (simp append_assoc)

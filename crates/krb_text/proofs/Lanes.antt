@@ -1,0 +1,110 @@
+-- Octets that are looked at many at a time.
+use Rattle.std.proofs.Common.{◌≡◌, ℕ, ◌+◌, ◌*◌, ◌^◌, ◌%◌, ◌-◌, ◌≤◌, Bool, true, false, not, ◌||◌, ◌&&◌, nat_eq, nat_lt, List, [], ◌∷◌, ◌++◌, map, length, take, drop, refl, sym, ap, ◌∙◌, arith, length-append, length-drop, length-take-le, take-add, w8}
+use Rattle.std.proofs.lemmas.List.{take-append-drop, take_rest}
+use Rattle.std.proofs.lemmas.List.Folds.{list_all-append}
+use Rattle.krb_text.specs.Text.{is_plain}
+use Rattle.std.proofs.lemmas.Bool.Decides.{nat_tests}
+use Rattle.std.proofs.lemmas.Simd.{bitmask_splat, pick_l_whole}
+use Rattle.std.specs.List.{list_all, list_any, range_with_len}
+use mathlib.Core.Bool.{cond}
+use lib.Lanes.{mask_l, zip2, top, pick_l}
+use lib.ListN.{replicate}
+
+odd : (m : ℕ) → not (nat_eq (1 + 2 * m) 0) ≡ true
+odd m = grind (arith, nat_tests)
+
+even : (m : ℕ) → nat_eq (0 + 2 * m) 0 ≡ nat_eq m 0
+even m = grind (arith, nat_tests)
+
+-- a mask is 0 exactly if no lane is set
+any_mask : {X : Type 0} (p : X → Bool) (xs : List X) → not (nat_eq (mask_l (map p xs)) 0) ≡ list_any p xs
+any_mask p [] = refl
+any_mask p (x ∷ xs) = by (p x) (any_mask p xs)
+  where
+    by : (b : Bool) → not (nat_eq (mask_l (map p xs)) 0) ≡ list_any p xs → not (nat_eq (cond b 1 0 + 2 * mask_l (map p xs)) 0) ≡ (b || list_any p xs)
+    by true rest = odd (mask_l (map p xs))
+    by false rest = ap not (even (mask_l (map p xs))) ∙ rest
+
+pub any_lane : (t : ℕ → ℕ → Bool) (n : ℕ) (xs : List ℕ) (y : ℕ) → length xs ≡ n → n ≤ 64
+    → not (nat_eq (mask_l (map (top 7) (zip2 (λ a b. cond (t a b) 255 0) xs (replicate n y))) % 2 ^ 64) 0) ≡ list_any (λ x. t x y) xs
+any_lane t n xs y count few = ap (λ m. not (nat_eq m 0)) (bitmask_splat w8 t xs n y count few) ∙ any_mask (λ x. t x y) xs
+
+-- the same where the tests have the octets on the right
+pub any_lane_right : (t : ℕ → ℕ → Bool) (n : ℕ) (xs : List ℕ) (y : ℕ) → length xs ≡ n → n ≤ 64
+    → not (nat_eq (mask_l (map (top 7) (zip2 (λ a b. cond (t a b) 255 0) (replicate n y) xs)) % 2 ^ 64) 0) ≡ list_any (λ x. t y x) xs
+any_lane_right t n xs y count few =
+    ap (λ (l : List ℕ). not (nat_eq (mask_l (map (top 7) l) % 2 ^ 64) 0)) (turned xs (replicate n y))
+    ∙ any_lane (λ a b. t b a) n xs y count few
+  where
+    turned : (xs ys : List ℕ) → zip2 {C = ℕ} (λ a b. cond (t a b) 255 0) ys xs ≡ zip2 {C = ℕ} (λ a b. cond (t b a) 255 0) xs ys
+    turned [] [] = refl
+    turned [] (y ∷ ys) = refl
+    turned (x ∷ xs) [] = refl
+    turned (x ∷ xs) (y ∷ ys) = ap (λ (l : List ℕ). cond (t y x) 255 0 ∷ l) (turned xs ys)
+
+-- ---- plain octets
+or-true : (b : Bool) → (b || true) ≡ true
+or-true true = refl
+or-true false = refl
+
+swapped : (a b c d : Bool) → ((a || b) || (c || d)) ≡ ((a || c) || (b || d))
+swapped true b c d = refl
+swapped false b true d = or-true b
+swapped false b false d = refl
+
+-- an element passes one test or the other
+any_or : {X : Type 0} (p q : X → Bool) (xs : List X) → (list_any p xs || list_any q xs) ≡ list_any (λ x. p x || q x) xs
+any_or p q [] = refl
+any_or p q (x ∷ xs) = swapped (p x) (list_any p xs) (q x) (list_any q xs) ∙ ap (λ rest. (p x || q x) || rest) (any_or p q xs)
+
+not-or : (a b : Bool) → not (a || b) ≡ (not a && not b)
+not-or true b = refl
+not-or false b = refl
+
+-- none passes a test
+none_is_all : {X : Type 0} (p q : X → Bool) → ((x : X) → not (p x) ≡ q x) → (xs : List X) → not (list_any p xs) ≡ list_all q xs
+none_is_all p q same [] = refl
+none_is_all p q same (x ∷ xs) = not-or (p x) (list_any p xs) ∙ (λ i. same x i && none_is_all p q same xs i)
+
+abbrev is_escaped : ℕ → Bool
+is_escaped one = (((nat_lt one 33 || nat_lt 126 one) || nat_eq one 47) || nat_eq one 64) || nat_eq one 92
+
+plain_is : (one : ℕ) → not (is_escaped one) ≡ is_plain one
+plain_is one = grind (arith, nat_tests)
+
+pub all_plain : (xs : List ℕ) → not ((((list_any (λ one. nat_lt one 33) xs || list_any (λ one. nat_lt 126 one) xs) || list_any (λ one. nat_eq one 47) xs) || list_any (λ one. nat_eq one 64) xs) || list_any (λ one. nat_eq one 92) xs) ≡ list_all is_plain xs
+all_plain xs =
+    rw (any_or (λ one. nat_lt one 33) (λ one. nat_lt 126 one) xs, any_or (λ one. nat_lt one 33 || nat_lt 126 one) (λ one. nat_eq one 47) xs, any_or (λ one. (nat_lt one 33 || nat_lt 126 one) || nat_eq one 47) (λ one. nat_eq one 64) xs, any_or (λ one. ((nat_lt one 33 || nat_lt 126 one) || nat_eq one 47) || nat_eq one 64) (λ one. nat_eq one 92) xs)
+    (none_is_all is_escaped is_plain plain_is xs)
+
+-- ---- the first and the last, which are all
+and-twice : (a b c : Bool) → ((a && b) && (b && c)) ≡ (a && (b && c))
+and-twice false b c = refl
+and-twice true false c = refl
+and-twice true true c = refl
+
+pub ends_all : {X : Type 0} (p : X → Bool) (n k : ℕ) (xs : List X) → k ≤ n → (list_all p (take n xs) && list_all p (drop k xs)) ≡ list_all p xs
+ends_all p n k xs few =
+    let m : ℕ = n - k in
+    let front : take n xs ≡ take k xs ++ take m (drop k xs) = ap (λ (l : ℕ). take l xs) (omega (arith, few)) ∙ take-add k m xs in
+    let a = list_all p (take k xs) in
+    let b = list_all p (take m (drop k xs)) in
+    let c = list_all p (drop m (drop k xs)) in
+    let first : list_all p (take n xs) ≡ (a && b) = ap (list_all p) front ∙ list_all-append p (take k xs) (take m (drop k xs)) in
+    let last : list_all p (drop k xs) ≡ (b && c) = ap (list_all p) (sym (take-append-drop m (drop k xs))) ∙ list_all-append p (take m (drop k xs)) (drop m (drop k xs)) in
+    let whole : list_all p xs ≡ (a && list_all p (drop k xs)) = ap (list_all p) (sym (take-append-drop k xs)) ∙ list_all-append p (take k xs) (drop k xs) in
+    (λ i. first i && last i) ∙ and-twice a b c ∙ ap (λ (d : Bool). a && d) (sym last) ∙ sym whole
+
+-- the last n octets
+pub last_of : (n : ℕ) (xs : List ℕ) → n ≤ length xs → take n (drop (length xs - n) xs) ≡ drop (length xs - n) xs
+last_of n xs many = ap (λ (m : ℕ). take m (drop (length xs - n) xs)) (omega (arith, many)) ∙ take_rest xs (length xs - n)
+
+-- the first n octets and the last n, one after another in a vector
+pub ends_picked : (n : ℕ) (xs : List ℕ) → n ≤ length xs → pick_l 0 (take n xs ++ take n (drop (length xs - n) xs)) (range_with_len 0 (n + n)) ≡ take n xs ++ drop (length xs - n) xs
+ends_picked n xs many =
+    let count : length (take n xs ++ take n (drop (length xs - n) xs)) ≡ n + n = omega (arith, length-append (take n xs) (take n (drop (length xs - n) xs)), length-take-le n xs many, ap length (last_of n xs many), length-drop (length xs - n) xs) in
+    pick_l_whole 0 (take n xs ++ take n (drop (length xs - n) xs)) (n + n) count ∙ ap (λ l. take n xs ++ l) (last_of n xs many)
+
+-- are all, if there are no more than n between
+pub ends_plain : (n : ℕ) (xs : List ℕ) → n ≤ length xs → length xs ≤ n + n → list_all is_plain (take n xs ++ drop (length xs - n) xs) ≡ list_all is_plain xs
+ends_plain n xs many few = list_all-append is_plain (take n xs) (drop (length xs - n) xs) ∙ ends_all is_plain n (length xs - n) xs (omega (arith, many, few))

@@ -1,0 +1,25 @@
+-- The text of the fields of a record, one after another.
+use Rattle.std.proofs.Common.{◌≡◌, List, [], ◌∷◌, ◌++◌, refl, ap, sym, ◌∙◌, append_assoc, codes}
+use Rattle.std.proofs.lemmas.List.{append-nil}
+use Rattle.krb_msg.specs.Notes.{notes_of}
+use Rattle.krb_msg.specs.Views.{kind_name, kind_of}
+use Rattle.krb_msg.specs.declared.message.Message.{Message}
+use Rattle.krb_text.specs.declared.form.Form.{Form}
+use Rattle.krb_text.specs.Forms.{field, fields_text}
+use Rattle.krb_text.specs.Messages.{fields_of, message_record, notes}
+use Rattle.krb_text.specs.Values.{Field, the}
+
+pub fields_text_append : (form : Form) (front rest : List Field) → fields_text form (front ++ rest) ≡ fields_text form front ++ fields_text form rest
+fields_text_append form [] rest = refl
+fields_text_append form (first ∷ others) rest =
+    ap (λ text. field form first.name first.value ++ text) (fields_text_append form others rest)
+    ∙ sym (append_assoc (field form first.name first.value) (fields_text form others) (fields_text form rest))
+
+-- a message: its kind, its fields and its notes
+pub message_kind : (m : Message) → (message_record m).kind ≡ kind_name (kind_of m)
+unfolding message_record
+message_kind m = refl
+
+pub message_fields : (form : Form) (m : Message) → fields_text form (message_record m).fields ≡ fields_text form (fields_of m) ++ field form (codes "notes") (notes (notes_of m))
+unfolding message_record
+message_fields form m = rw (fields_text_append form (fields_of m) (the (codes "notes") (notes (notes_of m)) ∷ [])) (simp (append_assoc, append-nil))

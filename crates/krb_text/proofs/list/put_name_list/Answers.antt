@@ -1,0 +1,13 @@
+use Rattle.std.proofs.Common.{◌≡◌, ◌++◌, OnOk, subst, sym}
+use Rattle.krb_text.specs.Forms.{name_string}
+use Rattle.krb_msg.specs.Viewed.{items_of}
+use Rattle.krb_text.specs.inner.Items.{item_number}
+use Rattle.krb_text.proofs.Items.{list_text_map}
+use Rattle.krb_text.proofs.list.put_name_list.Goals as goal
+
+pub returns : goal.returns
+returns g c =
+    subst
+    (λ text. OnOk c.put_number_list.result (c.put_number_list.new.text ≡ c.args.text.now ++ text))
+    (sym (list_text_map (item_number g.T.View.term) (name_string c.args.registry) (items_of g.T.View.term c.args.items.octets.now)))
+    c.put_number_list.ensures

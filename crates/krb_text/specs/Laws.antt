@@ -1,0 +1,103 @@
+-- Laws of what is printed.
+use Rattle.std.specs.Prelude.{ℕ, pos, ◌≡◌, ◌≤◌, ◌<◌, ◌^◌, unsigned_abs, Option, IfSome, List, ◌++◌}
+use Rattle.std.specs.List.{AllByRecursion}
+use Rattle.std.specs.Net.Addr.{IsIpv4Addr, IsIpv6Addr, MatchIp}
+use Rattle.jiff_core.specs.Date.{epoch_day}
+use Rattle.jiff_core.specs.declared.civil.date.Date.{Date}
+use Rattle.krb_der.specs.declared.profile.Profile.TheVariants as profiles
+use Rattle.krb_der.specs.Octets.{AreOctets}
+use Rattle.krb_file.specs.declared.fault.FileWhy.{FileWhy}
+use Rattle.krb_der.specs.declared.verdict.Refusal.{Refusal}
+use Rattle.krb_msg.specs.Stream.{End}
+use Rattle.krb_msg.specs.declared.message.Message.{Message}
+use Rattle.krb_msg.specs.Views.{IsInProfile}
+use Rattle.krb_text.specs.Captures.{capture_end_line, capture_refused_line, captured_message_line, captured_refused_line, joined_line, lost_line, password_line}
+use Rattle.krb_text.specs.declared.capture.CaptureCounts.{CaptureCounts}
+use Rattle.krb_text.specs.declared.form.Form.{Form}
+use Rattle.krb_text.specs.declared.origin.Origin.{Origin}
+use Rattle.krb_text.specs.Text.{AllAreOctets, IsPrintable, escape, line_feed, principal_text}
+use Rattle.krb_text.specs.declared.refusal.InputFault.{InputFault}
+use Rattle.krb_text.specs.Refusals.{file_refused_line, message_refused_line, input_refused_line}
+use Rattle.krb_text.specs.Streams.{end_line, counted_end_line}
+use Rattle.krb_text.specs.Files.{file_line}
+use Rattle.krb_text.specs.Messages.{message_line}
+use Rattle.krb_text.specs.Time.{civil_date, the_date}
+
+-- different components or realms have different texts
+abbrev pub PrincipalTextIsInjective : Type 0
+PrincipalTextIsInjective = (components others : List (List ℕ)) (realm other : List ℕ) → AllAreOctets components → AllAreOctets others → AreOctets realm → AreOctets other → principal_text components realm ≡ principal_text others other → (components ≡ others) × (realm ≡ other)
+
+-- an escape prints only 21 to 7E
+abbrev pub EscapeIsGraphic : Type 0
+EscapeIsGraphic = (octets : List ℕ) → AreOctets octets → AllByRecursion (λ c. (33 ≤ c) × (c ≤ 126)) (escape octets)
+
+-- The date that is found by counting is the one of the calendar that has this day number.
+abbrev pub DatesAreTheCalendars : Type 0
+DatesAreTheCalendars = (date : Date) (days : ℕ) → epoch_day date ≡ pos days → civil_date days ≡ the_date (unsigned_abs date.year) date.month date.day
+
+-- ---- each record is one line, in each form
+-- blanks and graphic characters of ASCII, and the line feed after them
+abbrev pub IsOneLine : List ℕ → Type 0
+IsOneLine line = (text : List ℕ) × IsPrintable text × (line ≡ text ++ line_feed)
+
+-- a message's
+abbrev pub MessageIsOneLine : Type 0
+MessageIsOneLine = (form : Form) (m : Message) → IsInProfile profiles.Lenient m → IsOneLine (message_line form m)
+
+-- that of a refused file
+abbrev pub FileRefusalIsOneLine : Type 0
+FileRefusalIsOneLine = (form : Form) (place : ℕ) (reason : FileWhy) (path : Option (List ℕ)) → IfSome path AreOctets → IsOneLine (file_refused_line form place reason path)
+
+-- that of octets that are no message
+abbrev pub MessageRefusalIsOneLine : Type 0
+MessageRefusalIsOneLine = (form : Form) (refusal : Refusal) (path : Option (List ℕ)) → IfSome path AreOctets → IsOneLine (message_refused_line form refusal path)
+
+-- that of input that is no hexadecimal
+abbrev pub InputRefusalIsOneLine : Type 0
+InputRefusalIsOneLine = (form : Form) (fault : InputFault) → IsOneLine (input_refused_line form fault)
+
+-- the last of a stream, which may be that of its refusal
+abbrev pub StreamEndIsOneLine : Type 0
+StreamEndIsOneLine = (form : Form) (messages : ℕ) (end : End) (path : Option (List ℕ)) → IfSome path AreOctets → IsOneLine (end_line form messages end path)
+
+-- the last of a stream that was gone on with after refusals
+abbrev pub CountedStreamEndIsOneLine : Type 0
+CountedStreamEndIsOneLine = (form : Form) (messages refused : ℕ) → IsOneLine (counted_end_line form messages refused)
+
+-- that of a file's name
+abbrev pub FileNameIsOneLine : Type 0
+FileNameIsOneLine = (form : Form) (name : List ℕ) → AreOctets name → IsOneLine (file_line form name)
+
+-- the seconds of its time and the addresses are as their types have them
+pub record OriginIsInRange (origin : Origin) : Type 0 where
+  pub time : IfSome origin.time (λ time. time.seconds < 2 ^ 32)
+  pub source : MatchIp origin.source.address IsIpv4Addr IsIpv6Addr
+  pub target : MatchIp origin.target.address IsIpv4Addr IsIpv6Addr
+
+-- that of a message of a capture
+abbrev pub CapturedMessageIsOneLine : Type 0
+CapturedMessageIsOneLine = (form : Form) (origin : Origin) (m : Message) → OriginIsInRange origin → IsInProfile profiles.Lenient m → IsOneLine (captured_message_line form origin m)
+
+-- that of a refused one
+abbrev pub CapturedRefusalIsOneLine : Type 0
+CapturedRefusalIsOneLine = (form : Form) (origin : Origin) (refusal : Refusal) (path : Option (List ℕ)) → OriginIsInRange origin → IfSome path AreOctets → IsOneLine (captured_refused_line form origin refusal path)
+
+-- that of a direction whose first octets come without a SYN
+abbrev pub JoinedIsOneLine : Type 0
+JoinedIsOneLine = (form : Form) (origin : Origin) → OriginIsInRange origin → IsOneLine (joined_line form origin)
+
+-- that of octets that are not in a capture
+abbrev pub LostIsOneLine : Type 0
+LostIsOneLine = (form : Form) (origin : Origin) (place octets : ℕ) (path : Option (List ℕ)) → OriginIsInRange origin → IfSome path AreOctets → IsOneLine (lost_line form origin place octets path)
+
+-- that of a message that changes a password
+abbrev pub PasswordIsOneLine : Type 0
+PasswordIsOneLine = (form : Form) (origin : Origin) (version ap rest : ℕ) → OriginIsInRange origin → IsOneLine (password_line form origin version ap rest)
+
+-- the last of a capture
+abbrev pub CaptureEndIsOneLine : Type 0
+CaptureEndIsOneLine = (form : Form) (counts : CaptureCounts) → IsOneLine (capture_end_line form counts)
+
+-- the last of a capture that is refused
+abbrev pub CaptureRefusalIsOneLine : Type 0
+CaptureRefusalIsOneLine = (form : Form) (counts : CaptureCounts) (place : ℕ) (reason : FileWhy) (path : Option (List ℕ)) → IfSome path AreOctets → IsOneLine (capture_refused_line form counts place reason path)

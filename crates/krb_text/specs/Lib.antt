@@ -1,0 +1,17 @@
+pub mod Text
+pub mod FileNames
+pub mod Values
+pub mod Time
+pub mod Errors
+pub mod TicketFlags
+pub mod Forms
+pub mod Refusals
+pub mod Files
+pub mod Messages
+pub mod Streams
+pub mod Captures
+pub mod Laws
+pub mod Examples
+pub mod MessageExamples
+pub mod CaptureExamples
+pub mod inner

@@ -1,0 +1,31 @@
+-- The items of lists as records show them.
+use Rattle.std.specs.Prelude.{ℕ, ℤ, pos, true, List}
+use Rattle.std.specs.Fmt.{signed_decimal}
+use Rattle.krb_msg.specs.Term.{Term, Integer, Sequence, Tagged, Required, Value}
+use Rattle.krb_text.specs.declared.item.ItemForm.{ItemForm}
+use Rattle.krb_text.specs.declared.item.ItemForm.TheVariants as form
+use Rattle.krb_text.specs.declared.json.Escape.TheVariants as escapes
+use Rattle.krb_text.specs.Forms.{name_string, number_text, octets_string}
+use Rattle.krb_text.specs.Text.{escape}
+use Rattle.krb_text.specs.inner.Strings.{quoted}
+
+abbrev pub number_item : ItemForm → ℤ → List ℕ
+number_item form.Line number = signed_decimal number
+number_item (form.Named registry) number = number_text true registry number
+number_item (form.Name registry) number = name_string registry number
+number_item form.Part number = signed_decimal number
+number_item form.Object number = signed_decimal number
+
+abbrev pub octets_item : ItemForm → List ℕ → List ℕ
+octets_item form.Line octets = escape octets
+octets_item (form.Named registry) octets = escape octets
+octets_item (form.Name registry) octets = escape octets
+octets_item form.Part octets = quoted escapes.Line octets
+octets_item form.Object octets = octets_string octets
+
+-- the number that an item is, or that a SEQUENCE begins with
+abbrev pub item_number : (term : Term) → Value term → ℤ
+item_number (Integer low high) number = number
+item_number (Tagged index term) value = item_number term value
+item_number (Sequence (Required term fields)) values = item_number term values.0
+item_number other value = pos 0

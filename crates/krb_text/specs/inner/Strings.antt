@@ -1,0 +1,19 @@
+-- Octets as strings of JSON have them.
+use Rattle.std.specs.Prelude.{ℕ, Bool, ◌&&◌, ◌==◌, nat_le, not, List}
+use Rattle.std.specs.List.{flat_map}
+use Rattle.krb_text.specs.declared.json.Escape.{Escape}
+use Rattle.krb_text.specs.declared.json.Escape.TheVariants as escapes
+use Rattle.krb_text.specs.Text.{escape_octet, is_plain}
+use Rattle.krb_text.specs.Forms.{json_character, shown_octet}
+
+abbrev pub escaped : Escape → ℕ → List ℕ
+escaped escapes.Line octet = escape_octet octet
+escaped escapes.Object octet = shown_octet octet
+
+-- whether an octet is not escaped
+abbrev pub is_unescaped : Escape → ℕ → Bool
+is_unescaped escapes.Line octet = is_plain octet
+is_unescaped escapes.Object octet = nat_le 0x20 octet && nat_le octet 0x7E && not (octet == 0x5C)
+
+abbrev pub quoted : Escape → List ℕ → List ℕ
+quoted escape octets = flat_map (λ octet. flat_map json_character (escaped escape octet)) octets

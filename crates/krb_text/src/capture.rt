@@ -1,0 +1,161 @@
+//! Records of captures.
+
+ghost use Rattle.std.specs.Prelude.{◌≡◌, ◌++◌, OnOk};
+ghost use Rattle.std.specs.Option.{option_copied};
+ghost use Rattle.krb_msg.specs.ViewValues.{MessageLists, message_of_view};
+ghost use Rattle.krb_text.specs.Captures.{capture_end_line, capture_refused_line, captured_message_line, captured_refused_line, count_fields, joined_line, lost_line, password_line};
+ghost use Rattle.krb_text.specs.Forms.{fields_text};
+
+use crate::field::{put_end, put_field, put_opening};
+use crate::form::Form;
+use crate::message::put_rest;
+use crate::origin::{Origin, put_captured_opening};
+use crate::refusal::{Reason, put_fault_rest, put_path};
+use crate::text_buffer::TextBuffer;
+use krb_der::{Memory, Refusal};
+use krb_file::FileWhy;
+use krb_msg::MessageView;
+use std::alloc::AllocError;
+
+/// Appends a message of a capture by a view of it, as a line or an object with its line feed.
+#[tactic(auto, unfolding(crate::specs::Captures::captured_text, crate::specs::Messages::message_record))]
+pub fn put_captured_message(
+    text: &mut TextBuffer,
+    form: Form,
+    origin: &Origin,
+    view: &MessageView<'_>,
+) -> Result<(), Memory>
+    requires { MessageLists view.now }
+    ensures { OnOk result (text.new ≡ text.old ++ captured_message_line form origin.now (message_of_view view.now)) }
+{
+    put_captured_opening(text, form, origin, view.kind().name())?;
+    put_rest(text, form, view)?;
+    text.push_str("\n")?;
+    Ok(())
+}
+
+/// Appends the line of a refused message of a capture: the place of the octet at fault, what is wrong
+/// with it, and the path of the field at fault, which a line has only if numbers have their names.
+#[tactic(auto, unfolding(crate::specs::Captures::captured_text))]
+pub fn put_captured_refusal(
+    text: &mut TextBuffer,
+    form: Form,
+    origin: &Origin,
+    refusal: Refusal,
+    path: Option<&str>,
+) -> Result<(), AllocError>
+    ensures { OnOk result (text.new ≡ text.old ++ captured_refused_line form origin.now refusal (option_copied path.entry)) }
+{
+    let reason = Reason::of(refusal.why);
+    put_captured_opening(text, form, origin, "refused")?;
+    put_fault_rest(text, form, u64::from(refusal.place), &reason, path)
+}
+
+/// Appends the line of a direction whose first octets come without a SYN: what follows may begin
+/// within a message.
+#[tactic(auto, unfolding(crate::specs::Captures::captured_text))]
+pub fn put_joined(text: &mut TextBuffer, form: Form, origin: &Origin) -> Result<(), AllocError>
+    ensures { OnOk result (text.new ≡ text.old ++ joined_line form origin.now) }
+{
+    put_captured_opening(text, form, origin, "joined")?;
+    put_end(text, form)
+}
+
+/// Appends the line of octets that are not in the capture: their place in the direction or in the
+/// datagram, how many they are, and the path of the field that has the first one, which a line
+/// has only if numbers have their names.
+#[tactic(auto, unfolding(crate::specs::Captures::captured_text))]
+pub fn put_lost(
+    text: &mut TextBuffer,
+    form: Form,
+    origin: &Origin,
+    place: u64,
+    octets: u64,
+    path: Option<&str>,
+) -> Result<(), AllocError>
+    ensures { OnOk result (text.new ≡ text.old ++ lost_line form origin.now place octets (option_copied path.entry)) }
+{
+    put_captured_opening(text, form, origin, "lost")?;
+    put_field(text, form, " place=", ",\"place", &place)?;
+    put_field(text, form, " octets=", ",\"octets", &octets)?;
+    put_path(text, form, path)?;
+    put_end(text, form)
+}
+
+/// Appends the line of a message that changes a password (RFC 3244, section 2): its version, how many
+/// octets its AP-REQ or AP-REP has, and how many follow it.
+#[tactic(auto, unfolding(crate::specs::Captures::captured_text))]
+pub fn put_password(
+    text: &mut TextBuffer,
+    form: Form,
+    origin: &Origin,
+    version: u16,
+    ap: u16,
+    rest: u64,
+) -> Result<(), AllocError>
+    ensures { OnOk result (text.new ≡ text.old ++ password_line form origin.now version ap rest) }
+{
+    put_captured_opening(text, form, origin, "KPASSWD")?;
+    put_field(text, form, " version=", ",\"version", &u64::from(version))?;
+    put_field(text, form, " ap=", ",\"ap", &u64::from(ap))?;
+    put_field(text, form, " rest=", ",\"rest", &rest)?;
+    put_end(text, form)
+}
+
+/// What was counted in a capture.
+#[derive(Clone, Copy, PartialEq, Eq, Debug, Default)]
+pub struct CaptureCounts {
+    /// The packets.
+    pub packets: u64,
+    /// The messages that were listed.
+    pub messages: u64,
+    /// The messages that were refused.
+    pub refused: u64,
+    /// How many times octets were not in the capture.
+    pub lost: u64,
+    /// The packets whose headers could not be read.
+    pub unread: u64,
+}
+
+/// Appends the fields of the counts.
+fn put_counts(text: &mut TextBuffer, form: Form, counts: &CaptureCounts) -> Result<(), AllocError>
+    ensures { OnOk result (text.new ≡ text.old ++ fields_text form (count_fields counts.now)) }
+{
+    put_field(text, form, " packets=", ",\"packets", &counts.packets)?;
+    put_field(text, form, " messages=", ",\"messages", &counts.messages)?;
+    put_field(text, form, " refused=", ",\"refused", &counts.refused)?;
+    put_field(text, form, " lost=", ",\"lost", &counts.lost)?;
+    put_field(text, form, " unread=", ",\"unread", &counts.unread)
+}
+
+/// Appends the last line of a capture that is read to its end.
+#[tactic(auto, unfolding(crate::specs::Forms::record_text))]
+pub fn put_capture_end(
+    text: &mut TextBuffer,
+    form: Form,
+    counts: &CaptureCounts,
+) -> Result<(), AllocError>
+    ensures { OnOk result (text.new ≡ text.old ++ capture_end_line form counts.now) }
+{
+    put_opening(text, form, "end")?;
+    put_counts(text, form, counts)?;
+    put_end(text, form)
+}
+
+/// Appends the last line of a capture that is refused: what was counted before, the place of the field
+/// at fault, what is wrong with it, and its path, which a line has only if numbers have their names.
+#[tactic(auto, unfolding(crate::specs::Forms::record_text))]
+pub fn put_capture_refusal(
+    text: &mut TextBuffer,
+    form: Form,
+    counts: &CaptureCounts,
+    place: u64,
+    why: FileWhy,
+    path: Option<&str>,
+) -> Result<(), AllocError>
+    ensures { OnOk result (text.new ≡ text.old ++ capture_refused_line form counts.now place why (option_copied path.entry)) }
+{
+    put_opening(text, form, "refused")?;
+    put_counts(text, form, counts)?;
+    put_fault_rest(text, form, place, &Reason::of_file(why), path)
+}

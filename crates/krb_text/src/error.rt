@@ -1,0 +1,189 @@
+//! What is printed of a KRB-ERROR.
+
+ghost use Rattle.std.specs.Prelude.{◌≡◌, ◌++◌, ◌^◌, ◌<◌, Some, None, codes, length, pos, MatchOption, OnOk};
+ghost use Rattle.krb_msg.specs.Grammar.{pa_data};
+ghost use Rattle.krb_msg.specs.ViewValues.{KrbErrorLists, krb_error_of_view};
+ghost use Rattle.krb_msg.specs.Viewed.{AreViewed, items_of};
+ghost use Rattle.krb_text.specs.Errors.{code_suffix, code_text};
+ghost use Rattle.krb_text.specs.Forms.{field, fields_text, labelled};
+ghost use Rattle.krb_text.specs.Messages.{krb_error_fields, method_data_in, methods, methods_in};
+ghost use Rattle.krb_text.specs.Values.{ErrorCode, Number, Quoted, Word, client, count, if_there, principal};
+
+use crate::field::put_field;
+use crate::form::Form;
+use crate::item::{put_name_member, put_named};
+use crate::list::PaDataTypes;
+use crate::shown::{Shown, put_begin};
+use crate::text_buffer::TextBuffer;
+use crate::view_field::{
+    put_absent_field, put_client_field, put_micros_field, put_optional_micros_field,
+    put_optional_size_field, put_optional_time_field, put_principal_field, put_quoted_field,
+    put_time_field,
+};
+use krb_der::Many;
+use krb_msg::{ItemsView, KrbErrorView, PaData, view_whole};
+use krb_registry::Registry;
+use std::alloc::AllocError;
+
+/// The code of an error that asks for pre-authentication (RFC 4120, 7.5.9).
+const PREAUTH_REQUIRED: i64 = 25;
+
+/// The code of an error: its number, and `:` and its name if it is one of those that KDCs and
+/// servers answer most, or with names in any case.
+#[derive(Clone, Copy)]
+struct Code(i64);
+
+/// `:` and the name of an error that has one in any line.
+#[tactic(auto, unfolding(crate::specs::Errors::code_suffix, crate::specs::Errors::code_name))]
+fn code_suffix<'a>(code: i64) -> &'a str
+    ensures { result.now ≡ code_suffix code }
+{
+    match code {
+        6 => ":KDC_ERR_C_PRINCIPAL_UNKNOWN",
+        7 => ":KDC_ERR_S_PRINCIPAL_UNKNOWN",
+        14 => ":KDC_ERR_ETYPE_NOSUPP",
+        24 => ":KDC_ERR_PREAUTH_FAILED",
+        25 => ":KDC_ERR_PREAUTH_REQUIRED",
+        37 => ":KRB_AP_ERR_SKEW",
+        52 => ":KRB_ERR_RESPONSE_TOO_BIG",
+        60 => ":KRB_ERR_GENERIC",
+        61 => ":KRB_ERR_FIELD_TOOLONG",
+        _ => "",
+    }
+}
+
+/// Appends a code, and `:` and its name if it has one in any line.
+#[tactic(auto, unfolding(crate::specs::Errors::code_text))]
+fn put_code(line: &mut TextBuffer, code: i64) -> Result<(), AllocError>
+    ensures { OnOk result (line.new ≡ line.old ++ code_text code) }
+{
+    line.push_signed(code)?;
+    line.push_str(code_suffix(code))
+}
+
+impl Shown for Code {
+    ghost shown = { λ code. ErrorCode code.0 };
+
+    #[inline(always)]
+    #[tactic(auto, unfolding(crate::specs::Forms::value_text))]
+    fn put_text(&self, line: &mut TextBuffer, names: bool) -> Result<(), AllocError> {
+        if names {
+            put_named(line, true, Registry::ErrorCodes, self.0)
+        } else {
+            put_code(line, self.0)
+        }
+    }
+
+    #[tactic(auto, unfolding(crate::specs::Forms::members, crate::specs::Forms::json_value, crate::specs::Forms::names_member))]
+    fn put_members(&self, object: &mut TextBuffer, begin: &str) -> Result<(), AllocError> {
+        put_begin(object, begin)?;
+        object.push_signed(self.0)?;
+        put_name_member(object, begin, Registry::ErrorCodes, self.0)
+    }
+}
+
+/// Returns a view of the METHOD-DATA that octets are, if they are that.
+fn method_data(octets: &[u8]) -> Option<ItemsView<'_>>
+    requires { length octets.now < 2 ^ 31 }
+    ensures { MatchOption result (method_data_in octets.now ≡ None) (λ items. AreViewed pa_data items.octets.now × (method_data_in octets.now ≡ Some (items_of pa_data items.octets.now))) }
+{
+    view_whole::<Many<PaData>>(octets)
+}
+
+/// Returns a view of the METHOD-DATA of an error that asks for pre-authentication, if its data is
+/// that.
+fn methods_of<'a>(error: &KrbErrorView<'a>) -> Option<ItemsView<'a>>
+    requires { KrbErrorLists error.now }
+    ensures { let seen = krb_error_of_view error.now in MatchOption result (methods_in seen.error_code seen.e_data ≡ None) (λ items. AreViewed pa_data items.octets.now × (methods_in seen.error_code seen.e_data ≡ Some (items_of pa_data items.octets.now))) }
+{
+    match error.e_data {
+        Some(octets) if error.error_code == PREAUTH_REQUIRED => method_data(octets),
+        _ => None,
+    }
+}
+
+/// Appends the field of the types of the METHOD-DATA of an error.
+fn put_methods_field(
+    text: &mut TextBuffer,
+    form: Form,
+    label: &str,
+    begin: &str,
+    error: &KrbErrorView<'_>,
+) -> Result<(), AllocError>
+    requires { KrbErrorLists error.now }
+    ensures { let seen = krb_error_of_view error.now in OnOk result (text.new ≡ text.old ++ labelled form label.now begin.now (methods seen.error_code seen.e_data)) }
+{
+    match methods_of(error) {
+        None => put_absent_field(text, form, label, begin),
+        Some(items) => put_field(text, form, label, begin, &PaDataTypes::new(items)),
+    }
+}
+
+/// Appends the fields of a KRB-ERROR up to the time of the client.
+fn put_first_fields(
+    text: &mut TextBuffer,
+    form: Form,
+    error: &KrbErrorView<'_>,
+) -> Result<(), AllocError>
+    requires { KrbErrorLists error.now }
+    ensures { let seen = krb_error_of_view error.now in OnOk result (text.new ≡ text.old
+        ++ field form (codes "code") (ErrorCode seen.error_code)
+        ++ field form (codes "client") (client seen.cname seen.crealm)
+        ++ field form (codes "server") (principal seen.realm seen.sname)
+        ++ field form (codes "ctime") (if_there Word seen.ctime)
+        ++ field form (codes "cusec") (if_there (λ n. Number (pos n)) seen.cusec)) }
+{
+    put_field(text, form, " code=", ",\"code", &Code(error.error_code))?;
+    put_client_field(
+        text,
+        form,
+        " client=",
+        ",\"client",
+        &error.cname,
+        error.crealm,
+    )?;
+    put_principal_field(
+        text,
+        form,
+        " server=",
+        ",\"server",
+        &error.sname,
+        error.realm,
+    )?;
+    put_optional_time_field(text, form, " ctime=", ",\"ctime", error.ctime)?;
+    put_optional_micros_field(text, form, " cusec=", ",\"cusec", error.cusec)
+}
+
+/// Appends the fields of a KRB-ERROR from the time of the server on.
+fn put_last_fields(
+    text: &mut TextBuffer,
+    form: Form,
+    error: &KrbErrorView<'_>,
+) -> Result<(), AllocError>
+    requires { KrbErrorLists error.now }
+    ensures { let seen = krb_error_of_view error.now in OnOk result (text.new ≡ text.old
+        ++ field form (codes "stime") (Word seen.stime)
+        ++ field form (codes "susec") (Number (pos seen.susec))
+        ++ field form (codes "text") (if_there Quoted seen.e_text)
+        ++ field form (codes "data") (if_there count seen.e_data)
+        ++ field form (codes "methods") (methods seen.error_code seen.e_data)) }
+{
+    put_time_field(text, form, " stime=", ",\"stime", error.stime)?;
+    put_micros_field(text, form, " susec=", ",\"susec", error.susec)?;
+    put_quoted_field(text, form, " text=", ",\"text", error.e_text)?;
+    put_optional_size_field(text, form, " data=", ",\"data", error.e_data)?;
+    put_methods_field(text, form, " methods=", ",\"methods", error)
+}
+
+/// Appends the fields of a KRB-ERROR.
+pub(crate) fn put_krb_error(
+    text: &mut TextBuffer,
+    form: Form,
+    error: &KrbErrorView<'_>,
+) -> Result<(), AllocError>
+    requires { KrbErrorLists error.now }
+    ensures { OnOk result (text.new ≡ text.old ++ fields_text form (krb_error_fields (krb_error_of_view error.now))) }
+{
+    put_first_fields(text, form, error)?;
+    put_last_fields(text, form, error)
+}

@@ -1,0 +1,46 @@
+//! Laws of what is printed. Each is the contract of a function that does nothing.
+ghost use Rattle.krb_text.specs.Laws.{CaptureEndIsOneLine, CaptureRefusalIsOneLine, CapturedMessageIsOneLine, CapturedRefusalIsOneLine, CountedStreamEndIsOneLine, DatesAreTheCalendars, EscapeIsGraphic, FileNameIsOneLine, FileRefusalIsOneLine, InputRefusalIsOneLine, JoinedIsOneLine, LostIsOneLine, MessageIsOneLine, MessageRefusalIsOneLine, PasswordIsOneLine, PrincipalTextIsInjective, StreamEndIsOneLine};
+
+/// Different components or realms have different texts.
+pub fn principal_text_is_injective()
+    ensures { PrincipalTextIsInjective }
+{}
+
+/// Escaped octets are graphic characters of ASCII: no blank, no line feed.
+pub fn escape_is_graphic()
+    ensures { EscapeIsGraphic }
+{}
+
+/// What is printed of a message is one line in each form: blanks and graphic characters of ASCII, and
+/// a line feed after them.
+pub fn message_is_one_line()
+    ensures { MessageIsOneLine }
+{}
+
+/// What is printed of a refusal, of the end of a stream, and of a file's name, is one line in each
+/// form: blanks and graphic characters of ASCII, and a line feed after them.
+pub fn end_is_one_line()
+    ensures file { FileRefusalIsOneLine }
+    ensures message { MessageRefusalIsOneLine }
+    ensures input { InputRefusalIsOneLine }
+    ensures stream { StreamEndIsOneLine }
+    ensures counted { CountedStreamEndIsOneLine }
+    ensures name { FileNameIsOneLine }
+{}
+
+/// What is printed of each record of a capture, and of its end or of its refusal, is one line in each
+/// form: blanks and graphic characters of ASCII, and a line feed after them.
+pub fn capture_is_one_line_each()
+    ensures message { CapturedMessageIsOneLine }
+    ensures refusal { CapturedRefusalIsOneLine }
+    ensures joined { JoinedIsOneLine }
+    ensures lost { LostIsOneLine }
+    ensures password { PasswordIsOneLine }
+    ensures end { CaptureEndIsOneLine }
+    ensures file { CaptureRefusalIsOneLine }
+{}
+
+/// The date n days after 1970-01-01, found by counting, is the calendar's.
+pub fn dates_are_the_calendars()
+    ensures { DatesAreTheCalendars }
+{}

@@ -1,0 +1,62 @@
+//! Text: records in one of three forms, the values that they show, and what is printed of messages,
+//! refusals, streams and captures.
+//!
+//! A record is a kind and fields, and a field is a name and a value. [`Form::Lines`] makes a line of it,
+//! [`Form::NamedLines`] a line in which the numbers of registries have their names, and [`Form::Json`]
+//! an object of JSON. What a record has is said once, whatever the form; each function appends to
+//! one text ([`TextBuffer`]), and its contract says what was appended.
+//!
+//! The main calls are [`put_message_view`] and [`message_line`] for messages, and
+//! [`put_captured_message`] for captures. `krb_list` prints keytabs and caches with the parts that are
+//! here: [`put_opening`], [`put_field`] of what is [`Shown`], and [`put_closing`]. Nothing here reads or
+//! writes a file.
+#![tactic(auto)]
+
+mod capture;
+mod error;
+mod escape;
+mod field;
+mod file_name;
+mod flags;
+mod form;
+mod item;
+mod json;
+mod law;
+mod list;
+mod message;
+mod notes;
+mod number;
+mod origin;
+mod principal;
+mod refusal;
+mod shown;
+mod stream;
+mod text_buffer;
+mod ticket_flags;
+mod time;
+mod view_field;
+
+pub use capture::{
+    CaptureCounts, put_capture_end, put_capture_refusal, put_captured_message,
+    put_captured_refusal, put_joined, put_lost, put_password,
+};
+pub use escape::put_escaped;
+pub use field::{put_closing, put_field, put_opening};
+pub use file_name::{FileName, put_file};
+pub use form::Form;
+pub use json::put_string;
+pub use krb_msg::{Notes, notes_of};
+pub use law::{
+    capture_is_one_line_each, dates_are_the_calendars, end_is_one_line, escape_is_graphic,
+    message_is_one_line, principal_text_is_injective,
+};
+pub use message::{message_line, put_message, put_message_view};
+pub use number::{Numbered, Sealed};
+pub use origin::{Origin, Transport};
+pub use principal::{Principal, Strings, ViewedStrings, principal_text, put_principal};
+pub use refusal::{InputFault, put_file_refusal, put_input_refusal, put_message_refusal};
+pub use shown::{Plain, Shown, put_begin};
+pub use stream::{put_counted_stream_end, put_stream_end, put_stream_refusal};
+pub use text_buffer::TextBuffer;
+pub use ticket_flags::TicketFlags;
+pub use time::{FileTime, put_time, time_text};

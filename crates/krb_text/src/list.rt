@@ -1,0 +1,299 @@
+//! Lists that are viewed in octets, as records show them.
+
+ghost use Rattle.std.specs.Prelude.{◌≡◌, ◌++◌, [], true, length, map, OnOk, codes};
+ghost use Rattle.std.specs.List.{flat_map};
+ghost use Rattle.krb_msg.specs.Grammar.{int32, pa_data};
+ghost use Rattle.krb_registry.specs.declared.registry.Registry.TheVariants.{EncryptionTypes, PreAuthenticationData};
+ghost use Rattle.krb_msg.specs.Shape.{is_unambiguous, has_octet_tags};
+ghost use Rattle.krb_msg.specs.Viewed.{AreViewed, items_of};
+ghost use Rattle.krb_msg.specs.Views.{pa_data_of};
+ghost use Rattle.std.specs.Fmt.{signed_decimal};
+ghost use Rattle.krb_text.specs.Forms.{members, name_string, number_text, value_text};
+ghost use Rattle.krb_text.specs.Messages.{padata};
+ghost use Rattle.krb_text.specs.Text.{joined, list_text};
+ghost use Rattle.krb_text.specs.Values.{Numbers};
+ghost use Rattle.krb_text.specs.inner.Items.{item_number, number_item};
+
+use crate::item::{ItemForm, put_number_item};
+use crate::shown::{Shown, put_begin, put_names_begin};
+use crate::text_buffer::TextBuffer;
+use krb_der::Int32;
+use krb_msg::{ItemsView, PaData, PaDataView, View, next_item};
+use krb_registry::Registry;
+use std::alloc::AllocError;
+use std::marker::Model;
+
+/// A type of items that are numbers of a registry, or begin with one.
+pub(crate) trait Listed<'a>: View<'a> {
+    /// Returns the number of an item.
+    fn number(seen: &Self::Of) -> i64
+        ensures { result ≡ item_number Self.View.term (Self.View.value seen.now) };
+}
+
+impl<'a> Listed<'a> for Int32 {
+    #[inline(always)]
+    fn number(seen: &i64) -> i64 {
+        *seen
+    }
+}
+
+/// Its type alone.
+impl<'a> Listed<'a> for PaData {
+    #[inline(always)]
+    fn number(seen: &PaDataView<'a>) -> i64 {
+        seen.padata_type
+    }
+}
+
+/// Appends the number of an item.
+#[inline(always)]
+fn put_item<'a, T: Listed<'a>>(
+    text: &mut TextBuffer,
+    form: ItemForm,
+    seen: &T::Of,
+) -> Result<(), AllocError>
+    ensures { OnOk result (text.new ≡ text.old ++ number_item form (item_number T.View.term (T.View.value seen.now))) }
+{
+    put_number_item(text, form, T::number(seen))
+}
+
+/// Appends a comma and the number of an item, for each of the items.
+#[inline(always)]
+fn put_other_numbers<'a, T: Listed<'a>>(
+    text: &mut TextBuffer,
+    form: ItemForm,
+    items: ItemsView<'a>,
+) -> Result<(), AllocError>
+    requires tags { has_octet_tags T.View.term ≡ true }
+    requires unambiguous { is_unambiguous T.View.term ≡ true }
+    requires viewed { AreViewed T.View.term items.octets.now }
+    ensures { OnOk result (text.new ≡ text.old ++ flat_map (λ item. codes "," ++ number_item form (item_number T.View.term item)) (items_of T.View.term items.entry.octets.now)) }
+{
+    let mut others = items;
+    'others: while let Some((seen, rest)) = next_item::<T>(others) {
+        text.push_str(",")?;
+        put_item::<T>(text, form, &seen)?;
+        others = rest;
+    }
+    Ok(())
+}
+
+/// Appends the numbers of items with commas between them.
+#[inline(always)]
+fn put_numbers<'a, T: Listed<'a>>(
+    text: &mut TextBuffer,
+    form: ItemForm,
+    items: ItemsView<'a>,
+) -> Result<(), AllocError>
+    requires tags { has_octet_tags T.View.term ≡ true }
+    requires unambiguous { is_unambiguous T.View.term ≡ true }
+    requires viewed { AreViewed T.View.term items.octets.now }
+    ensures { OnOk result (text.new ≡ text.old ++ joined [] (codes ",") (λ item. number_item form (item_number T.View.term item)) (items_of T.View.term items.entry.octets.now)) }
+{
+    match next_item::<T>(items) {
+        None => Ok(()),
+        Some((first, others)) => {
+            put_item::<T>(text, form, &first)?;
+            put_other_numbers::<T>(text, form, others)
+        }
+    }
+}
+
+/// Appends the numbers of items in brackets, with commas between them.
+#[inline(always)]
+fn put_number_list<'a, T: Listed<'a>>(
+    text: &mut TextBuffer,
+    form: ItemForm,
+    items: ItemsView<'a>,
+) -> Result<(), AllocError>
+    requires tags { has_octet_tags T.View.term ≡ true }
+    requires unambiguous { is_unambiguous T.View.term ≡ true }
+    requires viewed { AreViewed T.View.term items.octets.now }
+    ensures { OnOk result (text.new ≡ text.old ++ list_text (λ item. number_item form (item_number T.View.term item)) (items_of T.View.term items.entry.octets.now)) }
+{
+    text.push_str("[")?;
+    put_numbers::<T>(text, form, items)?;
+    text.push_str("]")
+}
+
+/// Appends numbers in brackets.
+#[inline(always)]
+fn put_plain_list<'a, T: Listed<'a>>(
+    text: &mut TextBuffer,
+    items: ItemsView<'a>,
+) -> Result<(), AllocError>
+    requires tags { has_octet_tags T.View.term ≡ true }
+    requires unambiguous { is_unambiguous T.View.term ≡ true }
+    requires viewed { AreViewed T.View.term items.octets.now }
+    ensures { OnOk result (text.new ≡ text.old ++ list_text signed_decimal (map (item_number T.View.term) (items_of T.View.term items.entry.octets.now))) }
+{
+    put_number_list::<T>(text, ItemForm::Line, items)
+}
+
+/// Appends numbers in brackets, each with `:` and its name, or `-` if it has none.
+#[inline(always)]
+fn put_named_list<'a, T: Listed<'a>>(
+    text: &mut TextBuffer,
+    registry: Registry,
+    items: ItemsView<'a>,
+) -> Result<(), AllocError>
+    requires tags { has_octet_tags T.View.term ≡ true }
+    requires unambiguous { is_unambiguous T.View.term ≡ true }
+    requires viewed { AreViewed T.View.term items.octets.now }
+    ensures { OnOk result (text.new ≡ text.old ++ list_text (number_text true registry) (map (item_number T.View.term) (items_of T.View.term items.entry.octets.now))) }
+{
+    put_number_list::<T>(text, ItemForm::Named(registry), items)
+}
+
+/// Appends the names of numbers in brackets, each a string, or null if there is none.
+#[inline(always)]
+fn put_name_list<'a, T: Listed<'a>>(
+    text: &mut TextBuffer,
+    registry: Registry,
+    items: ItemsView<'a>,
+) -> Result<(), AllocError>
+    requires tags { has_octet_tags T.View.term ≡ true }
+    requires unambiguous { is_unambiguous T.View.term ≡ true }
+    requires viewed { AreViewed T.View.term items.octets.now }
+    ensures { OnOk result (text.new ≡ text.old ++ list_text (name_string registry) (map (item_number T.View.term) (items_of T.View.term items.entry.octets.now))) }
+{
+    put_number_list::<T>(text, ItemForm::Name(registry), items)
+}
+
+/// Appends what a line shows of numbers of a registry.
+#[inline(always)]
+#[tactic(auto, unfolding(crate::specs::Forms::value_text))]
+fn put_numbers_text<'a, T: Listed<'a>>(
+    line: &mut TextBuffer,
+    names: bool,
+    registry: Registry,
+    items: ItemsView<'a>,
+) -> Result<(), AllocError>
+    requires tags { has_octet_tags T.View.term ≡ true }
+    requires unambiguous { is_unambiguous T.View.term ≡ true }
+    requires viewed { AreViewed T.View.term items.octets.now }
+    ensures { OnOk result (line.new ≡ line.old ++ value_text names (Numbers registry (map (item_number T.View.term) (items_of T.View.term items.entry.octets.now)))) }
+{
+    if names {
+        put_named_list::<T>(line, registry, items)
+    } else {
+        put_plain_list::<T>(line, items)
+    }
+}
+
+/// Appends the members of numbers of a registry.
+#[tactic(auto, unfolding(crate::specs::Forms::members, crate::specs::Forms::json_value, crate::specs::Forms::names_member))]
+fn put_numbers_members<'a, T: Listed<'a>>(
+    object: &mut TextBuffer,
+    begin: &str,
+    registry: Registry,
+    items: ItemsView<'a>,
+) -> Result<(), AllocError>
+    requires tags { has_octet_tags T.View.term ≡ true }
+    requires unambiguous { is_unambiguous T.View.term ≡ true }
+    requires viewed { AreViewed T.View.term items.octets.now }
+    ensures { OnOk result (object.new ≡ object.old ++ members begin.now (Numbers registry (map (item_number T.View.term) (items_of T.View.term items.entry.octets.now)))) }
+{
+    put_begin(object, begin)?;
+    put_plain_list::<T>(object, items)?;
+    put_names_begin(object, begin)?;
+    put_name_list::<T>(object, registry, items)
+}
+
+/// Returns how many items there are.
+pub(crate) fn count_items<'a, T: View<'a>>(items: ItemsView<'a>) -> usize
+    requires tags { has_octet_tags T.term ≡ true }
+    requires unambiguous { is_unambiguous T.term ≡ true }
+    requires viewed { AreViewed T.term items.octets.now }
+    ensures { result ≡ length (items_of T.term items.entry.octets.now) }
+{
+    let mut count = 0;
+    let mut others = items;
+    'others: while let Some((_seen, rest)) = next_item::<T>(others) {
+        count += 1;
+        others = rest;
+    }
+    count
+}
+
+/// Encryption types that are viewed in octets. Contracts see the numbers.
+#[derive(Drop)]
+pub(crate) struct EncryptionTypes<'a>(ItemsView<'a>);
+
+impl<'a> Model for EncryptionTypes<'a> {
+    ghost use Rattle.std.specs.Prelude.{List, ℤ, map};
+    ghost use Rattle.krb_msg.specs.Grammar.{int32};
+    ghost use Rattle.krb_msg.specs.Viewed.{AreViewed, items_of};
+    ghost use Rattle.krb_text.specs.inner.Items.{item_number};
+
+    ghost Value = { List ℤ };
+
+    ghost view = { λ seen. map (item_number int32) (items_of int32 seen.0.octets.now) };
+
+    ghost invariant = { λ seen. AreViewed int32 seen.0.octets.now };
+}
+
+impl<'a> EncryptionTypes<'a> {
+    /// Takes the items of a list.
+    #[inline(always)]
+    pub(crate) fn new(items: ItemsView<'a>) -> EncryptionTypes<'a>
+        requires { AreViewed int32 items.octets.now }
+        ensures { result ≡ items_of int32 items.entry.octets.now }
+    {
+        EncryptionTypes(items)
+    }
+}
+
+/// The numbers in brackets, with commas between them.
+impl<'a> Shown for EncryptionTypes<'a> {
+    ghost shown = { λ numbers. Numbers EncryptionTypes numbers };
+
+    fn put_text(&self, line: &mut TextBuffer, names: bool) -> Result<(), AllocError> {
+        put_numbers_text::<Int32>(line, names, Registry::EncryptionTypes, self.0)
+    }
+
+    fn put_members(&self, object: &mut TextBuffer, begin: &str) -> Result<(), AllocError> {
+        put_numbers_members::<Int32>(object, begin, Registry::EncryptionTypes, self.0)
+    }
+}
+
+/// The types of pre-authentication data that are viewed in octets. Contracts see the numbers.
+#[derive(Drop)]
+pub(crate) struct PaDataTypes<'a>(ItemsView<'a>);
+
+impl<'a> Model for PaDataTypes<'a> {
+    ghost use Rattle.std.specs.Prelude.{List, ℤ, map};
+    ghost use Rattle.krb_msg.specs.Grammar.{pa_data};
+    ghost use Rattle.krb_msg.specs.Viewed.{AreViewed, items_of};
+    ghost use Rattle.krb_text.specs.inner.Items.{item_number};
+
+    ghost Value = { List ℤ };
+
+    ghost view = { λ seen. map (item_number pa_data) (items_of pa_data seen.0.octets.now) };
+
+    ghost invariant = { λ seen. AreViewed pa_data seen.0.octets.now };
+}
+
+impl<'a> PaDataTypes<'a> {
+    /// Takes the items of a list.
+    #[inline(always)]
+    pub(crate) fn new(items: ItemsView<'a>) -> PaDataTypes<'a>
+        requires { AreViewed pa_data items.octets.now }
+        ensures { Numbers PreAuthenticationData result ≡ padata (map pa_data_of (items_of pa_data items.entry.octets.now)) }
+    {
+        PaDataTypes(items)
+    }
+}
+
+/// The numbers in brackets, with commas between them.
+impl<'a> Shown for PaDataTypes<'a> {
+    ghost shown = { λ numbers. Numbers PreAuthenticationData numbers };
+
+    fn put_text(&self, line: &mut TextBuffer, names: bool) -> Result<(), AllocError> {
+        put_numbers_text::<PaData>(line, names, Registry::PreAuthenticationData, self.0)
+    }
+
+    fn put_members(&self, object: &mut TextBuffer, begin: &str) -> Result<(), AllocError> {
+        put_numbers_members::<PaData>(object, begin, Registry::PreAuthenticationData, self.0)
+    }
+}

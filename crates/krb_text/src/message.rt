@@ -1,0 +1,275 @@
+//! What is printed of messages, written from views of their octets.
+
+ghost use Rattle.std.specs.Prelude.{◌≡◌, ◌++◌, IfOk, OnOk, codes, string_bytes};
+ghost use Rattle.krb_msg.specs.ViewValues.{KdcReqBodyLists, KdcReqLists, KdcRepLists, ApReqLists, KrbSafeLists, KrbCredLists, MessageLists, kdc_req_body_of_view, kdc_req_of_view, kdc_rep_of_view, ap_req_of_view, ap_rep_of_view, krb_safe_of_view, krb_priv_of_view, krb_cred_of_view, message_of_view};
+ghost use Rattle.krb_registry.specs.declared.registry.Registry.TheVariants as registries;
+ghost use Rattle.krb_text.specs.Forms.{closing, field, fields_text};
+ghost use Rattle.krb_text.specs.Messages.{padata, kdc_req_fields, kdc_rep_fields, ap_req_fields, ap_rep_fields, krb_safe_fields, krb_priv_fields, krb_cred_fields, fields_of, message_record, message_text, message_line};
+ghost use Rattle.krb_text.specs.Values.{Flags, Number, Numbers, String as Escaped, Word, count, if_there, principal, sealed};
+
+use crate::error::put_krb_error;
+use crate::field::{put_closing, put_field, put_opening};
+use crate::form::Form;
+use crate::text_buffer::TextBuffer;
+use crate::view_field::{
+    put_address_field, put_addresses_field, put_checksum_field, put_etypes_field, put_flags_field,
+    put_optional_address_field, put_optional_micros_field, put_optional_principal_field,
+    put_optional_sealed_field, put_optional_tickets_field, put_optional_time_field,
+    put_padata_field, put_principal_field, put_sealed_field, put_size_field, put_text_field,
+    put_tickets_field, put_time_field,
+};
+use krb_der::Memory;
+use krb_msg::{
+    ApRepView, ApReqView, KdcRepView, KdcReqBodyView, KdcReqView, KrbCredView, KrbPrivView,
+    KrbSafeView, Message, MessageView, encode, notes_of_view, view_message,
+};
+use krb_registry::Registry;
+use std::alloc::{AllocError, Global};
+
+/// Appends the fields of a KDC-REQ up to the end of the renewable life.
+fn put_kdc_req_first_fields(
+    text: &mut TextBuffer,
+    form: Form,
+    body: &KdcReqBodyView<'_>,
+) -> Result<(), AllocError>
+    requires { KdcReqBodyLists body.now }
+    ensures { let seen = kdc_req_body_of_view body.now in OnOk result (text.new ≡ text.old
+        ++ field form (codes "realm") (Escaped seen.realm)
+        ++ field form (codes "client") (if_there (principal seen.realm) seen.cname)
+        ++ field form (codes "server") (if_there (principal seen.realm) seen.sname)
+        ++ field form (codes "options") (Flags registries.KdcOptions seen.kdc_options)
+        ++ field form (codes "from") (if_there Word seen.from)
+        ++ field form (codes "till") (Word seen.till)
+        ++ field form (codes "rtime") (if_there Word seen.rtime)) }
+{
+    let options = Registry::KdcOptions;
+    put_text_field(text, form, " realm=", ",\"realm", body.realm)?;
+    put_optional_principal_field(text, form, " client=", ",\"client", &body.cname, body.realm)?;
+    put_optional_principal_field(text, form, " server=", ",\"server", &body.sname, body.realm)?;
+    put_flags_field(
+        text,
+        form,
+        " options=",
+        ",\"options",
+        options,
+        &body.kdc_options,
+    )?;
+    put_optional_time_field(text, form, " from=", ",\"from", body.from)?;
+    put_time_field(text, form, " till=", ",\"till", body.till)?;
+    put_optional_time_field(text, form, " rtime=", ",\"rtime", body.rtime)
+}
+
+/// Appends the fields of a KDC-REQ from the nonce on.
+fn put_kdc_req_last_fields(
+    text: &mut TextBuffer,
+    form: Form,
+    req: &KdcReqView<'_>,
+) -> Result<(), AllocError>
+    requires { KdcReqLists req.now }
+    ensures { let seen = kdc_req_of_view req.now in OnOk result (text.new ≡ text.old
+        ++ field form (codes "nonce") (Number seen.body.nonce)
+        ++ field form (codes "etypes") (Numbers registries.EncryptionTypes seen.body.etype)
+        ++ field form (codes "padata") (if_there padata seen.padata)
+        ++ field form (codes "addresses") (if_there count seen.body.addresses)
+        ++ field form (codes "authdata") (if_there sealed seen.body.enc_authorization_data)
+        ++ field form (codes "tickets") (if_there count seen.body.additional_tickets)) }
+{
+    let body: &KdcReqBodyView<'_> = &req.body;
+    let authdata = &body.enc_authorization_data;
+    put_field(text, form, " nonce=", ",\"nonce", &body.nonce)?;
+    put_etypes_field(text, form, " etypes=", ",\"etypes", body.etype)?;
+    put_padata_field(text, form, " padata=", ",\"padata", req.padata)?;
+    put_addresses_field(text, form, " addresses=", ",\"addresses", body.addresses)?;
+    put_optional_sealed_field(text, form, " authdata=", ",\"authdata", authdata)?;
+    put_optional_tickets_field(
+        text,
+        form,
+        " tickets=",
+        ",\"tickets",
+        body.additional_tickets,
+    )
+}
+
+fn put_kdc_req(text: &mut TextBuffer, form: Form, req: &KdcReqView<'_>) -> Result<(), AllocError>
+    requires { KdcReqLists req.now }
+    ensures { OnOk result (text.new ≡ text.old ++ fields_text form (kdc_req_fields (kdc_req_of_view req.now))) }
+{
+    put_kdc_req_first_fields(text, form, &req.body)?;
+    put_kdc_req_last_fields(text, form, req)
+}
+
+fn put_kdc_rep(text: &mut TextBuffer, form: Form, rep: &KdcRepView<'_>) -> Result<(), AllocError>
+    requires { KdcRepLists rep.now }
+    ensures { OnOk result (text.new ≡ text.old ++ fields_text form (kdc_rep_fields (kdc_rep_of_view rep.now))) }
+{
+    let ticket = &rep.ticket;
+    put_principal_field(text, form, " client=", ",\"client", &rep.cname, rep.crealm)?;
+    put_principal_field(
+        text,
+        form,
+        " server=",
+        ",\"server",
+        &ticket.sname,
+        ticket.realm,
+    )?;
+    put_padata_field(text, form, " padata=", ",\"padata", rep.padata)?;
+    put_sealed_field(text, form, " ticket=", ",\"ticket", &ticket.enc_part)?;
+    put_sealed_field(text, form, " enc=", ",\"enc", &rep.enc_part)
+}
+
+fn put_ap_req(text: &mut TextBuffer, form: Form, req: &ApReqView<'_>) -> Result<(), AllocError>
+    requires { ApReqLists req.now }
+    ensures { OnOk result (text.new ≡ text.old ++ fields_text form (ap_req_fields (ap_req_of_view req.now))) }
+{
+    let ticket = &req.ticket;
+    let options = Registry::ApOptions;
+    put_principal_field(
+        text,
+        form,
+        " server=",
+        ",\"server",
+        &ticket.sname,
+        ticket.realm,
+    )?;
+    put_flags_field(
+        text,
+        form,
+        " options=",
+        ",\"options",
+        options,
+        &req.ap_options,
+    )?;
+    put_sealed_field(text, form, " ticket=", ",\"ticket", &ticket.enc_part)?;
+    put_sealed_field(text, form, " auth=", ",\"auth", &req.authenticator)
+}
+
+fn put_ap_rep(text: &mut TextBuffer, form: Form, rep: &ApRepView<'_>) -> Result<(), AllocError>
+    ensures { OnOk result (text.new ≡ text.old ++ fields_text form (ap_rep_fields (ap_rep_of_view rep.now))) }
+{
+    put_sealed_field(text, form, " enc=", ",\"enc", &rep.enc_part)
+}
+
+fn put_krb_safe(text: &mut TextBuffer, form: Form, safe: &KrbSafeView<'_>) -> Result<(), AllocError>
+    requires { KrbSafeLists safe.now }
+    ensures { OnOk result (text.new ≡ text.old ++ fields_text form (krb_safe_fields (krb_safe_of_view safe.now))) }
+{
+    let body = &safe.body;
+    put_size_field(text, form, " size=", ",\"size", body.user_data)?;
+    put_optional_time_field(text, form, " time=", ",\"time", body.timestamp)?;
+    put_optional_micros_field(text, form, " usec=", ",\"usec", body.usec)?;
+    put_field(text, form, " seq=", ",\"seq", &body.seq_number)?;
+    put_address_field(text, form, " sender=", ",\"sender", &body.s_address)?;
+    put_optional_address_field(text, form, " receiver=", ",\"receiver", &body.r_address)?;
+    put_checksum_field(text, form, " cksum=", ",\"cksum", &safe.cksum)
+}
+
+fn put_krb_priv(
+    text: &mut TextBuffer,
+    form: Form,
+    private: &KrbPrivView<'_>,
+) -> Result<(), AllocError>
+    ensures { OnOk result (text.new ≡ text.old ++ fields_text form (krb_priv_fields (krb_priv_of_view private.now))) }
+{
+    put_sealed_field(text, form, " enc=", ",\"enc", &private.enc_part)
+}
+
+fn put_krb_cred(text: &mut TextBuffer, form: Form, cred: &KrbCredView<'_>) -> Result<(), AllocError>
+    requires { KrbCredLists cred.now }
+    ensures { OnOk result (text.new ≡ text.old ++ fields_text form (krb_cred_fields (krb_cred_of_view cred.now))) }
+{
+    put_tickets_field(text, form, " tickets=", ",\"tickets", cred.tickets)?;
+    put_sealed_field(text, form, " enc=", ",\"enc", &cred.enc_part)
+}
+
+/// Appends the fields of a message but the notes.
+fn put_fields(text: &mut TextBuffer, form: Form, view: &MessageView<'_>) -> Result<(), AllocError>
+    requires { MessageLists view.now }
+    ensures { OnOk result (text.new ≡ text.old ++ fields_text form (fields_of (message_of_view view.now))) }
+{
+    match view {
+        MessageView::AsReq(req) => put_kdc_req(text, form, req),
+        MessageView::AsRep(rep) => put_kdc_rep(text, form, rep),
+        MessageView::TgsReq(req) => put_kdc_req(text, form, req),
+        MessageView::TgsRep(rep) => put_kdc_rep(text, form, rep),
+        MessageView::ApReq(req) => put_ap_req(text, form, req),
+        MessageView::ApRep(rep) => put_ap_rep(text, form, rep),
+        MessageView::KrbSafe(safe) => put_krb_safe(text, form, safe),
+        MessageView::KrbPriv(private) => put_krb_priv(text, form, private),
+        MessageView::KrbCred(cred) => put_krb_cred(text, form, cred),
+        MessageView::KrbError(error) => put_krb_error(text, form, error),
+    }
+}
+
+/// Appends what a message has after its kind, without its line feed.
+pub(crate) fn put_rest(
+    text: &mut TextBuffer,
+    form: Form,
+    view: &MessageView<'_>,
+) -> Result<(), AllocError>
+    requires { MessageLists view.now }
+    ensures { OnOk result (text.new ≡ text.old ++ fields_text form (message_record (message_of_view view.now)).fields ++ closing form) }
+{
+    put_fields(text, form, view)?;
+    put_field(text, form, " notes=", ",\"notes", &notes_of_view(view))?;
+    put_closing(text, form)
+}
+
+/// Appends a message without its line feed.
+#[tactic(auto, unfolding(crate::specs::Forms::record_text, crate::specs::Messages::message_record))]
+fn put_text(text: &mut TextBuffer, form: Form, view: &MessageView<'_>) -> Result<(), AllocError>
+    requires { MessageLists view.now }
+    ensures { OnOk result (text.new ≡ text.old ++ message_text form (message_of_view view.now)) }
+{
+    put_opening(text, form, view.kind().name())?;
+    put_rest(text, form, view)
+}
+
+/// Appends a message by a view of it, as a line or an object with its line feed. No `Message` is made.
+#[tactic(auto, unfolding(crate::specs::Messages::message_line))]
+pub fn put_message_view(
+    text: &mut TextBuffer,
+    form: Form,
+    view: &MessageView<'_>,
+) -> Result<(), Memory>
+    requires { MessageLists view.now }
+    ensures { OnOk result (text.new ≡ text.old ++ message_line form (message_of_view view.now)) }
+{
+    put_text(text, form, view)?;
+    text.push_str("\n")?;
+    Ok(())
+}
+
+/// Appends a message without its line feed, by a view of its DER octets.
+fn put_text_of(text: &mut TextBuffer, form: Form, message: &Message) -> Result<(), Memory>
+    ensures { OnOk result (text.new ≡ text.old ++ message_text form message.now) }
+{
+    let Ok(octets) = encode(text.allocator(), message) else {
+        return Err(Memory);
+    };
+    let Some(view) = view_message(octets.as_slice()) else {
+        unreachable!()
+    };
+    put_text(text, form, &view)?;
+    Ok(())
+}
+
+/// Appends a message as a line or an object with its line feed. It allocates the DER octets,
+/// too, and answers `Memory` if these are more than a message may have, 2147483647.
+#[tactic(auto, unfolding(crate::specs::Messages::message_line))]
+pub fn put_message(text: &mut TextBuffer, form: Form, message: &Message) -> Result<(), Memory>
+    ensures { OnOk result (text.new ≡ text.old ++ message_line form message.now) }
+{
+    put_text_of(text, form, message)?;
+    text.push_str("\n")?;
+    Ok(())
+}
+
+/// Returns a message as a line or an object, without a line feed: its name, its fields and its notes.
+/// It allocates as [`put_message`] does.
+pub fn message_line(alloc: Global, form: Form, message: &Message) -> Result<String, Memory>
+    ensures { IfOk result (λ text. string_bytes text ≡ message_text form message.now) }
+{
+    let mut text = TextBuffer::new(alloc);
+    put_text_of(&mut text, form, message)?;
+    Ok(text.into_string())
+}

@@ -1,0 +1,85 @@
+//! The notes of a message.
+
+ghost use Rattle.std.specs.Prelude.{◌≡◌, ◌++◌, ◌∷◌, [], map, pos, codes, OnOk};
+ghost use Rattle.std.specs.List.{filter, list_any};
+ghost use Rattle.krb_msg.specs.Notes.{notes_have};
+ghost use Rattle.krb_text.specs.Messages.{notes};
+ghost use Rattle.krb_text.specs.Text.{joined, list_text};
+ghost use Rattle.krb_text.specs.inner.Items.{number_item};
+
+use crate::item::{ItemForm, put_number_item};
+use crate::shown::{Shown, put_begin, put_names_begin};
+use crate::text_buffer::TextBuffer;
+use krb_msg::Notes;
+use krb_registry::Registry;
+use std::alloc::AllocError;
+
+/// Appends the number of a note.
+#[inline(always)]
+fn put_note(text: &mut TextBuffer, form: ItemForm, number: u8) -> Result<(), AllocError>
+    ensures { OnOk result (text.new ≡ text.old ++ number_item form (pos number)) }
+{
+    put_number_item(text, form, i64::from(number))
+}
+
+/// Appends the numbers of the notes, with commas between them.
+#[inline(always)]
+fn put_numbers(text: &mut TextBuffer, form: ItemForm, notes: &Notes) -> Result<(), AllocError>
+    ensures { OnOk result (text.new ≡ text.old ++ joined [] (codes ",") (λ number. number_item form (pos number)) (filter (notes_have notes.now) (1 ∷ 2 ∷ 3 ∷ 4 ∷ []))) }
+{
+    let mut separator = "";
+    for number in [1u8, 2, 3, 4] {
+        if notes.has(number) {
+            text.push_str(separator)?;
+            put_note(text, form, number)?;
+            separator = ",";
+        }
+    }
+    Ok(())
+}
+
+/// Returns whether a note holds. Mostly none does.
+#[inline(always)]
+fn has_any(notes: &Notes) -> bool
+    ensures { result ≡ list_any (notes_have notes.now) (1 ∷ 2 ∷ 3 ∷ 4 ∷ []) }
+{
+    notes.has(1) | notes.has(2) | notes.has(3) | notes.has(4)
+}
+
+/// Appends the numbers of the notes in brackets, with commas between them.
+#[inline(always)]
+#[tactic(auto, using(crate::proofs::Items::list_text_map))]
+fn put_number_list(text: &mut TextBuffer, form: ItemForm, notes: &Notes) -> Result<(), AllocError>
+    ensures { OnOk result (text.new ≡ text.old ++ list_text (number_item form) (map pos (filter (notes_have notes.now) (1 ∷ 2 ∷ 3 ∷ 4 ∷ [])))) }
+{
+    if has_any(notes) {
+        text.push_str("[")?;
+        put_numbers(text, form, notes)?;
+        text.push_str("]")
+    } else {
+        text.push_str("[]")
+    }
+}
+
+/// The numbers of the notes, in brackets, with commas between them.
+impl Shown for Notes {
+    ghost shown = { notes };
+
+    #[inline(always)]
+    #[tactic(auto, unfolding(crate::specs::Forms::value_text))]
+    fn put_text(&self, line: &mut TextBuffer, names: bool) -> Result<(), AllocError> {
+        if names {
+            put_number_list(line, ItemForm::Named(Registry::Notes), self)
+        } else {
+            put_number_list(line, ItemForm::Line, self)
+        }
+    }
+
+    #[tactic(auto, unfolding(crate::specs::Forms::members, crate::specs::Forms::json_value, crate::specs::Forms::names_member))]
+    fn put_members(&self, object: &mut TextBuffer, begin: &str) -> Result<(), AllocError> {
+        put_begin(object, begin)?;
+        put_number_list(object, ItemForm::Line, self)?;
+        put_names_begin(object, begin)?;
+        put_number_list(object, ItemForm::Name(Registry::Notes), self)
+    }
+}

@@ -1,0 +1,259 @@
+//! Numbers of registries, alone and with what is beside them.
+
+ghost use Rattle.std.specs.Prelude.{◌≡◌, ◌++◌, OnOk, codes, decimal};
+ghost use Rattle.std.specs.Fmt.{signed_decimal};
+ghost use Rattle.krb_msg.specs.ViewValues.{checksum_of_view, encrypted_data_of_view, host_address_of_view};
+ghost use Rattle.krb_registry.specs.declared.registry.Registry.TheVariants.{EncryptionTypes};
+ghost use Rattle.krb_text.specs.Forms.{digest_object, address_object, name_string, or_null, sealed_object};
+ghost use Rattle.krb_text.specs.Text.{or_dash};
+ghost use Rattle.krb_text.specs.Values.{Address as Addressed, Digest as Digested, Named, Sealed as IsSealed, address, checksum, sealed};
+
+use crate::escape::put_hex;
+use crate::item::{put_name_member, put_name_string, put_named};
+use crate::shown::{Shown, put_begin};
+use crate::text_buffer::TextBuffer;
+use krb_msg::{ChecksumView, EncryptedDataView, HostAddressView};
+use krb_registry::Registry;
+use std::alloc::AllocError;
+
+/// Appends a number and its name, or null, each after what precedes it in an object.
+pub(crate) fn put_number_and_name(
+    object: &mut TextBuffer,
+    before_number: &str,
+    before_name: &str,
+    registry: Registry,
+    number: i64,
+) -> Result<(), AllocError>
+    ensures { OnOk result (object.new ≡ object.old ++ before_number.now ++ signed_decimal number ++ before_name.now ++ name_string registry number) }
+{
+    object.push_str(before_number)?;
+    object.push_signed(number)?;
+    object.push_str(before_name)?;
+    put_name_string(object, registry, number)
+}
+
+/// A number of a registry.
+#[derive(Clone, Copy)]
+pub struct Numbered {
+    pub registry: Registry,
+    pub number: i64,
+}
+
+impl Shown for Numbered {
+    ghost shown = { λ n. Named n.registry n.number };
+
+    #[tactic(auto, unfolding(crate::specs::Forms::value_text))]
+    fn put_text(&self, line: &mut TextBuffer, names: bool) -> Result<(), AllocError> {
+        put_named(line, names, self.registry, self.number)
+    }
+
+    #[tactic(auto, unfolding(crate::specs::Forms::members, crate::specs::Forms::json_value, crate::specs::Forms::names_member))]
+    fn put_members(&self, object: &mut TextBuffer, begin: &str) -> Result<(), AllocError> {
+        put_begin(object, begin)?;
+        object.push_signed(self.number)?;
+        put_name_member(object, begin, self.registry, self.number)
+    }
+}
+
+/// What is sealed: its encryption type, the version of its key, and how many octets it has.
+#[derive(Clone, Copy)]
+pub struct Sealed {
+    pub etype: i64,
+    pub kvno: Option<i64>,
+    pub size: u64,
+}
+
+impl Sealed {
+    /// Returns what is shown of encrypted data.
+    #[inline(always)]
+    pub fn of(viewed: &EncryptedDataView<'_>) -> Sealed
+        ensures { IsSealed result.etype result.kvno result.size ≡ sealed (encrypted_data_of_view viewed.now) }
+    {
+        Sealed {
+            etype: viewed.etype,
+            kvno: viewed.kvno,
+            size: viewed.cipher.len() as u64,
+        }
+    }
+}
+
+/// Appends the version of a key, or `-`.
+fn put_kvno(line: &mut TextBuffer, kvno: Option<i64>) -> Result<(), AllocError>
+    ensures { OnOk result (line.new ≡ line.old ++ or_dash signed_decimal kvno) }
+{
+    match kvno {
+        None => line.push_str("-"),
+        Some(kvno) => line.push_signed(kvno),
+    }
+}
+
+/// Appends the member of the version of a key, or of null.
+fn put_kvno_member(object: &mut TextBuffer, kvno: Option<i64>) -> Result<(), AllocError>
+    ensures { OnOk result (object.new ≡ object.old ++ codes ",\"kvno\":" ++ or_null signed_decimal kvno) }
+{
+    object.push_str(",\"kvno\":")?;
+    match kvno {
+        None => object.push_str("null"),
+        Some(kvno) => object.push_signed(kvno),
+    }
+}
+
+/// Appends the number of octets, with which an object ends.
+fn put_size_end(object: &mut TextBuffer, size: u64) -> Result<(), AllocError>
+    ensures { OnOk result (object.new ≡ object.old ++ codes ",\"size\":" ++ decimal size ++ codes "}") }
+{
+    object.push_str(",\"size\":")?;
+    object.push_number(size)?;
+    object.push_str("}")
+}
+
+/// Appends what an object has of what is sealed, up to its size.
+fn put_sealed_start(object: &mut TextBuffer, sealed: &Sealed) -> Result<(), AllocError>
+    ensures { OnOk result (object.new ≡ object.old ++ codes "{\"etype\":" ++ signed_decimal sealed.now.etype ++ codes ",\"etype_name\":" ++ name_string EncryptionTypes sealed.now.etype ++ codes ",\"kvno\":" ++ or_null signed_decimal sealed.now.kvno) }
+{
+    let registry = Registry::EncryptionTypes;
+    put_number_and_name(
+        object,
+        "{\"etype\":",
+        ",\"etype_name\":",
+        registry,
+        sealed.etype,
+    )?;
+    put_kvno_member(object, sealed.kvno)
+}
+
+/// Appends what an object has of what is sealed.
+fn put_sealed_object(object: &mut TextBuffer, sealed: &Sealed) -> Result<(), AllocError>
+    ensures { OnOk result (object.new ≡ object.old ++ sealed_object sealed.now.etype sealed.now.kvno sealed.now.size) }
+{
+    put_sealed_start(object, sealed)?;
+    put_size_end(object, sealed.size)
+}
+
+/// The encryption type, the version of the key or `-`, and the number of octets, with `:` between.
+impl Shown for Sealed {
+    ghost shown = { λ s. IsSealed s.etype s.kvno s.size };
+
+    #[tactic(auto, unfolding(crate::specs::Forms::value_text))]
+    fn put_text(&self, line: &mut TextBuffer, names: bool) -> Result<(), AllocError> {
+        put_named(line, names, Registry::EncryptionTypes, self.etype)?;
+        line.push_str(":")?;
+        put_kvno(line, self.kvno)?;
+        line.push_str(":")?;
+        line.push_number(self.size)
+    }
+
+    #[tactic(auto, unfolding(crate::specs::Forms::members, crate::specs::Forms::json_value, crate::specs::Forms::names_member))]
+    fn put_members(&self, object: &mut TextBuffer, begin: &str) -> Result<(), AllocError> {
+        put_begin(object, begin)?;
+        put_sealed_object(object, self)
+    }
+}
+
+/// An address: its type and its octets.
+#[derive(Clone, Copy)]
+pub(crate) struct Address<'a> {
+    pub(crate) addr_type: i64,
+    pub(crate) octets: &'a [u8],
+}
+
+impl<'a> Address<'a> {
+    /// Returns what is shown of an address.
+    #[inline(always)]
+    pub(crate) fn of(viewed: &HostAddressView<'a>) -> Address<'a>
+        ensures { Addressed result.addr_type result.octets.now ≡ address (host_address_of_view viewed.now) }
+    {
+        Address {
+            addr_type: viewed.addr_type,
+            octets: viewed.address,
+        }
+    }
+}
+
+/// Appends what an object has of an address.
+fn put_address_object(object: &mut TextBuffer, address: &Address<'_>) -> Result<(), AllocError>
+    ensures { OnOk result (object.new ≡ object.old ++ address_object address.now.addr_type address.now.octets.now) }
+{
+    let registry = Registry::AddressTypes;
+    put_number_and_name(
+        object,
+        "{\"type\":",
+        ",\"type_name\":",
+        registry,
+        address.addr_type,
+    )?;
+    object.push_str(",\"hex\":\"")?;
+    put_hex(object, address.octets)?;
+    object.push_str("\"}")
+}
+
+/// The type, `:` and the octets in hexadecimal.
+impl<'a> Shown for Address<'a> {
+    ghost shown = { λ a. Addressed a.addr_type a.octets.now };
+
+    #[tactic(auto, unfolding(crate::specs::Forms::value_text))]
+    fn put_text(&self, line: &mut TextBuffer, names: bool) -> Result<(), AllocError> {
+        put_named(line, names, Registry::AddressTypes, self.addr_type)?;
+        line.push_str(":")?;
+        put_hex(line, self.octets)
+    }
+
+    #[tactic(auto, unfolding(crate::specs::Forms::members, crate::specs::Forms::json_value, crate::specs::Forms::names_member))]
+    fn put_members(&self, object: &mut TextBuffer, begin: &str) -> Result<(), AllocError> {
+        put_begin(object, begin)?;
+        put_address_object(object, self)
+    }
+}
+
+/// A checksum: its type, and how many octets it has.
+#[derive(Clone, Copy)]
+pub(crate) struct Digest {
+    pub(crate) cksumtype: i64,
+    pub(crate) size: u64,
+}
+
+impl Digest {
+    /// Returns what is shown of a checksum.
+    #[inline(always)]
+    pub(crate) fn of(viewed: &ChecksumView<'_>) -> Digest
+        ensures { Digested result.cksumtype result.size ≡ checksum (checksum_of_view viewed.now) }
+    {
+        Digest {
+            cksumtype: viewed.cksumtype,
+            size: viewed.checksum.len() as u64,
+        }
+    }
+}
+
+/// Appends what an object has of a checksum.
+fn put_digest_object(object: &mut TextBuffer, digest: &Digest) -> Result<(), AllocError>
+    ensures { OnOk result (object.new ≡ object.old ++ digest_object digest.now.cksumtype digest.now.size) }
+{
+    let registry = Registry::ChecksumTypes;
+    put_number_and_name(
+        object,
+        "{\"type\":",
+        ",\"type_name\":",
+        registry,
+        digest.cksumtype,
+    )?;
+    put_size_end(object, digest.size)
+}
+
+/// The type, `:` and the number of octets.
+impl Shown for Digest {
+    ghost shown = { λ d. Digested d.cksumtype d.size };
+
+    #[tactic(auto, unfolding(crate::specs::Forms::value_text))]
+    fn put_text(&self, line: &mut TextBuffer, names: bool) -> Result<(), AllocError> {
+        put_named(line, names, Registry::ChecksumTypes, self.cksumtype)?;
+        line.push_str(":")?;
+        line.push_number(self.size)
+    }
+
+    #[tactic(auto, unfolding(crate::specs::Forms::members, crate::specs::Forms::json_value, crate::specs::Forms::names_member))]
+    fn put_members(&self, object: &mut TextBuffer, begin: &str) -> Result<(), AllocError> {
+        put_begin(object, begin)?;
+        put_digest_object(object, self)
+    }
+}

@@ -1,0 +1,187 @@
+//! Where records of captures come from.
+
+ghost use Rattle.std.specs.Prelude.{◌≡◌, ◌++◌, OnOk, codes, decimal};
+ghost use Rattle.std.specs.Net.Text.{ip_text, ipv4_text};
+ghost use Rattle.krb_text.specs.Captures.{captured_opening, endpoint_object, endpoint_text, flow_field, flow_object, flow_text, host_text, origin_fields, transport_name};
+
+use crate::field::{put_field, put_opening};
+use crate::form::Form;
+use crate::text_buffer::TextBuffer;
+use krb_packet::{Endpoint, Time};
+use std::alloc::AllocError;
+use std::net::IpAddr;
+
+/// The protocol that carries messages.
+#[derive(Clone, Copy, PartialEq, Eq, Debug)]
+pub enum Transport {
+    /// UDP (RFC 768).
+    Udp,
+    /// TCP (RFC 9293).
+    Tcp,
+}
+
+impl Transport {
+    /// Returns its name in lower case.
+    fn name(self) -> &'static str
+        ensures { result.now ≡ transport_name self }
+    {
+        match self {
+            Transport::Udp => "udp",
+            Transport::Tcp => "tcp",
+        }
+    }
+}
+
+/// Where a record of a capture comes from: the packet with which it is due, and the flow.
+#[derive(Clone, Copy)]
+pub struct Origin {
+    /// The number of the packet, from 1.
+    pub packet: u64,
+    /// When the packet was captured, if that is known.
+    pub time: Option<Time>,
+    /// The protocol.
+    pub transport: Transport,
+    /// Where the octets come from.
+    pub source: Endpoint,
+    /// Where they go to.
+    pub target: Endpoint,
+}
+
+/// Appends four octets in decimal, with dots between them.
+fn put_dotted(text: &mut TextBuffer, octets: [u8; 4]) -> Result<(), AllocError>
+    ensures { OnOk result (text.new ≡ text.old ++ ipv4_text octets) }
+{
+    let [a, b, c, d] = octets;
+    text.push_number(u64::from(a))?;
+    text.push_str(".")?;
+    text.push_number(u64::from(b))?;
+    text.push_str(".")?;
+    text.push_number(u64::from(c))?;
+    text.push_str(".")?;
+    text.push_number(u64::from(d))
+}
+
+/// Appends an address: one of IPv4 in decimal, one of IPv6 as RFC 5952 has it.
+fn put_address(text: &mut TextBuffer, address: IpAddr) -> Result<(), AllocError>
+    ensures { OnOk result (text.new ≡ text.old ++ ip_text address) }
+{
+    match address {
+        IpAddr::V4(address) => put_dotted(text, address.octets()),
+        IpAddr::V6(address) => write!(text, "{address}"),
+    }
+}
+
+/// Appends an address, in brackets if it is one of IPv6.
+fn put_host(text: &mut TextBuffer, address: IpAddr) -> Result<(), AllocError>
+    ensures { OnOk result (text.new ≡ text.old ++ host_text address) }
+{
+    match address {
+        IpAddr::V4(_) => put_address(text, address),
+        IpAddr::V6(_) => {
+            text.push_str("[")?;
+            put_address(text, address)?;
+            text.push_str("]")
+        }
+    }
+}
+
+/// Appends an address, `:` and a port.
+fn put_endpoint(text: &mut TextBuffer, endpoint: &Endpoint) -> Result<(), AllocError>
+    ensures { OnOk result (text.new ≡ text.old ++ endpoint_text endpoint.now) }
+{
+    put_host(text, endpoint.address)?;
+    text.push_str(":")?;
+    text.push_number(u64::from(endpoint.port))
+}
+
+/// Appends what an object has after the text of its address: the port.
+fn put_port_end(object: &mut TextBuffer, port: u16) -> Result<(), AllocError>
+    ensures { OnOk result (object.new ≡ object.old ++ codes "\",\"port\":" ++ decimal port ++ codes "}") }
+{
+    object.push_str("\",\"port\":")?;
+    object.push_number(u64::from(port))?;
+    object.push_str("}")
+}
+
+/// Appends the object of an address and a port.
+fn put_endpoint_object(object: &mut TextBuffer, endpoint: &Endpoint) -> Result<(), AllocError>
+    ensures { OnOk result (object.new ≡ object.old ++ endpoint_object endpoint.now) }
+{
+    object.push_str("{\"address\":\"")?;
+    put_address(object, endpoint.address)?;
+    put_port_end(object, endpoint.port)
+}
+
+/// Appends the flow as a line has it.
+fn put_flow_text(line: &mut TextBuffer, origin: &Origin) -> Result<(), AllocError>
+    ensures { OnOk result (line.new ≡ line.old ++ flow_text origin.now) }
+{
+    line.push_str(origin.transport.name())?;
+    line.push_str("/")?;
+    put_endpoint(line, &origin.source)?;
+    line.push_str(">")?;
+    put_endpoint(line, &origin.target)
+}
+
+/// Appends the object of the flow.
+fn put_flow_object(object: &mut TextBuffer, origin: &Origin) -> Result<(), AllocError>
+    ensures { OnOk result (object.new ≡ object.old ++ flow_object origin.now) }
+{
+    object.push_str("{\"over\":\"")?;
+    object.push_str(origin.transport.name())?;
+    object.push_str("\",\"source\":")?;
+    put_endpoint_object(object, &origin.source)?;
+    object.push_str(",\"target\":")?;
+    put_endpoint_object(object, &origin.target)?;
+    object.push_str("}")
+}
+
+/// Appends the field of the flow.
+#[tactic(auto, unfolding(crate::specs::Captures::flow_field))]
+fn put_flow(text: &mut TextBuffer, form: Form, origin: &Origin) -> Result<(), AllocError>
+    ensures { OnOk result (text.new ≡ text.old ++ flow_field form origin.now) }
+{
+    match form {
+        Form::Lines | Form::NamedLines => {
+            text.push_str(" flow=")?;
+            put_flow_text(text, origin)
+        }
+        Form::Json => {
+            text.push_str(",\"flow\":")?;
+            put_flow_object(text, origin)
+        }
+    }
+}
+
+/// Appends the fields of an origin: the packet, its time and the flow.
+fn put_origin(text: &mut TextBuffer, form: Form, origin: &Origin) -> Result<(), AllocError>
+    ensures { OnOk result (text.new ≡ text.old ++ origin_fields form origin.now) }
+{
+    put_field(text, form, "packet=", ",\"packet", &origin.packet)?;
+    put_field(text, form, " t=", ",\"t", &origin.time)?;
+    put_flow(text, form, origin)
+}
+
+/// Appends what precedes the fields of a record of a capture: in a line its origin and then its
+/// kind, in an object its kind and then its origin.
+#[tactic(auto, unfolding(crate::specs::Captures::captured_opening))]
+pub(crate) fn put_captured_opening(
+    text: &mut TextBuffer,
+    form: Form,
+    origin: &Origin,
+    kind: &str,
+) -> Result<(), AllocError>
+    ensures { OnOk result (text.new ≡ text.old ++ captured_opening form origin.now kind.now) }
+{
+    match form {
+        Form::Lines | Form::NamedLines => {
+            put_origin(text, form, origin)?;
+            text.push_str(" ")?;
+            text.push_str(kind)
+        }
+        Form::Json => {
+            put_opening(text, form, kind)?;
+            put_origin(text, form, origin)
+        }
+    }
+}

@@ -1,0 +1,296 @@
+//! Names of principals.
+
+ghost use Rattle.std.specs.Prelude.{◌≡◌, ◌++◌, IfOk, List, OnOk, codes, ℕ, map, string_bytes};
+ghost use Rattle.std.specs.Fmt.{signed_decimal};
+ghost use Rattle.std.specs.List.{flat_map};
+ghost use Rattle.krb_msg.specs.Grammar.{kerberos_string};
+ghost use Rattle.krb_msg.specs.Viewed.{AreViewed, items_of};
+ghost use Rattle.krb_registry.specs.declared.registry.Registry.TheVariants.{NameTypes};
+ghost use Rattle.krb_text.specs.Forms.{json_character, json_string, name_string, octets_string, principal_object};
+ghost use Rattle.krb_text.specs.Text.{escape, joined, list_text, principal_text};
+ghost use Rattle.krb_text.specs.Values.{Principal as IsPrincipal};
+ghost use Rattle.krb_text.specs.declared.item.ItemForm.TheVariants.{Part};
+ghost use Rattle.krb_text.specs.inner.Items.{octets_item};
+
+use crate::escape::put_escaped;
+use crate::item::{ItemForm, put_octets_item};
+use crate::json::put_octets_string;
+use crate::number::put_number_and_name;
+use crate::shown::{Shown, put_begin};
+use crate::text_buffer::TextBuffer;
+use krb_der::{KString, Memory};
+use krb_msg::{ItemsView, next_item};
+use krb_registry::Registry;
+use std::alloc::{AllocError, Global};
+use std::marker::Model;
+
+/// The components of a name.
+pub(crate) trait Components {
+    ghost components: { Self → List (List ℕ) };
+
+    /// Appends the components, with the separator between two, or another text if there are none.
+    fn put_components(
+        &self,
+        text: &mut TextBuffer,
+        form: ItemForm,
+        none: &str,
+        separator: &str,
+    ) -> Result<(), AllocError>
+        ensures { OnOk result (text.new ≡ text.old ++ joined none.now separator.now (octets_item form) (components self.now)) };
+}
+
+/// Appends the separator and a component, for each of the components.
+fn put_others(
+    text: &mut TextBuffer,
+    form: ItemForm,
+    separator: &str,
+    components: &[KString],
+) -> Result<(), AllocError>
+    ensures { OnOk result (text.new ≡ text.old ++ flat_map (λ c. separator.now ++ octets_item form c) components.now) }
+{
+    for component in components {
+        text.push_str(separator)?;
+        put_octets_item(text, form, component.octets())?;
+    }
+    Ok(())
+}
+
+/// Components that are strings.
+#[derive(Clone, Copy)]
+pub struct Strings<'a>(pub &'a [KString]);
+
+impl<'a> Components for Strings<'a> {
+    ghost components = { λ strings. strings.0.now };
+
+    fn put_components(
+        &self,
+        text: &mut TextBuffer,
+        form: ItemForm,
+        none: &str,
+        separator: &str,
+    ) -> Result<(), AllocError> {
+        match self.0.split_first() {
+            None => text.push_str(none),
+            Some((first, others)) => {
+                put_octets_item(text, form, first.octets())?;
+                put_others(text, form, separator, others)
+            }
+        }
+    }
+}
+
+/// Appends the separator and a component, for each of the components that are viewed.
+#[inline(always)]
+fn put_other_viewed(
+    text: &mut TextBuffer,
+    form: ItemForm,
+    separator: &str,
+    components: ItemsView<'_>,
+) -> Result<(), AllocError>
+    requires { AreViewed kerberos_string components.octets.now }
+    ensures { OnOk result (text.new ≡ text.old ++ flat_map (λ c. separator.now ++ octets_item form c) (items_of kerberos_string components.entry.octets.now)) }
+{
+    let mut others = components;
+    'others: while let Some((component, rest)) = next_item::<KString>(others) {
+        text.push_str(separator)?;
+        put_octets_item(text, form, component)?;
+        others = rest;
+    }
+    Ok(())
+}
+
+/// Components that are viewed in octets. Contracts see the octets of each.
+#[derive(Drop)]
+pub struct ViewedStrings<'a>(ItemsView<'a>);
+
+impl<'a> Model for ViewedStrings<'a> {
+    ghost use Rattle.std.specs.Prelude.{List, ℕ};
+    ghost use Rattle.krb_msg.specs.Grammar.{kerberos_string};
+    ghost use Rattle.krb_msg.specs.Viewed.{AreViewed, items_of};
+
+    ghost Value = { List (List ℕ) };
+
+    ghost view = { λ seen. items_of kerberos_string seen.0.octets.now };
+
+    ghost invariant = { λ seen. AreViewed kerberos_string seen.0.octets.now };
+}
+
+impl<'a> ViewedStrings<'a> {
+    /// Takes the items of a list.
+    #[inline(always)]
+    pub fn new(items: ItemsView<'a>) -> ViewedStrings<'a>
+        requires { AreViewed kerberos_string items.octets.now }
+        ensures { result ≡ items_of kerberos_string items.entry.octets.now }
+    {
+        ViewedStrings(items)
+    }
+}
+
+impl<'a> Components for ViewedStrings<'a> {
+    ghost components = { λ strings. strings };
+
+    #[inline(always)]
+    fn put_components(
+        &self,
+        text: &mut TextBuffer,
+        form: ItemForm,
+        none: &str,
+        separator: &str,
+    ) -> Result<(), AllocError> {
+        match next_item::<KString>(self.0) {
+            None => text.push_str(none),
+            Some((first, others)) => {
+                put_octets_item(text, form, first)?;
+                put_other_viewed(text, form, separator, others)
+            }
+        }
+    }
+}
+
+/// A principal: how its name is meant, its components and its realm.
+#[derive(Drop)]
+pub struct Principal<'a, C> {
+    pub name_type: i64,
+    pub components: C,
+    pub realm: &'a [u8],
+}
+
+/// Appends the parts of the text of a principal, each as it is in a string.
+fn put_text_parts<C: Components>(
+    object: &mut TextBuffer,
+    components: &C,
+    realm: &[u8],
+) -> Result<(), AllocError>
+    ensures { OnOk result (object.new ≡ object.old ++ (joined (codes "\\\\-") (codes "/") (octets_item Part) (C.components components.now) ++ codes "@" ++ octets_item Part realm.now)) }
+{
+    components.put_components(object, ItemForm::Part, "\\\\-", "/")?;
+    object.push_str("@")?;
+    put_octets_item(object, ItemForm::Part, realm)
+}
+
+/// Appends the text of a principal as it is in a string.
+fn put_principal_part<C: Components>(
+    object: &mut TextBuffer,
+    components: &C,
+    realm: &[u8],
+) -> Result<(), AllocError>
+    ensures { OnOk result (object.new ≡ object.old ++ flat_map json_character (principal_text (C.components components.now) realm.now)) }
+{
+    put_text_parts(object, components, realm)
+}
+
+/// Appends the member of the text of a principal, the first of its object.
+fn put_text_member<C: Components>(
+    object: &mut TextBuffer,
+    components: &C,
+    realm: &[u8],
+) -> Result<(), AllocError>
+    ensures { OnOk result (object.new ≡ object.old ++ codes "{\"text\":" ++ json_string (principal_text (C.components components.now) realm.now)) }
+{
+    object.push_str("{\"text\":\"")?;
+    put_principal_part(object, components, realm)?;
+    object.push_str("\"")
+}
+
+/// Appends what an object has of a principal, up to its components.
+fn put_text_and_type<'a, C: Components>(
+    object: &mut TextBuffer,
+    principal: &Principal<'a, C>,
+) -> Result<(), AllocError>
+    ensures { OnOk result (object.new ≡ object.old ++ codes "{\"text\":" ++ json_string (principal_text (C.components principal.now.components) principal.now.realm.now) ++ codes ",\"type\":" ++ signed_decimal principal.now.name_type ++ codes ",\"type_name\":" ++ name_string NameTypes principal.now.name_type) }
+{
+    put_text_member(object, &principal.components, principal.realm)?;
+    let registry = Registry::NameTypes;
+    put_number_and_name(
+        object,
+        ",\"type\":",
+        ",\"type_name\":",
+        registry,
+        principal.name_type,
+    )
+}
+
+/// Appends components as strings in brackets.
+fn put_component_list<C: Components>(
+    object: &mut TextBuffer,
+    components: &C,
+) -> Result<(), AllocError>
+    ensures { OnOk result (object.new ≡ object.old ++ list_text octets_string (C.components components.now)) }
+{
+    object.push_str("[")?;
+    components.put_components(object, ItemForm::Object, "", ",")?;
+    object.push_str("]")
+}
+
+/// Appends the members of the parts of a principal, the last of its object.
+fn put_parts<C: Components>(
+    object: &mut TextBuffer,
+    components: &C,
+    realm: &[u8],
+) -> Result<(), AllocError>
+    ensures { OnOk result (object.new ≡ object.old ++ codes ",\"components\":" ++ list_text octets_string (C.components components.now) ++ codes ",\"realm\":" ++ octets_string realm.now ++ codes "}") }
+{
+    object.push_str(",\"components\":")?;
+    put_component_list(object, components)?;
+    object.push_str(",\"realm\":")?;
+    put_octets_string(object, realm)?;
+    object.push_str("}")
+}
+
+/// Appends what an object has of a principal.
+fn put_principal_object<'a, C: Components>(
+    object: &mut TextBuffer,
+    principal: &Principal<'a, C>,
+) -> Result<(), AllocError>
+    ensures { OnOk result (object.new ≡ object.old ++ principal_object principal.now.name_type (C.components principal.now.components) principal.now.realm.now) }
+{
+    put_text_and_type(object, principal)?;
+    put_parts(object, &principal.components, principal.realm)
+}
+
+/// The components with `/` between them, `@` and the realm.
+impl<'a, C: Components> Shown for Principal<'a, C> {
+    ghost shown = { λ p. IsPrincipal p.name_type (C.components p.components) p.realm.now };
+
+    #[tactic(auto, unfolding(crate::specs::Forms::value_text, crate::specs::Text::principal_text))]
+    fn put_text(&self, line: &mut TextBuffer, _names: bool) -> Result<(), AllocError> {
+        self.components
+            .put_components(line, ItemForm::Line, "\\-", "/")?;
+        line.push_str("@")?;
+        put_escaped(line, self.realm)
+    }
+
+    #[tactic(auto, unfolding(crate::specs::Forms::members, crate::specs::Forms::json_value, crate::specs::Forms::names_member))]
+    fn put_members(&self, object: &mut TextBuffer, begin: &str) -> Result<(), AllocError> {
+        put_begin(object, begin)?;
+        put_principal_object(object, self)
+    }
+}
+
+/// Appends the text of a principal, which is [`principal_text`]'s.
+#[tactic(auto, unfolding(crate::specs::Text::principal_text))]
+pub fn put_principal(
+    line: &mut TextBuffer,
+    components: &[KString],
+    realm: &KString,
+) -> Result<(), AllocError>
+    ensures { OnOk result (line.new ≡ line.old ++ principal_text components.now realm.now) }
+{
+    Strings(components).put_components(line, ItemForm::Line, "\\-", "/")?;
+    line.push_str("@")?;
+    put_escaped(line, realm.octets())
+}
+
+/// Returns the text of a principal: its components with `/` between them, `@`, and the realm, each
+/// escaped. With no components, `\-` precedes the `@`. No two principals have the same text.
+pub fn principal_text(
+    alloc: Global,
+    components: &[KString],
+    realm: &KString,
+) -> Result<String, Memory>
+    ensures { IfOk result (λ text. string_bytes text ≡ principal_text components.now realm.now) }
+{
+    let mut text = TextBuffer::new(alloc);
+    put_principal(&mut text, components, realm)?;
+    Ok(text.into_string())
+}
