@@ -35,7 +35,9 @@ pub(crate) fn put_number_and_name(
 /// A number of a registry.
 #[derive(Clone, Copy)]
 pub struct Numbered {
+    /// The registry, which may have a name for the number.
     pub registry: Registry,
+    /// The number.
     pub number: i64,
 }
 
@@ -58,8 +60,11 @@ impl Shown for Numbered {
 /// What is sealed: its encryption type, the version of its key, and how many octets it has.
 #[derive(Clone, Copy)]
 pub struct Sealed {
+    /// The number of the encryption type.
     pub etype: i64,
+    /// The version of the key, if it is there.
     pub kvno: Option<i64>,
+    /// How many octets the cipher has.
     pub size: u64,
 }
 

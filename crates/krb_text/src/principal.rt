@@ -150,8 +150,11 @@ impl<'a> Components for ViewedStrings<'a> {
 /// A principal: how its name is meant, its components and its realm.
 #[derive(Drop)]
 pub struct Principal<'a, C> {
+    /// The name type (RFC 4120, 6.2).
     pub name_type: i64,
+    /// The components of the name: [`Strings`] or [`ViewedStrings`].
     pub components: C,
+    /// The octets of the realm.
     pub realm: &'a [u8],
 }
 
