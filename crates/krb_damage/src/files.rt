@@ -78,6 +78,14 @@ fn is_same_principal(principal: &FilePrincipal, other: &FilePrincipal) -> bool {
         && principal.components == other.components
 }
 
+/// Reads the next credential. What its contract says stays out of the proofs of callers, which take long with it.
+fn next_of<R: Read + Drop>(
+    alloc: Global,
+    reader: &mut Credentials<R>,
+) -> Result<Option<Credential>, FileFault> {
+    reader.next_credential(alloc)
+}
+
 /// Reads the credentials that are left, at most `most` of them.
 fn credentials_of<R: Read + Drop>(
     alloc: Global,
@@ -86,7 +94,7 @@ fn credentials_of<R: Read + Drop>(
 ) -> Option<Result<Many<Credential>, FileFault>> {
     let mut credentials = Vec::new(alloc);
     for _ in 0..=most {
-        match reader.next_credential(alloc) {
+        match next_of(alloc, reader) {
             Ok(Some(credential)) => credentials.push(credential).ok()?,
             Ok(None) => return Some(Ok(Many::new(credentials))),
             Err(fault) => return Some(Err(fault)),

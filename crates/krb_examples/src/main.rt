@@ -158,10 +158,9 @@ fn upgraded(alloc: Global, file: &[u8]) -> Result<Ccache, FileFault> {
     }
 }
 
-/// Returns the line of an AP-REP, as `krbls` prints it.
-fn line_of(alloc: Global, sealed: &[u8]) -> Result<String, Memory> {
-    let message = ap_rep(alloc, sealed)?;
-    message_line(alloc, Form::Lines, &message)
+/// Returns the line of a message, as `krbls` prints it.
+fn line_of(alloc: Global, message: &Message) -> Result<String, Memory> {
+    message_line(alloc, Form::Lines, message)
 }
 
 /// Returns the text of a user's name in a realm.
@@ -250,7 +249,10 @@ fn show_messages(rt: &HostRuntime) -> Result<()> {
     if let Err(refusal) = ticket_etype(octets.as_slice()) {
         println!(rt; "no Ticket: {refusal}")?;
     }
-    println!(rt; "{}", line_of(alloc, &[1, 2, 3, 4])?)?;
+    let message = ap_rep(alloc, &[1, 2, 3, 4])?;
+    let line = line_of(alloc, &message);
+    drop(message);
+    println!(rt; "{}", line?)?;
     println!(rt; "{}", user_text(alloc, "u/v", "A")?)?;
     println!(rt; "18 is {}", etype_name(18))?;
     Ok(())
