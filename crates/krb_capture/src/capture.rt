@@ -19,10 +19,10 @@ use krb_packet::{Contents, Datagram, Fragment, Fragments, Packet, Segment, conte
 use krb_text::{CaptureCounts, Form, TextBuffer};
 use std::alloc::Global;
 
-/// What was found in the packets of a capture so far. It allocates for the fragments of datagrams that
-/// are not whole, and of each direction of a connection for its last frame and the octets that came early.
-/// Once a call was out of memory, what was found is not known any more: each later call is out of memory,
-/// too, and changes nothing.
+/// What was found in the packets of a capture so far. It allocates for the fragments of datagrams
+/// that are not whole, and of each direction of a connection for its last frame and the octets that
+/// came early. Once a call was out of memory, what was found is not known any more: each later call
+/// is out of memory, too, and changes nothing.
 #[derive(Drop)]
 pub struct Capture {
     port: u16,
@@ -36,8 +36,8 @@ pub struct Capture {
 }
 
 impl Capture {
-    /// Creates a capture of which no packet came. Its records are listed in a form, frames of more than
-    /// `limit` octets are refused, and `port` is the one of KDCs.
+    /// Creates a capture of which no packet came. Its records are listed in a form, frames of more
+    /// than `limit` octets are refused, and `port` is the one of KDCs.
     pub fn new(alloc: Global, form: Form, limit: Limit, port: u16) -> Capture
         ensures { let settings : Settings = record { form = form; limit = limit; port = port } in HasFollowed result settings at_first }
     {
@@ -54,8 +54,8 @@ impl Capture {
         }
     }
 
-    /// Takes the next packet, and appends the records that are due with it to a text. Out of memory, the
-    /// text may have some of them.
+    /// Takes the next packet, and appends the records that are due with it to a text. Out of
+    /// memory, the text may have some of them.
     pub fn take(&mut self, packet: &Packet, text: &mut TextBuffer) -> Result<(), Memory>
         ensures followed { OnOk result ((settings : Settings) (progress : Progress) → HasFollowed self.old settings progress → HasFollowed self.new settings (packet_taken settings packet.now progress).progress) }
         ensures listed { OnOk result ((settings : Settings) (progress : Progress) → HasFollowed self.old settings progress → text.new ≡ text.old ++ lines_of settings.form (packet_taken settings packet.now progress).found) }
@@ -152,8 +152,9 @@ impl Capture {
         self.listing.totals(self.fragments.unread())
     }
 
-    /// Appends the records that are due at the end of the file to a text, and the last one. Returns whether
-    /// nothing is refused, lost or unread. Out of memory, the text may have some of the records.
+    /// Appends the records that are due at the end of the file to a text, and the last one. Returns
+    /// whether nothing is refused, lost or unread. Out of memory, the text may have some of the
+    /// records.
     pub fn finish(&mut self, text: &mut TextBuffer) -> Result<bool, Memory>
         ensures listed { OnOk result ((settings : Settings) (progress : Progress) → HasFollowed self.old settings progress → text.new ≡ text.old ++ end_text settings progress) }
         ensures clean { IfOk result (λ clean. (settings : Settings) (progress : Progress) → HasFollowed self.old settings progress → clean ≡ is_clean (all_counts (end_taken settings progress).progress)) }
@@ -190,8 +191,9 @@ impl Capture {
         Ok((totals.refused == 0) & (totals.lost == 0) & (totals.unread == 0))
     }
 
-    /// Appends the last record of a file that is itself at fault to a text: why and at which place it is
-    /// refused, and the path of the field at fault. Out of memory, the text may have a part of it.
+    /// Appends the last record of a file that is itself at fault to a text: why and at which place
+    /// it is refused, and the path of the field at fault. Out of memory, the text may have a part
+    /// of it.
     pub fn refuse(
         &mut self,
         place: u64,

@@ -31,8 +31,8 @@ pub(crate) struct Last {
     sending: Box<Sending>,
 }
 
-/// The directions that are kept. Each has the number of the packet that began it, so that they are in
-/// the order in which they began.
+/// The directions that are kept. Each has the number of the packet that began it, so that they are
+/// in the order in which they began.
 #[derive(Drop)]
 pub(crate) struct Directions {
     alloc: Global,
@@ -41,8 +41,8 @@ pub(crate) struct Directions {
     numbers: BTreeMap<Flow, u64>,
     /// The directions that have not ended. A direction has some 400 octets, so the map moves boxes.
     active: BTreeMap<u64, Box<Sending>>,
-    /// The direction of the last segment, if it has not ended, since the next one is mostly of that, too.
-    /// It is not among `active` meanwhile.
+    /// The direction of the last segment, if it has not ended, since the next one is mostly of
+    /// that, too. It is not among `active` meanwhile.
     last: Option<Last>,
     /// The flows of those that ended.
     ended: BTreeMap<u64, Flow>,
@@ -285,8 +285,8 @@ impl Directions {
         Ok(())
     }
 
-    /// Forgets a direction if no more are kept: the one that began first among those that ended, or,
-    /// if none has ended, the one that began first, which ends.
+    /// Forgets a direction if no more are kept: the one that began first among those that ended,
+    /// or, if none has ended, the one that began first, which ends.
     fn make_room(&mut self, due: Due, listing: &mut Listing) -> Result<(), Memory>
         ensures last { self.new.last ≡ self.old.last }
         ensures table { OnOk result ((limit : ℕ) (table : Table) → HoldsMaps self.old limit table → HoldsMaps self.new limit (with_room limit table).table) }

@@ -13,8 +13,8 @@ const PASSWORD_PORT: u16 = 464;
 /// A flow of TCP: what one end of a connection sends to the other.
 #[derive(Clone, Copy, PartialEq, Eq, PartialOrd, Ord, Debug)]
 pub(crate) struct Flow {
-    /// The port of the source. The two ports come first, since they distinguish most flows, and flows are
-    /// compared often.
+    /// The port of the source. The two ports come first, since they distinguish most flows, and
+    /// flows are compared often.
     pub(crate) source_port: u16,
     /// The port of the target.
     pub(crate) target_port: u16,
@@ -46,7 +46,8 @@ pub(crate) enum Service {
 }
 
 impl Service {
-    /// Returns what a flow carries, by its ports, if that is of Kerberos: `port` is the one of KDCs.
+    /// Returns what a flow carries, by its ports, if that is of Kerberos: `port` is the one of
+    /// KDCs.
     pub(crate) fn between(port: u16, source: Endpoint, target: Endpoint) -> Option<Service>
         ensures { result ≡ service_of port source target }
     {

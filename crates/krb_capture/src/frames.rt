@@ -59,8 +59,8 @@ impl Frames {
         }
     }
 
-    /// Lists what is known at the end of the direction: octets that are missing, or the refusal of a
-    /// frame that is not whole.
+    /// Lists what is known at the end of the direction: octets that are missing, or the refusal of
+    /// a frame that is not whole.
     pub(crate) fn end(&self, end: End, origin: &Origin, listing: &mut Listing) -> Result<(), Memory>
         ensures { OnOk result ((limit : ℕ) (stream : List ℕ) → Took self.now limit stream → listing.new ≡ with_all origin.now (end_found (service_of self.now) limit stream end) listing.old) }
     {

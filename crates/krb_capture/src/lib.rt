@@ -1,5 +1,5 @@
-//! What is found in captures: the messages that flows of UDP and TCP carry, and what is refused or lost
-//! of them, each as a record with its packet, its time and its flow.
+//! What is found in captures: the messages that flows of UDP and TCP carry, and what is refused or
+//! lost of them, each as a record with its packet, its time and its flow.
 //!
 //! The main calls:
 //!
@@ -7,13 +7,13 @@
 //! - [`Capture::finish`] lists what is found at the end of the file, and the totals.
 //! - [`Capture::refuse`] lists the refusal of the file itself, and the totals.
 //!
-//! A flow is of Kerberos if one of its ports is 88 or another one that is given, and else of changes of
-//! passwords (RFC 3244) if one of them is 464. A UDP datagram is a message; what one end of a TCP
-//! connection sends is a stream of frames (RFC 4120, 7.2.2), in which one goes on after refusals.
-//! Nothing here reads a file: `krb_packet` does, and `krb_tool` runs over both.
+//! A flow is of Kerberos if one of its ports is 88 or another one that is given, and else of
+//! changes of passwords (RFC 3244) if one of them is 464. A UDP datagram is a message; what one end
+//! of a TCP connection sends is a stream of frames (RFC 4120, 7.2.2), in which one goes on after
+//! refusals. Nothing here reads a file: `krb_packet` does, and `krb_tool` runs over both.
 //!
-//! The law of [`law`] says that the records of a direction are those of its stream, whatever way that was
-//! cut into segments.
+//! The law of [`law`] says that the records of a direction are those of its stream, whatever way
+//! that was cut into segments.
 #![tactic(auto)]
 
 mod capture;

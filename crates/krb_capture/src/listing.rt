@@ -18,8 +18,8 @@ use std::alloc::Global;
 use std::marker::Model;
 use std::mem::swap;
 
-/// The records of a capture that are not written yet, in a form, and how many of each kind there were
-/// in all.
+/// The records of a capture that are not written yet, in a form, and how many of each kind there
+/// were in all.
 #[derive(Drop)]
 pub(crate) struct Listing {
     pub(crate) alloc: Global,
@@ -150,8 +150,8 @@ impl Listing {
         Ok(())
     }
 
-    /// Adds a message that changes a password: its version, and how many octets its AP-REQ or AP-REP
-    /// has, and what follows that.
+    /// Adds a message that changes a password: its version, and how many octets its AP-REQ or
+    /// AP-REP has, and what follows that.
     pub(crate) fn put_password(
         &mut self,
         origin: &Origin,

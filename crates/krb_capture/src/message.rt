@@ -16,8 +16,8 @@ use std::alloc::Global;
 /// The greatest number of octets of a message.
 const MOST_OCTETS: u64 = 2147483647;
 
-/// Returns the path of the field that has the last of these octets of a message of `size` octets, if
-/// records of the form show it.
+/// Returns the path of the field that has the last of these octets of a message of `size` octets,
+/// if records of the form show it.
 #[tactic(auto, unfolding(crate::specs::Messages::path_of))]
 pub(crate) fn path_of(
     alloc: Global,

@@ -19,14 +19,15 @@ use krb_frame::{Decoder, Limit, SkippingDecoder, Status};
 use krb_text::{Form, Origin};
 use std::alloc::Global;
 
-/// The frames of messages that one end sends. It keeps the octets of the frame that is not whole yet.
+/// The frames of messages that one end sends. It keeps the octets of the frame that is not whole
+/// yet.
 #[derive(Drop)]
 pub(crate) struct MessageFrames {
     alloc: Global,
     limit: Limit,
     decoder: SkippingDecoder,
-    /// The first octets of the next frame, if the decoder was fed none of them. It is not, if the frame is
-    /// whole with the next octets: then its message is viewed at once, which is faster.
+    /// The first octets of the next frame, if the decoder was fed none of them. It is not, if the
+    /// frame is whole with the next octets: then its message is viewed at once, which is faster.
     part: Option<Part>,
     /// The length of the last frame is not known, and all that follows is passed over.
     is_over: bool,
@@ -69,8 +70,8 @@ impl MessageFrames {
         }
     }
 
-    /// Lists the frames that are whole with octets or refused, which follow those that the decoder was fed.
-    /// The last octets may be kept as a part of the next frame, but not a second time.
+    /// Lists the frames that are whole with octets or refused, which follow those that the decoder
+    /// was fed. The last octets may be kept as a part of the next frame, but not a second time.
     fn list(
         &mut self,
         octets: &[u8],
@@ -139,8 +140,8 @@ struct Listed<'a> {
     part: Option<&'a [u8]>,
 }
 
-/// Lists the frames that lie whole at the beginning of octets, where they lie, and returns what follows
-/// them. The decoder stays as it is.
+/// Lists the frames that lie whole at the beginning of octets, where they lie, and returns what
+/// follows them. The decoder stays as it is.
 fn list_passed<'a>(
     decoder: &SkippingDecoder,
     octets: &'a [u8],
@@ -160,9 +161,10 @@ fn list_passed<'a>(
     Ok(rest)
 }
 
-/// Lists the frames that are whole with the next octets or refused. None can follow a frame whose length
-/// is not known. A part of a frame at the end is left to the caller, if the decoder is clear then; but not
-/// if the octets begin with it and were kept as a part before, so that none is judged more than twice.
+/// Lists the frames that are whole with the next octets or refused. None can follow a frame whose
+/// length is not known. A part of a frame at the end is left to the caller, if the decoder is clear
+/// then; but not if the octets begin with it and were kept as a part before, so that none is judged
+/// more than twice.
 fn list_frames<'a>(
     decoder: &mut SkippingDecoder,
     limit: Limit,
@@ -232,8 +234,8 @@ fn list_ready(
     Ok(())
 }
 
-/// Lists the frame that is refused, skips it, and returns true. If its length is not known it is not
-/// skipped, and this returns false.
+/// Lists the frame that is refused, skips it, and returns true. If its length is not known it is
+/// not skipped, and this returns false.
 fn list_refused(
     decoder: &mut SkippingDecoder,
     refusal: Refusal,
@@ -248,8 +250,8 @@ fn list_refused(
     Ok(decoder.skip())
 }
 
-/// Returns the path of the field of which the next octet is due, or that has the octet that is refused,
-/// if records of the form show it.
+/// Returns the path of the field of which the next octet is due, or that has the octet that is
+/// refused, if records of the form show it.
 fn path_in_frame(
     alloc: Global,
     form: Form,

@@ -11,7 +11,8 @@ use std::marker::Model;
 /// How many octets a frame's length has.
 const LENGTH: usize = 4;
 
-/// The first octets of a frame that is not whole with them and not refused, those of its length with them.
+/// The first octets of a frame that is not whole with them and not refused, those of its length
+/// with them.
 #[derive(Drop)]
 pub(crate) struct Part {
     limit: Limit,
@@ -106,7 +107,8 @@ impl Part {
         self.octets.len() as u32
     }
 
-    /// Returns the path of the field of which the next octet is due, if records of the form show it.
+    /// Returns the path of the field of which the next octet is due, if records of the form show
+    /// it.
     pub(crate) fn path(&self, alloc: Global, form: Form) -> Result<Option<String>, Memory>
         ensures { IfOk result (λ path. path_in form (option_map string_bytes path) ≡ path_in form (frame_path self.now.octets)) }
     {

@@ -127,8 +127,8 @@ impl PasswordFrames {
         frame_length(self.octets.as_slice())
     }
 
-    /// Begins the next frame, which comes after octets that are not kept, and frees the memory of the
-    /// last one.
+    /// Begins the next frame, which comes after octets that are not kept, and frees the memory of
+    /// the last one.
     fn pass_over(&mut self, count: u32)
         ensures { PassesOver self.old count self.new }
     {

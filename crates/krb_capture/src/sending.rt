@@ -60,7 +60,8 @@ impl Sending {
         self.flow
     }
 
-    /// Takes a segment, and lists what is found with it. Octets that waited for it go through `waited`.
+    /// Takes a segment, and lists what is found with it. Octets that waited for it go through
+    /// `waited`.
     pub(crate) fn take(
         &mut self,
         segment: &Segment<'_>,

@@ -54,8 +54,8 @@ pub fn ticket_view_of(credential: &Credential) -> TicketStateView<'_>
 }
 
 /// Returns the contents of the ticket field of a credential. A configuration entry is recognized
-/// first, then an empty field, and other octets are judged as a Ticket (RFC 4120, 5.3). It allocates
-/// only for a Ticket.
+/// first, then an empty field, and other octets are judged as a Ticket (RFC 4120, 5.3). It
+/// allocates only for a Ticket.
 #[tactic(auto, unfolding(crate::specs::Tickets::state_of))]
 pub fn ticket_of(alloc: Global, credential: &Credential) -> Result<TicketState, Memory>
     ensures state { IfOk result (λ state. state ≡ state_of credential.now) }

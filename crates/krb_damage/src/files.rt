@@ -78,7 +78,8 @@ fn is_same_principal(principal: &FilePrincipal, other: &FilePrincipal) -> bool {
         && principal.components == other.components
 }
 
-/// Reads the next credential. What its contract says stays out of the proofs of callers, which take long with it.
+/// Reads the next credential. What its contract says stays out of the proofs of callers, which take
+/// long with it.
 fn next_of<R: Read + Drop>(
     alloc: Global,
     reader: &mut Credentials<R>,

@@ -175,8 +175,8 @@ fn etype_name(number: i64) -> &'static str {
     name_of(Registry::EncryptionTypes, number).unwrap_or("-")
 }
 
-/// Appends the records of a capture, as `krbls capture` prints them, and returns whether nothing of it is
-/// refused, lost or unread.
+/// Appends the records of a capture, as `krbls capture` prints them, and returns whether nothing of
+/// it is refused, lost or unread.
 fn put_capture(
     alloc: Global,
     packets: &mut Packets<&[u8]>,

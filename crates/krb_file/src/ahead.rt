@@ -82,8 +82,8 @@ impl Ahead {
         Ok(())
     }
 
-    /// Reads ahead if no octets are left: what the reader returns at once, at most `most` octets. At
-    /// the end of the reader that is nothing.
+    /// Reads ahead if no octets are left: what the reader returns at once, at most `most` octets.
+    /// At the end of the reader that is nothing.
     pub(crate) fn refill<R: Read>(
         &mut self,
         reader: &mut R,

@@ -50,9 +50,10 @@ pub trait FieldReader {
         ensures read { Follows (λ done. done) result (succeed tt) MayFail (cursor self.old) (cursor self.new) }
         ensures looks { LooksAheadTo size (cursor self.old) (cursor self.new) };
 
-    /// Fills `octets` with the next ones and returns true, or changes nothing and returns false. A reader
-    /// returns true only if one comparison shows that it has them and that they do not pass its end, and
-    /// may always return false: then [`fill`](FieldReader::fill) reads them, or says why it cannot.
+    /// Fills `octets` with the next ones and returns true, or changes nothing and returns false. A
+    /// reader returns true only if one comparison shows that it has them and that they do not pass
+    /// its end, and may always return false: then [`fill`](FieldReader::fill) reads them, or says
+    /// why it cannot.
     fn fill_near(&mut self, octets: &mut [u8]) -> bool
         requires { length octets.old ≤ 2 ^ 16 }
         ensures read { result ≡ true → HasRead (next_octets_at None (length octets.old)) octets.new (cursor self.old) (cursor self.new) }

@@ -59,8 +59,9 @@ impl Direction {
         }
     }
 
-    /// Takes a segment of the direction. The octets that are taken are those of the result, and then
-    /// those that `waited` has, whatever it had before. Out of memory, the direction has ended.
+    /// Takes a segment of the direction. The octets that are taken are those of the result, and
+    /// then those that `waited` has, whatever it had before. Out of memory, the direction has
+    /// ended.
     pub fn take<'a>(
         &mut self,
         alloc: Global,

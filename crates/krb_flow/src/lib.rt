@@ -11,8 +11,8 @@
 //! of them. Nothing here reads packets or keeps a table of connections, and neither acknowledgments
 //! nor times are looked at: `krb_packet` reads captures.
 //!
-//! The laws of [`law`] say that sequence numbers are compared rightly, and that what is delivered is
-//! the stream, however it is cut into segments.
+//! The laws of [`law`] say that sequence numbers are compared rightly, and that what is delivered
+//! is the stream, however it is cut into segments.
 #![tactic(auto)]
 
 mod direction;

@@ -94,8 +94,8 @@ fn insert_run(runs: &mut BTreeMap<u64, Vec<u8>>, end: u64, mut run: Vec<u8>) -> 
     Ok(())
 }
 
-/// Keeps octets from a place on, at places at which none waits. They go on with the run that ends there, if one
-/// does.
+/// Keeps octets from a place on, at places at which none waits. They go on with the run that ends
+/// there, if one does.
 fn put(
     alloc: Global,
     runs: &mut BTreeMap<u64, Vec<u8>>,
@@ -194,8 +194,8 @@ impl Runs {
         Some(*end - run.len() as u64)
     }
 
-    /// Keeps octets from a place on, each where no octet waits yet. Out of memory, no octet waits any
-    /// more.
+    /// Keeps octets from a place on, each where no octet waits yet. Out of memory, no octet waits
+    /// any more.
     fn keep(&mut self, place: u64, octets: &[u8]) -> Result<(), Memory>
         requires { place + length octets.now < 2 ^ 64 }
         ensures { OnOk result (self.new ≡ keep place octets.now self.old) }
@@ -233,8 +233,8 @@ impl Runs {
         Ok(())
     }
 
-    /// Returns how many of `count` octets, which begin `ahead` octets after the place that is expected,
-    /// are expected and before all that wait.
+    /// Returns how many of `count` octets, which begin `ahead` octets after the place that is
+    /// expected, are expected and before all that wait.
     fn prefix(&self, expected: u64, ahead: u32, count: usize) -> usize
         ensures few { result ≤ count }
         ensures here { 0 < result → ahead ≡ 0 }
@@ -249,8 +249,9 @@ impl Runs {
         }
     }
 
-    /// Takes octets that begin `ahead` octets after the place that is expected. Returns those of them that are
-    /// taken at once, borrowed, and moves those that waited and are taken after them into `released`.
+    /// Takes octets that begin `ahead` octets after the place that is expected. Returns those of
+    /// them that are taken at once, borrowed, and moves those that waited and are taken after them
+    /// into `released`.
     pub(crate) fn pass<'a>(
         &mut self,
         expected: u64,

@@ -122,7 +122,8 @@ impl Decoder {
 
     /// Creates a decoder of a stream of which nothing came yet, by the lenient profile, with memory
     /// for any frame that the limit allows: for that number of octets, and for half that number of
-    /// marks, the most that they can have. It keeps that, and `feed` never returns [`Status::Memory`].
+    /// marks, the most that they can have. It keeps that, and `feed` never returns
+    /// [`Status::Memory`].
     pub fn reserved(alloc: Global, limit: Limit) -> Result<Decoder, Memory>
         ensures nothing { IfOk result (λ d. d ≡ record { profile = Profile.Lenient; limit = limit; octets = []; looks = d.looks; capacity = d.capacity }) }
         ensures decoded { IfOk result (λ d. HasDecoded (messages Profile.Lenient) d [] []) }
@@ -202,11 +203,11 @@ impl Decoder {
         }
     }
 
-    /// Passes the frame with which a piece begins, if it is all there and its contents are a message,
-    /// and returns that message as a view of the piece, and what follows the frame. It is as if the
-    /// frame had been fed and cleared, but nothing is kept of it and the scanner looks at none of its
-    /// octets. Returns `None` of any other piece, and if a part of a frame was fed before or one is ready
-    /// or refused: then the piece is to be fed. It allocates nothing.
+    /// Passes the frame with which a piece begins, if it is all there and its contents are a
+    /// message, and returns that message as a view of the piece, and what follows the frame. It is
+    /// as if the frame had been fed and cleared, but nothing is kept of it and the scanner looks at
+    /// none of its octets. Returns `None` of any other piece, and if a part of a frame was fed
+    /// before or one is ready or refused: then the piece is to be fed. It allocates nothing.
     pub fn pass<'p>(&self, piece: &'p [u8]) -> Option<Passed<'p>>
         ensures frame { option_map contents_of result ≡ passed self.now piece.now }
         ensures passes { IfSome result (Passes (messages self.now.profile) self.now piece.now) }
@@ -215,7 +216,8 @@ impl Decoder {
             return None;
         };
         let (contents, rest) = first_contents(self.limit, piece)?;
-        // With `?` the view would be moved more often, which takes longer than what else is done here.
+        // With `?` the view would be moved more often, which takes longer than what else is done
+        // here.
         let Some(message) = view_message_in(self.scanner.profile(), contents) else {
             return None;
         };
@@ -280,8 +282,8 @@ impl Decoder {
 
     /// Gives up the frame that is refused, so that the next one may be fed after the octets of this
     /// one that are still to come, and returns how many these are. If nothing is refused nothing
-    /// changes; nor does it after `HighBit`, since the length of that frame is not known. The memory
-    /// is kept or freed as by [`next`](Decoder::next).
+    /// changes; nor does it after `HighBit`, since the length of that frame is not known. The
+    /// memory is kept or freed as by [`next`](Decoder::next).
     pub fn skip(&mut self) -> Option<u32>
         ensures { GivesUp (messages self.old.profile) self.old self.new result }
     {

@@ -1,5 +1,5 @@
-//! Laws of decoders and of the streams that they have decoded. Each is the contract of a function that
-//! does nothing.
+//! Laws of decoders and of the streams that they have decoded. Each is the contract of a function
+//! that does nothing.
 
 ghost use Rattle.krb_frame.specs.Calls.{CallsDeliverFrames};
 ghost use Rattle.krb_frame.specs.Laws.{DecoderMatchesStream, RefusalEnds, RefusalsAreInside, FeedIsNotTruncated, LenientHasNoCharset, GoingOnChangesNothingBefore};
@@ -29,14 +29,14 @@ pub fn lenient_has_no_charset()
     ensures { LenientHasNoCharset }
 {}
 
-/// If one goes on after a refusal, the frames up to the first refusal are as before, and it is one of
-/// them.
+/// If one goes on after a refusal, the frames up to the first refusal are as before, and it is one
+/// of them.
 pub fn going_on_changes_nothing_before()
     ensures { GoingOnChangesNothingBefore }
 {}
 
-/// Whichever frames of a stream are passed, and whichever are fed and cleared, all are delivered, in
-/// order.
+/// Whichever frames of a stream are passed, and whichever are fed and cleared, all are delivered,
+/// in order.
 pub fn calls_deliver_frames()
     ensures { CallsDeliverFrames }
 {}

@@ -8,8 +8,8 @@ use crate::limit::Limit;
 use krb_der::Why;
 
 /// Returns the number of octets of contents that the four octets of a length announce, the highest
-/// first, or why that length is refused (RFC 4120, 7.2.2): its high bit is set (`HighBit`), or it is
-/// greater than the limit (`TooLong`), or 0 (`Empty`), in this order.
+/// first, or why that length is refused (RFC 4120, 7.2.2): its high bit is set (`HighBit`), or it
+/// is greater than the limit (`TooLong`), or 0 (`Empty`), in this order.
 pub(crate) fn accepted_size(limit: Limit, announced: [u8; LENGTH_OCTETS]) -> Result<u32, Why>
     requires { length announced ≡ 4 }
     ensures { MatchResult result (IsAccepted limit announced) (IsRefusedLength limit announced) }

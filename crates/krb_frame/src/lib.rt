@@ -10,9 +10,9 @@
 //!   [`SkippingDecoder`] has the calls above, too.
 //! - [`frame`] returns a message as a frame.
 //!
-//! Nothing here reads or writes: the caller has the pieces. A decoder keeps at most the octets of one frame,
-//! and no frame may be longer than its [`Limit`]. Why octets of a message are refused is the
-//! judgement of `krb_msg`, found by `krb_scan`.
+//! Nothing here reads or writes: the caller has the pieces. A decoder keeps at most the octets of
+//! one frame, and no frame may be longer than its [`Limit`]. Why octets of a message are refused is
+//! the judgement of `krb_msg`, found by `krb_scan`.
 //!
 //! Contracts see of a decoder its limit, the octets of the current frame that it used, and how many
 //! octets of contents it looked at in all (`specs/Decoding`). `specs/Decoded` says which stream it

@@ -57,7 +57,8 @@ impl SkippingDecoder {
         }
     }
 
-    /// Returns whether no octets of the current frame were used, and none of a skipped one are to come.
+    /// Returns whether no octets of the current frame were used, and none of a skipped one are to
+    /// come.
     #[inline(always)]
     pub fn is_clear(&self) -> bool
         ensures { IsTrue result ↔ IsClear self.now }
@@ -92,9 +93,9 @@ impl SkippingDecoder {
     }
 
     /// Skips the frame that is refused, and returns whether it did: the octets of that frame that
-    /// are still to come are passed over, and what comes after them is the next frame. If nothing is
-    /// refused nothing changes; nor does it after `HighBit`, since the length of that frame is not
-    /// known.
+    /// are still to come are passed over, and what comes after them is the next frame. If nothing
+    /// is refused nothing changes; nor does it after `HighBit`, since the length of that frame is
+    /// not known.
     pub fn skip(&mut self) -> bool
         ensures { Skips (messages self.old.current.profile) self.old self.new result }
     {

@@ -1,7 +1,7 @@
 //! The field at fault of a message that is refused or cut.
 //!
-//! Each item that is whole is passed over, and then the first that is not is entered; so an octet is
-//! judged once for each SEQUENCE and SEQUENCE OF round it.
+//! Each item that is whole is passed over, and then the first that is not is entered; so an octet
+//! is judged once for each SEQUENCE and SEQUENCE OF round it.
 
 mod names;
 
@@ -83,12 +83,12 @@ struct Element<'a> {
 }
 
 /// Returns the path of the field at fault in a message of `n` octets, by a profile, such as
-/// `TGS-REQ.req-body.additional-tickets[0].sname`. The octets are those up to and with the refused one,
-/// or all that are present of a message that is cut. There is no path if the first octet is not there,
-/// or is the tag of no message.
+/// `TGS-REQ.req-body.additional-tickets[0].sname`. The octets are those up to and with the refused
+/// one, or all that are present of a message that is cut. There is no path if the first octet is
+/// not there, or is the tag of no message.
 ///
-/// A field has its path from its tag on. At Missing it is that of the first required field that is not
-/// there, and of a message that is cut that of the innermost item that is open.
+/// A field has its path from its tag on. At Missing it is that of the first required field that is
+/// not there, and of a message that is cut that of the innermost item that is open.
 pub fn path(alloc: Global, profile: Profile, n: u32, front: &[u8]) -> Result<Option<String>, Memory>
     requires short { n < 2 ^ 31 }
     requires present { length front.now ≤ n }

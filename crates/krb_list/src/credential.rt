@@ -293,8 +293,8 @@ fn put_reason_name(object: &mut TextBuffer, why: Why) -> Result<(), AllocError>
     put_string(object, why_text(why).as_bytes())
 }
 
-/// A ticket that is refused: `refused`, the place and the number of the reason, and with names its name,
-/// with `:` between.
+/// A ticket that is refused: `refused`, the place and the number of the reason, and with names its
+/// name, with `:` between.
 #[derive(Clone, Copy)]
 struct RefusedOctets(Refusal);
 

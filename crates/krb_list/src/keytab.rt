@@ -82,8 +82,8 @@ fn put_version(text: &mut TextBuffer, form: Form, entry: &Entry) -> Result<(), A
     put_field(text, form, " kvno=", ",\"kvno", &u64::from(entry.kvno()))
 }
 
-/// Appends the fields of an entry from the encryption type on. Of the key itself there is the number of
-/// its octets.
+/// Appends the fields of an entry from the encryption type on. Of the key itself there is the
+/// number of its octets.
 fn put_key(text: &mut TextBuffer, form: Form, entry: &Entry) -> Result<(), AllocError>
     ensures { OnOk result (text.new ≡ text.old ++ fields_text form (
         the (codes "enctype") (Named EncryptionTypes (pos entry.now.enctype))

@@ -1,4 +1,5 @@
-//! Laws of what is printed of keytabs and caches. Each is the contract of a function that does nothing.
+//! Laws of what is printed of keytabs and caches. Each is the contract of a function that does
+//! nothing.
 ghost use Rattle.krb_list.specs.Laws.{CacheEndIsOneLine, CacheIsOneLine, CredentialIsOneLine, CredentialKeyIsNotShown, KeysAreNotShown, KeytabEndIsOneLine, RecordIsOneLine, RecordKeyIsNotShown, SessionKeys3AreNotShown, SessionKeysAreNotShown};
 
 /// What is printed of a record of a keytab, and of its end, is one line in each form: blanks and
@@ -8,23 +9,23 @@ pub fn keytab_is_one_line_each()
     ensures end { KeytabEndIsOneLine }
 {}
 
-/// What is printed of a cache, of a credential, and of a cache's end, is one line in each form: blanks
-/// and graphic characters of ASCII, and a line feed after them.
+/// What is printed of a cache, of a credential, and of a cache's end, is one line in each form:
+/// blanks and graphic characters of ASCII, and a line feed after them.
 pub fn ccache_is_one_line_each()
     ensures cache { CacheIsOneLine }
     ensures credential { CredentialIsOneLine }
     ensures end { CacheEndIsOneLine }
 {}
 
-/// What is printed of a keytab, in each form, and of each record, is as of the same with every octet
-/// of each key 00.
+/// What is printed of a keytab, in each form, and of each record, is as of the same with every
+/// octet of each key 00.
 pub fn keys_are_not_shown()
     ensures keytab { KeysAreNotShown }
     ensures record { RecordKeyIsNotShown }
 {}
 
-/// What is printed of a cache, in version 4 or 3 and in each form, and of each credential, is as of the
-/// same with every octet of each key 00.
+/// What is printed of a cache, in version 4 or 3 and in each form, and of each credential, is as of
+/// the same with every octet of each key 00.
 pub fn session_keys_are_not_shown()
     ensures cache { SessionKeysAreNotShown }
     ensures cache3 { SessionKeys3AreNotShown }

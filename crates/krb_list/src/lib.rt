@@ -1,12 +1,12 @@
 //! What is printed: records, each in one of three forms.
 //!
 //! The records of keytabs and caches are here, those of messages, refusals, streams and captures in
-//! `krb_text`, which has the forms, too; all are public here. Each function appends to one text, and
-//! its contract says what was appended.
+//! `krb_text`, which has the forms, too; all are public here. Each function appends to one text,
+//! and its contract says what was appended.
 //!
-//! The main calls are [`put_message_view`] and [`message_line`] for messages, [`put_record`] for keytabs,
-//! [`put_credential`] for caches, and [`put_captured_message`] for captures. Nothing here reads or
-//! writes a file, and no octet of a key is shown ([`keys_are_not_shown`],
+//! The main calls are [`put_message_view`] and [`message_line`] for messages, [`put_record`] for
+//! keytabs, [`put_credential`] for caches, and [`put_captured_message`] for captures. Nothing here
+//! reads or writes a file, and no octet of a key is shown ([`keys_are_not_shown`],
 //! [`session_keys_are_not_shown`]).
 #![tactic(auto)]
 

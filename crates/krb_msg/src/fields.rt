@@ -25,8 +25,8 @@ pub struct Optional<const INDEX: u8, T, F>(pub Option<T>, pub F);
 #[derive(Drop)]
 pub struct Fixed<const INDEX: u8, const NUMBER: u8, F>(pub F);
 
-/// The fields from one on, as a type of their own: lists are cut so, because they nest no deeper than
-/// a proof of them stays short.
+/// The fields from one on, as a type of their own: lists are cut so, because they nest no deeper
+/// than a proof of them stays short.
 #[derive(Drop)]
 pub struct Cut<F>(pub F);
 

@@ -121,7 +121,8 @@ impl KdcRep {
         self.layout::<N>().put(out);
     }
 
-    /// Returns a view of the message of a number and a message type that octets are, if they are one.
+    /// Returns a view of the message of a number and a message type that octets are, if they are
+    /// one.
     #[inline(always)]
     pub(crate) fn view<const N: u8>(octets: &[u8]) -> Option<KdcRepView<'_>>
         requires short { length octets.now < 2 ^ 31 }

@@ -21,8 +21,8 @@ use crate::view::view_whole;
 use krb_der::Many;
 
 /// What a client sends a KDC (RFC 4120, 5.4.1): the contents of an AS-REQ or a TGS-REQ. Their
-/// version and their message type are fixed, and so not kept; so a KDC-REQ has octets only as one or
-/// the other.
+/// version and their message type are fixed, and so not kept; so a KDC-REQ has octets only as one
+/// or the other.
 #[derive(PartialEq, Eq, Debug, Drop)]
 pub struct KdcReq {
     /// Pre-authentication data, if there is some.
@@ -86,7 +86,8 @@ impl KdcReq {
         self.layout::<N>().put(out);
     }
 
-    /// Returns a view of the message of a number and a message type that octets are, if they are one.
+    /// Returns a view of the message of a number and a message type that octets are, if they are
+    /// one.
     #[inline(always)]
     pub(crate) fn view<const N: u8>(octets: &[u8]) -> Option<KdcReqView<'_>>
         requires short { length octets.now < 2 ^ 31 }

@@ -18,8 +18,8 @@ use crate::ticket::Ticket;
 use crate::view::items::ItemsView;
 use krb_der::{Der, Many};
 
-/// Tickets, handed on with what is sealed of them (RFC 4120, 5.8.1). Its version and its message type
-/// are fixed, and so not kept.
+/// Tickets, handed on with what is sealed of them (RFC 4120, 5.8.1). Its version and its message
+/// type are fixed, and so not kept.
 #[derive(PartialEq, Eq, Debug, Drop)]
 pub struct KrbCred {
     /// The tickets.

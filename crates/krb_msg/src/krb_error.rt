@@ -17,8 +17,8 @@ use crate::item::Item;
 use crate::principal_name::{PrincipalName, PrincipalNameView};
 use krb_der::{Der, Int32, KString, KerberosTime, Micros, Octets};
 
-/// The message of an error (RFC 4120, 5.9.1). Its version and its message type are fixed, and so not
-/// kept.
+/// The message of an error (RFC 4120, 5.9.1). Its version and its message type are fixed, and so
+/// not kept.
 #[derive(PartialEq, Eq, Debug, Drop)]
 pub struct KrbError {
     /// The time of the client.

@@ -15,8 +15,8 @@ use crate::fields::{
 use crate::item::Item;
 use krb_der::Der;
 
-/// A message that is sealed (RFC 4120, 5.7.1). Its version and its message type are fixed, and so not
-/// kept.
+/// A message that is sealed (RFC 4120, 5.7.1). Its version and its message type are fixed, and so
+/// not kept.
 #[derive(PartialEq, Eq, Debug, Drop)]
 pub struct KrbPriv {
     /// The sealed EncKrbPrivPart.

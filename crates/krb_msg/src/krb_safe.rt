@@ -17,8 +17,8 @@ use crate::item::Item;
 use crate::krb_safe_body::{KrbSafeBody, KrbSafeBodyView};
 use krb_der::Der;
 
-/// A message that is protected against changes (RFC 4120, 5.6.1). Its version and its message type are
-/// fixed, and so not kept.
+/// A message that is protected against changes (RFC 4120, 5.6.1). Its version and its message type
+/// are fixed, and so not kept.
 #[derive(PartialEq, Eq, Debug, Drop)]
 pub struct KrbSafe {
     /// What is protected.

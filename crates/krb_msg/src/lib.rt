@@ -8,26 +8,26 @@
 //!
 //! [`view_message`] judges and views a message in place, in one pass without allocating
 //! ([`view_message_in`] by a profile): a [`MessageView`] has the same fields as plain numbers,
-//! borrowed octets and lists ([`ItemsView`], walked by [`next_item`]). [`MessageView::to_message`] copies it out as a `Message`. [`view_whole`]
-//! views an item of any type alone (the trait [`View`]), such as a [`Ticket`], and [`FromView`] copies
-//! it.
+//! borrowed octets and lists ([`ItemsView`], walked by [`next_item`]). [`MessageView::to_message`]
+//! copies it out as a `Message`. [`view_whole`] views an item of any type alone (the trait
+//! [`View`]), such as a [`Ticket`], and [`FromView`] copies it.
 //!
 //! [`notes_of`], and [`notes_of_view`] of a view, return what is unusual in a message, and
-//! [`is_strict`] whether it is in the strict profile, too. [`grammar`] is the table by which octets are judged, and
-//! [`law`] has the laws about all this.
+//! [`is_strict`] whether it is in the strict profile, too. [`grammar`] is the table by which octets
+//! are judged, and [`law`] has the laws about all this.
 //!
-//! Nothing here says why octets are no message, nor where that shows: `krb_judge` does, and `krb_scan`
-//! of octets that come one after another. No cipher is opened, and
-//! what a field means is not looked into: not whether a time exists, nor whom a name names. Only what
-//! encodes or copies allocates, and it says if it is out of memory.
+//! Nothing here says why octets are no message, nor where that shows: `krb_judge` does, and
+//! `krb_scan` of octets that come one after another. No cipher is opened, and what a field means is
+//! not looked into: not whether a time exists, nor whom a name names. Only what encodes or copies
+//! allocates, and it says if it is out of memory.
 //!
 //! `specs/` reads from the bottom: `Term` (terms, their values and the DER of a value), `Profiles`
 //! (what the strict profile narrows), `Grammar` (appendix A as terms), `Judgement` (what the octets
-//! present of a message decide), `Stream` (the frames of a stream), `Views` (the types of this crate
-//! as values of terms), `ValueOfDer` (the value whose DER octets are), `Viewed` and
-//! `ViewValues` (octets that a view is of, and the values of views), and `Laws`, which the functions of [`law`] prove.
-//! `Nodes` and `Table` say what the table of the grammar has to do with the terms; the files of
-//! `specs/inner` prove the laws of `Der`.
+//! present of a message decide), `Stream` (the frames of a stream), `Views` (the types of this
+//! crate as values of terms), `ValueOfDer` (the value whose DER octets are), `Viewed` and
+//! `ViewValues` (octets that a view is of, and the values of views), and `Laws`, which the
+//! functions of [`law`] prove. `Nodes` and `Table` say what the table of the grammar has to do with
+//! the terms; the files of `specs/inner` prove the laws of `Der`.
 #![tactic(auto)]
 
 mod ap_rep;

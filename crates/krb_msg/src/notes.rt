@@ -97,8 +97,8 @@ trait Noted {
         ensures { result ≡ notes_by (λ note. noted note self.now) };
 }
 
-/// Returns whether an octet is above 7F. The bits of all octets are put together: a loop with no exit
-/// within it takes fewer instructions for each.
+/// Returns whether an octet is above 7F. The bits of all octets are put together: a loop with no
+/// exit within it takes fewer instructions for each.
 fn has_high_octet(octets: &[u8]) -> bool
     ensures { result ≡ list_any (λ octet. nat_lt 0x7F octet) octets.now }
 {

@@ -13,8 +13,8 @@ pub mod scalars;
 use crate::fields::View;
 use head::only_item;
 
-/// Returns a view of the item that octets are, if they are one: all of them, judged and viewed in one
-/// pass. It allocates nothing.
+/// Returns a view of the item that octets are, if they are one: all of them, judged and viewed in
+/// one pass. It allocates nothing.
 #[inline(always)]
 pub fn view_whole<'a, T: View<'a>>(octets: &'a [u8]) -> Option<T::Of>
     requires short { length octets.now < 2 ^ 31 }

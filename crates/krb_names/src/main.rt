@@ -1,6 +1,6 @@
 //! Prints the name of each message of a stream of frames, which it reads from the standard input,
-//! up to the first refusal. It shows the three main calls of `krb_frame`: `feed`, `ready` and `next`.
-//! It prints nothing else of a message, and does not go on after a refusal.
+//! up to the first refusal. It shows the three main calls of `krb_frame`: `feed`, `ready` and
+//! `next`. It prints nothing else of a message, and does not go on after a refusal.
 #![tactic(auto)]
 
 use anyhow::Result;

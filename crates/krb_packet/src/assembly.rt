@@ -45,8 +45,8 @@ ghost use Rattle.std.specs.Prelude.{◌≡◌, ◌+◌, ◌<◌, ◌≤◌, if�
 ghost use Rattle.std.specs.List.{list_all, list_any, starts_with};
 ghost use Rattle.krb_packet.specs.Parts.{no_parts, is_sound, span_of, same_span, is_copy, are_apart, fits, lengthened, overwritten, with_fragment, add_fragment, is_complete};
 
-/// Returns whether a fragment is sound by itself: it was captured whole, it is within a datagram, and
-/// it has a multiple of eight octets unless it is the last one.
+/// Returns whether a fragment is sound by itself: it was captured whole, it is within a datagram,
+/// and it has a multiple of eight octets unless it is the last one.
 fn is_sound(fragment: &Fragment<'_>) -> bool
     ensures value { result ≡ is_sound fragment.now }
     ensures within { result ≡ true → fragment.now.offset + length fragment.now.payload.octets ≤ 65535 }

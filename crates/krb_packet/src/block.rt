@@ -180,7 +180,8 @@ pub(crate) fn read_head<F: FieldReader>(
     }
 }
 
-/// Reads the octets of a body that are left. If the file ends before, the body is refused at `place`.
+/// Reads the octets of a body that are left. If the file ends before, the body is refused at
+/// `place`.
 pub(crate) fn body_octets<F: FieldReader>(
     alloc: Global,
     place: u64,

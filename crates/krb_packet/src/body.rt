@@ -161,8 +161,8 @@ fn old_packet<F: FieldReader>(
     timed_packet(alloc, order, count, interface, reader)
 }
 
-/// Returns the most octets of a packet that were captured, if an interface captures `snaplen` of each, or
-/// any number if that is 0.
+/// Returns the most octets of a packet that were captured, if an interface captures `snaplen` of
+/// each, or any number if that is 0.
 fn most_of(snaplen: u32, original: u32) -> u32
     ensures { result ≡ most_of snaplen original }
 {
@@ -237,7 +237,8 @@ fn read_content<F: FieldReader>(
     }
 }
 
-/// Reads a body, whose fields may not pass it. The places of its faults are counted from its first octet.
+/// Reads a body, whose fields may not pass it. The places of its faults are counted from its first
+/// octet.
 pub(crate) fn body_content(
     alloc: Global,
     kind: BlockKind,

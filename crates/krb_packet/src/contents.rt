@@ -60,8 +60,8 @@ pub struct Original {
 pub struct Fragment<'a> {
     /// The datagram that it is of.
     pub original: Original,
-    /// What the octets of the datagram begin with, as this fragment says: the number of a protocol or,
-    /// in IPv6, of a header.
+    /// What the octets of the datagram begin with, as this fragment says: the number of a protocol
+    /// or, in IPv6, of a header.
     pub protocol: u8,
     /// How many octets of the datagram are before it.
     pub offset: u16,

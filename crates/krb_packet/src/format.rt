@@ -54,8 +54,8 @@ fn header<F: FieldReader>(form: Form, reader: &mut F) -> Result<Header, CaptureF
     }
 }
 
-/// Returns the fault of a packet of a pcap that begins at `start`, with the field at fault. It stands
-/// apart, so that a packet is returned where it was made.
+/// Returns the fault of a packet of a pcap that begins at `start`, with the field at fault. It
+/// stands apart, so that a packet is returned where it was made.
 #[cold]
 #[inline(never)]
 fn refused_packet(count: u64, start: u64, fault: FileFault) -> Result<Option<Packet>, CaptureFault>

@@ -134,8 +134,8 @@ impl Pending {
 }
 
 impl Reassembled {
-    /// Returns what the datagram carries: a UDP datagram or a TCP segment, whose octets are borrowed
-    /// from it. If a header is cut or wrong, or of another fragment, it cannot be read.
+    /// Returns what the datagram carries: a UDP datagram or a TCP segment, whose octets are
+    /// borrowed from it. If a header is cut or wrong, or of another fragment, it cannot be read.
     #[tactic(auto, unfolding(crate::specs::Fragments::contents_of_whole))]
     pub fn contents(&self) -> Contents<'_>
         ensures { result ≡ contents_of_whole self.now }
@@ -166,10 +166,10 @@ impl Fragments {
     }
 
     /// Adds a fragment, and returns the whole datagram if that is completed by it. Fragments of a
-    /// datagram may come in any order, and copies of one are ignored. If one overlaps another in any
-    /// other way, ends after 65535 octets, was not captured whole, has no multiple of 8 octets without
-    /// being the last, or disagrees about the end, its datagram is discarded, and so are its later
-    /// fragments until it is given up. Out of memory, nothing changes.
+    /// datagram may come in any order, and copies of one are ignored. If one overlaps another in
+    /// any other way, ends after 65535 octets, was not captured whole, has no multiple of 8 octets
+    /// without being the last, or disagrees about the end, its datagram is discarded, and so are
+    /// its later fragments until it is given up. Out of memory, nothing changes.
     #[tactic(auto, unfolding(crate::specs::Fragments::step))]
     pub fn take(&mut self, fragment: &Fragment<'_>) -> Result<Option<Reassembled>, Memory>
         ensures whole { IfOk result (λ whole. whole ≡ (step self.old fragment.now).0) }

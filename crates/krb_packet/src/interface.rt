@@ -139,7 +139,8 @@ fn next_setting<F: FieldReader>(
     Ok(Some(value(order, code, size, reader)?))
 }
 
-/// Reads an option, or the end of the options. One that passes the end is refused at its first octet.
+/// Reads an option, or the end of the options. One that passes the end is refused at its first
+/// octet.
 fn next_option<F: FieldReader>(
     order: ByteOrder,
     reader: &mut F,

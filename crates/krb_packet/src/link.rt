@@ -70,8 +70,8 @@ fn ethernet<'a>(packet: Payload<'a>) -> Option<Contents<'a>>
     network(kind, packet)
 }
 
-/// Returns what a packet carries after a header of `size` octets, in which an EtherType follows `at`
-/// octets.
+/// Returns what a packet carries after a header of `size` octets, in which an EtherType follows
+/// `at` octets.
 #[tactic(auto, unfolding(crate::specs::Contents::cooked))]
 fn cooked<'a>(at: usize, size: usize, packet: Payload<'a>) -> Option<Contents<'a>>
     ensures { result ≡ cooked at size packet.entry }

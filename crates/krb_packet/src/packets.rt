@@ -65,9 +65,9 @@ impl<R: Read> Packets<R> {
         }
     }
 
-    /// Reads the next packet; returns `None` at the end of the file. A file is refused at the first field at fault,
-    /// which the fault names. After a fault each call returns this fault, and after the end each
-    /// call returns `None`; neither reads any more.
+    /// Reads the next packet; returns `None` at the end of the file. A file is refused at the first
+    /// field at fault, which the fault names. After a fault each call returns this fault, and after
+    /// the end each call returns `None`; neither reads any more.
     pub fn next_packet(&mut self, alloc: Global) -> Result<Option<Packet>, CaptureFault>
         // The packets of the file that is read, one after another, and then the end or the fault.
         ensures next { (file : List ℕ) (given : ℕ) → Reads self.old file given → ReturnsNext file given result self.new }

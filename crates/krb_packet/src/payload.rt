@@ -25,8 +25,8 @@ ghost use Rattle.std.specs.Prelude.{◌≡◌, ◌≤◌, length, max};
 ghost use Rattle.krb_packet.specs.Payloads.{field, number8, number16, number32, after, within};
 
 impl<'a> Payload<'a> {
-    /// Creates a payload of captured octets, and a size on the wire. It is no smaller than that of the
-    /// octets.
+    /// Creates a payload of captured octets, and a size on the wire. It is no smaller than that of
+    /// the octets.
     pub fn new(octets: &'a [u8], size: u64) -> Payload<'a>
         ensures { result ≡ record { octets = octets.now; size = max size (length octets.now) } }
     {

@@ -7,8 +7,8 @@
 //! - [`rows`] returns all numbers and names of a registry, in order of number.
 //!
 //! Nothing here knows a message, or what a number means. Each registry is a table in `src/tables`,
-//! which says which standard its rows are from; the notes on messages are one, too, from no standard.
-//! The laws [`names_are_plain`] and [`rows_are_in_order`] hold of all of them.
+//! which says which standard its rows are from; the notes on messages are one, too, from no
+//! standard. The laws [`names_are_plain`] and [`rows_are_in_order`] hold of all of them.
 #![tactic(auto)]
 
 mod law;

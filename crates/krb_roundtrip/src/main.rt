@@ -51,7 +51,8 @@ impl Work {
 }
 
 /// Returns whether octets are parsed as a message which, with `encodes`, is encoded as the same
-/// octets. This is a function of its own so that its values need no stack when octets are only judged.
+/// octets. This is a function of its own so that its values need no stack when octets are only
+/// judged.
 #[inline(never)]
 fn is_parsed(alloc: Global, octets: &[u8], encodes: bool) -> bool {
     match parse(alloc, octets) {
@@ -82,8 +83,8 @@ fn first_frame(octets: &[u8]) -> Option<(&[u8], &[u8])> {
     Some(rest.split_at(size))
 }
 
-/// Does the work with the contents of a frame; returns whether they are a message, and are encoded as
-/// the same octets if that is asked for. The scanner's memory is used again.
+/// Does the work with the contents of a frame; returns whether they are a message, and are encoded
+/// as the same octets if that is asked for. The scanner's memory is used again.
 fn is_done(alloc: Global, scanner: &mut Scanner, octets: &[u8], work: Work) -> bool {
     match work {
         Work::Frames => true,

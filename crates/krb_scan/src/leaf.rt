@@ -63,8 +63,8 @@ pub(crate) fn is_within(contents: Contents, value: i64) -> bool
     }
 }
 
-/// Judges an INTEGER's next octet, after `seen` of its `size`, which are `value`; with it they are a
-/// number that is `within` its range, or not.
+/// Judges an INTEGER's next octet, after `seen` of its `size`, which are `value`; with it they are
+/// a number that is `within` its range, or not.
 pub(crate) fn integer_next(within: bool, size: u32, seen: u32, value: i64, octet: u8) -> Leaf
     requires { seen < size }
     ensures { LeafIs result (integer_with within size seen value octet) }

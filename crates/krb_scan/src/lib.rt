@@ -9,15 +9,15 @@
 //!   grammar, where its contents begin, how many octets they are, and the number of an INTEGER.
 //! - [`build`] returns the message of the octets that were scanned whole.
 //!
-//! A scanner does not keep the octets, knows the length of its message beforehand, and finds no frames:
-//! `krb_frame` does. It allocates for the marks alone.
+//! A scanner does not keep the octets, knows the length of its message beforehand, and finds no
+//! frames: `krb_frame` does. It allocates for the marks alone.
 //!
-//! `specs/`, to be read in this order: `Scan` (the scan of the octets present), `ValueMarks`
-//! (the marks of a value), `Positions` and `State` (the fields of a scanner, as a state of the scan),
+//! `specs/`, to be read in this order: `Scan` (the scan of the octets present), `ValueMarks` (the
+//! marks of a value), `Positions` and `State` (the fields of a scanner, as a state of the scan),
 //! `Scanned` (a scanner that has scanned octets), `Laws` (that the verdict of a scan is the
-//! judgement, and that the marks of a whole message are those of its value), `Runs` (how many octets
-//! of an open string are to come) and `Scanner` (what contracts see of one). `specs/inner` has the machine that
-//! scans one octet at a time, and the contracts of the parts of the code.
+//! judgement, and that the marks of a whole message are those of its value), `Runs` (how many
+//! octets of an open string are to come) and `Scanner` (what contracts see of one). `specs/inner`
+//! has the machine that scans one octet at a time, and the contracts of the parts of the code.
 #![tactic(auto)]
 
 mod building;

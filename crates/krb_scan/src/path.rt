@@ -468,7 +468,8 @@ impl Path {
         }
     }
 
-    /// As of a message of a profile of `size` octets of which none is scanned. The capacity for marks stays.
+    /// As of a message of a profile of `size` octets of which none is scanned. The capacity for
+    /// marks stays.
     pub(crate) fn clear(&mut self, profile: Profile, size: u32)
         ensures kept { (self.new.size ≡ size) × (self.new.looked ≡ 0) × (self.new.tip ≡ Tip.Between) }
         ensures message { (self.new.inner.end ≡ size) × IsPosition self.new.inner.expected × (expected_at self.new.inner.expected ≡ OneOf (messages profile)) }
@@ -497,8 +498,8 @@ impl Path {
         Ok(())
     }
 
-    /// Scans the longest prefix of octets that lies inside an open string that may have any octets, and
-    /// stops short of its last octet. So none of them is looked at.
+    /// Scans the longest prefix of octets that lies inside an open string that may have any octets,
+    /// and stops short of its last octet. So none of them is looked at.
     pub(crate) fn run(&mut self, octets: &[u8]) -> u32
         requires { IsReached self.old }
         ensures goes { (profile : Profile) (before : List ℕ) → IsPathOf profile self.old before → IsPathOf profile self.new (before ++ take result octets.now) }

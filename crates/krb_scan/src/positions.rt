@@ -13,8 +13,8 @@ ghost use Rattle.krb_scan.specs.inner.Positions.{IsPosition, IsPositionOf, ArePo
 use krb_der::Profile;
 use krb_msg::grammar::{ROWS, Row};
 
-/// The positions of a profile, in the order of their rows. A field of a SEQUENCE has the name of its row in
-/// `krb_msg`'s table.
+/// The positions of a profile, in the order of their rows. A field of a SEQUENCE has the name of
+/// its row in `krb_msg`'s table.
 pub(crate) enum PositionName {
     // the one item of a tag
     OnlyInt32,
@@ -365,8 +365,8 @@ macro_rules! both {
     };
 }
 
-/// A row for each position: those of the lenient profile in the order of [`PositionName`], and then those
-/// of the strict one in the same order. That they are, [`position_at`] says.
+/// A row for each position: those of the lenient profile in the order of [`PositionName`], and then
+/// those of the strict one in the same order. That they are, [`position_at`] says.
 static TABLE: [Position; POSITIONS] = both![
     // the one item of a tag
     (only, 0x02, Int32, Integer(-2147483648, 2147483647, 4)),
@@ -568,7 +568,8 @@ pub(crate) fn position_at(position: u16) -> &'static Position
     position_in(&TABLE, position)
 }
 
-/// Returns the position of the item that an identifier octet begins, by what is expected at a position.
+/// Returns the position of the item that an identifier octet begins, by what is expected at a
+/// position.
 #[inline(always)]
 pub(crate) fn pick(octet: u8, expected: u16) -> Option<u16>
     requires { IsPosition expected }

@@ -104,8 +104,8 @@ impl Scanner {
         Ok(decided)
     }
 
-    /// Scans octets as `run` and `step` would, one after another, until something is decided or none
-    /// is left. If out of memory, it stays as it was before the octet that was not scanned.
+    /// Scans octets as `run` and `step` would, one after another, until something is decided or
+    /// none is left. If out of memory, it stays as it was before the octet that was not scanned.
     pub fn take(&mut self, octets: &[u8]) -> Scanned
         requires { verdict_of self.old ≡ Verdict.Open }
         ensures at { (profile : Profile) (n : ℕ) (before : List ℕ) → HasScanned profile self.old n before → HasScanned profile self.new n (before ++ take result.used octets.now) }
@@ -138,7 +138,8 @@ impl Scanner {
         }
     }
 
-    /// Scans some octets at once, of which there is at least one: what `run` scans, or else an octet.
+    /// Scans some octets at once, of which there is at least one: what `run` scans, or else an
+    /// octet.
     fn take_some(&mut self, octets: &[u8]) -> Scanned
         requires open { verdict_of self.old ≡ Verdict.Open }
         requires some { 0 < length octets.now }
@@ -206,7 +207,8 @@ impl Scanner {
         self.path.marks.capacity()
     }
 
-    /// As a new scanner of a message of `n` octets; but the capacity for marks stays, and the ledger.
+    /// As a new scanner of a message of `n` octets; but the capacity for marks stays, and the
+    /// ledger.
     pub fn clear(&mut self, n: u32)
         requires some { 0 < n }
         requires short { n < 2 ^ 31 }
@@ -244,8 +246,9 @@ impl Scanner {
         self.path.reserve(marks)
     }
 
-    /// Scans the longest prefix of octets that lies inside an open OCTET STRING, or a GeneralString that
-    /// may have any octets, and stops short of its last octet, and says how many these are. The verdict stays.
+    /// Scans the longest prefix of octets that lies inside an open OCTET STRING, or a GeneralString
+    /// that may have any octets, and stops short of its last octet, and says how many these are.
+    /// The verdict stays.
     pub fn run(&mut self, octets: &[u8]) -> usize
         ensures at { (profile : Profile) (n : ℕ) (before : List ℕ) → HasScanned profile self.old n before → HasScanned profile self.new n (before ++ take result octets.now) }
         ensures longest { (profile : Profile) (n : ℕ) (before : List ℕ) → HasScanned profile self.old n before → result ≡ min (length octets.now) (string_left (messages profile) n before) }

@@ -9,8 +9,8 @@ pub(crate) enum Tip {
     Tagged {
         position: u16,
     },
-    /// The item of a position, of which `seen` of the `digits` octets of a long length are read, and the
-    /// number that these spell.
+    /// The item of a position, of which `seen` of the `digits` octets of a long length are read,
+    /// and the number that these spell.
     Long {
         position: u16,
         digits: u32,

@@ -1,5 +1,5 @@
-//! Captures of packets. They are files of `tests/captures`, of which it says what they are and what has
-//! to be listed.
+//! Captures of packets. They are files of `tests/captures`, of which it says what they are and what
+//! has to be listed.
 
 use crate::examples::octets_of;
 use krb_capture::Capture;
@@ -43,8 +43,8 @@ const ROWS: [Row; 3] = [
     ),
 ];
 
-/// Appends the records of all packets, and of the end or of the fault of the file. Returns whether nothing
-/// is refused, lost or unread.
+/// Appends the records of all packets, and of the end or of the fault of the file. Returns whether
+/// nothing is refused, lost or unread.
 fn put_records(
     alloc: Global,
     packets: &mut Packets<&[u8]>,

@@ -1,4 +1,5 @@
-//! Records in each form. What is expected was worked out by hand from the rules of `docs/LISTING.md`.
+//! Records in each form. What is expected was worked out by hand from the rules of
+//! `docs/LISTING.md`.
 
 use krb_der::{Refusal, Why};
 use krb_file::FileWhy;

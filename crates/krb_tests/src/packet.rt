@@ -1,5 +1,5 @@
-//! The first two packets of a real capture, `no-kdc`, in which a client of MIT krb5 asks for a connection
-//! to port 88 and is refused; and what Wireshark shows of them.
+//! The first two packets of a real capture, `no-kdc`, in which a client of MIT krb5 asks for a
+//! connection to port 88 and is refused; and what Wireshark shows of them.
 
 use krb_file::{FileFault, FileWhy};
 use krb_packet::{

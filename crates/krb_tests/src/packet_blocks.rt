@@ -1,5 +1,5 @@
-//! The first three blocks of a real pcapng, `mit-udp6`, in which a client of MIT krb5 asks for a ticket
-//! over IPv6; and what Wireshark shows of the packet in the last one.
+//! The first three blocks of a real pcapng, `mit-udp6`, in which a client of MIT krb5 asks for a
+//! ticket over IPv6; and what Wireshark shows of the packet in the last one.
 
 use krb_packet::{Contents, Endpoint, LinkType, Packet, Packets, Time, contents_of};
 use std::alloc::Global;

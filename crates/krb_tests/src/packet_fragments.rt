@@ -1,5 +1,5 @@
-//! The segment of the first packet of a real capture, `no-kdc`, cut into fragments as RFC 791, 3.2, and
-//! RFC 8200, 4.5, say; and what Wireshark shows of the segment.
+//! The segment of the first packet of a real capture, `no-kdc`, cut into fragments as RFC 791, 3.2,
+//! and RFC 8200, 4.5, say; and what Wireshark shows of the segment.
 
 use krb_der::Octets;
 use krb_packet::{Contents, Fragment, Fragments, LinkType, Packet, Reassembled, contents_of};
@@ -16,8 +16,8 @@ const SEGMENT: [u8; 40] = [
 /// Its first 16 octets are in one fragment, and the other 24 in another one.
 const FIRST: usize = 16;
 
-/// The headers of IPv4 before the two fragments: the first one is followed by more, and the second one
-/// has the offset 2.
+/// The headers of IPv4 before the two fragments: the first one is followed by more, and the second
+/// one has the offset 2.
 const HEADERS4: [[u8; 20]; 2] = [
     [
         0x45, 0x00, 0x00, 0x24, 0xa4, 0x68, 0x20, 0x00, 0x40, 0x06, 0x00, 0x00, 0x7f, 0x00, 0x00,

@@ -38,8 +38,8 @@ struct Example(Run, &'static [u8], &'static str, [(usize, &'static str); 2]);
 const FRAME: &[u8] =
     b"\x00\x00\x00\x1F\x6F\x1D\x30\x1B\xA0\x03\x02\x01\x05\xA1\x03\x02\x01\x0F\xA2\x0F\x30\x0D\xA0\x03\x02\x01\x12\xA2\x06\x04\x04\xDE\xAD\xBE\xEF";
 
-/// Two of these frames, a message in hexadecimal, a keytab with an entry and a hole, and a cache of u@A
-/// with no credential.
+/// Two of these frames, a message in hexadecimal, a keytab with an entry and a hole, and a cache of
+/// u@A with no credential.
 const EXAMPLES: [Example; 4] = [
     Example(
         Run::Stream,

@@ -34,8 +34,9 @@ pub fn put_captured_message(
     Ok(())
 }
 
-/// Appends the line of a refused message of a capture: the place of the octet at fault, what is wrong
-/// with it, and the path of the field at fault, which a line has only if numbers have their names.
+/// Appends the line of a refused message of a capture: the place of the octet at fault, what is
+/// wrong with it, and the path of the field at fault, which a line has only if numbers have their
+/// names.
 #[tactic(auto, unfolding(crate::specs::Captures::captured_text))]
 pub fn put_captured_refusal(
     text: &mut TextBuffer,
@@ -82,8 +83,8 @@ pub fn put_lost(
     put_end(text, form)
 }
 
-/// Appends the line of a message that changes a password (RFC 3244, section 2): its version, how many
-/// octets its AP-REQ or AP-REP has, and how many follow it.
+/// Appends the line of a message that changes a password (RFC 3244, section 2): its version, how
+/// many octets its AP-REQ or AP-REP has, and how many follow it.
 #[tactic(auto, unfolding(crate::specs::Captures::captured_text))]
 pub fn put_password(
     text: &mut TextBuffer,
@@ -142,8 +143,9 @@ pub fn put_capture_end(
     put_end(text, form)
 }
 
-/// Appends the last line of a capture that is refused: what was counted before, the place of the field
-/// at fault, what is wrong with it, and its path, which a line has only if numbers have their names.
+/// Appends the last line of a capture that is refused: what was counted before, the place of the
+/// field at fault, what is wrong with it, and its path, which a line has only if numbers have their
+/// names.
 #[tactic(auto, unfolding(crate::specs::Forms::record_text))]
 pub fn put_capture_refusal(
     text: &mut TextBuffer,

@@ -130,8 +130,8 @@ fn are_ends_plain(octets: &[u8]) -> bool
         & are_all_plain(Simd::<u8, 16>::from_slice(&octets[others..]))
 }
 
-/// Returns whether no octet needs an escape. Each is looked at, which costs less than to stop at the first
-/// that needs one: nearly none does.
+/// Returns whether no octet needs an escape. Each is looked at, which costs less than to stop at
+/// the first that needs one: nearly none does.
 #[inline(never)]
 fn are_each_plain(octets: &[u8]) -> bool
     ensures { result ≡ list_all is_plain octets.now }
@@ -143,7 +143,8 @@ fn are_each_plain(octets: &[u8]) -> bool
     plain
 }
 
-/// Returns whether no octet needs an escape. Most names have 4 to 32, which are looked at many at a time.
+/// Returns whether no octet needs an escape. Most names have 4 to 32, which are looked at many at a
+/// time.
 #[inline(always)]
 fn are_plain(octets: &[u8]) -> bool
     ensures { result ≡ list_all is_plain octets.now }
@@ -198,8 +199,8 @@ fn put_hex_octets(line: &mut TextBuffer, octets: &[u8]) -> Result<(), AllocError
     Ok(())
 }
 
-/// Appends octets in hexadecimal, with digits in lower case. Flags and addresses of IPv4 are four, whose
-/// digits are appended at once.
+/// Appends octets in hexadecimal, with digits in lower case. Flags and addresses of IPv4 are four,
+/// whose digits are appended at once.
 pub(crate) fn put_hex(line: &mut TextBuffer, octets: &[u8]) -> Result<(), AllocError>
     ensures { OnOk result (line.new ≡ line.old ++ hex octets.now) }
 {
@@ -233,8 +234,8 @@ fn put_each(line: &mut TextBuffer, octets: &[u8]) -> Result<(), AllocError>
     Ok(())
 }
 
-/// Appends octets: 21 to 7E but `/`, `@` and `\` as they are, each other as `\x` and two hexadecimal
-/// digits in lower case. Different octets have different texts.
+/// Appends octets: 21 to 7E but `/`, `@` and `\` as they are, each other as `\x` and two
+/// hexadecimal digits in lower case. Different octets have different texts.
 #[inline(always)]
 #[tactic(auto, using(crate::proofs::Escapes::escape_plain, crate::proofs::Escapes::ascii_plain))]
 pub fn put_escaped(line: &mut TextBuffer, octets: &[u8]) -> Result<(), AllocError>

@@ -9,8 +9,8 @@ use crate::shown::Shown;
 use crate::text_buffer::TextBuffer;
 use std::alloc::AllocError;
 
-/// Appends a field: in a line the label, ` NAME=`, and the text of the value; in an object the members
-/// that `begin`, which is `,"NAME`, begins.
+/// Appends a field: in a line the label, ` NAME=`, and the text of the value; in an object the
+/// members that `begin`, which is `,"NAME`, begins.
 #[inline(always)]
 #[tactic(auto, unfolding(crate::specs::Forms::labelled))]
 pub fn put_field<T: Shown>(

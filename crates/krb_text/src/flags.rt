@@ -37,8 +37,8 @@ fn octet_at(octets: &[u8], k: u64) -> u8
     }
 }
 
-/// Returns whether a bit is set, where bit 0 is the highest of the first octet. Those after the last
-/// octet are not.
+/// Returns whether a bit is set, where bit 0 is the highest of the first octet. Those after the
+/// last octet are not.
 fn is_set(octets: &[u8], bit: u64) -> bool
     ensures { result ≡ is_set octets.now bit }
 {
@@ -245,8 +245,8 @@ fn put_bits(line: &mut TextBuffer, unused: u8, octets: &[u8]) -> Result<(), Allo
     put_hex(line, octets)
 }
 
-/// The number of flags, `:` and their octets in hexadecimal, and with names `:` and those of the bits
-/// that are set.
+/// The number of flags, `:` and their octets in hexadecimal, and with names `:` and those of the
+/// bits that are set.
 impl<'a> Shown for FlagBits<'a> {
     ghost shown = { λ flags. Flags flags.registry (flags.unused, flags.octets.now) };
 

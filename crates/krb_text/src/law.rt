@@ -11,8 +11,8 @@ pub fn escape_is_graphic()
     ensures { EscapeIsGraphic }
 {}
 
-/// What is printed of a message is one line in each form: blanks and graphic characters of ASCII, and
-/// a line feed after them.
+/// What is printed of a message is one line in each form: blanks and graphic characters of ASCII,
+/// and a line feed after them.
 pub fn message_is_one_line()
     ensures { MessageIsOneLine }
 {}
@@ -28,8 +28,8 @@ pub fn end_is_one_line()
     ensures name { FileNameIsOneLine }
 {}
 
-/// What is printed of each record of a capture, and of its end or of its refusal, is one line in each
-/// form: blanks and graphic characters of ASCII, and a line feed after them.
+/// What is printed of each record of a capture, and of its end or of its refusal, is one line in
+/// each form: blanks and graphic characters of ASCII, and a line feed after them.
 pub fn capture_is_one_line_each()
     ensures message { CapturedMessageIsOneLine }
     ensures refusal { CapturedRefusalIsOneLine }

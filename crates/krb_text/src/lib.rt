@@ -1,15 +1,15 @@
 //! Text: records in one of three forms, the values that they show, and what is printed of messages,
 //! refusals, streams and captures.
 //!
-//! A record is a kind and fields, and a field is a name and a value. [`Form::Lines`] makes a line of it,
-//! [`Form::NamedLines`] a line in which the numbers of registries have their names, and [`Form::Json`]
-//! an object of JSON. What a record has is said once, whatever the form; each function appends to
-//! one text ([`TextBuffer`]), and its contract says what was appended.
+//! A record is a kind and fields, and a field is a name and a value. [`Form::Lines`] makes a line
+//! of it, [`Form::NamedLines`] a line in which the numbers of registries have their names, and
+//! [`Form::Json`] an object of JSON. What a record has is said once, whatever the form; each
+//! function appends to one text ([`TextBuffer`]), and its contract says what was appended.
 //!
 //! The main calls are [`put_message_view`] and [`message_line`] for messages, and
-//! [`put_captured_message`] for captures. `krb_list` prints keytabs and caches with the parts that are
-//! here: [`put_opening`], [`put_field`] of what is [`Shown`], and [`put_closing`]. Nothing here reads or
-//! writes a file.
+//! [`put_captured_message`] for captures. `krb_list` prints keytabs and caches with the parts that
+//! are here: [`put_opening`], [`put_field`] of what is [`Shown`], and [`put_closing`]. Nothing here
+//! reads or writes a file.
 #![tactic(auto)]
 
 mod capture;

@@ -224,7 +224,8 @@ fn put_text(text: &mut TextBuffer, form: Form, view: &MessageView<'_>) -> Result
     put_rest(text, form, view)
 }
 
-/// Appends a message by a view of it, as a line or an object with its line feed. No `Message` is made.
+/// Appends a message by a view of it, as a line or an object with its line feed. No `Message` is
+/// made.
 #[tactic(auto, unfolding(crate::specs::Messages::message_line))]
 pub fn put_message_view(
     text: &mut TextBuffer,
@@ -264,8 +265,8 @@ pub fn put_message(text: &mut TextBuffer, form: Form, message: &Message) -> Resu
     Ok(())
 }
 
-/// Returns a message as a line or an object, without a line feed: its name, its fields and its notes.
-/// It allocates as [`put_message`] does.
+/// Returns a message as a line or an object, without a line feed: its name, its fields and its
+/// notes. It allocates as [`put_message`] does.
 pub fn message_line(alloc: Global, form: Form, message: &Message) -> Result<String, Memory>
     ensures { IfOk result (λ text. string_bytes text ≡ message_text form message.now) }
 {

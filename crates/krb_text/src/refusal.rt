@@ -82,7 +82,8 @@ impl Shown for Reason {
     }
 }
 
-/// Appends the path of the field at fault, if there is one; to a line only if numbers have their names.
+/// Appends the path of the field at fault, if there is one; to a line only if numbers have their
+/// names.
 pub(crate) fn put_path(
     text: &mut TextBuffer,
     form: Form,
@@ -131,8 +132,8 @@ fn put_fault(
     put_fault_rest(text, form, place, reason, path)
 }
 
-/// Appends the line of a refused file: the place of the field at fault, what is wrong with it, and its
-/// path, which a line has only if numbers have their names.
+/// Appends the line of a refused file: the place of the field at fault, what is wrong with it, and
+/// its path, which a line has only if numbers have their names.
 pub fn put_file_refusal(
     text: &mut TextBuffer,
     form: Form,
@@ -145,8 +146,8 @@ pub fn put_file_refusal(
     put_fault(text, form, place, &Reason::of_file(why), path)
 }
 
-/// Appends the line of octets that are no message: the place of the octet at fault, what is wrong with
-/// it, and the path of the field at fault, which a line has only if numbers have their names.
+/// Appends the line of octets that are no message: the place of the octet at fault, what is wrong
+/// with it, and the path of the field at fault, which a line has only if numbers have their names.
 pub fn put_message_refusal(
     text: &mut TextBuffer,
     form: Form,

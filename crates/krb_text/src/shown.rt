@@ -16,8 +16,8 @@ use std::marker::Model;
 pub trait Shown {
     ghost shown: { Self → Value };
 
-    /// Appends what a line shows of the value, with the names of numbers or without, or a part of it
-    /// when out of memory.
+    /// Appends what a line shows of the value, with the names of numbers or without, or a part of
+    /// it when out of memory.
     fn put_text(&self, line: &mut TextBuffer, names: bool) -> Result<(), AllocError>
         ensures { OnOk result (line.new ≡ line.old ++ value_text names (shown self.now)) };
 

@@ -22,8 +22,8 @@ pub fn put_stream_end(text: &mut TextBuffer, form: Form, messages: u64) -> Resul
     put_end(text, form)
 }
 
-/// Appends the last line of a stream that was gone on with after refusals, and how many messages and
-/// how many refused frames it had.
+/// Appends the last line of a stream that was gone on with after refusals, and how many messages
+/// and how many refused frames it had.
 #[tactic(auto, unfolding(crate::specs::Forms::record_text))]
 pub fn put_counted_stream_end(
     text: &mut TextBuffer,
@@ -39,9 +39,9 @@ pub fn put_counted_stream_end(
     put_end(text, form)
 }
 
-/// Appends the line of a frame that is refused, after n messages, and the path of the field at fault,
-/// which a line has only if numbers have their names. Unless one goes on after it, it is the last line
-/// of the stream.
+/// Appends the line of a frame that is refused, after n messages, and the path of the field at
+/// fault, which a line has only if numbers have their names. Unless one goes on after it, it is the
+/// last line of the stream.
 #[tactic(auto, unfolding(crate::specs::Forms::record_text))]
 pub fn put_stream_refusal(
     text: &mut TextBuffer,

@@ -11,8 +11,8 @@ use std::fmt::{Display, Write};
 use std::marker::Model;
 use std::simd::Simd;
 
-/// Text that grows, as a `String` does. What is appended is copied in place, without a call, unless memory
-/// has to be allocated for it. Contracts see the octets of the text.
+/// Text that grows, as a `String` does. What is appended is copied in place, without a call, unless
+/// memory has to be allocated for it. Contracts see the octets of the text.
 #[derive(Drop)]
 pub struct TextBuffer {
     /// The text, and after it octets that are not used yet.
@@ -35,8 +35,8 @@ impl Model for TextBuffer {
 /// The least number of octets that are allocated.
 const LEAST: usize = 256;
 
-/// Makes a vector longer, so that n octets fit after those that are used, which stay. Its length is at
-/// least doubled, so that the time of appending follows the octets that are appended.
+/// Makes a vector longer, so that n octets fit after those that are used, which stay. Its length is
+/// at least doubled, so that the time of appending follows the octets that are appended.
 #[cold]
 #[inline(never)]
 fn grow(octets: &mut Vec<u8>, used: usize, more: usize) -> Result<(), AllocError>
@@ -99,7 +99,8 @@ fn overwrite_ends<const N: usize>(to: &mut [u8], place: usize, octets: &[u8])
     overwrite_first::<N>(to, place + others, &octets[others..]);
 }
 
-/// Copies octets over others, from a place on. One, and 4 to 32, are copied without a call of `memcpy`.
+/// Copies octets over others, from a place on. One, and 4 to 32, are copied without a call of
+/// `memcpy`.
 #[inline(always)]
 fn copy_at(to: &mut [u8], place: usize, octets: &[u8])
     requires { place + length octets.now ≤ length to.old }
@@ -127,8 +128,8 @@ fn put_after(octets: &mut Vec<u8>, used: usize, new: &[u8]) -> Result<(), AllocE
     Ok(())
 }
 
-/// Copies octets, and others after them, after those that are used, which stay. Out of memory, nothing
-/// changes.
+/// Copies octets, and others after them, after those that are used, which stay. Out of memory,
+/// nothing changes.
 #[inline(always)]
 fn put_both_after(
     octets: &mut Vec<u8>,

@@ -104,8 +104,8 @@ fn flag_name(flag: u32) -> &'static str
     }
 }
 
-/// Appends the names of the flags that are set, in order of bit number, with `,` between them, or `-`
-/// if there is none.
+/// Appends the names of the flags that are set, in order of bit number, with `,` between them, or
+/// `-` if there is none.
 fn put_names(line: &mut TextBuffer, flags: TicketFlags) -> Result<(), AllocError>
     ensures { OnOk result (line.new ≡ line.old ++ names_text flags.0) }
 {

@@ -52,7 +52,8 @@ fn put_end(capture: &mut Capture, text: &mut TextBuffer) -> Result<Option<RunEnd
 }
 
 impl<R: Read> CaptureLines<'_, R> {
-    /// Appends the record of a fault of the file, which ends the run. Faults of the reader have none.
+    /// Appends the record of a fault of the file, which ends the run. Faults of the reader have
+    /// none.
     fn put_fault(
         &mut self,
         alloc: Global,
@@ -100,8 +101,9 @@ impl<R: Read> RecordLines for CaptureLines<'_, R> {
 }
 
 /// Lists the Kerberos messages of a capture, a pcap or a pcapng, in a form: writes the records of
-/// each packet, and at the end those of the end and the totals, or the refusal of the file. Frames of more than `limit` octets are refused, and `port` is the one of KDCs. Reads and writes
-/// as [`run_keytab_in`](crate::run_keytab_in) does.
+/// each packet, and at the end those of the end and the totals, or the refusal of the file. Frames
+/// of more than `limit` octets are refused, and `port` is the one of KDCs. Reads and writes as
+/// [`run_keytab_in`](crate::run_keytab_in) does.
 pub fn run_capture<R: Read, W: Write>(
     alloc: Global,
     form: Form,

@@ -16,8 +16,8 @@ use std::alloc::{AllocError, Global};
 /// The greatest number of octets of a message.
 const MOST_OCTETS: usize = 2147483647;
 
-/// Returns the path in the frame that a decoder refused or has a part of, if records of the form show
-/// it.
+/// Returns the path in the frame that a decoder refused or has a part of, if records of the form
+/// show it.
 pub(crate) fn frame_path(
     alloc: Global,
     form: Form,

@@ -41,8 +41,9 @@ pub fn run_stream_going_on<R: Read, W: Write>(
     list_all::<CountingLister, _, _>(alloc, form, profile, &mut asked, writer, limit)
 }
 
-/// A lister of a stream that goes on after refusals: what allocates for it, its decoder, the form of its lines, those that
-/// are not written yet, and the numbers of messages and of refused frames so far.
+/// A lister of a stream that goes on after refusals: what allocates for it, its decoder, the form
+/// of its lines, those that are not written yet, and the numbers of messages and of refused frames
+/// so far.
 #[derive(Drop)]
 pub(crate) struct CountingLister {
     alloc: Global,

@@ -18,8 +18,8 @@ use krb_msg::MessageView;
 use krb_text::{Form, TextBuffer, put_message_view, put_stream_end};
 use std::alloc::Global;
 
-/// A lister of a stream, up to its end or its first refusal: what allocates for it, its decoder, the form of its lines,
-/// those that are not written yet, and the number of messages so far.
+/// A lister of a stream, up to its end or its first refusal: what allocates for it, its decoder,
+/// the form of its lines, those that are not written yet, and the number of messages so far.
 #[derive(Drop)]
 pub(crate) struct Lister {
     alloc: Global,

@@ -140,10 +140,10 @@ pub fn run_message<R: Read, W: Write>(
     run_message_in(alloc, Form::Lines, Profile::Lenient, reader, writer)
 }
 
-/// Lists one message of a profile in a form. It is in hexadecimal, in digits of either case
-/// and with blanks anywhere: writes its line, or the line of its refusal, or `refused hex` if the
-/// text is not hexadecimal, or `refused length` if it has more than 16777216 octets, of which the
-/// first 16777217 are kept. All that the reader has is read first, by at most 2^40 reads of 64 KiB each.
+/// Lists one message of a profile in a form. It is in hexadecimal, in digits of either case and
+/// with blanks anywhere: writes its line, or the line of its refusal, or `refused hex` if the text
+/// is not hexadecimal, or `refused length` if it has more than 16777216 octets, of which the first
+/// 16777217 are kept. All that the reader has is read first, by at most 2^40 reads of 64 KiB each.
 pub fn run_message_in<R: Read, W: Write>(
     alloc: Global,
     form: Form,

@@ -390,11 +390,11 @@ pub fn run_keytab<R: Read, W: Write>(
     run_keytab_in(alloc, Form::Lines, reader, writer)
 }
 
-/// Lists a keytab of format 0x0502 in a form: writes a line for each record, and then the line of the end or
-/// of the refusal. A field of more than 16777216 octets is refused. The reader is asked at most
-/// 2^40 times, for 64 KiB or the octets of a field, and not again after its end or an error. Each
-/// line is written as its record ends, but the lines of a reader that returns all that it is asked
-/// for are written together.
+/// Lists a keytab of format 0x0502 in a form: writes a line for each record, and then the line of
+/// the end or of the refusal. A field of more than 16777216 octets is refused. The reader is asked
+/// at most 2^40 times, for 64 KiB or the octets of a field, and not again after its end or an
+/// error. Each line is written as its record ends, but the lines of a reader that returns all that
+/// it is asked for are written together.
 pub fn run_keytab_in<R: Read, W: Write>(
     alloc: Global,
     form: Form,

@@ -92,11 +92,11 @@ pub fn run_stream<R: Read, W: Write>(
 }
 
 /// Lists a stream of framed messages (RFC 4120, 7.2.2) of a profile in a form: writes a line for
-/// each message, and then the line of the end, or of the first refusal, after which nothing is looked
-/// at. Frames of more than `limit` octets are refused. The reader is asked at most 2^40 times, for
-/// 64 KiB each, and the lines of what came are written before it is asked again. It is not asked
-/// again after an error, its end or a refusal. If a read fails or memory runs out, the lines of the
-/// messages before that are written, all or the first of them, and no last line.
+/// each message, and then the line of the end, or of the first refusal, after which nothing is
+/// looked at. Frames of more than `limit` octets are refused. The reader is asked at most 2^40
+/// times, for 64 KiB each, and the lines of what came are written before it is asked again. It is
+/// not asked again after an error, its end or a refusal. If a read fails or memory runs out, the
+/// lines of the messages before that are written, all or the first of them, and no last line.
 pub fn run_stream_in<R: Read, W: Write>(
     alloc: Global,
     form: Form,

@@ -94,10 +94,11 @@ fn ends_run(outcome: &Result<RunEnd, RunFault>) -> bool
     matches!(outcome, Err(RunFault::Write(_) | RunFault::Memory))
 }
 
-/// Lists sources one after another in a form, and returns the greatest of their statuses, which is that of
-/// the process. If there are several, a line with its name is written before the listing of each. A
-/// source that is refused, or that cannot be opened or read, does not end the run: the next one
-/// follows. A write that fails ends the run, and so does running out of memory. Each fault is reported.
+/// Lists sources one after another in a form, and returns the greatest of their statuses, which is
+/// that of the process. If there are several, a line with its name is written before the listing of
+/// each. A source that is refused, or that cannot be opened or read, does not end the run: the next
+/// one follows. A write that fails ends the run, and so does running out of memory. Each fault is
+/// reported.
 pub fn run_sources<S, L: ListSource<S>, W: Write>(
     alloc: Global,
     form: Form,

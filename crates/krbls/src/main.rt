@@ -3,10 +3,10 @@
 //! record or credential, or a numbered refusal at an exact place.
 //!
 //! `krbls stream` reads framed messages, `krbls message` one message in hexadecimal, `krbls keytab`
-//! a keytab, `krbls ccache` a cache, and `krbls capture` a pcap or a pcapng, each from files or from
-//! the standard input. The status is the greatest of those of all files: 0 if all was read, 1 if
-//! something was refused, or of a capture lost or unread, 2 if the command line is wrong, and 3 if a
-//! read, a write or an allocation failed. The standard error has a line for each fault.
+//! a keytab, `krbls ccache` a cache, and `krbls capture` a pcap or a pcapng, each from files or
+//! from the standard input. The status is the greatest of those of all files: 0 if all was read, 1
+//! if something was refused, or of a capture lost or unread, 2 if the command line is wrong, and 3
+//! if a read, a write or an allocation failed. The standard error has a line for each fault.
 //!
 //! The command line is read by `krb_words`, and `krb_tool` lists what a reader reads. What is here
 //! opens the files and reports the faults, and contracts see little of that.

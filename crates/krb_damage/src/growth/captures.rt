@@ -163,8 +163,8 @@ fn segment(sequence: u32, syn: bool, octets: &'static [u8]) -> Segment<'static> 
     }
 }
 
-/// A segment: its number, whether it is the SYN, and its octets; and those that are taken with it, its
-/// own and then those that waited.
+/// A segment: its number, whether it is the SYN, and its octets; and those that are taken with it,
+/// its own and then those that waited.
 struct Sent(u32, bool, &'static [u8], &'static [u8], &'static [u8]);
 
 const NONE: &[u8] = b"";

@@ -6,8 +6,8 @@ ghost use Rattle.krb_judge.specs.inner.Descent.{named};
 
 use krb_msg::Kind;
 
-/// The type of an item, by which the fields in it have their names. A tag has that of what is in it, and
-/// a SEQUENCE OF that of its items.
+/// The type of an item, by which the fields in it have their names. A tag has that of what is in
+/// it, and a SEQUENCE OF that of its items.
 #[derive(Clone, Copy)]
 pub(crate) enum Names {
     /// A type that has no fields.

@@ -1,8 +1,8 @@
 //! Items found in place (X.690, 8.1 and 10.1).
 //!
 //! Of most items and fields the lengths have one octet, which is read in place. The rarer forms are
-//! read by calls, each from a function of its own: what a call returns has room of its own, which is
-//! filled with zeros where that function begins, and so costs nothing where it is not called.
+//! read by calls, each from a function of its own: what a call returns has room of its own, which
+//! is filled with zeros where that function begins, and so costs nothing where it is not called.
 
 ghost use Rattle.std.specs.Prelude.{◌≡◌, ◌^◌, ◌<◌, ◌≤◌, ◌++◌, ◌∷◌, length, MatchOption, IfSome};
 ghost use Rattle.krb_der.specs.Octets.{item, length_octets};
