@@ -80,7 +80,7 @@ fn is_same_principal(principal: &FilePrincipal, other: &FilePrincipal) -> bool {
 
 /// Reads the next credential. What its contract says stays out of the proofs of callers, which take
 /// long with it.
-fn next_of<R: Read + Drop>(
+pub(crate) fn next_of<R: Read + Drop>(
     alloc: Global,
     reader: &mut Credentials<R>,
 ) -> Result<Option<Credential>, FileFault> {

@@ -44,10 +44,9 @@ fn ap_rep(alloc: Global, sealed: &[u8]) -> Result<Message, AllocError> {
     Ok(Message::ApRep(ApRep { enc_part }))
 }
 
-/// Returns the octets of that message.
-fn octets_of(alloc: Global, sealed: &[u8]) -> Result<Vec<u8>, EncodeFault> {
-    let message = ap_rep(alloc, sealed)?;
-    encode(alloc, &message)
+/// Returns the octets of a message.
+fn octets_of(alloc: Global, message: &Message) -> Result<Vec<u8>, EncodeFault> {
+    encode(alloc, message)
 }
 
 /// Returns the kind of the message that octets are.
@@ -241,7 +240,11 @@ const CAPTURE: &[u8] =
 /// Shows what is done with messages.
 fn show_messages(rt: &HostRuntime) -> Result<()> {
     let alloc = rt.alloc();
-    let octets = octets_of(alloc, &[1, 2, 3, 4])?;
+    let message = ap_rep(alloc, &[1, 2, 3, 4])?;
+    let octets = octets_of(alloc, &message);
+    let line = line_of(alloc, &message);
+    drop(message);
+    let octets = octets?;
     let kind = kind_of(alloc, octets.as_slice())?;
     println!(rt; "{} octets of an {}", octets.len(), kind.name())?;
     println!(rt; "may go on: {}", may_go_on(&octets[..octets.len() / 2]))?;
@@ -249,9 +252,6 @@ fn show_messages(rt: &HostRuntime) -> Result<()> {
     if let Err(refusal) = ticket_etype(octets.as_slice()) {
         println!(rt; "no Ticket: {refusal}")?;
     }
-    let message = ap_rep(alloc, &[1, 2, 3, 4])?;
-    let line = line_of(alloc, &message);
-    drop(message);
     println!(rt; "{}", line?)?;
     println!(rt; "{}", user_text(alloc, "u/v", "A")?)?;
     println!(rt; "18 is {}", etype_name(18))?;

@@ -2,6 +2,7 @@
 
 use super::Outcome;
 use super::octets::{CACHE, CACHE3, KEYTAB};
+use crate::files::next_of;
 use krb_ccache::{Cache3, Credentials, read3, upgrade};
 use krb_file::{FieldLimit, FileFault};
 use krb_keytab::{Next, Records, Stop};
@@ -10,10 +11,9 @@ use std::alloc::Global;
 /// Returns how a call ended with a fault, `after` being the next answer of the same reader, if that
 /// is a fault.
 pub(super) fn faulted(fault: FileFault, after: Option<FileFault>) -> Outcome {
-    if fault == FileFault::Memory && after == Some(fault) {
-        Outcome::Memory
-    } else {
-        Outcome::Wrong
+    match (fault, after) {
+        (FileFault::Memory, Some(FileFault::Memory)) => Outcome::Memory,
+        _ => Outcome::Wrong,
     }
 }
 
@@ -34,24 +34,32 @@ pub(super) fn records(alloc: Global) -> Outcome {
     Outcome::Wrong
 }
 
+/// Reads the credentials of a cache of two.
+fn both_credentials(alloc: Global, credentials: &mut Credentials<&[u8]>) -> Outcome {
+    for count in 0..3 {
+        match next_of(alloc, credentials) {
+            Ok(Some(_)) => {}
+            Ok(None) if count == 2 => return Outcome::Done,
+            Ok(None) => return Outcome::Wrong,
+            Err(fault) => return faulted(fault, next_of(alloc, credentials).err()),
+        }
+    }
+    Outcome::Wrong
+}
+
 /// Reads the two credentials of a cache.
 pub(super) fn credentials(alloc: Global) -> Outcome {
     let Some(limit) = FieldLimit::new(64) else {
         return Outcome::Wrong;
     };
-    let mut credentials = match Credentials::start(alloc, CACHE, limit) {
-        Ok(credentials) => credentials,
-        Err(fault) => return faulted(fault, Some(fault)),
-    };
-    for count in 0..3 {
-        match credentials.next_credential(alloc) {
-            Ok(Some(_)) => {}
-            Ok(None) if count == 2 => return Outcome::Done,
-            Ok(None) => return Outcome::Wrong,
-            Err(fault) => return faulted(fault, credentials.next_credential(alloc).err()),
+    match Credentials::start(alloc, CACHE, limit) {
+        Ok(mut credentials) => {
+            let outcome = both_credentials(alloc, &mut credentials);
+            drop(credentials);
+            outcome
         }
+        Err(fault) => faulted(fault, Some(fault)),
     }
-    Outcome::Wrong
 }
 
 /// Upgrades a cache of version 3, and again if it was returned because memory ran out.
