@@ -4,7 +4,7 @@ use Rattle.krb_der.specs.declared.profile.Profile.TheVariants.{Lenient}
 use Rattle.krb_der.specs.declared.verdict.Refusal.{Refusal}
 use Rattle.krb_der.specs.declared.why.Why.TheVariants as why
 use Rattle.krb_msg.specs.Judgement.{judgement}
-use Rattle.krb_msg.specs.ValueOfDer.{message_of_der}
+use Rattle.krb_msg.specs.Views.{message_of_der}
 use Rattle.krb_judge.specs.Parses.{refused, refusal_of}
 use Rattle.krb_judge.specs.Paths.{message_path}
 use Rattle.krb_capture.specs.Found.{Found, Whole, Faulty, Missing}

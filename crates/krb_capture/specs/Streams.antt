@@ -7,7 +7,7 @@ use Rattle.krb_der.specs.declared.verdict.Refusal.{Refusal}
 use Rattle.krb_der.specs.declared.why.Why.{Why}
 use Rattle.krb_der.specs.declared.why.Why.TheVariants as why
 use Rattle.krb_msg.specs.Grammar.{messages}
-use Rattle.krb_msg.specs.ValueOfDer.{message_of_der}
+use Rattle.krb_msg.specs.Views.{message_of_der}
 use Rattle.krb_frame.specs.GoingOn.{Entry, Contents, Fault, entries}
 use Rattle.krb_flow.specs.declared.stream.End.{End}
 use Rattle.krb_flow.specs.declared.stream.End.TheVariants as ends

@@ -6,7 +6,7 @@ use Rattle.krb_der.specs.Octets.{when}
 use Rattle.krb_der.specs.declared.verdict.Refusal.{Refusal}
 use Rattle.krb_msg.specs.Grammar.{ticket}
 use Rattle.krb_msg.specs.ValueOfDer.{value_of_der}
-use Rattle.krb_msg.specs.Views.{ticket_of, ticket_value}
+use Rattle.krb_msg.specs.Types.{ticket_of, ticket_value}
 use Rattle.krb_msg.specs.declared.ticket.Ticket.{Ticket}
 use Rattle.krb_msg.proofs.ValueOfDer.{value_of_der_is_value}
 use Rattle.krb_judge.specs.declared.parsing.ParseFault.{ParseFault}

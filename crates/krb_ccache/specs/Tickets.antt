@@ -5,8 +5,7 @@ use Rattle.krb_der.specs.Octets.{when}
 use Rattle.krb_der.specs.declared.verdict.Refusal.{Refusal}
 use Rattle.krb_msg.specs.Grammar.{ticket}
 use Rattle.krb_msg.specs.ValueOfDer.{value_of_der}
-use Rattle.krb_msg.specs.ViewValues.{TicketLists, ticket_of_view}
-use Rattle.krb_msg.specs.Views.{ticket_of}
+use Rattle.krb_msg.specs.Types.{TicketLists, ticket_of_view, ticket_of}
 use Rattle.krb_msg.specs.declared.ticket.Ticket.{Ticket}
 use Rattle.krb_judge.specs.Parses.{ticket_refusal, AreOfTicket}
 use Rattle.krb_ccache.specs.declared.value.Credential.{Credential}

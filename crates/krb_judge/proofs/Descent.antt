@@ -1,11 +1,6 @@
 -- The field at fault: lemmas of the functions that find it.
 use Rattle.std.proofs.Common.{◌≡◌, ℕ, zero, suc, ◌+◌, ◌-◌, ◌<◌, ◌≤◌, Bool, true, false, List, [], ◌∷◌, length, drop, get_or, refl, ap, ◌∙◌, arith}
-use Rattle.krb_der.specs.declared.profile.Profile.TheVariants.{Lenient, Strict}
-use Rattle.krb_msg.specs.Views.{kind_term_in}
-use Rattle.krb_msg.specs.Nodes.{nodes, term_in, term_at}
-use Rattle.krb_msg.specs.declared.grammar.TheConstants.{LENIENT, STRICT}
-use Rattle.krb_msg.specs.declared.message.Kind.{Kind}
-use Rattle.krb_msg.specs.declared.message.Kind.TheVariants as kind
+use Rattle.krb_msg.specs.Nodes.{nodes, term_at}
 use Rattle.krb_msg.specs.Shape.{depth_of_fields}
 use Rattle.krb_msg.specs.Table.{IsFormOf, with_slot, fields_from}
 use Rattle.krb_msg.specs.Term.{Term, Fields, SequenceOf, tag_of}
@@ -13,41 +8,13 @@ use Rattle.krb_msg.specs.declared.grammar.Form.TheVariants as form
 use Rattle.krb_msg.specs.declared.grammar.Slot.{Slot}
 use Rattle.krb_msg.specs.declared.grammar.Slot.TheVariants as slot
 use Rattle.krb_judge.specs.FieldNames.{field_at}
-use Rattle.krb_judge.specs.Laws.{FieldsHaveNames}
 use Rattle.krb_judge.specs.Paths.{begin_with, within, first_item, contents_path, fields_path, field_path, elements_path, element_path}
-use Rattle.krb_judge.specs.inner.Descent.{kind_index, presence_path}
+use Rattle.krb_judge.specs.inner.Descent.{presence_path}
 use Rattle.krb_judge.specs.declared.locating.Presence.{Presence}
 use Rattle.krb_judge.specs.declared.locating.Presence.TheVariants as presence
 use Rattle.krb_judge.specs.declared.locating.Rest.{Rest}
 use Rattle.krb_judge.specs.declared.locating.names.Names.{Names}
 use Rattle.krb_judge.proofs.Within.{slot_next, slot_shallow}
-
--- ---- the node of a kind's messages
-pub lenient_node : (k : Kind) → term_at (get_or LENIENT (kind_index k) 0) ≡ kind_term_in Lenient k
-unfolding term_in nodes
-lenient_node kind.AsReq = refl
-lenient_node kind.AsRep = refl
-lenient_node kind.TgsReq = refl
-lenient_node kind.TgsRep = refl
-lenient_node kind.ApReq = refl
-lenient_node kind.ApRep = refl
-lenient_node kind.KrbSafe = refl
-lenient_node kind.KrbPriv = refl
-lenient_node kind.KrbCred = refl
-lenient_node kind.KrbError = refl
-
-pub strict_node : (k : Kind) → term_at (get_or STRICT (kind_index k) 0) ≡ kind_term_in Strict k
-unfolding term_in nodes
-strict_node kind.AsReq = refl
-strict_node kind.AsRep = refl
-strict_node kind.TgsReq = refl
-strict_node kind.TgsRep = refl
-strict_node kind.ApReq = refl
-strict_node kind.ApRep = refl
-strict_node kind.KrbSafe = refl
-strict_node kind.KrbPriv = refl
-strict_node kind.KrbCred = refl
-strict_node kind.KrbError = refl
 
 -- ---- fields
 -- whether the field at an index is present
@@ -119,16 +86,3 @@ no_element inside term path (suc bound) index room octets e = rw e refl
 pub elements_of : (node : ℕ) (none : Bool) (term : Term) → IsFormOf nodes (form.Items node none) term → (names : Names) (path : List ℕ) (room : ℕ) (octets : List ℕ) → contents_path term names path room octets ≡ elements_path (contents_path (term_at node) names) (term_at node) path (length octets) 0 room octets
 elements_of node none (SequenceOf empty term) h names path room octets = rw h.2 refl
 elements_of node none term h names path room octets = absurd h
-
--- ---- the names and the grammar
-pub fields_have_names : FieldsHaveNames
-fields_have_names kind.AsReq = refl
-fields_have_names kind.AsRep = refl
-fields_have_names kind.TgsReq = refl
-fields_have_names kind.TgsRep = refl
-fields_have_names kind.ApReq = refl
-fields_have_names kind.ApRep = refl
-fields_have_names kind.KrbSafe = refl
-fields_have_names kind.KrbPriv = refl
-fields_have_names kind.KrbCred = refl
-fields_have_names kind.KrbError = refl

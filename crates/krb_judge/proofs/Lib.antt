@@ -3,3 +3,4 @@ pub mod Slices
 pub mod Values
 mod Inside
 mod Descent
+mod KindNodes

@@ -14,12 +14,11 @@ use Rattle.krb_msg.specs.Shape.{is_unambiguous}
 use Rattle.krb_msg.proofs.ProfileValues.{der_profile, lenient_value, lenient_back, profile_back, lenient_fits}
 use Rattle.krb_msg.specs.Nodes.{nodes, term_in, term_at}
 use Rattle.krb_judge.specs.declared.parsing.TheConstants.{TICKET, STRICT_TICKET, METHOD_DATA}
-use Rattle.krb_msg.specs.Views.{ticket_value, ticket_of, pa_data_value, pa_data_of}
+use Rattle.krb_msg.specs.Types.{ticket_value, ticket_of, pa_data_value, pa_data_of, ticket_of_view, ticket_view_value}
 use Rattle.krb_msg.specs.inner.PrefixFree.{map-back}
 use Rattle.krb_msg.proofs.Judged.{ticket_value-of}
 use Rattle.krb_msg.specs.Judgement.{term_judgement}
 use Rattle.krb_msg.specs.Der.{IsDer}
-use Rattle.krb_msg.specs.ViewValues.{ticket_of_view, ticket_view_value}
 use Rattle.krb_msg.specs.Viewed.{IsViewOf}
 use Rattle.krb_judge.specs.Parses.{refusal_by, ticket_refusal, method_data_refusal, ticket_value_in, AreOfTicket, AreOfMethodData}
 use Rattle.krb_judge.specs.declared.parsing.ParseFault.{ParseFault}

@@ -1,5 +1,7 @@
 pub mod Parses
 pub mod Faults
+pub mod Named
+pub mod FieldTables
 pub mod FieldNames
 pub mod Paths
 pub mod PathExamples

@@ -13,7 +13,8 @@ use Rattle.krb_msg.specs.Term.{Term, Value, der, Fits}
 use Rattle.krb_msg.specs.Grammar.{ticket, method_data}
 use Rattle.krb_msg.specs.Nodes.{term_at}
 use Rattle.krb_msg.specs.Table.{IsNode}
-use Rattle.krb_msg.specs.Views.{ticket_value, pa_data_value, message_der, IsInProfile}
+use Rattle.krb_msg.specs.Types.{ticket_value, pa_data_value}
+use Rattle.krb_msg.specs.Views.{message_der, IsInProfile}
 use Rattle.krb_msg.specs.Judgement.{judgement, term_judgement}
 use Rattle.krb_judge.specs.declared.parsing.Expected.{Expected}
 use Rattle.krb_judge.specs.declared.parsing.Expected.TheVariants as expected

@@ -1,2 +1,3 @@
 pub mod Outcomes
+pub mod KindIndex
 pub mod Descent

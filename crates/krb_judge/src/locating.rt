@@ -3,6 +3,8 @@
 //! Each item that is whole is passed over, and then the first that is not is entered; so an octet
 //! is judged once for each SEQUENCE and SEQUENCE OF round it.
 
+mod field;
+mod kind_index;
 mod names;
 
 ghost use Rattle.std.specs.Prelude.{◌≡◌, ◌^◌, ◌<◌, ◌≤◌, ℕ, List, length, IfOk, IfSome, OnOk, string_bytes};
@@ -14,11 +16,12 @@ ghost use Rattle.krb_msg.specs.Table.{IsNode, IsSlot, fields_from, with_slot};
 ghost use Rattle.krb_msg.specs.Term.{Fields};
 ghost use Rattle.krb_msg.specs.Views.{kind_term_in};
 ghost use Rattle.krb_judge.specs.Paths.{begin_with, contents_path, element_path, elements_path, field_path, fields_path, first_item, message_path, within};
-ghost use Rattle.krb_judge.specs.inner.Descent.{IsItem, IsInside, IsPresent, IsPresenceFor, IsFaultOf, path_in, path_on, in_contents, in_first, presence_path, fault_path, in_element, kind_index};
+ghost use Rattle.krb_judge.specs.inner.Descent.{IsItem, IsInside, IsPresent, IsPresenceFor, IsFaultOf, path_in, path_on, in_contents, in_first, presence_path, fault_path, in_element};
 
 use crate::judging::head::{Head, part, read_head};
 use crate::judging::item;
 use crate::judging::outcome::Outcome;
+use crate::locating::kind_index::index_of;
 use crate::locating::names::Names;
 use itoa::Buffer;
 use krb_der::{Memory, Profile};
@@ -121,24 +124,6 @@ fn message_node(profile: Profile, kind: Kind) -> u16
     match profile {
         Profile::Lenient => LENIENT[index_of(kind)],
         Profile::Strict => STRICT[index_of(kind)],
-    }
-}
-
-/// Returns the index of a kind, in the order of the messages of a profile.
-fn index_of(kind: Kind) -> usize
-    ensures { result ≡ kind_index kind }
-{
-    match kind {
-        Kind::AsReq => 0,
-        Kind::AsRep => 1,
-        Kind::TgsReq => 2,
-        Kind::TgsRep => 3,
-        Kind::ApReq => 4,
-        Kind::ApRep => 5,
-        Kind::KrbSafe => 6,
-        Kind::KrbPriv => 7,
-        Kind::KrbCred => 8,
-        Kind::KrbError => 9,
     }
 }
 

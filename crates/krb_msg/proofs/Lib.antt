@@ -16,6 +16,10 @@ pub mod Streams
 pub mod Grammars
 pub mod Profiles
 pub mod ProfileValues
+pub mod ValuesBack
+pub mod TypeValues
+pub mod KindSteps
+pub mod KindLaws
 pub mod Judged
 pub mod FramePrefixes
 pub mod Table

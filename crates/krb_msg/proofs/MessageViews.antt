@@ -10,42 +10,16 @@ use Rattle.krb_msg.specs.declared.message.Kind.TheVariants as kind
 use Rattle.krb_msg.specs.declared.message.Message.{Message}
 use Rattle.krb_msg.specs.Judgement.{judgement, term_judgement}
 use Rattle.krb_msg.specs.Laws.{AreMessage}
-use Rattle.krb_msg.specs.ValueOfDer.{message_of_der, message_of_kind}
+use Rattle.krb_msg.specs.Views.{message_of_der, message_of_kind, kind_of, kind_of_tag, kind_tag, kind_term, kind_with_tag, message_der, message_of, message_value, IsInProfile}
 use Rattle.krb_msg.specs.Term.{Value, tag_of}
-use Rattle.krb_msg.specs.Views.{kind_of, kind_of_tag, kind_tag, kind_term, kind_with_tag, message_der, message_of, message_value, IsInProfile}
 use Rattle.krb_msg.specs.inner.Values.{der_is}
 use Rattle.krb_msg.proofs.Judged.{whole_is_message}
+use Rattle.krb_msg.proofs.KindSteps.{some_is_none}
+use Rattle.krb_msg.proofs.KindLaws.{chosen, kind_tags}
 use Rattle.krb_msg.proofs.MessageOfDer.{message_of_der_is_message}
 use Rattle.krb_msg.specs.Viewed.{IsViewOf, IsNotWhole}
 use Rattle.krb_msg.specs.ViewValues.{BeginAs, IsMessageView, IsNoMessage, MessageLists, message_of_view}
 use Rattle.krb_msg.specs.declared.message_view.MessageView.{MessageView}
-
--- ---- what the first octet chooses
--- the term of the kind with this tag, by computation
-chosen : (k : Kind) (n : ℕ) (rest : List ℕ) → judgement profile.Lenient n (kind_tag k ∷ rest) ≡ term_judgement (kind_term k) n (kind_tag k ∷ rest)
-chosen kind.AsReq n rest = refl
-chosen kind.AsRep n rest = refl
-chosen kind.TgsReq n rest = refl
-chosen kind.TgsRep n rest = refl
-chosen kind.ApReq n rest = refl
-chosen kind.ApRep n rest = refl
-chosen kind.KrbSafe n rest = refl
-chosen kind.KrbPriv n rest = refl
-chosen kind.KrbCred n rest = refl
-chosen kind.KrbError n rest = refl
-
--- the kind with a tag
-kind_tags : (k : Kind) → (kind_with_tag (kind_tag k) ≡ Some k) × (kind_of_tag (kind_tag k) ≡ k) × (tag_of (kind_term k) ≡ kind_tag k)
-kind_tags kind.AsReq = (refl, refl, refl)
-kind_tags kind.AsRep = (refl, refl, refl)
-kind_tags kind.TgsReq = (refl, refl, refl)
-kind_tags kind.TgsRep = (refl, refl, refl)
-kind_tags kind.ApReq = (refl, refl, refl)
-kind_tags kind.ApRep = (refl, refl, refl)
-kind_tags kind.KrbSafe = (refl, refl, refl)
-kind_tags kind.KrbPriv = (refl, refl, refl)
-kind_tags kind.KrbCred = (refl, refl, refl)
-kind_tags kind.KrbError = (refl, refl, refl)
 
 -- ---- octets of no message
 no_octets_whole : judgement profile.Lenient 0 [] ≡ verdict.Whole → ⊥
@@ -59,9 +33,6 @@ first_of_message : (m : Message) (octets : List ℕ) → message_der m ≡ octet
 first_of_message m octets e =
     sym (kind_tags (kind_of m)).2 ∙ ap (λ (l : List ℕ). get_or l 0 0) (sym (der_is (kind_term (kind_of m)) (message_value m)) ∙ e)
 
-some_is_none : (k : Kind) → Some k ≡ None → ⊥
-some_is_none k e = cc
-
 pub no_kind_not_whole : (octets : List ℕ) → AreOctets octets → length octets < 2 ^ 31 → kind_with_tag (get_or octets 0 0) ≡ None → judgement profile.Lenient (length octets) octets ≡ verdict.Whole → ⊥
 no_kind_not_whole octets a small none e = by (whole_is_message profile.Lenient (length octets) octets small a (omega arith) e)
   where
@@ -69,32 +40,6 @@ no_kind_not_whole octets a small none e = by (whole_is_message profile.Lenient (
     by w = some_is_none (kind_of w.message) (sym (kind_tags (kind_of w.message)).0 ∙ ap kind_with_tag (first_of_message w.message octets w.form) ∙ none)
 
 -- ---- octets of a kind
-some_kind : (j k : Kind) → Some j ≡ Some k → j ≡ k
-some_kind j k e = ap (λ (o : Option Kind). unwrap_or o j) e
-
--- one of the choices of a kind by its tag, and those after it
-first_choice : (tag : ℕ) (j k : Kind) (others : Option Kind) → (others ≡ Some k → kind_tag k ≡ tag) → (if eqb tag (kind_tag j) then Some j else others) ≡ Some k → kind_tag k ≡ tag
-first_choice tag j k others next e = by (cases_Bool (eqb tag (kind_tag j)))
-  where
-    by : (eqb tag (kind_tag j) ≡ true) ⊎ (eqb tag (kind_tag j) ≡ false) → kind_tag k ≡ tag
-    by (inl t) =
-        let f : Some j ≡ Some k = ap (λ b. if b then Some j else others) (sym t) ∙ e in
-        ap kind_tag (sym (some_kind j k f)) ∙ sym (eqb-true tag (kind_tag j) t)
-    by (inr t) = next (ap (λ b. if b then Some j else others) (sym t) ∙ e)
-
-pub kind_from_tag : (k : Kind) (tag : ℕ) → kind_with_tag tag ≡ Some k → kind_tag k ≡ tag
-kind_from_tag k tag =
-    first_choice tag kind.AsReq k _
-    (first_choice tag kind.AsRep k _
-    (first_choice tag kind.TgsReq k _
-    (first_choice tag kind.TgsRep k _
-    (first_choice tag kind.ApReq k _
-    (first_choice tag kind.ApRep k _
-    (first_choice tag kind.KrbSafe k _
-    (first_choice tag kind.KrbPriv k _
-    (first_choice tag kind.KrbCred k _
-    (first_choice tag kind.KrbError k _ (λ e. absurd (some_is_none k (sym e))))))))))))
-
 pub judged_as : (k : Kind) (octets : List ℕ) → 0 < length octets → get_or octets 0 0 ≡ kind_tag k → judgement profile.Lenient (length octets) octets ≡ term_judgement (kind_term k) (length octets) octets
 judged_as k [] some first = absurd (omega (arith, some))
 judged_as k (octet ∷ rest) some first =

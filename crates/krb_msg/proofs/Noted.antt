@@ -4,7 +4,7 @@ use Rattle.std.specs.List.{list_any}
 use Rattle.std.specs.Option.{option_map}
 use Rattle.krb_msg.specs.Grammar.{ticket, pa_data, host_address, principal_name, encrypted_data, kdc_req_body, as_req, as_rep, krb_safe_body, krb_safe, krb_cred, krb_error}
 use Rattle.krb_msg.specs.Notes.{Note, HighOctet, FewFlags, Negative, EmptyList, text_has, flags_have, number_has, list_has, option_any, has, notes_by}
-use Rattle.krb_msg.specs.Views.{ticket_value, pa_data_value, host_address_value, principal_name_value, encrypted_data_value, kdc_req_body_value, kdc_req_value, kdc_rep_value, krb_safe_body_value, krb_safe_value, krb_cred_value, krb_error_value}
+use Rattle.krb_msg.specs.Types.{ticket_value, pa_data_value, host_address_value, principal_name_value, encrypted_data_value, kdc_req_body_value, kdc_req_value, kdc_rep_value, krb_safe_body_value, krb_safe_value, krb_cred_value, krb_error_value}
 use Rattle.krb_msg.specs.declared.pa_data.PaData.{PaData}
 use Rattle.krb_msg.specs.declared.ticket.Ticket.{Ticket}
 use Rattle.krb_msg.specs.declared.host_address.HostAddress.{HostAddress}

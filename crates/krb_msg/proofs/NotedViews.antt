@@ -6,8 +6,8 @@ use Rattle.krb_msg.specs.Grammar.{ticket, principal_name, encrypted_data, host_a
 use Rattle.krb_msg.specs.Notes.{Note, text_has, flags_have, number_has, list_has, option_any, has, notes_by, either}
 use Rattle.krb_msg.specs.Term.{Term, Value}
 use Rattle.krb_msg.specs.Viewed.{items_of}
-use Rattle.krb_msg.specs.ViewValues.{flags_of_view, principal_name_view_value, principal_name_of_view, encrypted_data_view_value, encrypted_data_of_view, ticket_of_view, kdc_req_body_of_view, kdc_req_of_view, kdc_rep_of_view, krb_cred_of_view, krb_error_of_view}
-use Rattle.krb_msg.specs.Views.{ticket_of, ticket_value, principal_name_of, principal_name_value, encrypted_data_of, encrypted_data_value, host_address_of, pa_data_of, kdc_req_body_value, kdc_req_value, kdc_rep_value, krb_cred_value, krb_error_value}
+use Rattle.krb_msg.specs.Basic.{flags_of_view}
+use Rattle.krb_msg.specs.Types.{principal_name_view_value, principal_name_of_view, encrypted_data_view_value, encrypted_data_of_view, ticket_of_view, kdc_req_body_of_view, kdc_req_of_view, kdc_rep_of_view, krb_cred_of_view, krb_error_of_view, ticket_of, ticket_value, principal_name_of, principal_name_value, encrypted_data_of, encrypted_data_value, host_address_of, pa_data_of, kdc_req_body_value, kdc_req_value, kdc_rep_value, krb_cred_value, krb_error_value}
 use Rattle.krb_msg.specs.declared.kdc_req_body.KdcReqBodyView.{KdcReqBodyView}
 use Rattle.krb_msg.specs.declared.kdc_req.KdcReqView.{KdcReqView}
 use Rattle.krb_msg.specs.declared.kdc_rep.KdcRepView.{KdcRepView}

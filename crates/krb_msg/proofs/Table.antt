@@ -11,7 +11,7 @@ use Rattle.krb_msg.specs.Term.{Term, tag_of}
 use Rattle.krb_msg.specs.Nodes.{nodes, term_in, term_at}
 use Rattle.krb_msg.specs.Table.{IsNode, IsRowOf, RowsAre}
 use Rattle.krb_msg.specs.declared.grammar.Node.{Node}
-use Rattle.krb_msg.specs.declared.grammar.TheConstants.{LENIENT, STRICT, NODES}
+use Rattle.krb_msg.specs.declared.grammar.table.TheConstants.{LENIENT, STRICT, NODES}
 
 row_from : (terms : List Term) (rows : List Node) (others : List Term) (k : ℕ) (none : Node) (absent : Term) → RowsAre terms rows others → k < length rows → IsRowOf terms (get_or rows k none) (get_or others k absent)
 row_from terms [] others k none absent h le = absurd (omega arith)

@@ -1,52 +1,11 @@
--- RFC 4120, appendix A, as terms. A line of a SEQUENCE is a line of the appendix: the index, the field's name, its type.
+-- RFC 4120, appendix A, as terms. A line of a SEQUENCE is a line of the appendix: the index, the field's name, its type. asn1/generate wrote this from asn1/krb5.asn1
 -- The terms are those of the lenient profile: a string has any octets, flags are of any number, a list may be empty.
-use Rattle.std.specs.Prelude.{ℕ, pos, negsuc, true, false, List, [], ◌∷◌, map}
-use Prim.Native.String.{String}
+use Rattle.std.specs.Prelude.{ℕ, false, List, [], ◌∷◌, map}
 use Rattle.krb_der.specs.declared.profile.Profile.{Profile}
 use Rattle.krb_msg.specs.Profiles.{profile_term}
-use Rattle.krb_msg.specs.Term.{Term, Fields, Integer, Text, Octets, Time, Bits, Sequence, SequenceOf, Tagged, Application, End, Required, Optional}
-
--- writes the fields of a SEQUENCE one after another
-infixr 5 ◌⨟◌
-abbrev pub ◌⨟◌ : (Fields → Fields) → Fields → Fields
-field ⨟ fields = field fields
-
--- a field [index] of a SEQUENCE, and one that is OPTIONAL; its name is for the reader alone
-abbrev pub field : ℕ → String → Term → Fields → Fields
-field index name term fields = Required (Tagged index term) fields
-
-abbrev pub optional : ℕ → String → Term → Fields → Fields
-optional index name term fields = Optional (Tagged index term) fields
-
--- ---- 5.2: basic types
--- an INTEGER (n)
-abbrev pub exactly : ℕ → Term
-exactly n = Integer (pos n) (pos n)
-
-abbrev pub int32 : Term
-int32 = Integer (negsuc 2147483647) (pos 2147483647)
-
--- a UInt32, which deployed senders also write as the Int32 of the same 32 bits
-abbrev pub wide32 : Term
-wide32 = Integer (negsuc 2147483647) (pos 4294967295)
-
-abbrev pub microseconds : Term
-microseconds = Integer (pos 0) (pos 999999)
-
-abbrev pub kerberos_string : Term
-kerberos_string = Text 255
-
-abbrev pub octet_string : Term
-octet_string = Octets
-
-abbrev pub kerberos_time : Term
-kerberos_time = Time
-
-abbrev pub kerberos_flags : Term
-kerberos_flags = Bits 0
-
-abbrev pub sequence_of : Term → Term
-sequence_of term = SequenceOf true term
+use Rattle.krb_msg.specs.Term.{Term, Sequence, Application, End}
+use Rattle.krb_msg.specs.Basic.{◌⨟◌, field, optional}
+pub use Rattle.krb_msg.specs.Basic.{exactly, version, int32, wide32, microseconds, kerberos_string, octet_string, kerberos_time, kerberos_flags, sequence_of}
 
 abbrev pub principal_name : Term
 principal_name = Sequence (
@@ -80,9 +39,6 @@ checksum = Sequence (
     ⨟ End)
 
 -- ---- 5.3
-abbrev pub version : Term
-version = exactly 5
-
 abbrev pub ticket : Term
 ticket = Application 1 (Sequence (
     field 0 "tkt-vno" version

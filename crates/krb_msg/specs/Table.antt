@@ -11,7 +11,7 @@ use Rattle.krb_msg.specs.declared.grammar.Form.{Form}
 use Rattle.krb_msg.specs.declared.grammar.Form.TheVariants as form
 use Rattle.krb_msg.specs.declared.grammar.Slot.{Slot}
 use Rattle.krb_msg.specs.declared.grammar.Slot.TheVariants as slot
-use Rattle.krb_msg.specs.declared.grammar.TheConstants.{NODES}
+use Rattle.krb_msg.specs.declared.grammar.table.TheConstants.{NODES}
 
 -- the number of a row
 abbrev pub IsNode : ℕ → Type 0

@@ -3,9 +3,6 @@ use Rattle.std.specs.Prelude.{ℕ, zero, suc, Bool, false, ◌==◌, List, [], �
 use Rattle.krb_der.specs.Octets.{when, integer_value}
 use Rattle.krb_msg.specs.Term.{Term, Fields, Integer, Text, Octets, Time, Bits, Sequence, SequenceOf, Tagged, Application, End, Required, Optional, tag_of, Value, Values}
 use Rattle.krb_msg.specs.Judgement.{Head, Got, head}
-use Rattle.krb_msg.specs.Views.{kind_term, kind_of_tag, message_of}
-use Rattle.krb_msg.specs.declared.message.Kind.{Kind}
-use Rattle.krb_msg.specs.declared.message.Message.{Message}
 
 -- octets split after their first item: its contents octets, and the octets after it
 pub record SplitItem : Type 0 where
@@ -61,10 +58,3 @@ value_of_der term octets = value_of term (split_item octets).contents
 abbrev pub first_or_zero : List ℕ → ℕ
 first_or_zero [] = 0
 first_or_zero (octet ∷ octets) = octet
-
-abbrev pub message_of_kind : Kind → List ℕ → Message
-message_of_kind kind octets = message_of kind (value_of_der (kind_term kind) octets)
-
--- the message whose DER these octets are
-abbrev pub message_of_der : List ℕ → Message
-message_of_der octets = message_of_kind (kind_of_tag (first_or_zero octets)) octets

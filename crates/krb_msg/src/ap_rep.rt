@@ -1,19 +1,21 @@
-//! AP-REP.
+//! AP-REP. `asn1/generate` wrote this from `asn1/krb5.asn1`.
 
 ghost use Rattle.std.specs.Prelude.{◌≡◌, refl, ◌^◌, ◌<◌, true, length, MatchOption};
 ghost use Rattle.krb_msg.specs.Term.{der, Fits, tag_of};
 ghost use Rattle.krb_msg.specs.Grammar.{ap_rep};
-ghost use Rattle.krb_msg.specs.Views.{ap_rep_value, ap_rep_of};
-ghost use Rattle.krb_msg.specs.inner.PrefixFree.{begins, type_is_prefix_free};
-ghost use Rattle.krb_msg.specs.ViewValues.{ApRepLists, ap_rep_view_value};
+ghost use Rattle.krb_msg.specs.Types.{ap_rep_value, ap_rep_of, ap_rep_view_value, ap_rep_of_view, ApRepLists};
 ghost use Rattle.krb_msg.specs.Viewed.{AreContents, AreNoContents};
+ghost use Rattle.krb_msg.specs.inner.PrefixFree.{begins, type_is_prefix_free};
+ghost use Rattle.krb_msg.specs.inner.RoundTrips.{ap_rep-back};
 
+use crate::copying::FromView;
 use crate::encrypted_data::{EncryptedData, EncryptedDataView};
 use crate::fields::{
     Application, Borrowed, Encode, End, FieldOf, Fixed, Owned, Required, Sequence, View,
 };
 use crate::item::Item;
-use krb_der::Der;
+use krb_der::{Der, Memory};
+use std::alloc::Global;
 
 /// The reply of an application server (RFC 4120, 5.5.2). Its version and its message type are
 /// fixed, and so not kept.
@@ -60,7 +62,7 @@ impl Der for ApRep {
 
     ghost begins = { begins ap_rep ap_rep_value };
 
-    ghost prefix_free = { type_is_prefix_free ap_rep refl ap_rep_value ap_rep_of (λ it. refl) };
+    ghost prefix_free = { type_is_prefix_free ap_rep refl ap_rep_value ap_rep_of ap_rep-back };
 }
 
 impl Item for ApRep {
@@ -109,5 +111,15 @@ impl<'a> View<'a> for ApRep {
             return None;
         };
         Some(ApRepView::of_fields(&seen))
+    }
+}
+
+impl<'a> FromView<'a> for ApRep {
+    ghost copied = { ap_rep_of_view };
+
+    fn from_view(alloc: Global, seen: &ApRepView<'a>) -> Result<ApRep, Memory> {
+        Ok(ApRep {
+            enc_part: EncryptedData::from_view(alloc, &seen.enc_part)?,
+        })
     }
 }

@@ -1,13 +1,14 @@
-//! AP-REQ.
+//! AP-REQ. `asn1/generate` wrote this from `asn1/krb5.asn1`.
 
 ghost use Rattle.std.specs.Prelude.{◌≡◌, refl, ◌^◌, ◌<◌, true, length, MatchOption};
 ghost use Rattle.krb_msg.specs.Term.{der, Fits, tag_of};
 ghost use Rattle.krb_msg.specs.Grammar.{ap_req};
-ghost use Rattle.krb_msg.specs.Views.{ap_req_value, ap_req_of};
-ghost use Rattle.krb_msg.specs.inner.PrefixFree.{begins, type_is_prefix_free};
-ghost use Rattle.krb_msg.specs.ViewValues.{ap_req_view_value, ApReqLists};
+ghost use Rattle.krb_msg.specs.Types.{ap_req_value, ap_req_of, ap_req_view_value, ap_req_of_view, ApReqLists};
 ghost use Rattle.krb_msg.specs.Viewed.{AreContents, AreNoContents};
+ghost use Rattle.krb_msg.specs.inner.PrefixFree.{begins, type_is_prefix_free};
+ghost use Rattle.krb_msg.specs.inner.RoundTrips.{ap_req-back};
 
+use crate::copying::FromView;
 use crate::encrypted_data::{EncryptedData, EncryptedDataView};
 use crate::fields::{
     Application, Borrowed, Encode, End, FieldOf, Fixed, Owned, Required, Sequence, View,
@@ -15,7 +16,8 @@ use crate::fields::{
 use crate::item::Item;
 use crate::ticket::{Ticket, TicketView};
 use crate::view::scalars::FlagsView;
-use krb_der::{Der, Flags};
+use krb_der::{Der, Flags, Memory};
+use std::alloc::Global;
 
 /// What a client sends an application server (RFC 4120, 5.5.1). Its version and its message type
 /// are fixed, and so not kept.
@@ -87,7 +89,7 @@ impl Der for ApReq {
 
     ghost begins = { begins ap_req ap_req_value };
 
-    ghost prefix_free = { type_is_prefix_free ap_req refl ap_req_value ap_req_of (λ it. refl) };
+    ghost prefix_free = { type_is_prefix_free ap_req refl ap_req_value ap_req_of ap_req-back };
 }
 
 impl Item for ApReq {
@@ -140,5 +142,17 @@ impl<'a> View<'a> for ApReq {
             return None;
         };
         Some(ApReqView::of_fields(&seen))
+    }
+}
+
+impl<'a> FromView<'a> for ApReq {
+    ghost copied = { ap_req_of_view };
+
+    fn from_view(alloc: Global, seen: &ApReqView<'a>) -> Result<ApReq, Memory> {
+        Ok(ApReq {
+            ap_options: Flags::from_view(alloc, &seen.ap_options)?,
+            ticket: Ticket::from_view(alloc, &seen.ticket)?,
+            authenticator: EncryptedData::from_view(alloc, &seen.authenticator)?,
+        })
     }
 }

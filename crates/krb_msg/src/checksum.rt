@@ -1,16 +1,18 @@
-//! Checksum.
+//! Checksum. `asn1/generate` wrote this from `asn1/krb5.asn1`.
 
 ghost use Rattle.std.specs.Prelude.{◌≡◌, refl, ◌^◌, ◌<◌, true, length, MatchOption};
 ghost use Rattle.krb_msg.specs.Term.{der, Fits, tag_of};
 ghost use Rattle.krb_msg.specs.Grammar.{checksum as checksum_term};
-ghost use Rattle.krb_msg.specs.Views.{checksum_value, checksum_of};
-ghost use Rattle.krb_msg.specs.inner.PrefixFree.{begins, type_is_prefix_free};
-ghost use Rattle.krb_msg.specs.ViewValues.{ChecksumLists, checksum_view_value};
+ghost use Rattle.krb_msg.specs.Types.{checksum_value, checksum_of, checksum_view_value, checksum_of_view, ChecksumLists};
 ghost use Rattle.krb_msg.specs.Viewed.{AreContents, AreNoContents};
+ghost use Rattle.krb_msg.specs.inner.PrefixFree.{begins, type_is_prefix_free};
+ghost use Rattle.krb_msg.specs.inner.RoundTrips.{checksum-back};
 
+use crate::copying::FromView;
 use crate::fields::{Borrowed, Encode, End, FieldOf, Owned, Required, Sequence, View};
 use crate::item::Item;
-use krb_der::{Der, Int32, Octets};
+use krb_der::{Der, Int32, Memory, Octets};
+use std::alloc::Global;
 
 /// A checksum (RFC 4120, 5.2.9). It is not verified.
 #[derive(PartialEq, Eq, Debug, Drop)]
@@ -57,7 +59,7 @@ impl Der for Checksum {
 
     ghost begins = { begins checksum_term checksum_value };
 
-    ghost prefix_free = { type_is_prefix_free checksum_term refl checksum_value checksum_of (λ it. refl) };
+    ghost prefix_free = { type_is_prefix_free checksum_term refl checksum_value checksum_of checksum-back };
 }
 
 impl Item for Checksum {
@@ -94,6 +96,17 @@ impl<'a> View<'a> for Checksum {
         Some(ChecksumView {
             cksumtype,
             checksum,
+        })
+    }
+}
+
+impl<'a> FromView<'a> for Checksum {
+    ghost copied = { checksum_of_view };
+
+    fn from_view(alloc: Global, seen: &ChecksumView<'a>) -> Result<Checksum, Memory> {
+        Ok(Checksum {
+            cksumtype: Int32::from_view(alloc, &seen.cksumtype)?,
+            checksum: Octets::from_view(alloc, &seen.checksum)?,
         })
     }
 }

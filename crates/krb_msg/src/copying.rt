@@ -7,8 +7,6 @@ ghost use Rattle.krb_msg.specs.Shape.{is_unambiguous, has_octet_tags};
 ghost use Rattle.krb_msg.specs.Viewed.{AreViewed, OfSome, items_of};
 ghost use Rattle.krb_msg.specs.inner.Copies.{AreCopies, MayBeCopies};
 
-mod messages;
-mod parts;
 mod scalars;
 
 use crate::fields::View;
@@ -30,7 +28,7 @@ pub trait FromView<'a>: View<'a> + Drop {
 }
 
 /// Returns the value of a field that may be left out, if it is there.
-fn copy_option<'a, T: FromView<'a>>(
+pub(crate) fn copy_option<'a, T: FromView<'a>>(
     alloc: Global,
     seen: &Option<T::Of>,
 ) -> Result<Option<T>, Memory>
@@ -45,7 +43,10 @@ fn copy_option<'a, T: FromView<'a>>(
 }
 
 /// Returns the values of items, in order. The list grows as they are found.
-fn copy_items<'a, T: FromView<'a>>(alloc: Global, items: ItemsView<'a>) -> Result<Many<T>, Memory>
+pub(crate) fn copy_items<'a, T: FromView<'a>>(
+    alloc: Global,
+    items: ItemsView<'a>,
+) -> Result<Many<T>, Memory>
     requires tags { has_octet_tags T.View.term ≡ true }
     requires unambiguous { is_unambiguous T.View.term ≡ true }
     requires viewed { AreViewed T.View.term items.octets.now }
@@ -62,7 +63,7 @@ fn copy_items<'a, T: FromView<'a>>(alloc: Global, items: ItemsView<'a>) -> Resul
 }
 
 /// Returns the values of items that may be left out, if they are there.
-fn copy_item_option<'a, T: FromView<'a>>(
+pub(crate) fn copy_item_option<'a, T: FromView<'a>>(
     alloc: Global,
     items: Option<ItemsView<'a>>,
 ) -> Result<Option<Many<T>>, Memory>

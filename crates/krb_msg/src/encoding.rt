@@ -6,11 +6,10 @@ ghost use Rattle.krb_der.specs.Puts.{Puts};
 ghost use Rattle.krb_der.specs.declared.profile.Profile.TheVariants.{Lenient};
 ghost use Rattle.krb_msg.specs.Term.{Fits};
 ghost use Rattle.krb_msg.specs.Views.{kind_of, kind_term, message_value, message_der, IsInProfile};
-ghost use Rattle.krb_msg.specs.inner.Fitting.{IsSized};
 ghost use Rattle.krb_msg.specs.inner.MessagePrefixFree.{message_begins, der_is_prefix_free};
 ghost use Rattle.krb_msg.specs.declared.encoding.EncodeFault.TheVariants.{Memory};
 
-use crate::message::Message;
+use crate::message::{Message, octets_of, put_octets};
 use krb_der::{Der, TOO_LONG};
 use std::alloc::{AllocError, Global};
 use thiserror::Error;
@@ -64,23 +63,6 @@ pub fn encode(alloc: Global, message: &Message) -> Result<Vec<u8>, EncodeFault>
     Ok(octets)
 }
 
-fn octets_of(message: &Message) -> u64
-    ensures { IsSized (kind_term (kind_of message.now)) (message_value message.now) result }
-{
-    match message {
-        Message::AsReq(req) => req.size::<10>(),
-        Message::AsRep(rep) => rep.size::<11>(),
-        Message::TgsReq(req) => req.size::<12>(),
-        Message::TgsRep(rep) => rep.size::<13>(),
-        Message::ApReq(req) => req.size(),
-        Message::ApRep(rep) => rep.size(),
-        Message::KrbSafe(safe) => safe.size(),
-        Message::KrbPriv(private) => private.size(),
-        Message::KrbCred(cred) => cred.size(),
-        Message::KrbError(error) => error.size(),
-    }
-}
-
 /// Appends the DER octets of a message, at most 2147483647 of them, within the vector's
 /// capacity. It allocates nothing.
 pub fn put(message: &Message, out: &mut Vec<u8>)
@@ -88,18 +70,7 @@ pub fn put(message: &Message, out: &mut Vec<u8>)
     requires capacity { vec_len out.old + length (message_der message.now) ≤ vec_capacity out.old }
     ensures { Puts (message_der message.now) out.old out.new }
 {
-    match message {
-        Message::AsReq(req) => req.put::<10>(out),
-        Message::AsRep(rep) => rep.put::<11>(out),
-        Message::TgsReq(req) => req.put::<12>(out),
-        Message::TgsRep(rep) => rep.put::<13>(out),
-        Message::ApReq(req) => req.put(out),
-        Message::ApRep(rep) => rep.put(out),
-        Message::KrbSafe(safe) => safe.put(out),
-        Message::KrbPriv(private) => private.put(out),
-        Message::KrbCred(cred) => cred.put(out),
-        Message::KrbError(error) => error.put(out),
-    }
+    put_octets(message, out);
 }
 
 impl Der for Message {

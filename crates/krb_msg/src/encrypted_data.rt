@@ -1,16 +1,18 @@
-//! EncryptedData.
+//! EncryptedData. `asn1/generate` wrote this from `asn1/krb5.asn1`.
 
 ghost use Rattle.std.specs.Prelude.{◌≡◌, refl, ◌^◌, ◌<◌, true, length, MatchOption};
 ghost use Rattle.krb_msg.specs.Term.{der, Fits, tag_of};
 ghost use Rattle.krb_msg.specs.Grammar.{encrypted_data};
-ghost use Rattle.krb_msg.specs.Views.{encrypted_data_value, encrypted_data_of};
-ghost use Rattle.krb_msg.specs.inner.PrefixFree.{begins, type_is_prefix_free};
-ghost use Rattle.krb_msg.specs.ViewValues.{EncryptedDataLists, encrypted_data_view_value};
+ghost use Rattle.krb_msg.specs.Types.{encrypted_data_value, encrypted_data_of, encrypted_data_view_value, encrypted_data_of_view, EncryptedDataLists};
 ghost use Rattle.krb_msg.specs.Viewed.{AreContents, AreNoContents};
+ghost use Rattle.krb_msg.specs.inner.PrefixFree.{begins, type_is_prefix_free};
+ghost use Rattle.krb_msg.specs.inner.RoundTrips.{encrypted_data-back};
 
+use crate::copying::{FromView, copy_option};
 use crate::fields::{Borrowed, Encode, End, FieldOf, Optional, Owned, Required, Sequence, View};
 use crate::item::Item;
-use krb_der::{Der, Int32, Octets, Wide32};
+use krb_der::{Der, Int32, Memory, Octets, Wide32};
+use std::alloc::Global;
 
 /// What is sealed (RFC 4120, 5.2.9). Its cipher is never opened.
 #[derive(PartialEq, Eq, Debug, Drop)]
@@ -70,7 +72,7 @@ impl Der for EncryptedData {
 
     ghost begins = { begins encrypted_data encrypted_data_value };
 
-    ghost prefix_free = { type_is_prefix_free encrypted_data refl encrypted_data_value encrypted_data_of (λ it. refl) };
+    ghost prefix_free = { type_is_prefix_free encrypted_data refl encrypted_data_value encrypted_data_of encrypted_data-back };
 }
 
 impl Item for EncryptedData {
@@ -108,6 +110,18 @@ impl<'a> View<'a> for EncryptedData {
             etype,
             kvno,
             cipher,
+        })
+    }
+}
+
+impl<'a> FromView<'a> for EncryptedData {
+    ghost copied = { encrypted_data_of_view };
+
+    fn from_view(alloc: Global, seen: &EncryptedDataView<'a>) -> Result<EncryptedData, Memory> {
+        Ok(EncryptedData {
+            etype: Int32::from_view(alloc, &seen.etype)?,
+            kvno: copy_option(alloc, &seen.kvno)?,
+            cipher: Octets::from_view(alloc, &seen.cipher)?,
         })
     }
 }

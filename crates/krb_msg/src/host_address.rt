@@ -1,16 +1,18 @@
-//! HostAddress.
+//! HostAddress. `asn1/generate` wrote this from `asn1/krb5.asn1`.
 
 ghost use Rattle.std.specs.Prelude.{◌≡◌, refl, ◌^◌, ◌<◌, true, length, MatchOption};
 ghost use Rattle.krb_msg.specs.Term.{der, Fits, tag_of};
 ghost use Rattle.krb_msg.specs.Grammar.{host_address};
-ghost use Rattle.krb_msg.specs.Views.{host_address_value, host_address_of};
-ghost use Rattle.krb_msg.specs.inner.PrefixFree.{begins, type_is_prefix_free};
-ghost use Rattle.krb_msg.specs.ViewValues.{HostAddressLists, host_address_view_value};
+ghost use Rattle.krb_msg.specs.Types.{host_address_value, host_address_of, host_address_view_value, host_address_of_view, HostAddressLists};
 ghost use Rattle.krb_msg.specs.Viewed.{AreContents, AreNoContents};
+ghost use Rattle.krb_msg.specs.inner.PrefixFree.{begins, type_is_prefix_free};
+ghost use Rattle.krb_msg.specs.inner.RoundTrips.{host_address-back};
 
+use crate::copying::FromView;
 use crate::fields::{Borrowed, Encode, End, FieldOf, Owned, Required, Sequence, View};
 use crate::item::Item;
-use krb_der::{Der, Int32, Octets};
+use krb_der::{Der, Int32, Memory, Octets};
+use std::alloc::Global;
 
 /// The address of a host (RFC 4120, 5.2.5). What it means is not looked into.
 #[derive(PartialEq, Eq, Debug, Drop)]
@@ -57,7 +59,7 @@ impl Der for HostAddress {
 
     ghost begins = { begins host_address host_address_value };
 
-    ghost prefix_free = { type_is_prefix_free host_address refl host_address_value host_address_of (λ it. refl) };
+    ghost prefix_free = { type_is_prefix_free host_address refl host_address_value host_address_of host_address-back };
 }
 
 impl Item for HostAddress {
@@ -92,5 +94,16 @@ impl<'a> View<'a> for HostAddress {
             return None;
         };
         Some(HostAddressView { addr_type, address })
+    }
+}
+
+impl<'a> FromView<'a> for HostAddress {
+    ghost copied = { host_address_of_view };
+
+    fn from_view(alloc: Global, seen: &HostAddressView<'a>) -> Result<HostAddress, Memory> {
+        Ok(HostAddress {
+            addr_type: Int32::from_view(alloc, &seen.addr_type)?,
+            address: Octets::from_view(alloc, &seen.address)?,
+        })
     }
 }

@@ -1,16 +1,16 @@
-//! KDC-REP.
+//! KDC-REP. `asn1/generate` wrote this from `asn1/krb5.asn1`.
 
-ghost use Rattle.std.specs.Prelude.{◌≡◌, ◌+◌, ◌^◌, ◌<◌, ◌≤◌, ◌++◌, true, IfOk, length, MatchOption};
+ghost use Rattle.std.specs.Prelude.{◌≡◌, ◌+◌, ◌^◌, ◌<◌, ◌≤◌, true, IfOk, length, MatchOption};
 ghost use Rattle.std.specs.Vec.{vec_len, vec_capacity};
 ghost use Rattle.krb_der.specs.Puts.{Puts};
 ghost use Rattle.krb_msg.specs.Shape.{has_octet_tags};
-ghost use Rattle.krb_msg.specs.Term.{Application as ApplicationTerm, der};
+ghost use Rattle.krb_msg.specs.Term.{Application as ApplicationTerm, der, Fits};
 ghost use Rattle.krb_msg.specs.Grammar.{kdc_rep};
-ghost use Rattle.krb_msg.specs.inner.Fitting.{IsSized};
-ghost use Rattle.krb_msg.specs.Views.{kdc_rep_value};
-ghost use Rattle.krb_msg.specs.ViewValues.{kdc_rep_view_value, KdcRepLists};
+ghost use Rattle.krb_msg.specs.Types.{kdc_rep_value, kdc_rep_view_value, kdc_rep_of_view, KdcRepLists};
 ghost use Rattle.krb_msg.specs.Viewed.{IsNotWhole, IsViewOf};
+ghost use Rattle.krb_msg.specs.inner.Fitting.{IsSized};
 
+use crate::copying::{FromView, copy_item_option};
 use crate::encrypted_data::{EncryptedData, EncryptedDataView};
 use crate::fields::{
     Application, Borrowed, Encode, End, FieldOf, Fixed, Optional, Owned, Required, Sequence, View,
@@ -20,7 +20,8 @@ use crate::principal_name::{PrincipalName, PrincipalNameView};
 use crate::ticket::{Ticket, TicketView};
 use crate::view::items::ItemsView;
 use crate::view::view_whole;
-use krb_der::{KString, Many};
+use krb_der::{KString, Many, Memory};
+use std::alloc::Global;
 
 /// The reply of a KDC (RFC 4120, 5.4.2): the contents of an AS-REP or a TGS-REP. Their version and
 /// their message type are fixed, and so not kept; so a KDC-REP has octets only as one or the other.
@@ -133,6 +134,22 @@ impl KdcRep {
             return None;
         };
         Some(KdcRepView::of_fields::<N>(&seen))
+    }
+
+    /// Returns the value of a view of a message. Nothing is judged again, and each string of octets
+    /// is copied once.
+    pub(crate) fn copy<const N: u8>(alloc: Global, seen: &KdcRepView<'_>) -> Result<KdcRep, Memory>
+        requires fits { Fits (ApplicationTerm N (kdc_rep N)) (kdc_rep_view_value N seen.now) }
+        requires lists { KdcRepLists seen.now }
+        ensures { IfOk result (λ it. it ≡ kdc_rep_of_view seen.now) }
+    {
+        Ok(KdcRep {
+            padata: copy_item_option(alloc, seen.padata)?,
+            crealm: KString::from_view(alloc, &seen.crealm)?,
+            cname: PrincipalName::from_view(alloc, &seen.cname)?,
+            ticket: Ticket::from_view(alloc, &seen.ticket)?,
+            enc_part: EncryptedData::from_view(alloc, &seen.enc_part)?,
+        })
     }
 }
 

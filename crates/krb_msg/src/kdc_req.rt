@@ -1,16 +1,16 @@
-//! KDC-REQ.
+//! KDC-REQ. `asn1/generate` wrote this from `asn1/krb5.asn1`.
 
-ghost use Rattle.std.specs.Prelude.{◌≡◌, ◌+◌, ◌^◌, ◌<◌, ◌≤◌, ◌++◌, true, IfOk, length, MatchOption};
+ghost use Rattle.std.specs.Prelude.{◌≡◌, ◌+◌, ◌^◌, ◌<◌, ◌≤◌, true, IfOk, length, MatchOption};
 ghost use Rattle.std.specs.Vec.{vec_len, vec_capacity};
 ghost use Rattle.krb_der.specs.Puts.{Puts};
 ghost use Rattle.krb_msg.specs.Shape.{has_octet_tags};
-ghost use Rattle.krb_msg.specs.Term.{Application as ApplicationTerm, der};
+ghost use Rattle.krb_msg.specs.Term.{Application as ApplicationTerm, der, Fits};
 ghost use Rattle.krb_msg.specs.Grammar.{kdc_req};
-ghost use Rattle.krb_msg.specs.inner.Fitting.{IsSized};
-ghost use Rattle.krb_msg.specs.Views.{kdc_req_value};
-ghost use Rattle.krb_msg.specs.ViewValues.{kdc_req_view_value, KdcReqLists};
+ghost use Rattle.krb_msg.specs.Types.{kdc_req_value, kdc_req_view_value, kdc_req_of_view, KdcReqLists};
 ghost use Rattle.krb_msg.specs.Viewed.{IsNotWhole, IsViewOf};
+ghost use Rattle.krb_msg.specs.inner.Fitting.{IsSized};
 
+use crate::copying::{FromView, copy_item_option};
 use crate::fields::{
     Application, Borrowed, Encode, End, FieldOf, Fixed, Optional, Owned, Required, Sequence, View,
 };
@@ -18,7 +18,8 @@ use crate::kdc_req_body::{KdcReqBody, KdcReqBodyView};
 use crate::pa_data::PaData;
 use crate::view::items::ItemsView;
 use crate::view::view_whole;
-use krb_der::Many;
+use krb_der::{Many, Memory};
+use std::alloc::Global;
 
 /// What a client sends a KDC (RFC 4120, 5.4.1): the contents of an AS-REQ or a TGS-REQ. Their
 /// version and their message type are fixed, and so not kept; so a KDC-REQ has octets only as one
@@ -98,6 +99,19 @@ impl KdcReq {
             return None;
         };
         Some(KdcReqView::of_fields::<N>(&seen))
+    }
+
+    /// Returns the value of a view of a message. Nothing is judged again, and each string of octets
+    /// is copied once.
+    pub(crate) fn copy<const N: u8>(alloc: Global, seen: &KdcReqView<'_>) -> Result<KdcReq, Memory>
+        requires fits { Fits (ApplicationTerm N (kdc_req N)) (kdc_req_view_value N seen.now) }
+        requires lists { KdcReqLists seen.now }
+        ensures { IfOk result (λ it. it ≡ kdc_req_of_view seen.now) }
+    {
+        Ok(KdcReq {
+            padata: copy_item_option(alloc, seen.padata)?,
+            body: KdcReqBody::from_view(alloc, &seen.body)?,
+        })
     }
 }
 

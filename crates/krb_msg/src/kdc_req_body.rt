@@ -1,14 +1,14 @@
-//! KDC-REQ-BODY.
+//! KDC-REQ-BODY. `asn1/generate` wrote this from `asn1/krb5.asn1`.
 
 ghost use Rattle.std.specs.Prelude.{◌≡◌, refl, ◌^◌, ◌<◌, true, length, MatchOption};
 ghost use Rattle.krb_msg.specs.Term.{der, Fits, tag_of};
 ghost use Rattle.krb_msg.specs.Grammar.{kdc_req_body};
-ghost use Rattle.krb_msg.specs.Views.{kdc_req_body_value, kdc_req_body_of};
-ghost use Rattle.krb_msg.specs.inner.RoundTrips.{kdc_req_body-back};
-ghost use Rattle.krb_msg.specs.inner.PrefixFree.{begins, type_is_prefix_free};
-ghost use Rattle.krb_msg.specs.ViewValues.{kdc_req_body_view_value, KdcReqBodyLists};
+ghost use Rattle.krb_msg.specs.Types.{kdc_req_body_value, kdc_req_body_of, kdc_req_body_view_value, kdc_req_body_of_view, KdcReqBodyLists};
 ghost use Rattle.krb_msg.specs.Viewed.{AreContents, AreNoContents};
+ghost use Rattle.krb_msg.specs.inner.PrefixFree.{begins, type_is_prefix_free};
+ghost use Rattle.krb_msg.specs.inner.RoundTrips.{kdc_req_body-back};
 
+use crate::copying::{FromView, copy_item_option, copy_items, copy_option};
 use crate::encrypted_data::{EncryptedData, EncryptedDataView};
 use crate::fields::{
     Borrowed, Cut, Encode, EncodeFields, End, FieldOf, Optional, Owned, Required, Sequence, View,
@@ -20,7 +20,8 @@ use crate::principal_name::{PrincipalName, PrincipalNameView};
 use crate::ticket::Ticket;
 use crate::view::items::ItemsView;
 use crate::view::scalars::FlagsView;
-use krb_der::{Der, Flags, Int32, KString, KerberosTime, Many, Wide32};
+use krb_der::{Der, Flags, Int32, KString, KerberosTime, Many, Memory, Wide32};
+use std::alloc::Global;
 
 /// What a client asks a KDC for (RFC 4120, 5.4.1).
 #[derive(PartialEq, Eq, Debug, Drop)]
@@ -105,7 +106,7 @@ type Layout<H> = Sequence<
     >,
 >;
 
-/// Its fields from the end of the renewable life on.
+/// The second half of its fields.
 type Rest<H> = Optional<
     6,
     FieldOf<H, KerberosTime>,
@@ -207,14 +208,14 @@ impl Item for KdcReqBody {
     ghost fits = { λ it fits. fits };
 }
 
-/// A view of its fields from the end of the renewable life on.
+/// A view of the second half of its fields.
 #[derive(Clone, Copy)]
 pub struct RestView<'a> {
     /// Until when it is to be renewable.
     rtime: Option<&'a [u8]>,
     /// A number that the reply has to repeat.
     nonce: i64,
-    /// The encryption types that the client accepts, the best first.
+    /// The encryption types (RFC 3961) that the client accepts, the best first.
     etype: ItemsView<'a>,
     /// The addresses from which the ticket is to serve.
     addresses: Option<ItemsView<'a>>,
@@ -337,5 +338,26 @@ impl<'a> View<'a> for KdcReqBody {
             return None;
         };
         Some(KdcReqBodyView::of_fields(&seen))
+    }
+}
+
+impl<'a> FromView<'a> for KdcReqBody {
+    ghost copied = { kdc_req_body_of_view };
+
+    fn from_view(alloc: Global, seen: &KdcReqBodyView<'a>) -> Result<KdcReqBody, Memory> {
+        Ok(KdcReqBody {
+            kdc_options: Flags::from_view(alloc, &seen.kdc_options)?,
+            cname: copy_option(alloc, &seen.cname)?,
+            realm: KString::from_view(alloc, &seen.realm)?,
+            sname: copy_option(alloc, &seen.sname)?,
+            from: copy_option(alloc, &seen.from)?,
+            till: KerberosTime::from_view(alloc, &seen.till)?,
+            rtime: copy_option(alloc, &seen.rtime)?,
+            nonce: Wide32::from_view(alloc, &seen.nonce)?,
+            etype: copy_items(alloc, seen.etype)?,
+            addresses: copy_item_option(alloc, seen.addresses)?,
+            enc_authorization_data: copy_option(alloc, &seen.enc_authorization_data)?,
+            additional_tickets: copy_item_option(alloc, seen.additional_tickets)?,
+        })
     }
 }

@@ -1,14 +1,14 @@
-//! KRB-CRED.
+//! KRB-CRED. `asn1/generate` wrote this from `asn1/krb5.asn1`.
 
 ghost use Rattle.std.specs.Prelude.{◌≡◌, refl, ◌^◌, ◌<◌, true, length, MatchOption};
 ghost use Rattle.krb_msg.specs.Term.{der, Fits, tag_of};
 ghost use Rattle.krb_msg.specs.Grammar.{krb_cred};
-ghost use Rattle.krb_msg.specs.Views.{krb_cred_value, krb_cred_of};
-ghost use Rattle.krb_msg.specs.inner.RoundTrips.{krb_cred-back};
-ghost use Rattle.krb_msg.specs.inner.PrefixFree.{begins, type_is_prefix_free};
-ghost use Rattle.krb_msg.specs.ViewValues.{krb_cred_view_value, KrbCredLists};
+ghost use Rattle.krb_msg.specs.Types.{krb_cred_value, krb_cred_of, krb_cred_view_value, krb_cred_of_view, KrbCredLists};
 ghost use Rattle.krb_msg.specs.Viewed.{AreContents, AreNoContents};
+ghost use Rattle.krb_msg.specs.inner.PrefixFree.{begins, type_is_prefix_free};
+ghost use Rattle.krb_msg.specs.inner.RoundTrips.{krb_cred-back};
 
+use crate::copying::{FromView, copy_items};
 use crate::encrypted_data::{EncryptedData, EncryptedDataView};
 use crate::fields::{
     Application, Borrowed, Encode, End, FieldOf, Fixed, Owned, Required, Sequence, View,
@@ -16,7 +16,8 @@ use crate::fields::{
 use crate::item::Item;
 use crate::ticket::Ticket;
 use crate::view::items::ItemsView;
-use krb_der::{Der, Many};
+use krb_der::{Der, Many, Memory};
+use std::alloc::Global;
 
 /// Tickets, handed on with what is sealed of them (RFC 4120, 5.8.1). Its version and its message
 /// type are fixed, and so not kept.
@@ -129,5 +130,16 @@ impl<'a> View<'a> for KrbCred {
             return None;
         };
         Some(KrbCredView::of_fields(&seen))
+    }
+}
+
+impl<'a> FromView<'a> for KrbCred {
+    ghost copied = { krb_cred_of_view };
+
+    fn from_view(alloc: Global, seen: &KrbCredView<'a>) -> Result<KrbCred, Memory> {
+        Ok(KrbCred {
+            tickets: copy_items(alloc, seen.tickets)?,
+            enc_part: EncryptedData::from_view(alloc, &seen.enc_part)?,
+        })
     }
 }

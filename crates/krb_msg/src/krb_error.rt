@@ -1,21 +1,22 @@
-//! KRB-ERROR.
+//! KRB-ERROR. `asn1/generate` wrote this from `asn1/krb5.asn1`.
 
 ghost use Rattle.std.specs.Prelude.{◌≡◌, refl, ◌^◌, ◌<◌, true, length, MatchOption};
 ghost use Rattle.krb_msg.specs.Term.{der, Fits, tag_of};
 ghost use Rattle.krb_msg.specs.Grammar.{krb_error};
-ghost use Rattle.krb_msg.specs.Views.{krb_error_value, krb_error_of};
-ghost use Rattle.krb_msg.specs.inner.RoundTrips.{krb_error-back};
-ghost use Rattle.krb_msg.specs.inner.PrefixFree.{begins, type_is_prefix_free};
-ghost use Rattle.krb_msg.specs.ViewValues.{krb_error_view_value, KrbErrorLists};
+ghost use Rattle.krb_msg.specs.Types.{krb_error_value, krb_error_of, krb_error_view_value, krb_error_of_view, KrbErrorLists};
 ghost use Rattle.krb_msg.specs.Viewed.{AreContents, AreNoContents};
+ghost use Rattle.krb_msg.specs.inner.PrefixFree.{begins, type_is_prefix_free};
+ghost use Rattle.krb_msg.specs.inner.RoundTrips.{krb_error-back};
 
+use crate::copying::{FromView, copy_option};
 use crate::fields::{
     Application, Borrowed, Cut, Encode, EncodeFields, End, FieldOf, Fixed, Optional, Owned,
     Required, Sequence, View, ViewFields,
 };
 use crate::item::Item;
 use crate::principal_name::{PrincipalName, PrincipalNameView};
-use krb_der::{Der, Int32, KString, KerberosTime, Micros, Octets};
+use krb_der::{Der, Int32, KString, KerberosTime, Memory, Micros, Octets};
+use std::alloc::Global;
 
 /// The message of an error (RFC 4120, 5.9.1). Its version and its message type are fixed, and so
 /// not kept.
@@ -94,7 +95,7 @@ type Layout<H> = Application<
                             Required<
                                 5,
                                 FieldOf<H, Micros>,
-                                Required<6, FieldOf<H, Int32>, Cut<Names<H>>>,
+                                Required<6, FieldOf<H, Int32>, Cut<Rest<H>>>,
                             >,
                         >,
                     >,
@@ -104,8 +105,8 @@ type Layout<H> = Application<
     >,
 >;
 
-/// Its fields from the names on.
-type Names<H> = Optional<
+/// The second half of its fields.
+type Rest<H> = Optional<
     7,
     FieldOf<H, KString>,
     Optional<
@@ -154,10 +155,10 @@ impl KrbError {
     }
 }
 
-impl<'a> EncodeFields for Cut<Names<Borrowed<'a>>> {
-    ghost fields = { ⟦<Names<Borrowed<'static>> as EncodeFields>⟧.fields };
+impl<'a> EncodeFields for Cut<Rest<Borrowed<'a>>> {
+    ghost fields = { ⟦<Rest<Borrowed<'static>> as EncodeFields>⟧.fields };
 
-    ghost values = { λ cut. ⟦<Names<Borrowed<'static>> as EncodeFields>⟧.values cut.0 };
+    ghost values = { λ cut. ⟦<Rest<Borrowed<'static>> as EncodeFields>⟧.values cut.0 };
 
     fn size(&self) -> u64 {
         self.0.size()
@@ -196,9 +197,9 @@ impl Item for KrbError {
     ghost fits = { λ it fits. fits };
 }
 
-/// A view of its fields from the names on.
+/// A view of the second half of its fields.
 #[derive(Clone, Copy)]
-pub struct NamesView<'a> {
+pub struct RestView<'a> {
     /// The realm of the client.
     crealm: Option<&'a [u8]>,
     /// The client.
@@ -209,12 +210,12 @@ pub struct NamesView<'a> {
     sname: PrincipalNameView<'a>,
     /// A text for people.
     e_text: Option<&'a [u8]>,
-    /// Data for programs.
+    /// Data for programs: METHOD-DATA if the code is 25. It is not judged.
     e_data: Option<&'a [u8]>,
 }
 
 /// The views of these fields.
-type NamesSeen<'a> = (
+type RestSeen<'a> = (
     Option<&'a [u8]>,
     (
         Option<PrincipalNameView<'a>>,
@@ -231,17 +232,17 @@ type NamesSeen<'a> = (
 /// The views of all fields.
 type Seen<'a> = (
     Option<&'a [u8]>,
-    (Option<i64>, (&'a [u8], (i64, (i64, NamesView<'a>)))),
+    (Option<i64>, (&'a [u8], (i64, (i64, RestView<'a>)))),
 );
 
-impl<'a> NamesView<'a> {
+impl<'a> RestView<'a> {
     /// Returns the view by the views of the fields.
     #[inline(always)]
-    fn of_fields(seen: &NamesSeen<'a>) -> NamesView<'a>
-        ensures values { ⟦<Cut<Names<Owned>> as ViewFields<'static>>⟧.values result ≡ ⟦<Names<Owned> as ViewFields<'static>>⟧.values seen.now }
-        ensures lists { ⟦<Names<Owned> as ViewFields<'static>>⟧.Lists seen.now → ⟦<Cut<Names<Owned>> as ViewFields<'static>>⟧.Lists result }
+    fn of_fields(seen: &RestSeen<'a>) -> RestView<'a>
+        ensures values { ⟦<Cut<Rest<Owned>> as ViewFields<'static>>⟧.values result ≡ ⟦<Rest<Owned> as ViewFields<'static>>⟧.values seen.now }
+        ensures lists { ⟦<Rest<Owned> as ViewFields<'static>>⟧.Lists seen.now → ⟦<Cut<Rest<Owned>> as ViewFields<'static>>⟧.Lists result }
     {
-        NamesView {
+        RestView {
             crealm: seen.0,
             cname: seen.1.0,
             realm: seen.1.1.0,
@@ -252,21 +253,21 @@ impl<'a> NamesView<'a> {
     }
 }
 
-impl<'a> ViewFields<'a> for Cut<Names<Owned>> {
-    type Of = NamesView<'a>;
+impl<'a> ViewFields<'a> for Cut<Rest<Owned>> {
+    type Of = RestView<'a>;
 
-    ghost fields = { ⟦<Names<Owned> as ViewFields<'static>>⟧.fields };
+    ghost fields = { ⟦<Rest<Owned> as ViewFields<'static>>⟧.fields };
 
-    ghost values = { λ seen. ⟦<Names<Owned> as ViewFields<'static>>⟧.values (seen.crealm, (seen.cname, (seen.realm, (seen.sname, (seen.e_text, (seen.e_data, tt)))))) };
+    ghost values = { λ seen. ⟦<Rest<Owned> as ViewFields<'static>>⟧.values (seen.crealm, (seen.cname, (seen.realm, (seen.sname, (seen.e_text, (seen.e_data, tt)))))) };
 
-    ghost Lists = { λ seen. ⟦<Names<Owned> as ViewFields<'static>>⟧.Lists (seen.crealm, (seen.cname, (seen.realm, (seen.sname, (seen.e_text, (seen.e_data, tt)))))) };
+    ghost Lists = { λ seen. ⟦<Rest<Owned> as ViewFields<'static>>⟧.Lists (seen.crealm, (seen.cname, (seen.realm, (seen.sname, (seen.e_text, (seen.e_data, tt)))))) };
 
     #[inline(always)]
-    fn view_fields(octets: &'a [u8]) -> Option<NamesView<'a>> {
-        let Some(seen) = Names::<Owned>::view_fields(octets) else {
+    fn view_fields(octets: &'a [u8]) -> Option<RestView<'a>> {
+        let Some(seen) = Rest::<Owned>::view_fields(octets) else {
             return None;
         };
-        Some(NamesView::of_fields(&seen))
+        Some(RestView::of_fields(&seen))
     }
 }
 
@@ -277,19 +278,19 @@ impl<'a> KrbErrorView<'a> {
         ensures value { krb_error_view_value result ≡ ⟦<Layout<Owned> as View<'static>>⟧.value seen.now }
         ensures lists { ⟦<Layout<Owned> as View<'static>>⟧.Lists seen.now → KrbErrorLists result }
     {
-        let names = &seen.1.1.1.1.1;
+        let rest = &seen.1.1.1.1.1;
         KrbErrorView {
             ctime: seen.0,
             cusec: seen.1.0,
             stime: seen.1.1.0,
             susec: seen.1.1.1.0,
             error_code: seen.1.1.1.1.0,
-            crealm: names.crealm,
-            cname: names.cname,
-            realm: names.realm,
-            sname: names.sname,
-            e_text: names.e_text,
-            e_data: names.e_data,
+            crealm: rest.crealm,
+            cname: rest.cname,
+            realm: rest.realm,
+            sname: rest.sname,
+            e_text: rest.e_text,
+            e_data: rest.e_data,
         }
     }
 }
@@ -316,5 +317,25 @@ impl<'a> View<'a> for KrbError {
             return None;
         };
         Some(KrbErrorView::of_fields(&seen))
+    }
+}
+
+impl<'a> FromView<'a> for KrbError {
+    ghost copied = { krb_error_of_view };
+
+    fn from_view(alloc: Global, seen: &KrbErrorView<'a>) -> Result<KrbError, Memory> {
+        Ok(KrbError {
+            ctime: copy_option(alloc, &seen.ctime)?,
+            cusec: copy_option(alloc, &seen.cusec)?,
+            stime: KerberosTime::from_view(alloc, &seen.stime)?,
+            susec: Micros::from_view(alloc, &seen.susec)?,
+            error_code: Int32::from_view(alloc, &seen.error_code)?,
+            crealm: copy_option(alloc, &seen.crealm)?,
+            cname: copy_option(alloc, &seen.cname)?,
+            realm: KString::from_view(alloc, &seen.realm)?,
+            sname: PrincipalName::from_view(alloc, &seen.sname)?,
+            e_text: copy_option(alloc, &seen.e_text)?,
+            e_data: copy_option(alloc, &seen.e_data)?,
+        })
     }
 }

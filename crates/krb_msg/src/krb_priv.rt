@@ -1,19 +1,21 @@
-//! KRB-PRIV.
+//! KRB-PRIV. `asn1/generate` wrote this from `asn1/krb5.asn1`.
 
 ghost use Rattle.std.specs.Prelude.{◌≡◌, refl, ◌^◌, ◌<◌, true, length, MatchOption};
 ghost use Rattle.krb_msg.specs.Term.{der, Fits, tag_of};
 ghost use Rattle.krb_msg.specs.Grammar.{krb_priv};
-ghost use Rattle.krb_msg.specs.Views.{krb_priv_value, krb_priv_of};
-ghost use Rattle.krb_msg.specs.inner.PrefixFree.{begins, type_is_prefix_free};
-ghost use Rattle.krb_msg.specs.ViewValues.{KrbPrivLists, krb_priv_view_value};
+ghost use Rattle.krb_msg.specs.Types.{krb_priv_value, krb_priv_of, krb_priv_view_value, krb_priv_of_view, KrbPrivLists};
 ghost use Rattle.krb_msg.specs.Viewed.{AreContents, AreNoContents};
+ghost use Rattle.krb_msg.specs.inner.PrefixFree.{begins, type_is_prefix_free};
+ghost use Rattle.krb_msg.specs.inner.RoundTrips.{krb_priv-back};
 
+use crate::copying::FromView;
 use crate::encrypted_data::{EncryptedData, EncryptedDataView};
 use crate::fields::{
     Application, Borrowed, Encode, End, FieldOf, Fixed, Owned, Required, Sequence, View,
 };
 use crate::item::Item;
-use krb_der::Der;
+use krb_der::{Der, Memory};
+use std::alloc::Global;
 
 /// A message that is sealed (RFC 4120, 5.7.1). Its version and its message type are fixed, and so
 /// not kept.
@@ -60,7 +62,7 @@ impl Der for KrbPriv {
 
     ghost begins = { begins krb_priv krb_priv_value };
 
-    ghost prefix_free = { type_is_prefix_free krb_priv refl krb_priv_value krb_priv_of (λ it. refl) };
+    ghost prefix_free = { type_is_prefix_free krb_priv refl krb_priv_value krb_priv_of krb_priv-back };
 }
 
 impl Item for KrbPriv {
@@ -109,5 +111,15 @@ impl<'a> View<'a> for KrbPriv {
             return None;
         };
         Some(KrbPrivView::of_fields(&seen))
+    }
+}
+
+impl<'a> FromView<'a> for KrbPriv {
+    ghost copied = { krb_priv_of_view };
+
+    fn from_view(alloc: Global, seen: &KrbPrivView<'a>) -> Result<KrbPriv, Memory> {
+        Ok(KrbPriv {
+            enc_part: EncryptedData::from_view(alloc, &seen.enc_part)?,
+        })
     }
 }

@@ -1,21 +1,22 @@
-//! KRB-SAFE.
+//! KRB-SAFE. `asn1/generate` wrote this from `asn1/krb5.asn1`.
 
 ghost use Rattle.std.specs.Prelude.{◌≡◌, refl, ◌^◌, ◌<◌, true, length, MatchOption};
 ghost use Rattle.krb_msg.specs.Term.{der, Fits, tag_of};
 ghost use Rattle.krb_msg.specs.Grammar.{krb_safe};
-ghost use Rattle.krb_msg.specs.Views.{krb_safe_value, krb_safe_of};
-ghost use Rattle.krb_msg.specs.inner.RoundTrips.{krb_safe-back};
-ghost use Rattle.krb_msg.specs.inner.PrefixFree.{begins, type_is_prefix_free};
-ghost use Rattle.krb_msg.specs.ViewValues.{KrbSafeLists, krb_safe_view_value};
+ghost use Rattle.krb_msg.specs.Types.{krb_safe_value, krb_safe_of, krb_safe_view_value, krb_safe_of_view, KrbSafeLists};
 ghost use Rattle.krb_msg.specs.Viewed.{AreContents, AreNoContents};
+ghost use Rattle.krb_msg.specs.inner.PrefixFree.{begins, type_is_prefix_free};
+ghost use Rattle.krb_msg.specs.inner.RoundTrips.{krb_safe-back};
 
 use crate::checksum::{Checksum, ChecksumView};
+use crate::copying::FromView;
 use crate::fields::{
     Application, Borrowed, Encode, End, FieldOf, Fixed, Owned, Required, Sequence, View,
 };
 use crate::item::Item;
 use crate::krb_safe_body::{KrbSafeBody, KrbSafeBodyView};
-use krb_der::Der;
+use krb_der::{Der, Memory};
+use std::alloc::Global;
 
 /// A message that is protected against changes (RFC 4120, 5.6.1). Its version and its message type
 /// are fixed, and so not kept.
@@ -128,5 +129,16 @@ impl<'a> View<'a> for KrbSafe {
             return None;
         };
         Some(KrbSafeView::of_fields(&seen))
+    }
+}
+
+impl<'a> FromView<'a> for KrbSafe {
+    ghost copied = { krb_safe_of_view };
+
+    fn from_view(alloc: Global, seen: &KrbSafeView<'a>) -> Result<KrbSafe, Memory> {
+        Ok(KrbSafe {
+            body: KrbSafeBody::from_view(alloc, &seen.body)?,
+            cksum: Checksum::from_view(alloc, &seen.cksum)?,
+        })
     }
 }

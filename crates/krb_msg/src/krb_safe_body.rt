@@ -1,18 +1,19 @@
-//! KRB-SAFE-BODY.
+//! KRB-SAFE-BODY. `asn1/generate` wrote this from `asn1/krb5.asn1`.
 
 ghost use Rattle.std.specs.Prelude.{◌≡◌, refl, ◌^◌, ◌<◌, true, length, MatchOption};
 ghost use Rattle.krb_msg.specs.Term.{der, Fits, tag_of};
 ghost use Rattle.krb_msg.specs.Grammar.{krb_safe_body};
-ghost use Rattle.krb_msg.specs.Views.{krb_safe_body_value, krb_safe_body_of};
-ghost use Rattle.krb_msg.specs.inner.RoundTrips.{krb_safe_body-back};
-ghost use Rattle.krb_msg.specs.inner.PrefixFree.{begins, type_is_prefix_free};
-ghost use Rattle.krb_msg.specs.ViewValues.{KrbSafeBodyLists, krb_safe_body_view_value};
+ghost use Rattle.krb_msg.specs.Types.{krb_safe_body_value, krb_safe_body_of, krb_safe_body_view_value, krb_safe_body_of_view, KrbSafeBodyLists};
 ghost use Rattle.krb_msg.specs.Viewed.{AreContents, AreNoContents};
+ghost use Rattle.krb_msg.specs.inner.PrefixFree.{begins, type_is_prefix_free};
+ghost use Rattle.krb_msg.specs.inner.RoundTrips.{krb_safe_body-back};
 
+use crate::copying::{FromView, copy_option};
 use crate::fields::{Borrowed, Encode, End, FieldOf, Optional, Owned, Required, Sequence, View};
 use crate::host_address::{HostAddress, HostAddressView};
 use crate::item::Item;
-use krb_der::{Der, KerberosTime, Micros, Octets, Wide32};
+use krb_der::{Der, KerberosTime, Memory, Micros, Octets, Wide32};
+use std::alloc::Global;
 
 /// What a KRB-SAFE protects (RFC 4120, 5.6.1).
 #[derive(PartialEq, Eq, Debug, Drop)]
@@ -173,5 +174,20 @@ impl<'a> View<'a> for KrbSafeBody {
             return None;
         };
         Some(KrbSafeBodyView::of_fields(&seen))
+    }
+}
+
+impl<'a> FromView<'a> for KrbSafeBody {
+    ghost copied = { krb_safe_body_of_view };
+
+    fn from_view(alloc: Global, seen: &KrbSafeBodyView<'a>) -> Result<KrbSafeBody, Memory> {
+        Ok(KrbSafeBody {
+            user_data: Octets::from_view(alloc, &seen.user_data)?,
+            timestamp: copy_option(alloc, &seen.timestamp)?,
+            usec: copy_option(alloc, &seen.usec)?,
+            seq_number: copy_option(alloc, &seen.seq_number)?,
+            s_address: HostAddress::from_view(alloc, &seen.s_address)?,
+            r_address: copy_option(alloc, &seen.r_address)?,
+        })
     }
 }

@@ -1,27 +1,24 @@
-//! Messages viewed in place.
+//! Messages viewed in place. `asn1/generate` wrote this from `asn1/krb5.asn1`.
 
-ghost use Rattle.std.specs.Prelude.{◌≡◌, ◌^◌, ◌<◌, length, MatchOption};
-ghost use Rattle.std.specs.Option.{option_map};
-ghost use Rattle.krb_der.specs.declared.profile.Profile.TheVariants.{Strict};
-ghost use Rattle.krb_der.specs.declared.verdict.Verdict.TheVariants.{Whole};
-ghost use Rattle.krb_msg.specs.Judgement.{judgement};
-ghost use Rattle.krb_msg.specs.Realm.{realm_of};
-ghost use Rattle.krb_msg.specs.ViewValues.{BeginAs, IsMessageView, IsNoMessage, message_of_view};
-ghost use Rattle.krb_msg.specs.Views.{kind_of};
+ghost use Rattle.std.specs.Prelude.{◌≡◌, IfOk, MatchOption};
+ghost use Rattle.krb_der.specs.declared.profile.Profile.TheVariants.{Lenient};
+ghost use Rattle.krb_msg.specs.Views.{IsInProfile, kind_of};
+ghost use Rattle.krb_msg.specs.ViewValues.{BeginAs, IsMessageView, IsNoMessage, MessageLists, message_of_view};
 ghost use Rattle.krb_msg.specs.declared.message.Kind.TheVariants as kind;
 
 use crate::ap_rep::{ApRep, ApRepView};
 use crate::ap_req::{ApReq, ApReqView};
+use crate::copying::FromView;
 use crate::kdc_rep::{KdcRep, KdcRepView};
 use crate::kdc_req::{KdcReq, KdcReqView};
 use crate::krb_cred::{KrbCred, KrbCredView};
 use crate::krb_error::{KrbError, KrbErrorView};
 use crate::krb_priv::{KrbPriv, KrbPrivView};
 use crate::krb_safe::{KrbSafe, KrbSafeView};
-use crate::message::Kind;
-use crate::notes::is_strict_view;
+use crate::message::{Kind, Message};
 use crate::view::view_whole;
-use krb_der::Profile;
+use krb_der::Memory;
+use std::alloc::Global;
 
 /// A view of a message of any kind (RFC 4120, section 5): its strings and lists are borrowed
 /// from the octets.
@@ -68,68 +65,35 @@ impl<'a> MessageView<'a> {
         }
     }
 
-    /// Returns the realm that the message is of, if it is of one (5.2.2).
-    pub fn realm(&self) -> Option<&'a [u8]>
-        ensures { option_map (λ octets. octets.now) result ≡ realm_of (message_of_view self.now) }
+    /// Returns the message of the view. Nothing is judged again, and each string of octets is
+    /// copied once.
+    pub fn to_message(&self, alloc: Global) -> Result<Message, Memory>
+        requires lists { MessageLists self.now }
+        requires in_profile { IsInProfile Lenient (message_of_view self.now) }
+        ensures { IfOk result (λ message. message ≡ message_of_view self.now) }
     {
         match self {
-            MessageView::AsReq(m) | MessageView::TgsReq(m) => Some(m.body.realm),
-            MessageView::AsRep(m) | MessageView::TgsRep(m) => Some(m.crealm),
-            MessageView::ApReq(m) => Some(m.ticket.realm),
-            MessageView::KrbError(m) => Some(m.realm),
-            MessageView::ApRep(_)
-            | MessageView::KrbSafe(_)
-            | MessageView::KrbPriv(_)
-            | MessageView::KrbCred(_) => None,
+            MessageView::AsReq(req) => Ok(Message::AsReq(KdcReq::copy::<10>(alloc, req)?)),
+            MessageView::AsRep(rep) => Ok(Message::AsRep(KdcRep::copy::<11>(alloc, rep)?)),
+            MessageView::TgsReq(req) => Ok(Message::TgsReq(KdcReq::copy::<12>(alloc, req)?)),
+            MessageView::TgsRep(rep) => Ok(Message::TgsRep(KdcRep::copy::<13>(alloc, rep)?)),
+            MessageView::ApReq(req) => Ok(Message::ApReq(ApReq::from_view(alloc, req)?)),
+            MessageView::ApRep(rep) => Ok(Message::ApRep(ApRep::from_view(alloc, rep)?)),
+            MessageView::KrbSafe(safe) => Ok(Message::KrbSafe(KrbSafe::from_view(alloc, safe)?)),
+            MessageView::KrbPriv(private) => {
+                Ok(Message::KrbPriv(KrbPriv::from_view(alloc, private)?))
+            }
+            MessageView::KrbCred(cred) => Ok(Message::KrbCred(KrbCred::from_view(alloc, cred)?)),
+            MessageView::KrbError(error) => {
+                Ok(Message::KrbError(KrbError::from_view(alloc, error)?))
+            }
         }
-    }
-}
-
-/// Returns a view of the message that octets are, if they are one in the lenient profile: all of
-/// them, judged and viewed in one pass. It allocates nothing.
-pub fn view_message(octets: &[u8]) -> Option<MessageView<'_>>
-    requires short { length octets.now < 2 ^ 31 }
-    ensures { MatchOption result (IsNoMessage octets.now) (λ m. IsMessageView octets.now m) }
-{
-    let [first, ..] = octets else {
-        return None;
-    };
-    let Some(kind) = Kind::of_tag(*first) else {
-        return None;
-    };
-    view_of_kind(kind, octets)
-}
-
-/// Returns a view of the message of a profile that octets are, if they are one, as
-/// [`view_message`] has it.
-#[inline(always)]
-pub fn view_message_in(profile: Profile, octets: &[u8]) -> Option<MessageView<'_>>
-    requires short { length octets.now < 2 ^ 31 }
-    ensures { MatchOption result (judgement profile (length octets.now) octets.now ≡ Whole → ⊥) (λ m. IsMessageView octets.now m × (judgement profile (length octets.now) octets.now ≡ Whole)) }
-{
-    match profile {
-        Profile::Lenient => view_message(octets),
-        Profile::Strict => view_strict(octets),
-    }
-}
-
-/// Returns a view of the message of the strict profile that octets are, if they are one: a message
-/// of the lenient one in which no note holds.
-fn view_strict(octets: &[u8]) -> Option<MessageView<'_>>
-    requires short { length octets.now < 2 ^ 31 }
-    ensures { MatchOption result (judgement Strict (length octets.now) octets.now ≡ Whole → ⊥) (λ m. IsMessageView octets.now m × (judgement Strict (length octets.now) octets.now ≡ Whole)) }
-{
-    let message = view_message(octets)?;
-    if is_strict_view(&message) {
-        Some(message)
-    } else {
-        None
     }
 }
 
 /// Returns a view of the message of a kind that octets are, if they are one.
 #[inline(always)]
-fn view_of_kind(kind: Kind, octets: &[u8]) -> Option<MessageView<'_>>
+pub(crate) fn view_of_kind(kind: Kind, octets: &[u8]) -> Option<MessageView<'_>>
     requires { BeginAs kind octets.now }
     ensures { MatchOption result (IsNoMessage octets.now) (λ m. IsMessageView octets.now m) }
 {

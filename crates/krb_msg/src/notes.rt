@@ -3,7 +3,8 @@
 ghost use Rattle.std.specs.Prelude.{◌≡◌, ◌||◌, Bool, false, nat_lt, not};
 ghost use Rattle.std.specs.List.{list_any};
 ghost use Rattle.krb_msg.specs.Grammar.{principal_name, encrypted_data, ticket, kdc_req_body, as_req, as_rep, ap_req, ap_rep, krb_safe_body, krb_safe, krb_priv, krb_cred, krb_error};
-ghost use Rattle.krb_msg.specs.Views.{principal_name_value, encrypted_data_value, ticket_value, kdc_req_body_value, kdc_req_value, kdc_rep_value, ap_req_value, ap_rep_value, krb_safe_body_value, krb_safe_value, krb_priv_value, krb_cred_value, krb_error_value, is_strict};
+ghost use Rattle.krb_msg.specs.Types.{principal_name_value, encrypted_data_value, ticket_value, kdc_req_body_value, kdc_req_value, kdc_rep_value, ap_req_value, ap_rep_value, krb_safe_body_value, krb_safe_value, krb_priv_value, krb_cred_value, krb_error_value};
+ghost use Rattle.krb_msg.specs.Views.{is_strict};
 ghost use Rattle.krb_msg.specs.Notes.{text_has, flags_have, number_has, list_has, option_any, has, notes_by, notes_of, notes_have, either};
 
 mod view;

@@ -1,16 +1,19 @@
-//! PA-DATA.
+//! PA-DATA. `asn1/generate` wrote this from `asn1/krb5.asn1`.
 
-ghost use Rattle.std.specs.Prelude.{◌≡◌, refl, ◌^◌, ◌<◌, true, length, MatchOption};
+ghost use Rattle.std.specs.Prelude.{◌≡◌, refl, ◌^◌, ◌<◌, true, length, map, MatchOption};
 ghost use Rattle.krb_msg.specs.Term.{der, Fits, tag_of};
 ghost use Rattle.krb_msg.specs.Grammar.{pa_data};
-ghost use Rattle.krb_msg.specs.Views.{pa_data_value, pa_data_of};
+ghost use Rattle.krb_msg.specs.Types.{pa_data_value, pa_data_of, pa_data_view_value, pa_data_of_view, PaDataLists};
+ghost use Rattle.krb_msg.specs.Viewed.{AreContents, AreNoContents, items_of};
 ghost use Rattle.krb_msg.specs.inner.PrefixFree.{begins, type_is_prefix_free};
-ghost use Rattle.krb_msg.specs.ViewValues.{PaDataLists, pa_data_view_value};
-ghost use Rattle.krb_msg.specs.Viewed.{AreContents, AreNoContents};
+ghost use Rattle.krb_msg.specs.inner.RoundTrips.{pa_data-back};
 
+use crate::copying::{FromView, copy_items};
 use crate::fields::{Borrowed, Encode, End, FieldOf, Owned, Required, Sequence, View};
 use crate::item::Item;
-use krb_der::{Der, Int32, Octets};
+use crate::view::items::ItemsView;
+use krb_der::{Der, Int32, Many, Memory, Octets};
+use std::alloc::Global;
 
 /// Pre-authentication data (RFC 4120, 5.2.7). What it means is not looked into.
 #[derive(PartialEq, Eq, Debug, Drop)]
@@ -57,7 +60,7 @@ impl Der for PaData {
 
     ghost begins = { begins pa_data pa_data_value };
 
-    ghost prefix_free = { type_is_prefix_free pa_data refl pa_data_value pa_data_of (λ it. refl) };
+    ghost prefix_free = { type_is_prefix_free pa_data refl pa_data_value pa_data_of pa_data-back };
 }
 
 impl Item for PaData {
@@ -95,5 +98,25 @@ impl<'a> View<'a> for PaData {
             padata_type,
             padata_value,
         })
+    }
+}
+
+impl<'a> FromView<'a> for PaData {
+    ghost copied = { pa_data_of_view };
+
+    fn from_view(alloc: Global, seen: &PaDataView<'a>) -> Result<PaData, Memory> {
+        Ok(PaData {
+            padata_type: Int32::from_view(alloc, &seen.padata_type)?,
+            padata_value: Octets::from_view(alloc, &seen.padata_value)?,
+        })
+    }
+}
+
+/// METHOD-DATA (RFC 4120, 5.9.1).
+impl<'a> FromView<'a> for Many<PaData> {
+    ghost copied = { λ seen. map pa_data_of (items_of pa_data seen.octets.now) };
+
+    fn from_view(alloc: Global, seen: &ItemsView<'a>) -> Result<Many<PaData>, Memory> {
+        copy_items(alloc, *seen)
     }
 }

@@ -1,17 +1,19 @@
-//! PrincipalName.
+//! PrincipalName. `asn1/generate` wrote this from `asn1/krb5.asn1`.
 
 ghost use Rattle.std.specs.Prelude.{◌≡◌, refl, ◌^◌, ◌<◌, true, length, MatchOption};
 ghost use Rattle.krb_msg.specs.Term.{der, Fits, tag_of};
 ghost use Rattle.krb_msg.specs.Grammar.{principal_name};
-ghost use Rattle.krb_msg.specs.Views.{principal_name_value, principal_name_of};
-ghost use Rattle.krb_msg.specs.inner.PrefixFree.{begins, type_is_prefix_free};
-ghost use Rattle.krb_msg.specs.ViewValues.{principal_name_view_value, PrincipalNameLists};
+ghost use Rattle.krb_msg.specs.Types.{principal_name_value, principal_name_of, principal_name_view_value, principal_name_of_view, PrincipalNameLists};
 ghost use Rattle.krb_msg.specs.Viewed.{AreContents, AreNoContents};
+ghost use Rattle.krb_msg.specs.inner.PrefixFree.{begins, type_is_prefix_free};
+ghost use Rattle.krb_msg.specs.inner.RoundTrips.{principal_name-back};
 
+use crate::copying::{FromView, copy_items};
 use crate::fields::{Borrowed, Encode, End, FieldOf, Owned, Required, Sequence, View};
 use crate::item::Item;
 use crate::view::items::ItemsView;
-use krb_der::{Der, Int32, KString, Many};
+use krb_der::{Der, Int32, KString, Many, Memory};
+use std::alloc::Global;
 
 /// The name of a principal within a realm (RFC 4120, 5.2.2).
 #[derive(PartialEq, Eq, Debug, Drop)]
@@ -60,7 +62,7 @@ impl Der for PrincipalName {
 
     ghost begins = { begins principal_name principal_name_value };
 
-    ghost prefix_free = { type_is_prefix_free principal_name refl principal_name_value principal_name_of (λ it. refl) };
+    ghost prefix_free = { type_is_prefix_free principal_name refl principal_name_value principal_name_of principal_name-back };
 }
 
 impl Item for PrincipalName {
@@ -95,5 +97,16 @@ impl<'a> View<'a> for PrincipalName {
             return None;
         };
         Some(PrincipalNameView { name_type, name })
+    }
+}
+
+impl<'a> FromView<'a> for PrincipalName {
+    ghost copied = { principal_name_of_view };
+
+    fn from_view(alloc: Global, seen: &PrincipalNameView<'a>) -> Result<PrincipalName, Memory> {
+        Ok(PrincipalName {
+            name_type: Int32::from_view(alloc, &seen.name_type)?,
+            name: copy_items(alloc, seen.name)?,
+        })
     }
 }

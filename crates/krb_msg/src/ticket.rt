@@ -1,20 +1,22 @@
-//! Ticket.
+//! Ticket. `asn1/generate` wrote this from `asn1/krb5.asn1`.
 
 ghost use Rattle.std.specs.Prelude.{◌≡◌, refl, ◌^◌, ◌<◌, true, length, MatchOption};
 ghost use Rattle.krb_msg.specs.Term.{der, Fits, tag_of};
 ghost use Rattle.krb_msg.specs.Grammar.{ticket as ticket_term};
-ghost use Rattle.krb_msg.specs.Views.{ticket_value, ticket_of};
-ghost use Rattle.krb_msg.specs.inner.PrefixFree.{begins, type_is_prefix_free};
-ghost use Rattle.krb_msg.specs.ViewValues.{ticket_view_value, TicketLists};
+ghost use Rattle.krb_msg.specs.Types.{ticket_value, ticket_of, ticket_view_value, ticket_of_view, TicketLists};
 ghost use Rattle.krb_msg.specs.Viewed.{AreContents, AreNoContents};
+ghost use Rattle.krb_msg.specs.inner.PrefixFree.{begins, type_is_prefix_free};
+ghost use Rattle.krb_msg.specs.inner.RoundTrips.{ticket-back};
 
+use crate::copying::FromView;
 use crate::encrypted_data::{EncryptedData, EncryptedDataView};
 use crate::fields::{
     Application, Borrowed, Encode, End, FieldOf, Fixed, Owned, Required, Sequence, View,
 };
 use crate::item::Item;
 use crate::principal_name::{PrincipalName, PrincipalNameView};
-use krb_der::{Der, KString};
+use krb_der::{Der, KString, Memory};
+use std::alloc::Global;
 
 /// A ticket (RFC 4120, 5.3). Its version is fixed, and so not kept.
 #[derive(PartialEq, Eq, Debug, Drop)]
@@ -81,7 +83,7 @@ impl Der for Ticket {
 
     ghost begins = { begins ticket_term ticket_value };
 
-    ghost prefix_free = { type_is_prefix_free ticket_term refl ticket_value ticket_of (λ it. refl) };
+    ghost prefix_free = { type_is_prefix_free ticket_term refl ticket_value ticket_of ticket-back };
 }
 
 impl Item for Ticket {
@@ -137,5 +139,17 @@ impl<'a> View<'a> for Ticket {
             return None;
         };
         Some(TicketView::of_fields(&seen))
+    }
+}
+
+impl<'a> FromView<'a> for Ticket {
+    ghost copied = { ticket_of_view };
+
+    fn from_view(alloc: Global, seen: &TicketView<'a>) -> Result<Ticket, Memory> {
+        Ok(Ticket {
+            realm: KString::from_view(alloc, &seen.realm)?,
+            sname: PrincipalName::from_view(alloc, &seen.sname)?,
+            enc_part: EncryptedData::from_view(alloc, &seen.enc_part)?,
+        })
     }
 }

@@ -9,7 +9,8 @@ use Rattle.krb_msg.specs.Grammar.{kerberos_string, principal_name, host_address,
 use Rattle.krb_msg.specs.Term.{Fits, IfPresent}
 use Rattle.krb_msg.specs.Notes.{notes_of}
 use Rattle.krb_msg.specs.declared.notes.Notes.{Notes}
-use Rattle.krb_msg.specs.Views.{IsInProfile, principal_name_value, ticket_value, host_address_value, kdc_req_body_value, ap_req_value, krb_safe_value, krb_error_value, kind_name, kind_of}
+use Rattle.krb_msg.specs.Views.{IsInProfile, kind_name, kind_of}
+use Rattle.krb_msg.specs.Types.{principal_name_value, ticket_value, host_address_value, kdc_req_body_value, ap_req_value, krb_safe_value, krb_error_value}
 use Rattle.krb_msg.specs.declared.principal_name.PrincipalName.{PrincipalName}
 use Rattle.krb_msg.specs.declared.ticket.Ticket.{Ticket}
 use Rattle.krb_msg.specs.declared.kdc_req.KdcReq.{KdcReq}

@@ -8,7 +8,7 @@ use Rattle.krb_der.specs.Hex.{hex as of_hex}
 use Rattle.krb_der.specs.declared.why.Why.TheVariants.{Truncated}
 use Rattle.krb_file.specs.declared.fault.FileWhy.TheVariants as why
 use Rattle.krb_msg.specs.declared.message.Message.{Message}
-use Rattle.krb_msg.specs.ValueOfDer.{message_of_der}
+use Rattle.krb_msg.specs.Views.{message_of_der}
 use Rattle.krb_registry.specs.Rows.{rows, name_in, name_of}
 use Rattle.krb_text.specs.Captures.{captured_message_line, captured_opening, captured_refused_line, captured_text, capture_end_line, capture_refused_line, endpoint_text, flow_field, joined_line, lost_line, password_line}
 use Rattle.krb_text.specs.Forms.{closing, json_value, labelled, members, names_member, opening, record_text, value_text}

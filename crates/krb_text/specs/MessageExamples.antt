@@ -2,7 +2,7 @@
 use Rattle.std.specs.Prelude.{ℕ, ◌≡◌, List, ◌++◌, refl, codes}
 use Rattle.std.specs.Fmt.{digits}
 use Rattle.krb_der.specs.Hex.{hex}
-use Rattle.krb_msg.specs.ValueOfDer.{message_of_der}
+use Rattle.krb_msg.specs.Views.{message_of_der}
 use Rattle.krb_registry.specs.Rows.{rows, name_in, name_of}
 use Rattle.krb_text.specs.declared.form.Form.{Form}
 use Rattle.krb_text.specs.declared.form.Form.TheVariants.{Lines, NamedLines, Json}

@@ -17,7 +17,8 @@ use Rattle.krb_msg.specs.declared.krb_priv.KrbPriv.{KrbPriv}
 use Rattle.krb_msg.specs.declared.krb_cred.KrbCred.{KrbCred}
 use Rattle.krb_msg.specs.declared.krb_error.KrbError.{KrbError}
 use Rattle.krb_msg.specs.declared.message.Message.{Message}
-use Rattle.krb_msg.specs.Views.{kind_name, kind_of, pa_data_of}
+use Rattle.krb_msg.specs.Views.{kind_name, kind_of}
+use Rattle.krb_msg.specs.Types.{pa_data_of}
 use Rattle.krb_msg.specs.declared.message.Message.TheVariants as message
 use Rattle.krb_der.specs.declared.verdict.Verdict.{Verdict}
 use Rattle.krb_der.specs.declared.verdict.Verdict.TheVariants as verdict

@@ -2,7 +2,7 @@
 
 ghost use Rattle.std.specs.Prelude.{◌≡◌, ◌++◌, ◌^◌, ◌<◌, Some, None, codes, length, pos, MatchOption, OnOk};
 ghost use Rattle.krb_msg.specs.Grammar.{pa_data};
-ghost use Rattle.krb_msg.specs.ViewValues.{KrbErrorLists, krb_error_of_view};
+ghost use Rattle.krb_msg.specs.Types.{KrbErrorLists, krb_error_of_view};
 ghost use Rattle.krb_msg.specs.Viewed.{AreViewed, items_of};
 ghost use Rattle.krb_text.specs.Errors.{code_suffix, code_text};
 ghost use Rattle.krb_text.specs.Forms.{field, fields_text, labelled};

@@ -6,7 +6,7 @@ ghost use Rattle.krb_msg.specs.Grammar.{int32, pa_data};
 ghost use Rattle.krb_registry.specs.declared.registry.Registry.TheVariants.{EncryptionTypes, PreAuthenticationData};
 ghost use Rattle.krb_msg.specs.Shape.{is_unambiguous, has_octet_tags};
 ghost use Rattle.krb_msg.specs.Viewed.{AreViewed, items_of};
-ghost use Rattle.krb_msg.specs.Views.{pa_data_of};
+ghost use Rattle.krb_msg.specs.Types.{pa_data_of};
 ghost use Rattle.std.specs.Fmt.{signed_decimal};
 ghost use Rattle.krb_text.specs.Forms.{members, name_string, number_text, value_text};
 ghost use Rattle.krb_text.specs.Messages.{padata};
@@ -222,7 +222,7 @@ pub(crate) struct EncryptionTypes<'a>(ItemsView<'a>);
 
 impl<'a> Model for EncryptionTypes<'a> {
     ghost use Rattle.std.specs.Prelude.{List, ℤ, map};
-    ghost use Rattle.krb_msg.specs.Grammar.{int32};
+    ghost use Rattle.krb_msg.specs.Grammar.{int32, pa_data};
     ghost use Rattle.krb_msg.specs.Viewed.{AreViewed, items_of};
     ghost use Rattle.krb_text.specs.inner.Items.{item_number};
 
@@ -263,8 +263,6 @@ pub(crate) struct PaDataTypes<'a>(ItemsView<'a>);
 
 impl<'a> Model for PaDataTypes<'a> {
     ghost use Rattle.std.specs.Prelude.{List, ℤ, map};
-    ghost use Rattle.krb_msg.specs.Grammar.{pa_data};
-    ghost use Rattle.krb_msg.specs.Viewed.{AreViewed, items_of};
     ghost use Rattle.krb_text.specs.inner.Items.{item_number};
 
     ghost Value = { List ℤ };

@@ -1,7 +1,8 @@
 //! What is printed of messages, written from views of their octets.
 
 ghost use Rattle.std.specs.Prelude.{◌≡◌, ◌++◌, IfOk, OnOk, codes, string_bytes};
-ghost use Rattle.krb_msg.specs.ViewValues.{KdcReqBodyLists, KdcReqLists, KdcRepLists, ApReqLists, KrbSafeLists, KrbCredLists, MessageLists, kdc_req_body_of_view, kdc_req_of_view, kdc_rep_of_view, ap_req_of_view, ap_rep_of_view, krb_safe_of_view, krb_priv_of_view, krb_cred_of_view, message_of_view};
+ghost use Rattle.krb_msg.specs.Types.{KdcReqBodyLists, KdcReqLists, KdcRepLists, ApReqLists, KrbSafeLists, KrbCredLists, kdc_req_body_of_view, kdc_req_of_view, kdc_rep_of_view, ap_req_of_view, ap_rep_of_view, krb_safe_of_view, krb_priv_of_view, krb_cred_of_view};
+ghost use Rattle.krb_msg.specs.ViewValues.{MessageLists, message_of_view};
 ghost use Rattle.krb_registry.specs.declared.registry.Registry.TheVariants as registries;
 ghost use Rattle.krb_text.specs.Forms.{closing, field, fields_text};
 ghost use Rattle.krb_text.specs.Messages.{padata, kdc_req_fields, kdc_rep_fields, ap_req_fields, ap_rep_fields, krb_safe_fields, krb_priv_fields, krb_cred_fields, fields_of, message_record, message_text, message_line};

@@ -2,7 +2,7 @@
 
 ghost use Rattle.std.specs.Prelude.{◌≡◌, ◌++◌, OnOk, codes, decimal};
 ghost use Rattle.std.specs.Fmt.{signed_decimal};
-ghost use Rattle.krb_msg.specs.ViewValues.{checksum_of_view, encrypted_data_of_view, host_address_of_view};
+ghost use Rattle.krb_msg.specs.Types.{checksum_of_view, encrypted_data_of_view, host_address_of_view};
 ghost use Rattle.krb_registry.specs.declared.registry.Registry.TheVariants.{EncryptionTypes};
 ghost use Rattle.krb_text.specs.Forms.{digest_object, address_object, name_string, or_null, sealed_object};
 ghost use Rattle.krb_text.specs.Text.{or_dash};

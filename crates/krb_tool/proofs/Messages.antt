@@ -4,7 +4,7 @@ use Rattle.std.proofs.lemmas.Bool.{lt-ltb}
 use Rattle.hex.specs.Hex.{decode_of}
 use Rattle.krb_der.specs.declared.profile.Profile.{Profile}
 use Rattle.krb_der.specs.declared.verdict.Refusal.{Refusal}
-use Rattle.krb_msg.specs.ValueOfDer.{message_of_der}
+use Rattle.krb_msg.specs.Views.{message_of_der}
 use Rattle.krb_msg.specs.declared.message.Message.{Message}
 use Rattle.krb_msg.proofs.MessageOfDer.{message_of_der_is_message}
 use Rattle.krb_judge.specs.Parses.{refusal_of, AreOf}

@@ -5,11 +5,9 @@ use Rattle.krb_msg.specs.Shape.{depth, depth_of_fields}
 use Rattle.krb_msg.specs.Table.{IsNode, with_slot}
 use Rattle.krb_msg.specs.Term.{Term, Fields}
 use Rattle.krb_msg.specs.declared.grammar.Slot.{Slot}
-use Rattle.krb_msg.specs.declared.message.Kind.{Kind}
-use Rattle.krb_msg.specs.declared.message.Kind.TheVariants as kind
 use Rattle.krb_judge.specs.FieldNames.{Named, field_at}
 use Rattle.krb_judge.specs.Paths.{within, first_item, item_path, contents_path, fields_path, field_path, element_path}
-use Rattle.krb_judge.specs.declared.locating.names.Field.{Field}
+use Rattle.krb_judge.specs.declared.locating.field.Field.{Field}
 use Rattle.krb_judge.specs.declared.locating.names.Names.{Names}
 use Rattle.krb_judge.specs.declared.locating.Item.{Item}
 use Rattle.krb_judge.specs.declared.locating.Rest.{Rest}
@@ -22,19 +20,6 @@ use Rattle.krb_judge.specs.declared.locating.Element.{Element}
 -- a field of the code as one of the definitions
 abbrev pub named : Field → Named
 named it = record { name = it.name.now; inside = it.inside }
-
--- the index of a kind, in the order of the messages of a profile
-abbrev pub kind_index : Kind → ℕ
-kind_index kind.AsReq = 0
-kind_index kind.AsRep = 1
-kind_index kind.TgsReq = 2
-kind_index kind.TgsRep = 3
-kind_index kind.ApReq = 4
-kind_index kind.ApRep = 5
-kind_index kind.KrbSafe = 6
-kind_index kind.KrbPriv = 7
-kind_index kind.KrbCred = 8
-kind_index kind.KrbError = 9
 
 pub record IsItem (item : Item) : Type 0 where
   pub known : IsNode item.node

@@ -1,9 +1,10 @@
-//! The names of fields (RFC 4120, appendix A).
+//! The names of fields (RFC 4120, appendix A). `asn1/generate` wrote this from `asn1/krb5.asn1`.
 
 ghost use Rattle.std.specs.Prelude.{◌≡◌, map};
-ghost use Rattle.krb_judge.specs.FieldNames.{fields_of, field_at, names_of_kind};
+ghost use Rattle.krb_judge.specs.FieldNames.{fields_of, names_of_kind};
 ghost use Rattle.krb_judge.specs.inner.Descent.{named};
 
+use crate::locating::field::Field;
 use krb_msg::Kind;
 
 /// The type of an item, by which the fields in it have their names. A tag has that of what is in
@@ -28,13 +29,6 @@ pub(crate) enum Names {
     KrbPriv,
     KrbCred,
     KrbError,
-}
-
-/// A field of a SEQUENCE: its name, and its type.
-#[derive(Clone, Copy)]
-pub(crate) struct Field {
-    pub(crate) name: &'static str,
-    pub(crate) inside: Names,
 }
 
 macro_rules! fields {
@@ -145,7 +139,7 @@ impl Names {
     }
 
     /// Returns the fields of the type, in order.
-    fn fields(self) -> &'static [Field]
+    pub(crate) fn fields(self) -> &'static [Field]
         ensures { map named result.now ≡ fields_of self }
     {
         match self {
@@ -166,19 +160,6 @@ impl Names {
             Names::KrbPriv => &KRB_PRIV,
             Names::KrbCred => &KRB_CRED,
             Names::KrbError => &KRB_ERROR,
-        }
-    }
-
-    /// Returns the field at an index of the type, or one without a name if there is none.
-    pub(crate) fn field(self, index: usize) -> Field
-        ensures { named result ≡ field_at self index }
-    {
-        match self.fields().get(index) {
-            Some(field) => *field,
-            None => Field {
-                name: "",
-                inside: Names::Basic,
-            },
         }
     }
 }

@@ -1,64 +1,16 @@
--- Messages come back from their values, no message's DER begins another's, and different messages have different DER.
-use Rattle.std.proofs.Common.{◌≡◌, ℕ, ◌<◌, true, List, ◌++◌, length, refl, sym, ◌∙◌, ap, subst}
+-- No message's DER begins another's, and different messages have different DER.
+use Rattle.std.proofs.Common.{◌≡◌, ℕ, ◌<◌, List, ◌++◌, length, sym, ◌∙◌, ap, subst}
 use Rattle.krb_der.specs.inner.Items.{same_from_cons}
-use Rattle.krb_msg.specs.declared.kdc_rep.KdcRep.{KdcRep}
-use Rattle.krb_msg.specs.declared.kdc_req.KdcReq.{KdcReq}
 use Rattle.krb_msg.specs.declared.message.Message.{Message}
-use Rattle.krb_msg.specs.declared.message.Message.TheVariants as message
 use Rattle.krb_msg.specs.declared.message.Kind.{Kind}
-use Rattle.krb_msg.specs.declared.message.Kind.TheVariants as kind
 use Rattle.krb_msg.specs.Term.{Value, tag_of, der}
-use Rattle.krb_msg.specs.Shape.{is_unambiguous}
+use Rattle.krb_msg.specs.inner.Kinds.{kind_of_tag-tag, kind_unambiguous, message_round_trips}
 use Rattle.krb_msg.specs.inner.Values.{der_begins, der-append, same_from_der}
-use Rattle.krb_msg.specs.inner.RoundTrips.{padata-back, kdc_req_body-back, krb_safe-back, krb_cred-back, krb_error-back}
-use Rattle.krb_msg.specs.Views.{kdc_req_value, kdc_req_of, kdc_rep_value, kdc_rep_of, kind_of, kind_term, kind_of_tag, message_value, message_of, message_der}
+use Rattle.krb_msg.specs.Views.{kind_of, kind_term, kind_of_tag, message_value, message_of, message_der}
 
 -- ---- kinds
-pub kind_of_tag-tag : (k : Kind) → kind_of_tag (tag_of (kind_term k)) ≡ k
-kind_of_tag-tag kind.AsReq = refl
-kind_of_tag-tag kind.AsRep = refl
-kind_of_tag-tag kind.TgsReq = refl
-kind_of_tag-tag kind.TgsRep = refl
-kind_of_tag-tag kind.ApReq = refl
-kind_of_tag-tag kind.ApRep = refl
-kind_of_tag-tag kind.KrbSafe = refl
-kind_of_tag-tag kind.KrbPriv = refl
-kind_of_tag-tag kind.KrbCred = refl
-kind_of_tag-tag kind.KrbError = refl
-
-kind_unambiguous : (k : Kind) → is_unambiguous (kind_term k) ≡ true
-kind_unambiguous kind.AsReq = refl
-kind_unambiguous kind.AsRep = refl
-kind_unambiguous kind.TgsReq = refl
-kind_unambiguous kind.TgsRep = refl
-kind_unambiguous kind.ApReq = refl
-kind_unambiguous kind.ApRep = refl
-kind_unambiguous kind.KrbSafe = refl
-kind_unambiguous kind.KrbPriv = refl
-kind_unambiguous kind.KrbCred = refl
-kind_unambiguous kind.KrbError = refl
-
 same_kind : (k l : Kind) → tag_of (kind_term k) ≡ tag_of (kind_term l) → k ≡ l
 same_kind k l e = sym (kind_of_tag-tag k) ∙ ap kind_of_tag e ∙ kind_of_tag-tag l
-
--- ---- values and back
-kdc_req-back : (n : ℕ) (m : KdcReq) → kdc_req_of (kdc_req_value n m) ≡ m
-kdc_req-back n m = search (padata-back, kdc_req_body-back)
-
-kdc_rep-back : (n : ℕ) (m : KdcRep) → kdc_rep_of (kdc_rep_value n m) ≡ m
-kdc_rep-back n m = search padata-back
-
-pub message_round_trips : (m : Message) → message_of (kind_of m) (message_value m) ≡ m
-message_round_trips (message.AsReq m) = ap message.AsReq (kdc_req-back 10 m)
-message_round_trips (message.AsRep m) = ap message.AsRep (kdc_rep-back 11 m)
-message_round_trips (message.TgsReq m) = ap message.TgsReq (kdc_req-back 12 m)
-message_round_trips (message.TgsRep m) = ap message.TgsRep (kdc_rep-back 13 m)
-message_round_trips (message.ApReq m) = refl
-message_round_trips (message.ApRep m) = refl
-message_round_trips (message.KrbSafe m) = ap message.KrbSafe (krb_safe-back m)
-message_round_trips (message.KrbPriv m) = refl
-message_round_trips (message.KrbCred m) = ap message.KrbCred (krb_cred-back m)
-message_round_trips (message.KrbError m) = ap message.KrbError (krb_error-back m)
 
 -- ---- the DER of messages
 pub message_begins : (m : Message) → 0 < length (message_der m)

@@ -1,7 +1,6 @@
 //! The scalars (RFC 4120, 5.2) copied out of views of them.
 
-ghost use Rattle.krb_msg.specs.Views.{micros_of};
-ghost use Rattle.krb_msg.specs.ViewValues.{flags_of_view};
+ghost use Rattle.krb_msg.specs.Basic.{micros_of, flags_of_view};
 
 use crate::copying::FromView;
 use crate::view::scalars::FlagsView;

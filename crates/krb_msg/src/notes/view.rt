@@ -4,9 +4,11 @@ ghost use Rattle.std.specs.Prelude.{◌≡◌, ⊤, Bool, true};
 ghost use Rattle.std.specs.List.{list_any};
 ghost use Rattle.krb_msg.specs.Grammar.{principal_name, encrypted_data, ticket, kdc_req_body, as_req, as_rep, ap_req, ap_rep, krb_safe_body, krb_safe, krb_priv, krb_cred, krb_error};
 ghost use Rattle.krb_msg.specs.Shape.{has_octet_tags, is_unambiguous};
-ghost use Rattle.krb_msg.specs.Views.{principal_name_value, encrypted_data_value, ticket_value, kdc_req_body_value, kdc_req_value, kdc_rep_value, ap_req_value, ap_rep_value, krb_safe_body_value, krb_safe_value, krb_priv_value, krb_cred_value, krb_error_value, is_strict};
+ghost use Rattle.krb_msg.specs.Types.{principal_name_value, encrypted_data_value, ticket_value, kdc_req_body_value, kdc_req_value, kdc_rep_value, ap_req_value, ap_rep_value, krb_safe_body_value, krb_safe_value, krb_priv_value, krb_cred_value, krb_error_value, ApReqLists, KdcRepLists, KdcReqBodyLists, KdcReqLists, KrbCredLists, KrbErrorLists, PrincipalNameLists, TicketLists, ap_rep_of_view, ap_req_of_view, encrypted_data_of_view, kdc_rep_of_view, kdc_req_body_of_view, kdc_req_of_view, krb_cred_of_view, krb_error_of_view, krb_priv_of_view, krb_safe_body_of_view, krb_safe_of_view, principal_name_of_view, ticket_of_view};
+ghost use Rattle.krb_msg.specs.Views.{is_strict};
 ghost use Rattle.krb_msg.specs.Viewed.{AreViewed, OfSome, items_of};
-ghost use Rattle.krb_msg.specs.ViewValues.{ApReqLists, KdcRepLists, KdcReqBodyLists, KdcReqLists, KrbCredLists, KrbErrorLists, MessageLists, PrincipalNameLists, TicketLists, ap_rep_of_view, ap_req_of_view, encrypted_data_of_view, flags_of_view, kdc_rep_of_view, kdc_req_body_of_view, kdc_req_of_view, krb_cred_of_view, krb_error_of_view, krb_priv_of_view, krb_safe_body_of_view, krb_safe_of_view, message_of_view, principal_name_of_view, ticket_of_view};
+ghost use Rattle.krb_msg.specs.ViewValues.{MessageLists, message_of_view};
+ghost use Rattle.krb_msg.specs.Basic.{flags_of_view};
 ghost use Rattle.krb_msg.specs.Notes.{EmptyList, text_has, flags_have, number_has, list_has, option_any, has, notes_by, notes_of};
 
 use crate::ap_rep::ApRepView;

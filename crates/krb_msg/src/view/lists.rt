@@ -1,8 +1,8 @@
-//! The lists of the grammar viewed in place.
+//! The lists of the grammar viewed in place. `asn1/generate` wrote this from `asn1/krb5.asn1`.
 
 ghost use Rattle.std.specs.Prelude.{◌≡◌, ◌^◌, ◌<◌, true, length, MatchOption};
 ghost use Rattle.krb_msg.specs.Term.{tag_of};
-ghost use Rattle.krb_msg.specs.Grammar.{sequence_of, int32, kerberos_string, host_address, pa_data, ticket};
+ghost use Rattle.krb_msg.specs.Grammar.{sequence_of, host_address, int32, kerberos_string, pa_data, ticket};
 ghost use Rattle.krb_msg.specs.Shape.{is_unambiguous, has_octet_tags};
 ghost use Rattle.krb_msg.specs.Viewed.{AreContents, AreNoContents, AreViewed, items_of};
 
@@ -12,6 +12,28 @@ use crate::pa_data::PaData;
 use crate::ticket::Ticket;
 use crate::view::items::{ItemsView, view_items};
 use krb_der::{Int32, KString, Many};
+
+impl<'a> View<'a> for Many<HostAddress> {
+    type Of = ItemsView<'a>;
+
+    ghost term = { sequence_of host_address };
+
+    ghost value = { λ seen. items_of host_address seen.octets.now };
+
+    ghost Lists = { λ seen. AreViewed host_address seen.octets.now };
+
+    #[inline(always)]
+    fn tag() -> u8
+        ensures { result ≡ tag_of (sequence_of host_address) }
+    {
+        0x30
+    }
+
+    #[inline(always)]
+    fn view(contents: &'a [u8]) -> Option<ItemsView<'a>> {
+        view_items::<HostAddress>(contents)
+    }
+}
 
 impl<'a> View<'a> for Many<Int32> {
     type Of = ItemsView<'a>;
@@ -54,28 +76,6 @@ impl<'a> View<'a> for Many<KString> {
     #[inline(always)]
     fn view(contents: &'a [u8]) -> Option<ItemsView<'a>> {
         view_items::<KString>(contents)
-    }
-}
-
-impl<'a> View<'a> for Many<HostAddress> {
-    type Of = ItemsView<'a>;
-
-    ghost term = { sequence_of host_address };
-
-    ghost value = { λ seen. items_of host_address seen.octets.now };
-
-    ghost Lists = { λ seen. AreViewed host_address seen.octets.now };
-
-    #[inline(always)]
-    fn tag() -> u8
-        ensures { result ≡ tag_of (sequence_of host_address) }
-    {
-        0x30
-    }
-
-    #[inline(always)]
-    fn view(contents: &'a [u8]) -> Option<ItemsView<'a>> {
-        view_items::<HostAddress>(contents)
     }
 }
 

@@ -1,5 +1,5 @@
 use Rattle.std.proofs.Common.{◌≡◌, ◌≢◌, false, [], refl, rules}
-use Rattle.krb_msg.specs.ViewValues.{ticket_of_view}
+use Rattle.krb_msg.specs.Types.{ticket_of_view}
 use Rattle.krb_ccache.specs.Spelling.{is_config}
 use Rattle.krb_ccache.proofs.Tickets.{state-ticket, state-refused}
 use Rattle.krb_ccache.proofs.ticket.ticket_view_of.Goals as goal

@@ -1,4 +1,4 @@
-use Rattle.krb_judge.proofs.Descent.{fields_have_names}
+use Rattle.krb_judge.proofs.KindNodes.{fields_have_names}
 use Rattle.krb_judge.proofs.law.fields_have_names.Goals as goal
 
 pub returns : goal.returns

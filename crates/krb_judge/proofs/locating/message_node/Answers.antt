@@ -1,8 +1,8 @@
 use Rattle.std.proofs.Common.{get_or, sym, ap, ◌∙◌}
 use Rattle.krb_msg.specs.Nodes.{term_at}
 use Rattle.krb_msg.specs.Views.{kind_term_in}
-use Rattle.krb_msg.specs.declared.grammar.TheConstants.{LENIENT, STRICT}
-use Rattle.krb_judge.proofs.Descent.{lenient_node, strict_node}
+use Rattle.krb_msg.specs.declared.grammar.table.TheConstants.{LENIENT, STRICT}
+use Rattle.krb_judge.proofs.KindNodes.{lenient_node, strict_node}
 use Rattle.krb_judge.proofs.locating.message_node.Goals as goal
 
 pub returns-in-Lenient-clause-term : goal.returns-in-Lenient-clause-term

@@ -1,3 +1,4 @@
+-- asn1/generate wrote this from asn1/krb5.asn1
 use Rattle.std.proofs.Common.{rules}
 use Rattle.krb_msg.specs.Nodes.{nodes, term_in}
 use Rattle.krb_msg.proofs.Table.{twenty}

@@ -1,8 +1,9 @@
+-- asn1/generate wrote this from asn1/krb5.asn1
 use Rattle.std.proofs.Common.{refl}
 use Rattle.krb_der.specs.inner.Numbers.{AreOctets-slice}
 use Rattle.krb_msg.specs.declared.message.Kind.TheVariants as kind
 use Rattle.krb_msg.specs.declared.message_view.MessageView.TheVariants as view
-use Rattle.krb_msg.specs.ViewValues.{kdc_req_view_value}
+use Rattle.krb_msg.specs.Types.{kdc_req_view_value}
 use Rattle.krb_msg.proofs.MessageViews.{none_of_kind, viewed_message}
 use Rattle.krb_msg.proofs.message_view.view_as_req.Goals as goal
 

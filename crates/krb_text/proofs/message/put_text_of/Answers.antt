@@ -2,9 +2,8 @@ use Rattle.std.proofs.Common.{◌≡◌, ◌++◌, length, ap, subst, sym, ◌�
 use Rattle.krb_der.specs.declared.profile.Profile.TheVariants.{Lenient}
 use Rattle.krb_der.specs.declared.verdict.Verdict.TheVariants.{Whole}
 use Rattle.krb_msg.specs.Judgement.{judgement}
-use Rattle.krb_msg.specs.ValueOfDer.{message_of_der}
+use Rattle.krb_msg.specs.Views.{message_of_der, message_der}
 use Rattle.krb_msg.specs.ViewValues.{message_of_view}
-use Rattle.krb_msg.specs.Views.{message_der}
 use Rattle.krb_msg.proofs.Judged.{message_is_whole}
 use Rattle.krb_msg.proofs.MessageOfDer.{message_of_der_is_message}
 use Rattle.krb_text.specs.Messages.{message_text}

@@ -1,3 +1,4 @@
+-- asn1/generate wrote this from asn1/krb5.asn1
 use Rattle.std.proofs.Common.{arith}
 use Rattle.krb_msg.specs.Term.{Application}
 use Rattle.krb_msg.specs.Grammar.{kdc_req}

@@ -1,3 +1,4 @@
+-- asn1/generate wrote this from asn1/krb5.asn1
 use Rattle.std.proofs.Common.{subst, sym}
 use Rattle.krb_msg.specs.Viewed.{AreFields}
 use Rattle.krb_msg.proofs.kdc_req_body.CutRestOwnedViewFields.view_fields.Goals as goal

@@ -1,3 +1,4 @@
+-- asn1/generate wrote this from asn1/krb5.asn1
 use Rattle.krb_msg.proofs.kdc_req_body.KdcReqBodyView.of_fields.Goals as goal
 
 pub returns-clause-lists : goal.returns-clause-lists

@@ -1,3 +1,4 @@
+-- asn1/generate wrote this from asn1/krb5.asn1
 use Rattle.std.proofs.Common.{sym, subst, pos, w64, FitsSigned, rules}
 use Rattle.std.specs.Prelude.{◌≤ℤ◌}
 use Rattle.std.proofs.lemmas.Int.{to_z-of_z}

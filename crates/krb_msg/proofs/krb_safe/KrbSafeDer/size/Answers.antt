@@ -1,3 +1,4 @@
+-- asn1/generate wrote this from asn1/krb5.asn1
 use Rattle.krb_msg.specs.Grammar.{krb_safe}
 use Rattle.krb_msg.proofs.Puts.{sized}
 use Rattle.krb_msg.proofs.krb_safe.KrbSafeDer.size.Goals as goal

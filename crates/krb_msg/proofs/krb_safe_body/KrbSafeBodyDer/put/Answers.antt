@@ -1,3 +1,4 @@
+-- asn1/generate wrote this from asn1/krb5.asn1
 use Rattle.krb_msg.specs.Grammar.{krb_safe_body}
 use Rattle.krb_msg.proofs.Puts.{has_capacity, is_put}
 use Rattle.krb_msg.proofs.krb_safe_body.KrbSafeBodyDer.put.Goals as goal

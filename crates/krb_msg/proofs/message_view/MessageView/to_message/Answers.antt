@@ -1,18 +1,19 @@
+-- asn1/generate wrote this from asn1/krb5.asn1
 use Rattle.krb_msg.specs.declared.message_view.MessageView.TheVariants as view
 use Rattle.krb_msg.proofs.ViewValuesFit.{fits_as}
 use Rattle.krb_msg.proofs.message_view.MessageView.to_message.Goals as goal
 
-pub copy_kdc_req-requires-clause-fits : goal.copy_kdc_req-requires-clause-fits
-copy_kdc_req-requires-clause-fits c = fits_as c.args.self.now (view.AsReq c.in-AsReq.req) c.in-AsReq.is c.requires.lists c.requires.in_profile
+pub copy-requires-clause-fits : goal.copy-requires-clause-fits
+copy-requires-clause-fits c = fits_as c.args.self.now (view.AsReq c.in-AsReq.req) c.in-AsReq.is c.requires.lists c.requires.in_profile
 
-pub copy_kdc_rep-requires-clause-fits : goal.copy_kdc_rep-requires-clause-fits
-copy_kdc_rep-requires-clause-fits c = fits_as c.args.self.now (view.AsRep c.in-AsRep.rep) c.in-AsRep.is c.requires.lists c.requires.in_profile
+pub copy-requires-in-AsRep-clause-fits : goal.copy-requires-in-AsRep-clause-fits
+copy-requires-in-AsRep-clause-fits c = fits_as c.args.self.now (view.AsRep c.in-AsRep.rep) c.in-AsRep.is c.requires.lists c.requires.in_profile
 
-pub copy_kdc_req-requires-in-TgsReq-clause-fits : goal.copy_kdc_req-requires-in-TgsReq-clause-fits
-copy_kdc_req-requires-in-TgsReq-clause-fits c = fits_as c.args.self.now (view.TgsReq c.in-TgsReq.req) c.in-TgsReq.is c.requires.lists c.requires.in_profile
+pub copy-requires-in-TgsReq-clause-fits : goal.copy-requires-in-TgsReq-clause-fits
+copy-requires-in-TgsReq-clause-fits c = fits_as c.args.self.now (view.TgsReq c.in-TgsReq.req) c.in-TgsReq.is c.requires.lists c.requires.in_profile
 
-pub copy_kdc_rep-requires-in-TgsRep-clause-fits : goal.copy_kdc_rep-requires-in-TgsRep-clause-fits
-copy_kdc_rep-requires-in-TgsRep-clause-fits c = fits_as c.args.self.now (view.TgsRep c.in-TgsRep.rep) c.in-TgsRep.is c.requires.lists c.requires.in_profile
+pub copy-requires-in-TgsRep-clause-fits : goal.copy-requires-in-TgsRep-clause-fits
+copy-requires-in-TgsRep-clause-fits c = fits_as c.args.self.now (view.TgsRep c.in-TgsRep.rep) c.in-TgsRep.is c.requires.lists c.requires.in_profile
 
 pub from_view-requires-clause-fits : goal.from_view-requires-clause-fits
 from_view-requires-clause-fits c = fits_as c.args.self.now (view.ApReq c.in-ApReq.req) c.in-ApReq.is c.requires.lists c.requires.in_profile

@@ -1,3 +1,4 @@
+-- asn1/generate wrote this from asn1/krb5.asn1
 use Rattle.std.proofs.Common.{refl, arith}
 use Rattle.krb_msg.specs.Grammar.{ticket}
 use Rattle.krb_msg.proofs.Puts.{has_capacity, is_put}

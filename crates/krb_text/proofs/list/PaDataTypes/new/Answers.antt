@@ -1,5 +1,5 @@
 use Rattle.std.proofs.Common.{ap, sym}
-use Rattle.krb_msg.specs.Views.{pa_data_of}
+use Rattle.krb_msg.specs.Types.{pa_data_of}
 use Rattle.krb_registry.specs.declared.registry.Registry.TheVariants.{PreAuthenticationData}
 use Rattle.krb_text.specs.Values.{Numbers}
 use Rattle.krb_text.proofs.Items.{map-map}

@@ -1,5 +1,5 @@
 use Rattle.std.proofs.Common.{sym, ◌∙◌}
-use Rattle.krb_msg.specs.ViewValues.{krb_safe_of_view}
+use Rattle.krb_msg.specs.Types.{krb_safe_of_view}
 use Rattle.krb_msg.proofs.Noted.{same_notes, krb_safe-has}
 use Rattle.krb_msg.proofs.notes.view.KrbSafeViewNotedView.notes.Goals as goal
 

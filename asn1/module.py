@@ -1,0 +1,311 @@
+"""Reads an ASN.1 module, as far as krb5.asn1 needs it, into the types that are written from it."""
+
+import pathlib
+import re
+from dataclasses import dataclass, field
+from typing import NamedTuple
+
+TOKEN = re.compile(r"--!(?P<note>.*)|--(?P<comment>.*?)(?:--|$)|(?P<word>[A-Za-z][\w-]*|\d+|::=|\.\.|[\[\](){}|,])|\s+", re.M)
+
+
+class Refused(Exception):
+    """What is wrong with a module, after the file and the line where it is."""
+
+
+class Token(NamedTuple):
+    kind: str
+    text: str
+    line: int
+
+
+@dataclass(frozen=True)
+class Basic:
+    """A type with a Rust type of its own: its names in Rust and in definitions, and the form of its views."""
+
+    rust: str
+    term: str
+    row: str
+    form: str  # number, micros, text, octets, time, flags
+
+
+BASICS = {
+    "Int32": Basic("Int32", "int32", "Int32", "number"),
+    "UInt32": Basic("Wide32", "wide32", "Wide32", "number"),
+    "Microseconds": Basic("Micros", "microseconds", "Microseconds", "micros"),
+    "KerberosString": Basic("KString", "kerberos_string", "KerberosString", "text"),
+    "OCTET STRING": Basic("Octets", "octet_string", "OctetString", "octets"),
+    "KerberosTime": Basic("KerberosTime", "kerberos_time", "KerberosTime", "time"),
+    "KerberosFlags": Basic("Flags", "kerberos_flags", "KerberosFlags", "flags"),
+}
+
+
+@dataclass(frozen=True)
+class Number:
+    """INTEGER (n), or of several numbers, one for each message of the type."""
+
+    values: tuple
+
+
+@dataclass(frozen=True)
+class ListOf:
+    """SEQUENCE OF an item type."""
+
+    item: object
+    name: str = ""
+    about: str = ""
+
+    term = property(lambda self: snake(self.name))
+
+
+@dataclass
+class Field:
+    """A component of a SEQUENCE."""
+
+    name: str
+    index: int
+    type: object
+    optional: bool
+    about: str = ""
+    rust: str = ""
+
+    row = property(lambda self: camel(self.name))
+    is_fixed = property(lambda self: isinstance(self.type, Number))
+    is_list = property(lambda self: isinstance(self.type, ListOf))
+    # the type of the field, or of its items
+    part = property(lambda self: self.type.item if self.is_list else self.type)
+
+
+@dataclass
+class Sequence:
+    """A SEQUENCE, in a tag of its own if it has an application number."""
+
+    name: str
+    section: str
+    about: str
+    notes: list
+    application: int = None
+    fields: list = field(default_factory=list)
+    messages: list = field(default_factory=list)  # those that are it in a tag of their own
+
+    rust = property(lambda self: camel(self.name))
+    term = property(lambda self: snake(self.name))
+    kept = property(lambda self: [it for it in self.fields if not it.is_fixed])
+    fixed = property(lambda self: [it for it in self.fields if it.is_fixed])
+    # a list of more than ten fields is cut in half, since lists nest no deeper than a proof of them stays short
+    cut = property(lambda self: len(self.kept) // 2 if len(self.kept) > 10 else None)
+    letter = property(lambda self: self.note("letter") or "m")
+    is_parametric = property(lambda self: len(self.messages) > 1)
+
+    def note(self, word):
+        return next((it[len(word) :].strip() for it in self.notes if it.startswith(word)), None)
+
+
+@dataclass
+class Message:
+    """An alternative of the CHOICE of messages."""
+
+    name: str
+    type: Sequence
+    number: int
+    section: str
+    about: str = ""
+
+    rust = property(lambda self: camel(self.name))
+    term = property(lambda self: snake(self.name))
+    # the argument by which functions of a type that two messages are know which one is meant
+    argument = property(lambda self: f" {self.number}" if self.type.is_parametric else "")
+
+
+@dataclass
+class Module:
+    types: list
+    lists: list  # those with a name that are part of no type
+    messages: list
+    sections: dict  # the heading with which a section begins, by the name of its first type
+
+
+def words(name):
+    return name.lower().split("-") if "-" in name or name.isupper() else re.sub(r"(?<=.)([A-Z])", r" \1", name).lower().split()
+
+
+def snake(name):
+    return "_".join(words(name))
+
+
+def camel(name):
+    return "".join(it.capitalize() for it in words(name))
+
+
+class Reader:
+    def __init__(self, path, text):
+        self.path, self.at, self.named, self.parts = path, 0, {}, set()
+        self.tokens = list(self.split(text))
+
+    def split(self, text):
+        for number, line in enumerate(text.split("\n"), 1):
+            at = 0
+            while at < len(line):
+                found = TOKEN.match(line, at)
+                if not found:
+                    raise Refused(f"{self.path}:{number}: {line[at:]} is none of this notation")
+                at = found.end()
+                if found.lastgroup:
+                    yield Token(found.lastgroup, found[found.lastgroup].strip(), number)
+        yield Token("end", "the end of the file", number)
+
+    def refuse(self, what):
+        """Refuses what the last token that was taken belongs to."""
+        raise Refused(f"{self.path}:{self.tokens[max(self.at - 1, 0)].line}: {what}")
+
+    def peek(self):
+        return self.tokens[self.at]
+
+    def take(self, *texts):
+        """Takes the next token, which has to be one of these if any are given."""
+        token = self.peek()
+        self.at = min(self.at + 1, len(self.tokens) - 1)
+        if texts and token.text not in texts or token.kind == "end":
+            self.refuse(f"{token.text} and not {' or '.join(texts) or 'a name'}")
+        return token.text
+
+    def takes(self, text):
+        if self.peek().kind == "word" and self.peek().text == text:
+            self.at += 1
+            return True
+        return False
+
+    def take_number(self):
+        text = self.take()
+        return int(text) if text.isdigit() else self.refuse(f"{text} and not a number")
+
+    def comments(self):
+        """Takes comments and notes: the paragraph of comments that ends here, and the notes."""
+        about, notes, last = [], [], 0
+        while self.peek().kind in ("comment", "note"):
+            token = self.peek()
+            if token.kind == "note":
+                notes.append(token.text)
+            else:
+                about = about + [token.text] if token.line <= last + 1 else [token.text]
+                last = token.line
+            self.at += 1
+        return about, notes
+
+    def module(self):
+        while self.take() != "BEGIN":
+            pass
+        types, messages, sections, section, heading = [], [], {}, "", None
+        while True:
+            about, notes = self.comments()
+            if about and about[0].startswith("# "):
+                heading, about = about[0].removeprefix("# "), about[1:]
+                section = heading.split(":")[0]
+            if self.takes("END"):
+                lists = [made for name, made in self.named.items() if isinstance(made, ListOf) and name not in self.parts]
+                return Module(types, lists, messages, sections)
+            name = self.take()
+            if name in self.named or name in BASICS:
+                self.refuse(f"there is a type {name} already")
+            if heading:
+                sections[name], heading = heading, None
+            self.take("::=")
+            if self.takes("CHOICE"):
+                messages = self.choice()
+                continue
+            self.named[name] = made = self.type(name, section, " ".join(about), notes)
+            if isinstance(made, Sequence):
+                types.append(made)
+
+    def type(self, name="", section="", about="", notes=()):
+        application = None
+        if self.takes("["):
+            self.take("APPLICATION")
+            application = self.take_number()
+            self.take("]")
+        if self.takes("SEQUENCE"):
+            if self.takes("OF"):
+                return ListOf(self.type(), name, about)
+            return Sequence(name, section, about, list(notes), application, self.fields())
+        if self.takes("INTEGER"):
+            return self.number()
+        word = self.take()
+        if word == "OCTET":
+            self.take("STRING")
+            word = "OCTET STRING"
+        if word in BASICS:
+            return BASICS[word]
+        if word not in self.named:
+            self.refuse(f"there is no type {word}")
+        made = self.named[word]
+        self.parts.add(word)
+        if application is not None:
+            message = Message(name, made, application, section)
+            made.messages.append(message)
+            return message
+        return made
+
+    def number(self):
+        self.take("(")
+        values = [self.take_number()]
+        self.comments()
+        while self.takes("|"):
+            values.append(self.take_number())
+            self.comments()
+        self.take(")")
+        return Number(tuple(values))
+
+    def fields(self):
+        made = []
+        self.take("{")
+        while not self.takes("}"):
+            self.comments()
+            if self.takes("}"):
+                break
+            made.append(self.field(made))
+        return made
+
+    def field(self, before):
+        name = self.take()
+        if not self.takes("["):
+            self.refuse(f"{name} has no tag")
+        index, _ = self.take_number(), self.take("]")
+        if any(it.index == index or it.name == name for it in before):
+            self.refuse(f"there is a component {name} or a tag [{index}] before")
+        made = Field(name, index, self.type(), self.takes("OPTIONAL"))
+        if self.peek().text == "DEFAULT":
+            self.refuse(f"{name} has a default, which DER leaves out")
+        made.about, made.rust = self.after_field(), snake(name)
+        if made.about.startswith("as "):
+            made.rust, made.about = made.about[3:].split(": ", 1)
+        return made
+
+    def after_field(self):
+        """Takes the comma after a field, and what its line says of it."""
+        line = self.tokens[self.at - 1].line
+        if not self.takes(",") and self.peek().kind == "word" and self.peek().text != "}":
+            self.refuse(f"{self.peek().text} after the type of a component")
+        token = self.peek()
+        if token.kind == "comment" and token.line == line:
+            return self.take()
+        return ""
+
+    def choice(self):
+        made = []
+        self.take("{")
+        while not self.takes("}"):
+            self.take()
+            name = self.take()
+            it = self.named.get(name)
+            if isinstance(it, Sequence) and it.application is not None:
+                it.messages.append(it := Message(name, it, it.application, it.section))
+            if not isinstance(it, Message):
+                self.refuse(f"{name} is no type in a tag of its own")
+            if any(it.number == other.number for other in made):
+                self.refuse(f"there is a message [APPLICATION {it.number}] before")
+            it.about = self.after_field()
+            made.append(it)
+        return made
+
+
+def read(path):
+    return Reader(path, pathlib.Path(path).read_text()).module()

@@ -1,0 +1,7 @@
+-- asn1/generate wrote this from asn1/krb5.asn1
+use Rattle.std.proofs.Common.{refl, ◌∙◌}
+use Rattle.std.proofs.lemmas.List.{map-id}
+use Rattle.krb_msg.proofs.principal_name.PrincipalNameFromView.from_view.Goals as goal
+
+pub returns : goal.returns
+returns c = λ i. record { name_type = c.in_ok-from_view.ensures i; name = (c.in_ok-copy_items.ensures (λ item. item) (λ seen. refl) ∙ map-id _) i }

@@ -1,0 +1,361 @@
+//! The rows of the grammar. `asn1/generate` wrote this from `asn1/krb5.asn1`.
+
+use crate::grammar::{Form, Node, Slot};
+
+/// The rows of a profile, in their order: the terms of RFC 4120 by their names, those in a tag by
+/// the field that has it.
+pub enum Row {
+    // basic types, and lists of one type
+    Int32,
+    Wide32,
+    Microseconds,
+    KerberosString,
+    OctetString,
+    KerberosTime,
+    KerberosFlags,
+    Version,
+    AsReqType,
+    AsRepType,
+    TgsReqType,
+    TgsRepType,
+    ApReqType,
+    ApRepType,
+    KrbSafeType,
+    KrbPrivType,
+    KrbCredType,
+    KrbErrorType,
+    KerberosStrings,
+    Int32s,
+    CredTickets,
+    HostAddresses,
+    Tickets,
+    MethodData,
+    // PrincipalName
+    PrincipalName,
+    PrincipalNameNameType,
+    PrincipalNameNameString,
+    // HostAddress
+    HostAddress,
+    HostAddressAddrType,
+    HostAddressAddress,
+    // PA-DATA
+    PaData,
+    PaDataPadataType,
+    PaDataPadataValue,
+    // EncryptedData
+    EncryptedData,
+    EncryptedDataEtype,
+    EncryptedDataKvno,
+    EncryptedDataCipher,
+    // Checksum
+    Checksum,
+    ChecksumCksumtype,
+    ChecksumChecksum,
+    // Ticket
+    Ticket,
+    TicketFields,
+    TicketTktVno,
+    TicketRealm,
+    TicketSname,
+    TicketEncPart,
+    // KDC-REQ-BODY
+    KdcReqBody,
+    KdcReqBodyKdcOptions,
+    KdcReqBodyCname,
+    KdcReqBodyRealm,
+    KdcReqBodySname,
+    KdcReqBodyFrom,
+    KdcReqBodyTill,
+    KdcReqBodyRtime,
+    KdcReqBodyNonce,
+    KdcReqBodyEtype,
+    KdcReqBodyAddresses,
+    KdcReqBodyEncAuthorizationData,
+    KdcReqBodyAdditionalTickets,
+    // AS-REQ
+    AsReq,
+    AsReqFields,
+    AsReqPvno,
+    AsReqMsgType,
+    AsReqPadata,
+    AsReqReqBody,
+    // TGS-REQ
+    TgsReq,
+    TgsReqFields,
+    TgsReqPvno,
+    TgsReqMsgType,
+    TgsReqPadata,
+    TgsReqReqBody,
+    // AS-REP
+    AsRep,
+    AsRepFields,
+    AsRepPvno,
+    AsRepMsgType,
+    AsRepPadata,
+    AsRepCrealm,
+    AsRepCname,
+    AsRepTicket,
+    AsRepEncPart,
+    // TGS-REP
+    TgsRep,
+    TgsRepFields,
+    TgsRepPvno,
+    TgsRepMsgType,
+    TgsRepPadata,
+    TgsRepCrealm,
+    TgsRepCname,
+    TgsRepTicket,
+    TgsRepEncPart,
+    // AP-REQ
+    ApReq,
+    ApReqFields,
+    ApReqPvno,
+    ApReqMsgType,
+    ApReqApOptions,
+    ApReqTicket,
+    ApReqAuthenticator,
+    // AP-REP
+    ApRep,
+    ApRepFields,
+    ApRepPvno,
+    ApRepMsgType,
+    ApRepEncPart,
+    // KRB-SAFE-BODY
+    KrbSafeBody,
+    KrbSafeBodyUserData,
+    KrbSafeBodyTimestamp,
+    KrbSafeBodyUsec,
+    KrbSafeBodySeqNumber,
+    KrbSafeBodySAddress,
+    KrbSafeBodyRAddress,
+    // KRB-SAFE
+    KrbSafe,
+    KrbSafeFields,
+    KrbSafePvno,
+    KrbSafeMsgType,
+    KrbSafeSafeBody,
+    KrbSafeCksum,
+    // KRB-PRIV
+    KrbPriv,
+    KrbPrivFields,
+    KrbPrivPvno,
+    KrbPrivMsgType,
+    KrbPrivEncPart,
+    // KRB-CRED
+    KrbCred,
+    KrbCredFields,
+    KrbCredPvno,
+    KrbCredMsgType,
+    KrbCredTickets,
+    KrbCredEncPart,
+    // KRB-ERROR
+    KrbError,
+    KrbErrorFields,
+    KrbErrorPvno,
+    KrbErrorMsgType,
+    KrbErrorCtime,
+    KrbErrorCusec,
+    KrbErrorStime,
+    KrbErrorSusec,
+    KrbErrorErrorCode,
+    KrbErrorCrealm,
+    KrbErrorCname,
+    KrbErrorRealm,
+    KrbErrorSname,
+    KrbErrorEText,
+    KrbErrorEData,
+}
+
+/// How many rows a profile has.
+pub const ROWS: usize = 140;
+
+/// How many rows the table has.
+pub const NODES: usize = 280;
+
+/// A row for each term of the grammar: those of the lenient profile in the order of [`Row`], and
+/// then those of the strict one in the same order. That they are, [`rows`](crate::grammar::rows)
+/// says.
+pub static GRAMMAR: [Node; NODES] = both![
+    // basic types, and lists of one type
+    (Integer, -2147483648, 2147483647, 4),
+    (Unsigned),
+    (Integer, 0, 999999, 3),
+    (Text),
+    (Octets),
+    (Time),
+    (Bits),
+    (Integer, 5, 5, 1),
+    (Integer, 10, 10, 1),
+    (Integer, 11, 11, 1),
+    (Integer, 12, 12, 1),
+    (Integer, 13, 13, 1),
+    (Integer, 14, 14, 1),
+    (Integer, 15, 15, 1),
+    (Integer, 20, 20, 1),
+    (Integer, 21, 21, 1),
+    (Integer, 22, 22, 1),
+    (Integer, 30, 30, 1),
+    (Items, KerberosString),
+    (Items, Int32),
+    (Items, Ticket),
+    (OptionalItems, HostAddress),
+    (OptionalItems, Ticket),
+    (OptionalItems, PaData),
+    // PrincipalName
+    (Sequence, Required PrincipalNameNameType, Required PrincipalNameNameString),
+    (Tagged, 0, Int32),
+    (Tagged, 1, KerberosStrings),
+    // HostAddress
+    (Sequence, Required HostAddressAddrType, Required HostAddressAddress),
+    (Tagged, 0, Int32),
+    (Tagged, 1, OctetString),
+    // PA-DATA
+    (Sequence, Required PaDataPadataType, Required PaDataPadataValue),
+    (Tagged, 1, Int32),
+    (Tagged, 2, OctetString),
+    // EncryptedData
+    (Sequence, Required EncryptedDataEtype, Optional EncryptedDataKvno, Required EncryptedDataCipher),
+    (Tagged, 0, Int32),
+    (Tagged, 1, Wide32),
+    (Tagged, 2, OctetString),
+    // Checksum
+    (Sequence, Required ChecksumCksumtype, Required ChecksumChecksum),
+    (Tagged, 0, Int32),
+    (Tagged, 1, OctetString),
+    // Ticket
+    (Application, 1, TicketFields),
+    (Sequence, Required TicketTktVno, Required TicketRealm, Required TicketSname, Required TicketEncPart),
+    (Tagged, 0, Version),
+    (Tagged, 1, KerberosString),
+    (Tagged, 2, PrincipalName),
+    (Tagged, 3, EncryptedData),
+    // KDC-REQ-BODY
+    (Sequence, Required KdcReqBodyKdcOptions, Optional KdcReqBodyCname, Required KdcReqBodyRealm, Optional KdcReqBodySname, Optional KdcReqBodyFrom, Required KdcReqBodyTill, Optional KdcReqBodyRtime, Required KdcReqBodyNonce, Required KdcReqBodyEtype, Optional KdcReqBodyAddresses, Optional KdcReqBodyEncAuthorizationData, Optional KdcReqBodyAdditionalTickets),
+    (Tagged, 0, KerberosFlags),
+    (Tagged, 1, PrincipalName),
+    (Tagged, 2, KerberosString),
+    (Tagged, 3, PrincipalName),
+    (Tagged, 4, KerberosTime),
+    (Tagged, 5, KerberosTime),
+    (Tagged, 6, KerberosTime),
+    (Tagged, 7, Wide32),
+    (Tagged, 8, Int32s),
+    (Tagged, 9, HostAddresses),
+    (Tagged, 10, EncryptedData),
+    (Tagged, 11, Tickets),
+    // AS-REQ
+    (Application, 10, AsReqFields),
+    (Sequence, Required AsReqPvno, Required AsReqMsgType, Optional AsReqPadata, Required AsReqReqBody),
+    (Tagged, 1, Version),
+    (Tagged, 2, AsReqType),
+    (Tagged, 3, MethodData),
+    (Tagged, 4, KdcReqBody),
+    // TGS-REQ
+    (Application, 12, TgsReqFields),
+    (Sequence, Required TgsReqPvno, Required TgsReqMsgType, Optional TgsReqPadata, Required TgsReqReqBody),
+    (Tagged, 1, Version),
+    (Tagged, 2, TgsReqType),
+    (Tagged, 3, MethodData),
+    (Tagged, 4, KdcReqBody),
+    // AS-REP
+    (Application, 11, AsRepFields),
+    (Sequence, Required AsRepPvno, Required AsRepMsgType, Optional AsRepPadata, Required AsRepCrealm, Required AsRepCname, Required AsRepTicket, Required AsRepEncPart),
+    (Tagged, 0, Version),
+    (Tagged, 1, AsRepType),
+    (Tagged, 2, MethodData),
+    (Tagged, 3, KerberosString),
+    (Tagged, 4, PrincipalName),
+    (Tagged, 5, Ticket),
+    (Tagged, 6, EncryptedData),
+    // TGS-REP
+    (Application, 13, TgsRepFields),
+    (Sequence, Required TgsRepPvno, Required TgsRepMsgType, Optional TgsRepPadata, Required TgsRepCrealm, Required TgsRepCname, Required TgsRepTicket, Required TgsRepEncPart),
+    (Tagged, 0, Version),
+    (Tagged, 1, TgsRepType),
+    (Tagged, 2, MethodData),
+    (Tagged, 3, KerberosString),
+    (Tagged, 4, PrincipalName),
+    (Tagged, 5, Ticket),
+    (Tagged, 6, EncryptedData),
+    // AP-REQ
+    (Application, 14, ApReqFields),
+    (Sequence, Required ApReqPvno, Required ApReqMsgType, Required ApReqApOptions, Required ApReqTicket, Required ApReqAuthenticator),
+    (Tagged, 0, Version),
+    (Tagged, 1, ApReqType),
+    (Tagged, 2, KerberosFlags),
+    (Tagged, 3, Ticket),
+    (Tagged, 4, EncryptedData),
+    // AP-REP
+    (Application, 15, ApRepFields),
+    (Sequence, Required ApRepPvno, Required ApRepMsgType, Required ApRepEncPart),
+    (Tagged, 0, Version),
+    (Tagged, 1, ApRepType),
+    (Tagged, 2, EncryptedData),
+    // KRB-SAFE-BODY
+    (Sequence, Required KrbSafeBodyUserData, Optional KrbSafeBodyTimestamp, Optional KrbSafeBodyUsec, Optional KrbSafeBodySeqNumber, Required KrbSafeBodySAddress, Optional KrbSafeBodyRAddress),
+    (Tagged, 0, OctetString),
+    (Tagged, 1, KerberosTime),
+    (Tagged, 2, Microseconds),
+    (Tagged, 3, Wide32),
+    (Tagged, 4, HostAddress),
+    (Tagged, 5, HostAddress),
+    // KRB-SAFE
+    (Application, 20, KrbSafeFields),
+    (Sequence, Required KrbSafePvno, Required KrbSafeMsgType, Required KrbSafeSafeBody, Required KrbSafeCksum),
+    (Tagged, 0, Version),
+    (Tagged, 1, KrbSafeType),
+    (Tagged, 2, KrbSafeBody),
+    (Tagged, 3, Checksum),
+    // KRB-PRIV
+    (Application, 21, KrbPrivFields),
+    (Sequence, Required KrbPrivPvno, Required KrbPrivMsgType, Required KrbPrivEncPart),
+    (Tagged, 0, Version),
+    (Tagged, 1, KrbPrivType),
+    (Tagged, 3, EncryptedData),
+    // KRB-CRED
+    (Application, 22, KrbCredFields),
+    (Sequence, Required KrbCredPvno, Required KrbCredMsgType, Required KrbCredTickets, Required KrbCredEncPart),
+    (Tagged, 0, Version),
+    (Tagged, 1, KrbCredType),
+    (Tagged, 2, CredTickets),
+    (Tagged, 3, EncryptedData),
+    // KRB-ERROR
+    (Application, 30, KrbErrorFields),
+    (Sequence, Required KrbErrorPvno, Required KrbErrorMsgType, Optional KrbErrorCtime, Optional KrbErrorCusec, Required KrbErrorStime, Required KrbErrorSusec, Required KrbErrorErrorCode, Optional KrbErrorCrealm, Optional KrbErrorCname, Required KrbErrorRealm, Required KrbErrorSname, Optional KrbErrorEText, Optional KrbErrorEData),
+    (Tagged, 0, Version),
+    (Tagged, 1, KrbErrorType),
+    (Tagged, 2, KerberosTime),
+    (Tagged, 3, Microseconds),
+    (Tagged, 4, KerberosTime),
+    (Tagged, 5, Microseconds),
+    (Tagged, 6, Int32),
+    (Tagged, 7, KerberosString),
+    (Tagged, 8, PrincipalName),
+    (Tagged, 9, KerberosString),
+    (Tagged, 10, PrincipalName),
+    (Tagged, 11, KerberosString),
+    (Tagged, 12, OctetString),
+];
+
+macro_rules! messages {
+    ($profile:ident) => {
+        [
+            row!($profile, AsReq),
+            row!($profile, AsRep),
+            row!($profile, TgsReq),
+            row!($profile, TgsRep),
+            row!($profile, ApReq),
+            row!($profile, ApRep),
+            row!($profile, KrbSafe),
+            row!($profile, KrbPriv),
+            row!($profile, KrbCred),
+            row!($profile, KrbError),
+        ]
+    };
+}
+
+/// The messages of the lenient profile.
+pub static LENIENT: [u16; 10] = messages!(Lenient);
+
+/// The messages of the strict profile.
+pub static STRICT: [u16; 10] = messages!(Strict);
