@@ -177,10 +177,17 @@ def values_file(it):
     return f"{text}\n{body}"
 
 
+def defined(it):
+    """The definitions of a type."""
+    names = [f"{it.rust}Value"] * it.is_parametric + [f"{it.term}_{word}" for word in ("value", "of", "view_value", "of_view")]
+    return names + [f"{it.rust}Lists"]
+
+
 def index_of_types(module):
     """specs/Types."""
     text = f"-- The types of the grammar, a file each: values of a type as those of its term, and back; views of it. {BY}\n"
-    return text + "".join(f"pub mod {it.rust}\n" for it in module.types) + "".join(f"pub use {it.rust}.*\n" for it in module.types)
+    text += "".join(f"pub mod {it.rust}\n" for it in module.types)
+    return text + "".join(f"pub use {it.rust}.{{{', '.join(defined(it))}}}\n" for it in module.types)
 
 
 def back_lemma(it):
@@ -268,8 +275,7 @@ pub {it.term}_value-seen : {n}({letter} : {it.rust}View) → {it.rust}Lists {let
 def type_laws(module):
     """proofs/TypeValues."""
     body = "\n".join(map(value_lemmas, module.types))
-    words = "value of view_value of_view".split()
-    names = [name for it in module.types for name in [f"{it.rust}Value"] * it.is_parametric + [f"{it.term}_{word}" for word in words] + [f"{it.rust}Lists"]]
+    names = [name for it in module.types for name in defined(it)]
     terms = list(dict.fromkeys([it.term for it in module.types] + [name for it in module.types for name in listed_terms(it)]))
     homes = [
         ("Rattle.std.specs.Prelude", PRELUDE),

@@ -16,7 +16,7 @@ use Rattle.krb_msg.specs.Nodes.{nodes, term_in, term_at}
 use Rattle.krb_judge.specs.declared.parsing.TheConstants.{TICKET, STRICT_TICKET, METHOD_DATA}
 use Rattle.krb_msg.specs.Types.{ticket_value, ticket_of, pa_data_value, pa_data_of, ticket_of_view, ticket_view_value}
 use Rattle.krb_msg.specs.inner.PrefixFree.{map-back}
-use Rattle.krb_msg.proofs.Judged.{ticket_value-of}
+use Rattle.krb_msg.proofs.TypeValues.{ticket_value-of}
 use Rattle.krb_msg.specs.Judgement.{term_judgement}
 use Rattle.krb_msg.specs.Der.{IsDer}
 use Rattle.krb_msg.specs.Viewed.{IsViewOf}
