@@ -1,5 +1,6 @@
 """Text: comments, pairs in pairs as definitions have them, and what a file brings in."""
 
+import pathlib
 import re
 import textwrap
 
@@ -88,3 +89,38 @@ def brought(body, homes, ghost=""):
         if needed:
             lines += f"{ghost}use {module}.{{{', '.join(needed)}}}{';' * bool(ghost)}\n"
     return lines
+
+
+TEMPLATES = pathlib.Path(__file__).resolve().parent / "templates"
+EACH = re.compile(r"«each( type)?»")
+
+
+def filled_in(text, words):
+    for word, value in words.items():
+        text = text.replace(f"«{word}»", str(value))
+    return text
+
+
+def fill(name, messages=(), types=(), **words):
+    """A template with words in place of those between « and ».
+
+    Lines that begin with «each» stand for as many as there are messages, and those with «each type» for as many as
+    there are types of messages, with the words of each.
+    """
+    lines = (TEMPLATES / f"{name}.template").read_text().split("\n")
+    made, at = [], 0
+    while at < len(lines):
+        mark = EACH.match(lines[at])
+        if not mark:
+            made.append(lines[at])
+            at += 1
+            continue
+        end = at
+        while end < len(lines) and lines[end].startswith(mark[0]):
+            end += 1
+        run = "\n".join(line.removeprefix(mark[0]) for line in lines[at:end])
+        made += [filled_in(run, it) for it in (types if mark[1] else messages)]
+        at = end
+    text = filled_in("\n".join(made), words)
+    assert "«" not in text, text[text.index("«") :][:60]
+    return text

@@ -37,7 +37,6 @@ pub mod FieldViews
 pub mod ItemViews
 pub mod WholeViews
 pub mod ShapeViews
-pub mod NotedViews
 pub mod MessageViews
 pub mod Copies
 pub mod ViewValuesFit

@@ -11,9 +11,11 @@ ghost use Rattle.krb_msg.specs.inner.RoundTrips.{ap_rep-back};
 use crate::copying::FromView;
 use crate::encrypted_data::{EncryptedData, EncryptedDataView};
 use crate::fields::{
-    Application, Borrowed, Encode, End, FieldOf, Fixed, Owned, Required, Sequence, View,
+    Application, Borrowed, Encode, End, FieldOf, Fixed, Noted, NotedLayout, NotedView, Owned,
+    Required, Sequence, View,
 };
 use crate::item::Item;
+use crate::notes::Notes;
 use krb_der::{Der, Memory};
 use std::alloc::Global;
 
@@ -75,6 +77,17 @@ impl Item for ApRep {
     ghost fits = { λ it fits. fits };
 }
 
+impl Noted for ApRep {
+    #[inline(always)]
+    fn is_empty_list(&self) -> bool {
+        false
+    }
+
+    fn notes(&self) -> Notes {
+        self.layout().notes()
+    }
+}
+
 /// The views of its fields.
 type Seen<'a> = (EncryptedDataView<'a>, ());
 
@@ -86,6 +99,15 @@ impl<'a> ApRepView<'a> {
         ensures lists { ⟦<Layout<Owned> as View<'static>>⟧.Lists seen.now → ApRepLists result }
     {
         ApRepView { enc_part: seen.0 }
+    }
+
+    /// Returns the views of the fields.
+    #[inline(always)]
+    fn fields(&self) -> Seen<'a>
+        ensures value { ⟦<Layout<Owned> as View<'static>>⟧.value result ≡ ap_rep_view_value self.now }
+        ensures lists { ApRepLists self.now → ⟦<Layout<Owned> as View<'static>>⟧.Lists result }
+    {
+        (self.enc_part, ())
     }
 }
 
@@ -111,6 +133,17 @@ impl<'a> View<'a> for ApRep {
             return None;
         };
         Some(ApRepView::of_fields(&seen))
+    }
+}
+
+impl<'a> NotedView<'a> for ApRep {
+    #[inline(always)]
+    fn is_empty_list(_seen: &ApRepView<'a>) -> bool {
+        false
+    }
+
+    fn notes(seen: &ApRepView<'a>) -> Notes {
+        Layout::<Owned>::notes(&seen.fields())
     }
 }
 

@@ -11,9 +11,11 @@ ghost use Rattle.krb_msg.specs.inner.RoundTrips.{ap_req-back};
 use crate::copying::FromView;
 use crate::encrypted_data::{EncryptedData, EncryptedDataView};
 use crate::fields::{
-    Application, Borrowed, Encode, End, FieldOf, Fixed, Owned, Required, Sequence, View,
+    Application, Borrowed, Encode, End, FieldOf, Fixed, Noted, NotedLayout, NotedView, Owned,
+    Required, Sequence, View,
 };
 use crate::item::Item;
+use crate::notes::Notes;
 use crate::ticket::{Ticket, TicketView};
 use crate::view::scalars::FlagsView;
 use krb_der::{Der, Flags, Memory};
@@ -102,6 +104,17 @@ impl Item for ApReq {
     ghost fits = { λ it fits. fits };
 }
 
+impl Noted for ApReq {
+    #[inline(always)]
+    fn is_empty_list(&self) -> bool {
+        false
+    }
+
+    fn notes(&self) -> Notes {
+        self.layout().notes()
+    }
+}
+
 /// The views of its fields.
 type Seen<'a> = (FlagsView<'a>, (TicketView<'a>, (EncryptedDataView<'a>, ())));
 
@@ -117,6 +130,15 @@ impl<'a> ApReqView<'a> {
             ticket: seen.1.0,
             authenticator: seen.1.1.0,
         }
+    }
+
+    /// Returns the views of the fields.
+    #[inline(always)]
+    fn fields(&self) -> Seen<'a>
+        ensures value { ⟦<Layout<Owned> as View<'static>>⟧.value result ≡ ap_req_view_value self.now }
+        ensures lists { ApReqLists self.now → ⟦<Layout<Owned> as View<'static>>⟧.Lists result }
+    {
+        (self.ap_options, (self.ticket, (self.authenticator, ())))
     }
 }
 
@@ -142,6 +164,17 @@ impl<'a> View<'a> for ApReq {
             return None;
         };
         Some(ApReqView::of_fields(&seen))
+    }
+}
+
+impl<'a> NotedView<'a> for ApReq {
+    #[inline(always)]
+    fn is_empty_list(_seen: &ApReqView<'a>) -> bool {
+        false
+    }
+
+    fn notes(seen: &ApReqView<'a>) -> Notes {
+        Layout::<Owned>::notes(&seen.fields())
     }
 }
 

@@ -9,8 +9,12 @@ ghost use Rattle.krb_msg.specs.inner.PrefixFree.{begins, type_is_prefix_free};
 ghost use Rattle.krb_msg.specs.inner.RoundTrips.{encrypted_data-back};
 
 use crate::copying::{FromView, copy_option};
-use crate::fields::{Borrowed, Encode, End, FieldOf, Optional, Owned, Required, Sequence, View};
+use crate::fields::{
+    Borrowed, Encode, End, FieldOf, Noted, NotedLayout, NotedView, Optional, Owned, Required,
+    Sequence, View,
+};
 use crate::item::Item;
+use crate::notes::Notes;
 use krb_der::{Der, Int32, Memory, Octets, Wide32};
 use std::alloc::Global;
 
@@ -85,6 +89,17 @@ impl Item for EncryptedData {
     ghost fits = { λ it fits. fits };
 }
 
+impl Noted for EncryptedData {
+    #[inline(always)]
+    fn is_empty_list(&self) -> bool {
+        false
+    }
+
+    fn notes(&self) -> Notes {
+        self.layout().notes()
+    }
+}
+
 impl<'a> View<'a> for EncryptedData {
     type Of = EncryptedDataView<'a>;
 
@@ -111,6 +126,17 @@ impl<'a> View<'a> for EncryptedData {
             kvno,
             cipher,
         })
+    }
+}
+
+impl<'a> NotedView<'a> for EncryptedData {
+    #[inline(always)]
+    fn is_empty_list(_seen: &EncryptedDataView<'a>) -> bool {
+        false
+    }
+
+    fn notes(seen: &EncryptedDataView<'a>) -> Notes {
+        Layout::<Owned>::notes(&(seen.etype, (seen.kvno, (seen.cipher, ()))))
     }
 }
 

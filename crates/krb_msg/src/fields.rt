@@ -3,11 +3,15 @@
 //! and viewed (X.690, 8.9 and 8.14).
 
 mod encode;
+mod notes;
 mod view;
+mod view_notes;
 
 pub use encode::{Encode, EncodeFields};
+pub use notes::{Noted, NotedFields, NotedLayout};
 use std::marker::PhantomData;
 pub use view::{View, ViewFields};
+pub use view_notes::{NotedView, NotedViewFields};
 
 /// The end of a list of fields.
 #[derive(Drop)]

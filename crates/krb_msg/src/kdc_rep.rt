@@ -5,6 +5,7 @@ ghost use Rattle.std.specs.Vec.{vec_len, vec_capacity};
 ghost use Rattle.krb_der.specs.Puts.{Puts};
 ghost use Rattle.krb_msg.specs.Shape.{has_octet_tags};
 ghost use Rattle.krb_msg.specs.Term.{Application as ApplicationTerm, der, Fits};
+ghost use Rattle.krb_msg.specs.Notes.{has, notes_by};
 ghost use Rattle.krb_msg.specs.Grammar.{kdc_rep};
 ghost use Rattle.krb_msg.specs.Types.{kdc_rep_value, kdc_rep_view_value, kdc_rep_of_view, KdcRepLists};
 ghost use Rattle.krb_msg.specs.Viewed.{IsNotWhole, IsViewOf};
@@ -13,8 +14,10 @@ ghost use Rattle.krb_msg.specs.inner.Fitting.{IsSized};
 use crate::copying::{FromView, copy_item_option};
 use crate::encrypted_data::{EncryptedData, EncryptedDataView};
 use crate::fields::{
-    Application, Borrowed, Encode, End, FieldOf, Fixed, Optional, Owned, Required, Sequence, View,
+    Application, Borrowed, Encode, End, FieldOf, Fixed, NotedLayout, NotedView, Optional, Owned,
+    Required, Sequence, View,
 };
+use crate::notes::Notes;
 use crate::pa_data::PaData;
 use crate::principal_name::{PrincipalName, PrincipalNameView};
 use crate::ticket::{Ticket, TicketView};
@@ -122,6 +125,13 @@ impl KdcRep {
         self.layout::<N>().put(out);
     }
 
+    /// Returns the notes that hold in a message.
+    pub(crate) fn notes<const N: u8>(&self) -> Notes
+        ensures { result ≡ notes_by (λ note. has note (ApplicationTerm N (kdc_rep N)) (kdc_rep_value N self.now)) }
+    {
+        self.layout::<N>().notes()
+    }
+
     /// Returns a view of the message of a number and a message type that octets are, if they are
     /// one.
     #[inline(always)]
@@ -179,5 +189,28 @@ impl<'a> KdcRepView<'a> {
             ticket: seen.1.1.1.0,
             enc_part: seen.1.1.1.1.0,
         }
+    }
+
+    /// Returns the views of the fields.
+    #[inline(always)]
+    fn fields<const N: u8>(&self) -> Seen<'a>
+        ensures value { ⟦<Layout<Owned, N> as View<'static>>⟧.value result ≡ kdc_rep_view_value N self.now }
+        ensures lists { KdcRepLists self.now → ⟦<Layout<Owned, N> as View<'static>>⟧.Lists result }
+    {
+        (
+            self.padata,
+            (
+                self.crealm,
+                (self.cname, (self.ticket, (self.enc_part, ()))),
+            ),
+        )
+    }
+
+    /// Returns the notes that hold in a message.
+    pub(crate) fn notes<const N: u8>(&self) -> Notes
+        requires { KdcRepLists self.now }
+        ensures { result ≡ notes_by (λ note. has note (ApplicationTerm N (kdc_rep N)) (kdc_rep_view_value N self.now)) }
+    {
+        Layout::<Owned, N>::notes(&self.fields::<N>())
     }
 }

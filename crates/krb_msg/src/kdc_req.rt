@@ -5,6 +5,7 @@ ghost use Rattle.std.specs.Vec.{vec_len, vec_capacity};
 ghost use Rattle.krb_der.specs.Puts.{Puts};
 ghost use Rattle.krb_msg.specs.Shape.{has_octet_tags};
 ghost use Rattle.krb_msg.specs.Term.{Application as ApplicationTerm, der, Fits};
+ghost use Rattle.krb_msg.specs.Notes.{has, notes_by};
 ghost use Rattle.krb_msg.specs.Grammar.{kdc_req};
 ghost use Rattle.krb_msg.specs.Types.{kdc_req_value, kdc_req_view_value, kdc_req_of_view, KdcReqLists};
 ghost use Rattle.krb_msg.specs.Viewed.{IsNotWhole, IsViewOf};
@@ -12,9 +13,11 @@ ghost use Rattle.krb_msg.specs.inner.Fitting.{IsSized};
 
 use crate::copying::{FromView, copy_item_option};
 use crate::fields::{
-    Application, Borrowed, Encode, End, FieldOf, Fixed, Optional, Owned, Required, Sequence, View,
+    Application, Borrowed, Encode, End, FieldOf, Fixed, NotedLayout, NotedView, Optional, Owned,
+    Required, Sequence, View,
 };
 use crate::kdc_req_body::{KdcReqBody, KdcReqBodyView};
+use crate::notes::Notes;
 use crate::pa_data::PaData;
 use crate::view::items::ItemsView;
 use crate::view::view_whole;
@@ -87,6 +90,13 @@ impl KdcReq {
         self.layout::<N>().put(out);
     }
 
+    /// Returns the notes that hold in a message.
+    pub(crate) fn notes<const N: u8>(&self) -> Notes
+        ensures { result ≡ notes_by (λ note. has note (ApplicationTerm N (kdc_req N)) (kdc_req_value N self.now)) }
+    {
+        self.layout::<N>().notes()
+    }
+
     /// Returns a view of the message of a number and a message type that octets are, if they are
     /// one.
     #[inline(always)]
@@ -129,5 +139,22 @@ impl<'a> KdcReqView<'a> {
             padata: seen.0,
             body: seen.1.0,
         }
+    }
+
+    /// Returns the views of the fields.
+    #[inline(always)]
+    fn fields<const N: u8>(&self) -> Seen<'a>
+        ensures value { ⟦<Layout<Owned, N> as View<'static>>⟧.value result ≡ kdc_req_view_value N self.now }
+        ensures lists { KdcReqLists self.now → ⟦<Layout<Owned, N> as View<'static>>⟧.Lists result }
+    {
+        (self.padata, (self.body, ()))
+    }
+
+    /// Returns the notes that hold in a message.
+    pub(crate) fn notes<const N: u8>(&self) -> Notes
+        requires { KdcReqLists self.now }
+        ensures { result ≡ notes_by (λ note. has note (ApplicationTerm N (kdc_req N)) (kdc_req_view_value N self.now)) }
+    {
+        Layout::<Owned, N>::notes(&self.fields::<N>())
     }
 }

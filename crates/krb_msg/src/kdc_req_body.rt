@@ -11,11 +11,12 @@ ghost use Rattle.krb_msg.specs.inner.RoundTrips.{kdc_req_body-back};
 use crate::copying::{FromView, copy_item_option, copy_items, copy_option};
 use crate::encrypted_data::{EncryptedData, EncryptedDataView};
 use crate::fields::{
-    Borrowed, Cut, Encode, EncodeFields, End, FieldOf, Optional, Owned, Required, Sequence, View,
-    ViewFields,
+    Borrowed, Cut, Encode, EncodeFields, End, FieldOf, Noted, NotedFields, NotedLayout, NotedView,
+    NotedViewFields, Optional, Owned, Required, Sequence, View, ViewFields,
 };
 use crate::host_address::HostAddress;
 use crate::item::Item;
+use crate::notes::Notes;
 use crate::principal_name::{PrincipalName, PrincipalNameView};
 use crate::ticket::Ticket;
 use crate::view::items::ItemsView;
@@ -180,6 +181,12 @@ impl<'a> EncodeFields for Cut<Rest<Borrowed<'a>>> {
     }
 }
 
+impl<'a> NotedFields for Cut<Rest<Borrowed<'a>>> {
+    fn notes(&self) -> Notes {
+        self.0.notes()
+    }
+}
+
 impl Der for KdcReqBody {
     ghost der = { λ it. der kdc_req_body (kdc_req_body_value it) };
 
@@ -206,6 +213,17 @@ impl Item for KdcReqBody {
     ghost form = { λ it. refl };
 
     ghost fits = { λ it fits. fits };
+}
+
+impl Noted for KdcReqBody {
+    #[inline(always)]
+    fn is_empty_list(&self) -> bool {
+        false
+    }
+
+    fn notes(&self) -> Notes {
+        self.layout().notes()
+    }
 }
 
 /// A view of the second half of its fields.
@@ -271,6 +289,27 @@ impl<'a> RestView<'a> {
             additional_tickets: seen.1.1.1.1.1.0,
         }
     }
+
+    /// Returns the views of the fields.
+    #[inline(always)]
+    fn fields(&self) -> RestSeen<'a>
+        ensures values { ⟦<Rest<Owned> as ViewFields<'static>>⟧.values result ≡ ⟦<Cut<Rest<Owned>> as ViewFields<'static>>⟧.values self.now }
+        ensures lists { ⟦<Cut<Rest<Owned>> as ViewFields<'static>>⟧.Lists self.now → ⟦<Rest<Owned> as ViewFields<'static>>⟧.Lists result }
+    {
+        (
+            self.rtime,
+            (
+                self.nonce,
+                (
+                    self.etype,
+                    (
+                        self.addresses,
+                        (self.enc_authorization_data, (self.additional_tickets, ())),
+                    ),
+                ),
+            ),
+        )
+    }
 }
 
 impl<'a> ViewFields<'a> for Cut<Rest<Owned>> {
@@ -288,6 +327,12 @@ impl<'a> ViewFields<'a> for Cut<Rest<Owned>> {
             return None;
         };
         Some(RestView::of_fields(&seen))
+    }
+}
+
+impl<'a> NotedViewFields<'a> for Cut<Rest<Owned>> {
+    fn notes(seen: &RestView<'a>) -> Notes {
+        Rest::<Owned>::notes(&seen.fields())
     }
 }
 
@@ -314,6 +359,29 @@ impl<'a> KdcReqBodyView<'a> {
             additional_tickets: rest.additional_tickets,
         }
     }
+
+    /// Returns the views of the fields.
+    #[inline(always)]
+    fn fields(&self) -> Seen<'a>
+        ensures value { ⟦<Layout<Owned> as View<'static>>⟧.value result ≡ kdc_req_body_view_value self.now }
+        ensures lists { KdcReqBodyLists self.now → ⟦<Layout<Owned> as View<'static>>⟧.Lists result }
+    {
+        let rest = RestView {
+            rtime: self.rtime,
+            nonce: self.nonce,
+            etype: self.etype,
+            addresses: self.addresses,
+            enc_authorization_data: self.enc_authorization_data,
+            additional_tickets: self.additional_tickets,
+        };
+        (
+            self.kdc_options,
+            (
+                self.cname,
+                (self.realm, (self.sname, (self.from, (self.till, rest)))),
+            ),
+        )
+    }
 }
 
 impl<'a> View<'a> for KdcReqBody {
@@ -338,6 +406,17 @@ impl<'a> View<'a> for KdcReqBody {
             return None;
         };
         Some(KdcReqBodyView::of_fields(&seen))
+    }
+}
+
+impl<'a> NotedView<'a> for KdcReqBody {
+    #[inline(always)]
+    fn is_empty_list(_seen: &KdcReqBodyView<'a>) -> bool {
+        false
+    }
+
+    fn notes(seen: &KdcReqBodyView<'a>) -> Notes {
+        Layout::<Owned>::notes(&seen.fields())
     }
 }
 

@@ -11,9 +11,11 @@ ghost use Rattle.krb_msg.specs.inner.RoundTrips.{krb_cred-back};
 use crate::copying::{FromView, copy_items};
 use crate::encrypted_data::{EncryptedData, EncryptedDataView};
 use crate::fields::{
-    Application, Borrowed, Encode, End, FieldOf, Fixed, Owned, Required, Sequence, View,
+    Application, Borrowed, Encode, End, FieldOf, Fixed, Noted, NotedLayout, NotedView, Owned,
+    Required, Sequence, View,
 };
 use crate::item::Item;
+use crate::notes::Notes;
 use crate::ticket::Ticket;
 use crate::view::items::ItemsView;
 use krb_der::{Der, Many, Memory};
@@ -91,6 +93,17 @@ impl Item for KrbCred {
     ghost fits = { λ it fits. fits };
 }
 
+impl Noted for KrbCred {
+    #[inline(always)]
+    fn is_empty_list(&self) -> bool {
+        false
+    }
+
+    fn notes(&self) -> Notes {
+        self.layout().notes()
+    }
+}
+
 /// The views of its fields.
 type Seen<'a> = (ItemsView<'a>, (EncryptedDataView<'a>, ()));
 
@@ -105,6 +118,15 @@ impl<'a> KrbCredView<'a> {
             tickets: seen.0,
             enc_part: seen.1.0,
         }
+    }
+
+    /// Returns the views of the fields.
+    #[inline(always)]
+    fn fields(&self) -> Seen<'a>
+        ensures value { ⟦<Layout<Owned> as View<'static>>⟧.value result ≡ krb_cred_view_value self.now }
+        ensures lists { KrbCredLists self.now → ⟦<Layout<Owned> as View<'static>>⟧.Lists result }
+    {
+        (self.tickets, (self.enc_part, ()))
     }
 }
 
@@ -130,6 +152,17 @@ impl<'a> View<'a> for KrbCred {
             return None;
         };
         Some(KrbCredView::of_fields(&seen))
+    }
+}
+
+impl<'a> NotedView<'a> for KrbCred {
+    #[inline(always)]
+    fn is_empty_list(_seen: &KrbCredView<'a>) -> bool {
+        false
+    }
+
+    fn notes(seen: &KrbCredView<'a>) -> Notes {
+        Layout::<Owned>::notes(&seen.fields())
     }
 }
 

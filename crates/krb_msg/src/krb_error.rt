@@ -10,10 +10,11 @@ ghost use Rattle.krb_msg.specs.inner.RoundTrips.{krb_error-back};
 
 use crate::copying::{FromView, copy_option};
 use crate::fields::{
-    Application, Borrowed, Cut, Encode, EncodeFields, End, FieldOf, Fixed, Optional, Owned,
-    Required, Sequence, View, ViewFields,
+    Application, Borrowed, Cut, Encode, EncodeFields, End, FieldOf, Fixed, Noted, NotedFields,
+    NotedLayout, NotedView, NotedViewFields, Optional, Owned, Required, Sequence, View, ViewFields,
 };
 use crate::item::Item;
+use crate::notes::Notes;
 use crate::principal_name::{PrincipalName, PrincipalNameView};
 use krb_der::{Der, Int32, KString, KerberosTime, Memory, Micros, Octets};
 use std::alloc::Global;
@@ -169,6 +170,12 @@ impl<'a> EncodeFields for Cut<Rest<Borrowed<'a>>> {
     }
 }
 
+impl<'a> NotedFields for Cut<Rest<Borrowed<'a>>> {
+    fn notes(&self) -> Notes {
+        self.0.notes()
+    }
+}
+
 impl Der for KrbError {
     ghost der = { λ it. der krb_error (krb_error_value it) };
 
@@ -195,6 +202,17 @@ impl Item for KrbError {
     ghost form = { λ it. refl };
 
     ghost fits = { λ it fits. fits };
+}
+
+impl Noted for KrbError {
+    #[inline(always)]
+    fn is_empty_list(&self) -> bool {
+        false
+    }
+
+    fn notes(&self) -> Notes {
+        self.layout().notes()
+    }
 }
 
 /// A view of the second half of its fields.
@@ -251,6 +269,21 @@ impl<'a> RestView<'a> {
             e_data: seen.1.1.1.1.1.0,
         }
     }
+
+    /// Returns the views of the fields.
+    #[inline(always)]
+    fn fields(&self) -> RestSeen<'a>
+        ensures values { ⟦<Rest<Owned> as ViewFields<'static>>⟧.values result ≡ ⟦<Cut<Rest<Owned>> as ViewFields<'static>>⟧.values self.now }
+        ensures lists { ⟦<Cut<Rest<Owned>> as ViewFields<'static>>⟧.Lists self.now → ⟦<Rest<Owned> as ViewFields<'static>>⟧.Lists result }
+    {
+        (
+            self.crealm,
+            (
+                self.cname,
+                (self.realm, (self.sname, (self.e_text, (self.e_data, ())))),
+            ),
+        )
+    }
 }
 
 impl<'a> ViewFields<'a> for Cut<Rest<Owned>> {
@@ -268,6 +301,12 @@ impl<'a> ViewFields<'a> for Cut<Rest<Owned>> {
             return None;
         };
         Some(RestView::of_fields(&seen))
+    }
+}
+
+impl<'a> NotedViewFields<'a> for Cut<Rest<Owned>> {
+    fn notes(seen: &RestView<'a>) -> Notes {
+        Rest::<Owned>::notes(&seen.fields())
     }
 }
 
@@ -293,6 +332,29 @@ impl<'a> KrbErrorView<'a> {
             e_data: rest.e_data,
         }
     }
+
+    /// Returns the views of the fields.
+    #[inline(always)]
+    fn fields(&self) -> Seen<'a>
+        ensures value { ⟦<Layout<Owned> as View<'static>>⟧.value result ≡ krb_error_view_value self.now }
+        ensures lists { KrbErrorLists self.now → ⟦<Layout<Owned> as View<'static>>⟧.Lists result }
+    {
+        let rest = RestView {
+            crealm: self.crealm,
+            cname: self.cname,
+            realm: self.realm,
+            sname: self.sname,
+            e_text: self.e_text,
+            e_data: self.e_data,
+        };
+        (
+            self.ctime,
+            (
+                self.cusec,
+                (self.stime, (self.susec, (self.error_code, rest))),
+            ),
+        )
+    }
 }
 
 impl<'a> View<'a> for KrbError {
@@ -317,6 +379,17 @@ impl<'a> View<'a> for KrbError {
             return None;
         };
         Some(KrbErrorView::of_fields(&seen))
+    }
+}
+
+impl<'a> NotedView<'a> for KrbError {
+    #[inline(always)]
+    fn is_empty_list(_seen: &KrbErrorView<'a>) -> bool {
+        false
+    }
+
+    fn notes(seen: &KrbErrorView<'a>) -> Notes {
+        Layout::<Owned>::notes(&seen.fields())
     }
 }
 

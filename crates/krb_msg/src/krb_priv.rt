@@ -11,9 +11,11 @@ ghost use Rattle.krb_msg.specs.inner.RoundTrips.{krb_priv-back};
 use crate::copying::FromView;
 use crate::encrypted_data::{EncryptedData, EncryptedDataView};
 use crate::fields::{
-    Application, Borrowed, Encode, End, FieldOf, Fixed, Owned, Required, Sequence, View,
+    Application, Borrowed, Encode, End, FieldOf, Fixed, Noted, NotedLayout, NotedView, Owned,
+    Required, Sequence, View,
 };
 use crate::item::Item;
+use crate::notes::Notes;
 use krb_der::{Der, Memory};
 use std::alloc::Global;
 
@@ -75,6 +77,17 @@ impl Item for KrbPriv {
     ghost fits = { λ it fits. fits };
 }
 
+impl Noted for KrbPriv {
+    #[inline(always)]
+    fn is_empty_list(&self) -> bool {
+        false
+    }
+
+    fn notes(&self) -> Notes {
+        self.layout().notes()
+    }
+}
+
 /// The views of its fields.
 type Seen<'a> = (EncryptedDataView<'a>, ());
 
@@ -86,6 +99,15 @@ impl<'a> KrbPrivView<'a> {
         ensures lists { ⟦<Layout<Owned> as View<'static>>⟧.Lists seen.now → KrbPrivLists result }
     {
         KrbPrivView { enc_part: seen.0 }
+    }
+
+    /// Returns the views of the fields.
+    #[inline(always)]
+    fn fields(&self) -> Seen<'a>
+        ensures value { ⟦<Layout<Owned> as View<'static>>⟧.value result ≡ krb_priv_view_value self.now }
+        ensures lists { KrbPrivLists self.now → ⟦<Layout<Owned> as View<'static>>⟧.Lists result }
+    {
+        (self.enc_part, ())
     }
 }
 
@@ -111,6 +133,17 @@ impl<'a> View<'a> for KrbPriv {
             return None;
         };
         Some(KrbPrivView::of_fields(&seen))
+    }
+}
+
+impl<'a> NotedView<'a> for KrbPriv {
+    #[inline(always)]
+    fn is_empty_list(_seen: &KrbPrivView<'a>) -> bool {
+        false
+    }
+
+    fn notes(seen: &KrbPrivView<'a>) -> Notes {
+        Layout::<Owned>::notes(&seen.fields())
     }
 }
 

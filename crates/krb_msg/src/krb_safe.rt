@@ -11,10 +11,12 @@ ghost use Rattle.krb_msg.specs.inner.RoundTrips.{krb_safe-back};
 use crate::checksum::{Checksum, ChecksumView};
 use crate::copying::FromView;
 use crate::fields::{
-    Application, Borrowed, Encode, End, FieldOf, Fixed, Owned, Required, Sequence, View,
+    Application, Borrowed, Encode, End, FieldOf, Fixed, Noted, NotedLayout, NotedView, Owned,
+    Required, Sequence, View,
 };
 use crate::item::Item;
 use crate::krb_safe_body::{KrbSafeBody, KrbSafeBodyView};
+use crate::notes::Notes;
 use krb_der::{Der, Memory};
 use std::alloc::Global;
 
@@ -90,6 +92,17 @@ impl Item for KrbSafe {
     ghost fits = { λ it fits. fits };
 }
 
+impl Noted for KrbSafe {
+    #[inline(always)]
+    fn is_empty_list(&self) -> bool {
+        false
+    }
+
+    fn notes(&self) -> Notes {
+        self.layout().notes()
+    }
+}
+
 /// The views of its fields.
 type Seen<'a> = (KrbSafeBodyView<'a>, (ChecksumView<'a>, ()));
 
@@ -104,6 +117,15 @@ impl<'a> KrbSafeView<'a> {
             body: seen.0,
             cksum: seen.1.0,
         }
+    }
+
+    /// Returns the views of the fields.
+    #[inline(always)]
+    fn fields(&self) -> Seen<'a>
+        ensures value { ⟦<Layout<Owned> as View<'static>>⟧.value result ≡ krb_safe_view_value self.now }
+        ensures lists { KrbSafeLists self.now → ⟦<Layout<Owned> as View<'static>>⟧.Lists result }
+    {
+        (self.body, (self.cksum, ()))
     }
 }
 
@@ -129,6 +151,17 @@ impl<'a> View<'a> for KrbSafe {
             return None;
         };
         Some(KrbSafeView::of_fields(&seen))
+    }
+}
+
+impl<'a> NotedView<'a> for KrbSafe {
+    #[inline(always)]
+    fn is_empty_list(_seen: &KrbSafeView<'a>) -> bool {
+        false
+    }
+
+    fn notes(seen: &KrbSafeView<'a>) -> Notes {
+        Layout::<Owned>::notes(&seen.fields())
     }
 }
 

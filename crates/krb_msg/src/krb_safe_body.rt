@@ -9,9 +9,13 @@ ghost use Rattle.krb_msg.specs.inner.PrefixFree.{begins, type_is_prefix_free};
 ghost use Rattle.krb_msg.specs.inner.RoundTrips.{krb_safe_body-back};
 
 use crate::copying::{FromView, copy_option};
-use crate::fields::{Borrowed, Encode, End, FieldOf, Optional, Owned, Required, Sequence, View};
+use crate::fields::{
+    Borrowed, Encode, End, FieldOf, Noted, NotedLayout, NotedView, Optional, Owned, Required,
+    Sequence, View,
+};
 use crate::host_address::{HostAddress, HostAddressView};
 use crate::item::Item;
+use crate::notes::Notes;
 use krb_der::{Der, KerberosTime, Memory, Micros, Octets, Wide32};
 use std::alloc::Global;
 
@@ -119,6 +123,17 @@ impl Item for KrbSafeBody {
     ghost fits = { λ it fits. fits };
 }
 
+impl Noted for KrbSafeBody {
+    #[inline(always)]
+    fn is_empty_list(&self) -> bool {
+        false
+    }
+
+    fn notes(&self) -> Notes {
+        self.layout().notes()
+    }
+}
+
 /// The views of its fields.
 type Seen<'a> = (
     &'a [u8],
@@ -150,6 +165,24 @@ impl<'a> KrbSafeBodyView<'a> {
             r_address: seen.1.1.1.1.1.0,
         }
     }
+
+    /// Returns the views of the fields.
+    #[inline(always)]
+    fn fields(&self) -> Seen<'a>
+        ensures value { ⟦<Layout<Owned> as View<'static>>⟧.value result ≡ krb_safe_body_view_value self.now }
+        ensures lists { KrbSafeBodyLists self.now → ⟦<Layout<Owned> as View<'static>>⟧.Lists result }
+    {
+        (
+            self.user_data,
+            (
+                self.timestamp,
+                (
+                    self.usec,
+                    (self.seq_number, (self.s_address, (self.r_address, ()))),
+                ),
+            ),
+        )
+    }
 }
 
 impl<'a> View<'a> for KrbSafeBody {
@@ -174,6 +207,17 @@ impl<'a> View<'a> for KrbSafeBody {
             return None;
         };
         Some(KrbSafeBodyView::of_fields(&seen))
+    }
+}
+
+impl<'a> NotedView<'a> for KrbSafeBody {
+    #[inline(always)]
+    fn is_empty_list(_seen: &KrbSafeBodyView<'a>) -> bool {
+        false
+    }
+
+    fn notes(seen: &KrbSafeBodyView<'a>) -> Notes {
+        Layout::<Owned>::notes(&seen.fields())
     }
 }
 

@@ -3,17 +3,20 @@
 ghost use Rattle.std.specs.Prelude.{◌≡◌, ◌+◌, ◌≤◌, ◌++◌, length};
 ghost use Rattle.std.specs.Vec.{vec_len, vec_capacity};
 ghost use Rattle.krb_der.specs.Puts.{Puts};
+ghost use Rattle.krb_msg.specs.Notes.{notes_of};
 ghost use Rattle.krb_msg.specs.Views.{kind_of, kind_number, kind_tag, kind_name, kind_with_tag, kind_term, message_value, message_der};
 ghost use Rattle.krb_msg.specs.inner.Fitting.{IsSized};
 
 use crate::ap_rep::ApRep;
 use crate::ap_req::ApReq;
+use crate::fields::Noted;
 use crate::kdc_rep::KdcRep;
 use crate::kdc_req::KdcReq;
 use crate::krb_cred::KrbCred;
 use crate::krb_error::KrbError;
 use crate::krb_priv::KrbPriv;
 use crate::krb_safe::KrbSafe;
+use crate::notes::Notes;
 use krb_der::Der;
 
 /// A message of any kind (RFC 4120, section 5).
@@ -188,5 +191,23 @@ pub(crate) fn put_octets(message: &Message, out: &mut Vec<u8>)
         Message::KrbPriv(private) => private.put(out),
         Message::KrbCred(cred) => cred.put(out),
         Message::KrbError(error) => error.put(out),
+    }
+}
+
+/// Returns the notes that hold in a message. It allocates nothing.
+pub fn notes_of(message: &Message) -> Notes
+    ensures { result ≡ notes_of message.now }
+{
+    match message {
+        Message::AsReq(req) => req.notes::<10>(),
+        Message::AsRep(rep) => rep.notes::<11>(),
+        Message::TgsReq(req) => req.notes::<12>(),
+        Message::TgsRep(rep) => rep.notes::<13>(),
+        Message::ApReq(req) => req.notes(),
+        Message::ApRep(rep) => rep.notes(),
+        Message::KrbSafe(safe) => safe.notes(),
+        Message::KrbPriv(private) => private.notes(),
+        Message::KrbCred(cred) => cred.notes(),
+        Message::KrbError(error) => error.notes(),
     }
 }

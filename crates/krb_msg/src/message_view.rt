@@ -2,6 +2,7 @@
 
 ghost use Rattle.std.specs.Prelude.{◌≡◌, IfOk, MatchOption};
 ghost use Rattle.krb_der.specs.declared.profile.Profile.TheVariants.{Lenient};
+ghost use Rattle.krb_msg.specs.Notes.{notes_of};
 ghost use Rattle.krb_msg.specs.Views.{IsInProfile, kind_of};
 ghost use Rattle.krb_msg.specs.ViewValues.{BeginAs, IsMessageView, IsNoMessage, MessageLists, message_of_view};
 ghost use Rattle.krb_msg.specs.declared.message.Kind.TheVariants as kind;
@@ -9,6 +10,7 @@ ghost use Rattle.krb_msg.specs.declared.message.Kind.TheVariants as kind;
 use crate::ap_rep::{ApRep, ApRepView};
 use crate::ap_req::{ApReq, ApReqView};
 use crate::copying::FromView;
+use crate::fields::NotedView;
 use crate::kdc_rep::{KdcRep, KdcRepView};
 use crate::kdc_req::{KdcReq, KdcReqView};
 use crate::krb_cred::{KrbCred, KrbCredView};
@@ -16,6 +18,7 @@ use crate::krb_error::{KrbError, KrbErrorView};
 use crate::krb_priv::{KrbPriv, KrbPrivView};
 use crate::krb_safe::{KrbSafe, KrbSafeView};
 use crate::message::{Kind, Message};
+use crate::notes::Notes;
 use crate::view::view_whole;
 use krb_der::Memory;
 use std::alloc::Global;
@@ -88,6 +91,26 @@ impl<'a> MessageView<'a> {
                 Ok(Message::KrbError(KrbError::from_view(alloc, error)?))
             }
         }
+    }
+}
+
+/// Returns the notes that hold in a message that is viewed in place, which are
+/// [`notes_of`](crate::notes_of)'s. It allocates nothing.
+pub fn notes_of_view(view: &MessageView<'_>) -> Notes
+    requires { MessageLists view.now }
+    ensures { result ≡ notes_of (message_of_view view.now) }
+{
+    match view {
+        MessageView::AsReq(req) => req.notes::<10>(),
+        MessageView::AsRep(rep) => rep.notes::<11>(),
+        MessageView::TgsReq(req) => req.notes::<12>(),
+        MessageView::TgsRep(rep) => rep.notes::<13>(),
+        MessageView::ApReq(req) => ApReq::notes(req),
+        MessageView::ApRep(rep) => ApRep::notes(rep),
+        MessageView::KrbSafe(safe) => KrbSafe::notes(safe),
+        MessageView::KrbPriv(private) => KrbPriv::notes(private),
+        MessageView::KrbCred(cred) => KrbCred::notes(cred),
+        MessageView::KrbError(error) => KrbError::notes(error),
     }
 }
 

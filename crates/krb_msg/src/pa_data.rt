@@ -9,8 +9,11 @@ ghost use Rattle.krb_msg.specs.inner.PrefixFree.{begins, type_is_prefix_free};
 ghost use Rattle.krb_msg.specs.inner.RoundTrips.{pa_data-back};
 
 use crate::copying::{FromView, copy_items};
-use crate::fields::{Borrowed, Encode, End, FieldOf, Owned, Required, Sequence, View};
+use crate::fields::{
+    Borrowed, Encode, End, FieldOf, Noted, NotedLayout, NotedView, Owned, Required, Sequence, View,
+};
 use crate::item::Item;
+use crate::notes::Notes;
 use crate::view::items::ItemsView;
 use krb_der::{Der, Int32, Many, Memory, Octets};
 use std::alloc::Global;
@@ -73,6 +76,17 @@ impl Item for PaData {
     ghost fits = { λ it fits. fits };
 }
 
+impl Noted for PaData {
+    #[inline(always)]
+    fn is_empty_list(&self) -> bool {
+        false
+    }
+
+    fn notes(&self) -> Notes {
+        self.layout().notes()
+    }
+}
+
 impl<'a> View<'a> for PaData {
     type Of = PaDataView<'a>;
 
@@ -98,6 +112,17 @@ impl<'a> View<'a> for PaData {
             padata_type,
             padata_value,
         })
+    }
+}
+
+impl<'a> NotedView<'a> for PaData {
+    #[inline(always)]
+    fn is_empty_list(_seen: &PaDataView<'a>) -> bool {
+        false
+    }
+
+    fn notes(seen: &PaDataView<'a>) -> Notes {
+        Layout::<Owned>::notes(&(seen.padata_type, (seen.padata_value, ())))
     }
 }
 

@@ -9,8 +9,11 @@ ghost use Rattle.krb_msg.specs.inner.PrefixFree.{begins, type_is_prefix_free};
 ghost use Rattle.krb_msg.specs.inner.RoundTrips.{principal_name-back};
 
 use crate::copying::{FromView, copy_items};
-use crate::fields::{Borrowed, Encode, End, FieldOf, Owned, Required, Sequence, View};
+use crate::fields::{
+    Borrowed, Encode, End, FieldOf, Noted, NotedLayout, NotedView, Owned, Required, Sequence, View,
+};
 use crate::item::Item;
+use crate::notes::Notes;
 use crate::view::items::ItemsView;
 use krb_der::{Der, Int32, KString, Many, Memory};
 use std::alloc::Global;
@@ -75,6 +78,17 @@ impl Item for PrincipalName {
     ghost fits = { λ it fits. fits };
 }
 
+impl Noted for PrincipalName {
+    #[inline(always)]
+    fn is_empty_list(&self) -> bool {
+        false
+    }
+
+    fn notes(&self) -> Notes {
+        self.layout().notes()
+    }
+}
+
 impl<'a> View<'a> for PrincipalName {
     type Of = PrincipalNameView<'a>;
 
@@ -97,6 +111,17 @@ impl<'a> View<'a> for PrincipalName {
             return None;
         };
         Some(PrincipalNameView { name_type, name })
+    }
+}
+
+impl<'a> NotedView<'a> for PrincipalName {
+    #[inline(always)]
+    fn is_empty_list(_seen: &PrincipalNameView<'a>) -> bool {
+        false
+    }
+
+    fn notes(seen: &PrincipalNameView<'a>) -> Notes {
+        Layout::<Owned>::notes(&(seen.name_type, (seen.name, ())))
     }
 }
 

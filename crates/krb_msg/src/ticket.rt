@@ -11,9 +11,11 @@ ghost use Rattle.krb_msg.specs.inner.RoundTrips.{ticket-back};
 use crate::copying::FromView;
 use crate::encrypted_data::{EncryptedData, EncryptedDataView};
 use crate::fields::{
-    Application, Borrowed, Encode, End, FieldOf, Fixed, Owned, Required, Sequence, View,
+    Application, Borrowed, Encode, End, FieldOf, Fixed, Noted, NotedLayout, NotedView, Owned,
+    Required, Sequence, View,
 };
 use crate::item::Item;
+use crate::notes::Notes;
 use crate::principal_name::{PrincipalName, PrincipalNameView};
 use krb_der::{Der, KString, Memory};
 use std::alloc::Global;
@@ -96,6 +98,17 @@ impl Item for Ticket {
     ghost fits = { λ it fits. fits };
 }
 
+impl Noted for Ticket {
+    #[inline(always)]
+    fn is_empty_list(&self) -> bool {
+        false
+    }
+
+    fn notes(&self) -> Notes {
+        self.layout().notes()
+    }
+}
+
 /// The views of its fields.
 type Seen<'a> = (
     &'a [u8],
@@ -114,6 +127,15 @@ impl<'a> TicketView<'a> {
             sname: seen.1.0,
             enc_part: seen.1.1.0,
         }
+    }
+
+    /// Returns the views of the fields.
+    #[inline(always)]
+    fn fields(&self) -> Seen<'a>
+        ensures value { ⟦<Layout<Owned> as View<'static>>⟧.value result ≡ ticket_view_value self.now }
+        ensures lists { TicketLists self.now → ⟦<Layout<Owned> as View<'static>>⟧.Lists result }
+    {
+        (self.realm, (self.sname, (self.enc_part, ())))
     }
 }
 
@@ -139,6 +161,17 @@ impl<'a> View<'a> for Ticket {
             return None;
         };
         Some(TicketView::of_fields(&seen))
+    }
+}
+
+impl<'a> NotedView<'a> for Ticket {
+    #[inline(always)]
+    fn is_empty_list(_seen: &TicketView<'a>) -> bool {
+        false
+    }
+
+    fn notes(seen: &TicketView<'a>) -> Notes {
+        Layout::<Owned>::notes(&seen.fields())
     }
 }
 

@@ -1,0 +1,75 @@
+//! The notes on lists, as values and as views.
+
+ghost use Rattle.std.specs.Prelude.{◌≡◌, true, map};
+ghost use Rattle.std.specs.List.{list_any};
+ghost use Rattle.krb_msg.specs.Shape.{has_octet_tags, is_unambiguous};
+ghost use Rattle.krb_msg.specs.Viewed.{AreViewed, items_of};
+ghost use Rattle.krb_msg.specs.Notes.{EmptyList, HasNoNotes, has, list_has, notes_by};
+
+use crate::fields::{Noted, NotedView, View};
+use crate::item::Item;
+use crate::notes::Notes;
+use crate::view::items::{ItemsView, next_item};
+use krb_der::Many;
+
+/// Returns whether a list has no items.
+#[inline(always)]
+pub fn has_no_items<T: Item>(values: &Many<T>) -> bool
+    ensures { result ≡ list_has EmptyList (map T.Item.value values.now) }
+{
+    values.as_slice().is_empty()
+}
+
+/// Returns the notes that hold in some of the items of a list.
+pub fn notes_of_items<T: Noted>(values: &Many<T>) -> Notes
+    ensures { result ≡ notes_by (λ note. list_any (has note T.Item.term) (map T.Item.value values.now)) }
+{
+    let mut notes = Notes::none();
+    for value in values.as_slice() {
+        notes = notes.or(value.notes());
+    }
+    notes
+}
+
+/// Returns the notes on a list in whose items none can hold.
+#[inline(always)]
+pub fn no_notes_of_items<T: Item>(_values: &Many<T>) -> Notes
+    requires { HasNoNotes T.Item.term }
+    ensures { result ≡ notes_by (λ note. list_any (has note T.Item.term) (map T.Item.value _values.now)) }
+{
+    Notes::none()
+}
+
+/// Returns whether a list that is viewed has no items.
+#[inline(always)]
+pub fn has_no_items_in_view<'a, T: View<'a>>(items: &ItemsView<'a>) -> bool
+    requires { AreViewed T.View.term items.now.octets.now }
+    ensures { result ≡ list_has EmptyList (items_of T.View.term items.now.octets.now) }
+{
+    items.octets.is_empty()
+}
+
+/// Returns the notes that hold in some of the items of a list that is viewed.
+pub fn notes_of_items_in_view<'a, T: NotedView<'a>>(items: &ItemsView<'a>) -> Notes
+    requires tags { has_octet_tags T.View.term ≡ true }
+    requires unambiguous { is_unambiguous T.View.term ≡ true }
+    requires viewed { AreViewed T.View.term items.now.octets.now }
+    ensures { result ≡ notes_by (λ note. list_any (has note T.View.term) (items_of T.View.term items.now.octets.now)) }
+{
+    let mut notes = Notes::none();
+    let mut rest = *items;
+    'items: while let Some((seen, others)) = next_item::<T>(rest) {
+        notes = notes.or(T::notes(&seen));
+        rest = others;
+    }
+    notes
+}
+
+/// Returns the notes on a list that is viewed, in whose items none can hold.
+#[inline(always)]
+pub fn no_notes_of_items_in_view<'a, T: View<'a>>(_items: &ItemsView<'a>) -> Notes
+    requires { HasNoNotes T.View.term }
+    ensures { result ≡ notes_by (λ note. list_any (has note T.View.term) (items_of T.View.term _items.now.octets.now)) }
+{
+    Notes::none()
+}

@@ -1,0 +1,207 @@
+//! The notes on the scalars (RFC 4120, 5.2), as values and as views.
+
+ghost use Rattle.std.specs.Prelude.{◌≡◌, nat_lt};
+ghost use Rattle.std.specs.List.{list_any};
+
+use crate::fields::{Noted, NotedView};
+use crate::notes::Notes;
+use crate::view::scalars::FlagsView;
+use krb_der::{Flags, Int32, KString, KerberosTime, Micros, Octets, Wide32};
+
+/// Returns whether an octet is above 7F. The bits of all octets are put together: a loop with no
+/// exit within it takes fewer instructions for each.
+fn has_high_octet(octets: &[u8]) -> bool
+    ensures { result ≡ list_any (λ octet. nat_lt 0x7F octet) octets.now }
+{
+    let mut bits = 0;
+    'octets: for octet in octets {
+        bits |= *octet;
+    }
+    bits > 0x7F
+}
+
+impl Noted for KString {
+    #[inline(always)]
+    fn is_empty_list(&self) -> bool {
+        false
+    }
+
+    fn notes(&self) -> Notes {
+        Notes {
+            high_octet: has_high_octet(self.octets()),
+            ..Notes::none()
+        }
+    }
+}
+
+impl<'a> NotedView<'a> for KString {
+    #[inline(always)]
+    fn is_empty_list(_seen: &&'a [u8]) -> bool {
+        false
+    }
+
+    fn notes(seen: &&'a [u8]) -> Notes {
+        Notes {
+            high_octet: has_high_octet(seen),
+            ..Notes::none()
+        }
+    }
+}
+
+impl Noted for Flags {
+    #[inline(always)]
+    fn is_empty_list(&self) -> bool {
+        false
+    }
+
+    #[inline(always)]
+    fn notes(&self) -> Notes {
+        Notes {
+            few_flags: self.bits() < 32,
+            ..Notes::none()
+        }
+    }
+}
+
+impl<'a> NotedView<'a> for Flags {
+    #[inline(always)]
+    fn is_empty_list(_seen: &FlagsView<'a>) -> bool {
+        false
+    }
+
+    #[inline(always)]
+    fn notes(seen: &FlagsView<'a>) -> Notes {
+        let bits = (8 * seen.octets.len() as u128).saturating_sub(u128::from(seen.unused));
+        Notes {
+            few_flags: bits < 32,
+            ..Notes::none()
+        }
+    }
+}
+
+/// A number of the type of kvno, nonce and seq-number.
+impl Noted for Wide32 {
+    #[inline(always)]
+    fn is_empty_list(&self) -> bool {
+        false
+    }
+
+    #[inline(always)]
+    fn notes(&self) -> Notes {
+        Notes {
+            negative: self.get() < 0,
+            ..Notes::none()
+        }
+    }
+}
+
+impl<'a> NotedView<'a> for Wide32 {
+    #[inline(always)]
+    fn is_empty_list(_seen: &i64) -> bool {
+        false
+    }
+
+    #[inline(always)]
+    fn notes(seen: &i64) -> Notes {
+        Notes {
+            negative: *seen < 0,
+            ..Notes::none()
+        }
+    }
+}
+
+impl Noted for Int32 {
+    #[inline(always)]
+    fn is_empty_list(&self) -> bool {
+        false
+    }
+
+    #[inline(always)]
+    fn notes(&self) -> Notes {
+        Notes::none()
+    }
+}
+
+impl<'a> NotedView<'a> for Int32 {
+    #[inline(always)]
+    fn is_empty_list(_seen: &i64) -> bool {
+        false
+    }
+
+    #[inline(always)]
+    fn notes(_seen: &i64) -> Notes {
+        Notes::none()
+    }
+}
+
+impl Noted for Micros {
+    #[inline(always)]
+    fn is_empty_list(&self) -> bool {
+        false
+    }
+
+    #[inline(always)]
+    fn notes(&self) -> Notes {
+        Notes::none()
+    }
+}
+
+impl<'a> NotedView<'a> for Micros {
+    #[inline(always)]
+    fn is_empty_list(_seen: &i64) -> bool {
+        false
+    }
+
+    #[inline(always)]
+    fn notes(_seen: &i64) -> Notes {
+        Notes::none()
+    }
+}
+
+impl Noted for Octets {
+    #[inline(always)]
+    fn is_empty_list(&self) -> bool {
+        false
+    }
+
+    #[inline(always)]
+    fn notes(&self) -> Notes {
+        Notes::none()
+    }
+}
+
+impl<'a> NotedView<'a> for Octets {
+    #[inline(always)]
+    fn is_empty_list(_seen: &&'a [u8]) -> bool {
+        false
+    }
+
+    #[inline(always)]
+    fn notes(_seen: &&'a [u8]) -> Notes {
+        Notes::none()
+    }
+}
+
+impl Noted for KerberosTime {
+    #[inline(always)]
+    fn is_empty_list(&self) -> bool {
+        false
+    }
+
+    #[inline(always)]
+    fn notes(&self) -> Notes {
+        Notes::none()
+    }
+}
+
+impl<'a> NotedView<'a> for KerberosTime {
+    #[inline(always)]
+    fn is_empty_list(_seen: &&'a [u8]) -> bool {
+        false
+    }
+
+    #[inline(always)]
+    fn notes(_seen: &&'a [u8]) -> Notes {
+        Notes::none()
+    }
+}
