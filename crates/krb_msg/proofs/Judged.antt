@@ -1,8 +1,5 @@
 -- The laws of the judgement and of DER, at the messages of the crate.
-use Rattle.std.proofs.Common.{◌≡◌, false, ℕ, suc, ◌^◌, ◌<◌, ◌≤◌, inl, inr, ℤ, pos, negsuc, List, [], ◌∷◌, length, get_or, map, take, Option, Some, None, refl, sym, ◌∙◌, ap, ap₂, subst, arith}
-use Rattle.std.specs.Prelude.{◌≤ℤ◌}
-use Rattle.std.specs.Option.{option_map}
-use Rattle.std.proofs.lemmas.Int.{ints}
+use Rattle.std.proofs.Common.{◌≡◌, false, ℕ, suc, ◌^◌, ◌<◌, ◌≤◌, List, length, get_or, take, refl, sym, ◌∙◌, ap, subst, arith}
 use Rattle.krb_der.specs.Octets.{AreOctets}
 use Rattle.krb_der.specs.declared.profile.Profile.{Profile}
 use Rattle.krb_der.specs.declared.profile.Profile.TheVariants as profiles
@@ -12,10 +9,9 @@ use Rattle.krb_msg.specs.declared.message.Message.{Message}
 use Rattle.krb_msg.specs.declared.message.Message.TheVariants as message
 use Rattle.krb_msg.specs.declared.message.Kind.{Kind}
 use Rattle.krb_msg.specs.declared.message.Kind.TheVariants as kind
-use Rattle.krb_msg.specs.Term.{Term, Value, der, Fits, IfPresent}
-use Rattle.std.specs.List.{AllByRecursion}
+use Rattle.krb_msg.specs.Term.{Term, Value, der, Fits}
 use Rattle.krb_msg.specs.Grammar.{messages}
-use Rattle.krb_msg.specs.Profiles.{narrowed, narrowed_value, profile_term, profile_value}
+use Rattle.krb_msg.specs.Profiles.{narrowed, narrowed_value}
 use Rattle.krb_msg.specs.Shape.{IsOneOf, IsGrammar, greatest_depth}
 use Rattle.krb_msg.specs.Judgement.{judgement}
 use Rattle.krb_msg.specs.Views.{kind_of, kind_term, kind_term_in, message_value_in, kind_of_tag, message_value, message_der, IsInProfile}

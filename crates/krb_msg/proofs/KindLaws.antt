@@ -91,7 +91,8 @@ kind_from_tag k tag =
     (first_choice tag kind.KrbSafe k _
     (first_choice tag kind.KrbPriv k _
     (first_choice tag kind.KrbCred k _
-    (first_choice tag kind.KrbError k _ (λ e. absurd (some_is_none k (sym e))))))))))))
+    (first_choice tag kind.KrbError k _
+    (λ e. absurd (some_is_none k (sym e))))))))))))
 
 -- a view has the value of its message
 pub message_value-seen : (m : MessageView) → MessageLists m → message_value (message_of_view m) ≡ message_view_value m

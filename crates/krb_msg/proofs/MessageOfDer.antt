@@ -1,9 +1,9 @@
 -- The message of the DER of a message is that message.
-use Rattle.std.proofs.Common.{◌≡◌, ◌^◌, ◌<◌, true, length, sym, ◌∙◌, ap, arith}
+use Rattle.std.proofs.Common.{◌≡◌, ◌^◌, ◌<◌, true, length, ◌∙◌, ap, arith}
 use Rattle.krb_der.specs.declared.profile.Profile.{Profile}
 use Rattle.krb_msg.specs.ValueOfDer.{first_or_zero, value_of_der}
 use Rattle.krb_msg.specs.Shape.{is_unambiguous}
-use Rattle.krb_msg.specs.Term.{Term, Value, der, tag_of}
+use Rattle.krb_msg.specs.Term.{Term, Value, der}
 use Rattle.krb_msg.specs.Views.{kind_of, kind_of_tag, kind_term, message_of, message_of_der, message_of_kind, message_value, message_der, IsInProfile}
 use Rattle.krb_msg.specs.declared.message.Message.{Message}
 use Rattle.krb_msg.specs.inner.Kinds.{kind_of_tag-tag, kind_unambiguous, message_round_trips}

@@ -1,7 +1,5 @@
 -- A message as it is viewed: its first octet chooses the term by which it is judged.
-use Rattle.std.proofs.Common.{◌≡◌, ℕ, ◌^◌, ◌<◌, ◌⊎◌, inl, inr, true, false, if◌then◌else◌, eqb, eqb-true, List, [], ◌∷◌, length, get_or, Option, Some, None, refl, sym, ◌∙◌, ap, subst, arith}
-use Rattle.std.specs.Option.{unwrap_or}
-use Rattle.std.proofs.lemmas.Bool.{cases_Bool}
+use Rattle.std.proofs.Common.{◌≡◌, ℕ, ◌^◌, ◌<◌, List, [], ◌∷◌, length, get_or, None, sym, ◌∙◌, ap, subst, arith}
 use Rattle.krb_der.specs.Octets.{AreOctets}
 use Rattle.krb_der.specs.declared.profile.Profile.TheVariants as profile
 use Rattle.krb_der.specs.declared.verdict.Verdict.TheVariants as verdict
@@ -11,7 +9,7 @@ use Rattle.krb_msg.specs.declared.message.Message.{Message}
 use Rattle.krb_msg.specs.Judgement.{judgement, term_judgement}
 use Rattle.krb_msg.specs.Laws.{AreMessage}
 use Rattle.krb_msg.specs.Views.{message_of_der, message_of_kind, kind_of, kind_of_tag, kind_tag, kind_term, kind_with_tag, message_der, message_of, message_value, IsInProfile}
-use Rattle.krb_msg.specs.Term.{Value, tag_of}
+use Rattle.krb_msg.specs.Term.{Value}
 use Rattle.krb_msg.specs.inner.Values.{der_is}
 use Rattle.krb_msg.proofs.Judged.{whole_is_message}
 use Rattle.krb_msg.proofs.KindSteps.{some_is_none}

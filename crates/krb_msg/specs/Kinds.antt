@@ -139,3 +139,16 @@ MessageLists (view.KrbSafe m) = KrbSafeLists m
 MessageLists (view.KrbPriv m) = KrbPrivLists m
 MessageLists (view.KrbCred m) = KrbCredLists m
 MessageLists (view.KrbError m) = KrbErrorLists m
+
+-- the realm that a message is of (RFC 4120, 5.2.2), if it is of one
+abbrev pub realm_of : Message → Option (List ℕ)
+realm_of (message.AsReq m) = Some m.body.realm
+realm_of (message.AsRep m) = Some m.crealm
+realm_of (message.TgsReq m) = Some m.body.realm
+realm_of (message.TgsRep m) = Some m.crealm
+realm_of (message.ApReq m) = Some m.ticket.realm
+realm_of (message.ApRep m) = None
+realm_of (message.KrbSafe m) = None
+realm_of (message.KrbPriv m) = None
+realm_of (message.KrbCred m) = None
+realm_of (message.KrbError m) = Some m.realm

@@ -1,22 +1,9 @@
--- The realm that a message is of (RFC 4120, 5.2.2).
-use Rattle.std.specs.Prelude.{ℕ, ◌≡◌, List, Option, Some, None}
+-- The realm that a message is of (RFC 4120, 5.2.2): that in the body of a request (5.4.1), that of the client in a reply (5.4.2), that of the ticket in an AP-REQ (5.5.1), and that of the server in an error (5.9.1); the other messages have none.
+use Rattle.std.specs.Prelude.{ℕ, ◌≡◌, List, Option}
 use Rattle.krb_der.specs.declared.profile.Profile.{Profile}
 use Rattle.krb_msg.specs.declared.message.Message.{Message}
-use Rattle.krb_msg.specs.declared.message.Message.TheVariants as message
 use Rattle.krb_msg.specs.Views.{message_der, IsInProfile}
-
--- the realm in the body of a request (5.4.1), that of the client in a reply (5.4.2), that of the ticket in an AP-REQ (5.5.1), and that of the server in an error (5.9.1); the other messages have none
-abbrev pub realm_of : Message → Option (List ℕ)
-realm_of (message.AsReq m) = Some m.body.realm
-realm_of (message.AsRep m) = Some m.crealm
-realm_of (message.TgsReq m) = Some m.body.realm
-realm_of (message.TgsRep m) = Some m.crealm
-realm_of (message.ApReq m) = Some m.ticket.realm
-realm_of (message.ApRep m) = None
-realm_of (message.KrbSafe m) = None
-realm_of (message.KrbPriv m) = None
-realm_of (message.KrbCred m) = None
-realm_of (message.KrbError m) = Some m.realm
+pub use Rattle.krb_msg.specs.Kinds.{realm_of}
 
 -- the octets are those of some message of a profile, of this realm
 pub record AreOfRealm (profile : Profile) (octets : List ℕ) (realm : Option (List ℕ)) : Type 0 where

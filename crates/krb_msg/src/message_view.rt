@@ -1,8 +1,10 @@
 //! Messages viewed in place. `asn1/generate` wrote this from `asn1/krb5.asn1`.
 
 ghost use Rattle.std.specs.Prelude.{◌≡◌, IfOk, MatchOption};
+ghost use Rattle.std.specs.Option.{option_map};
 ghost use Rattle.krb_der.specs.declared.profile.Profile.TheVariants.{Lenient};
 ghost use Rattle.krb_msg.specs.Notes.{notes_of};
+ghost use Rattle.krb_msg.specs.Realm.{realm_of};
 ghost use Rattle.krb_msg.specs.Views.{IsInProfile, kind_of};
 ghost use Rattle.krb_msg.specs.ViewValues.{BeginAs, IsMessageView, IsNoMessage, MessageLists, message_of_view};
 ghost use Rattle.krb_msg.specs.declared.message.Kind.TheVariants as kind;
@@ -68,6 +70,24 @@ impl<'a> MessageView<'a> {
         }
     }
 
+    /// Returns the realm that the message is of, if it is of one (5.2.2).
+    pub fn realm(&self) -> Option<&'a [u8]>
+        ensures { option_map (λ octets. octets.now) result ≡ realm_of (message_of_view self.now) }
+    {
+        match self {
+            MessageView::AsReq(m) => Some(m.body.realm),
+            MessageView::AsRep(m) => Some(m.crealm),
+            MessageView::TgsReq(m) => Some(m.body.realm),
+            MessageView::TgsRep(m) => Some(m.crealm),
+            MessageView::ApReq(m) => Some(m.ticket.realm),
+            MessageView::ApRep(_) => None,
+            MessageView::KrbSafe(_) => None,
+            MessageView::KrbPriv(_) => None,
+            MessageView::KrbCred(_) => None,
+            MessageView::KrbError(m) => Some(m.realm),
+        }
+    }
+
     /// Returns the message of the view. Nothing is judged again, and each string of octets is
     /// copied once.
     pub fn to_message(&self, alloc: Global) -> Result<Message, Memory>
@@ -83,13 +103,13 @@ impl<'a> MessageView<'a> {
             MessageView::ApReq(req) => Ok(Message::ApReq(ApReq::from_view(alloc, req)?)),
             MessageView::ApRep(rep) => Ok(Message::ApRep(ApRep::from_view(alloc, rep)?)),
             MessageView::KrbSafe(safe) => Ok(Message::KrbSafe(KrbSafe::from_view(alloc, safe)?)),
-            MessageView::KrbPriv(private) => {
-                Ok(Message::KrbPriv(KrbPriv::from_view(alloc, private)?))
-            }
+            MessageView::KrbPriv(private) => Ok(Message::KrbPriv(KrbPriv::from_view(
+                alloc, private,
+            )?)),
             MessageView::KrbCred(cred) => Ok(Message::KrbCred(KrbCred::from_view(alloc, cred)?)),
-            MessageView::KrbError(error) => {
-                Ok(Message::KrbError(KrbError::from_view(alloc, error)?))
-            }
+            MessageView::KrbError(error) => Ok(Message::KrbError(KrbError::from_view(
+                alloc, error,
+            )?)),
         }
     }
 }

@@ -1,4 +1,4 @@
-use Rattle.std.proofs.Common.{◌≡◌, map, take}
+use Rattle.std.proofs.Common.{◌≡◌, take}
 use Rattle.std.specs.List.{list_any}
 use Rattle.krb_msg.specs.Notes.{has, notes_by}
 use Rattle.krb_msg.proofs.notes.items.notes_of_items.Given as goal
