@@ -249,5 +249,6 @@ def has_notes(type):
 def noted_lists_file(module):
     """krb_msg/src/notes/lists.rt: the notes on the lists of the grammar."""
     items = lists_of_items(module)
-    noted = "\n".join(fill("list_notes.rt", Type=owned(item), no="" if has_notes(item) else "no_") for item in items)
+    calls = {True: ("", "*seen"), False: ("no_", "seen")}
+    noted = "\n".join(fill("list_notes.rt", Type=owned(item), no=calls[has_notes(item)][0], seen=calls[has_notes(item)][1]) for item in items)
     return fill("noted_lists.rt", uses=uses_of_items(items), noted=noted)

@@ -1,5 +1,5 @@
 -- The notes on a message. A note holds of a value if it holds of any part of it, Tickets inside included; the octets of an OCTET STRING are no part.
-use Rattle.std.specs.Prelude.{ℕ, ℤ, negsuc, ◌≡◌, ◌-◌, ◌*◌, Bool, true, false, ◌&&◌, ◌||◌, ◌==◌, nat_lt, List, [], length, Option, Some, None, if◌then◌else◌}
+use Rattle.std.specs.Prelude.{ℕ, ℤ, negsuc, ◌-◌, ◌*◌, Bool, true, false, ◌&&◌, ◌||◌, ◌==◌, nat_lt, List, [], length, Option, Some, None, if◌then◌else◌}
 use Rattle.std.specs.List.{list_any}
 use Rattle.krb_msg.specs.Term.{Term, Fields, Integer, Text, Octets, Time, Bits, Sequence, SequenceOf, Tagged, Application, End, Required, Optional, Value, Values}
 use Rattle.krb_msg.specs.Profiles.{is_unsigned}
@@ -61,10 +61,6 @@ abbrev mutual
   any_has note (Required term fields) values = has note term values.0 || any_has note fields values.1
   any_has note (Optional term fields) values = option_any (λ value. is_list_that_has note term value || has note term value) values.0 || any_has note fields values.1
 
--- no note holds of any value of a term
-abbrev pub HasNoNotes : Term → Type 0
-HasNoNotes term = (note : Note) (value : Value term) → has note term value ≡ false
-
 -- the notes that pass a test
 abbrev pub notes_by : (Note → Bool) → Notes
 notes_by test = record { high_octet = test HighOctet; few_flags = test FewFlags; negative = test Negative; empty_list = test EmptyList }
@@ -72,10 +68,6 @@ notes_by test = record { high_octet = test HighOctet; few_flags = test FewFlags;
 -- the notes of one or the other
 abbrev pub either : Notes → Notes → Notes
 either notes other = record { high_octet = notes.high_octet || other.high_octet; few_flags = notes.few_flags || other.few_flags; negative = notes.negative || other.negative; empty_list = notes.empty_list || other.empty_list }
-
--- the note on an empty list alone, if there is one
-abbrev pub empty_list_note : Bool → Notes
-empty_list_note empty = record { high_octet = false; few_flags = false; negative = false; empty_list = empty }
 
 -- whether a note holds of a message
 abbrev pub message_has : Note → Message → Bool

@@ -6,3 +6,4 @@ pub mod Kinds
 pub mod Fitting
 pub mod Copies
 pub mod Fields
+pub mod Notes

@@ -142,6 +142,7 @@ impl<'a> NotedView<'a> for ApRep {
         false
     }
 
+    #[inline(always)]
     fn notes(seen: &ApRepView<'a>) -> Notes {
         Layout::<Owned>::notes(&seen.fields())
     }

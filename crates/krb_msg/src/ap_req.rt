@@ -173,6 +173,7 @@ impl<'a> NotedView<'a> for ApReq {
         false
     }
 
+    #[inline(always)]
     fn notes(seen: &ApReqView<'a>) -> Notes {
         Layout::<Owned>::notes(&seen.fields())
     }

@@ -120,6 +120,7 @@ impl<'a> NotedView<'a> for Checksum {
         false
     }
 
+    #[inline(always)]
     fn notes(seen: &ChecksumView<'a>) -> Notes {
         Layout::<Owned>::notes(&(seen.cksumtype, (seen.checksum, ())))
     }

@@ -135,6 +135,7 @@ impl<'a> NotedView<'a> for EncryptedData {
         false
     }
 
+    #[inline(always)]
     fn notes(seen: &EncryptedDataView<'a>) -> Notes {
         Layout::<Owned>::notes(&(seen.etype, (seen.kvno, (seen.cipher, ()))))
     }

@@ -1,6 +1,6 @@
 //! The fields of a type, said once as a type like
-//! `Sequence<Required<0, Int32, Optional<1, Wide32, End>>>`, by which its values are encoded
-//! and viewed (X.690, 8.9 and 8.14).
+//! `Sequence<Required<0, Int32, Optional<1, Wide32, End>>>`, by which its values are encoded,
+//! viewed (X.690, 8.9 and 8.14) and noted.
 
 mod encode;
 mod notes;

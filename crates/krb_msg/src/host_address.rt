@@ -117,6 +117,7 @@ impl<'a> NotedView<'a> for HostAddress {
         false
     }
 
+    #[inline(always)]
     fn notes(seen: &HostAddressView<'a>) -> Notes {
         Layout::<Owned>::notes(&(seen.addr_type, (seen.address, ())))
     }

@@ -331,6 +331,7 @@ impl<'a> ViewFields<'a> for Cut<Rest<Owned>> {
 }
 
 impl<'a> NotedViewFields<'a> for Cut<Rest<Owned>> {
+    #[inline(always)]
     fn notes(seen: &RestView<'a>) -> Notes {
         Rest::<Owned>::notes(&seen.fields())
     }
@@ -415,6 +416,7 @@ impl<'a> NotedView<'a> for KdcReqBody {
         false
     }
 
+    #[inline(always)]
     fn notes(seen: &KdcReqBodyView<'a>) -> Notes {
         Layout::<Owned>::notes(&seen.fields())
     }

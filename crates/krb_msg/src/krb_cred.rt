@@ -161,6 +161,7 @@ impl<'a> NotedView<'a> for KrbCred {
         false
     }
 
+    #[inline(always)]
     fn notes(seen: &KrbCredView<'a>) -> Notes {
         Layout::<Owned>::notes(&seen.fields())
     }

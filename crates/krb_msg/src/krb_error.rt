@@ -305,6 +305,7 @@ impl<'a> ViewFields<'a> for Cut<Rest<Owned>> {
 }
 
 impl<'a> NotedViewFields<'a> for Cut<Rest<Owned>> {
+    #[inline(always)]
     fn notes(seen: &RestView<'a>) -> Notes {
         Rest::<Owned>::notes(&seen.fields())
     }
@@ -388,6 +389,7 @@ impl<'a> NotedView<'a> for KrbError {
         false
     }
 
+    #[inline(always)]
     fn notes(seen: &KrbErrorView<'a>) -> Notes {
         Layout::<Owned>::notes(&seen.fields())
     }

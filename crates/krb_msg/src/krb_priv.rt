@@ -142,6 +142,7 @@ impl<'a> NotedView<'a> for KrbPriv {
         false
     }
 
+    #[inline(always)]
     fn notes(seen: &KrbPrivView<'a>) -> Notes {
         Layout::<Owned>::notes(&seen.fields())
     }

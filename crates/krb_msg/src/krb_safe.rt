@@ -160,6 +160,7 @@ impl<'a> NotedView<'a> for KrbSafe {
         false
     }
 
+    #[inline(always)]
     fn notes(seen: &KrbSafeView<'a>) -> Notes {
         Layout::<Owned>::notes(&seen.fields())
     }

@@ -216,6 +216,7 @@ impl<'a> NotedView<'a> for KrbSafeBody {
         false
     }
 
+    #[inline(always)]
     fn notes(seen: &KrbSafeBodyView<'a>) -> Notes {
         Layout::<Owned>::notes(&seen.fields())
     }

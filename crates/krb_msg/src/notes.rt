@@ -2,10 +2,10 @@
 
 ghost use Rattle.std.specs.Prelude.{◌≡◌, ◌||◌, false, not};
 ghost use Rattle.krb_msg.specs.Views.{is_strict};
-ghost use Rattle.krb_msg.specs.Notes.{notes_by, notes_have, either, empty_list_note};
+ghost use Rattle.krb_msg.specs.Notes.{notes_by, notes_have, either};
 ghost use Rattle.krb_msg.specs.ViewValues.{MessageLists, message_of_view};
 
-mod items;
+pub mod items;
 mod lists;
 mod scalars;
 
@@ -51,17 +51,6 @@ impl Notes {
             few_flags: false,
             negative: false,
             empty_list: false,
-        }
-    }
-
-    /// Returns the note on a list that is there and empty, if it is.
-    #[inline(always)]
-    pub(crate) fn of_empty_list(empty_list: bool) -> Notes
-        ensures { result ≡ empty_list_note empty_list }
-    {
-        Notes {
-            empty_list,
-            ..Notes::none()
         }
     }
 

@@ -121,6 +121,7 @@ impl<'a> NotedView<'a> for PaData {
         false
     }
 
+    #[inline(always)]
     fn notes(seen: &PaDataView<'a>) -> Notes {
         Layout::<Owned>::notes(&(seen.padata_type, (seen.padata_value, ())))
     }

@@ -120,6 +120,7 @@ impl<'a> NotedView<'a> for PrincipalName {
         false
     }
 
+    #[inline(always)]
     fn notes(seen: &PrincipalNameView<'a>) -> Notes {
         Layout::<Owned>::notes(&(seen.name_type, (seen.name, ())))
     }

@@ -170,6 +170,7 @@ impl<'a> NotedView<'a> for Ticket {
         false
     }
 
+    #[inline(always)]
     fn notes(seen: &TicketView<'a>) -> Notes {
         Layout::<Owned>::notes(&seen.fields())
     }

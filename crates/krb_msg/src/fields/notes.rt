@@ -7,6 +7,7 @@ ghost use Rattle.krb_msg.specs.Notes.{EmptyList, is_list_that_has, option_any, h
 use crate::fields::{Application, Encode, EncodeFields, End, Fixed, Optional, Required, Sequence};
 use crate::item::Item;
 use crate::notes::Notes;
+use crate::notes::items::note_of_empty_list;
 
 /// A type in whose values notes may hold.
 pub trait Noted: Item {
@@ -39,7 +40,7 @@ fn optional_notes<T: Noted>(field: Option<&T>) -> Notes
     ensures { result ≡ notes_by (λ note. option_any (λ value. is_list_that_has note T.Item.term value || has note T.Item.term value) (option_map (λ value. T.Item.value value.now) field.entry)) }
 {
     match field {
-        Some(value) => Notes::of_empty_list(value.is_empty_list()).or(value.notes()),
+        Some(value) => note_of_empty_list(value.is_empty_list()).or(value.notes()),
         None => Notes::none(),
     }
 }

@@ -7,6 +7,7 @@ ghost use Rattle.krb_msg.specs.Viewed.{OfSome};
 
 use crate::fields::{Application, End, Fixed, Optional, Required, Sequence, View, ViewFields};
 use crate::notes::Notes;
+use crate::notes::items::note_of_empty_list;
 
 /// A type in whose views notes may hold.
 pub trait NotedView<'a>: View<'a> {
@@ -36,7 +37,7 @@ fn optional_notes<'a, T: NotedView<'a>>(field: &Option<T::Of>) -> Notes
     ensures { result ≡ notes_by (λ note. option_any (λ value. is_list_that_has note T.View.term value || has note T.View.term value) (option_map T.View.value field.now)) }
 {
     match field {
-        Some(seen) => Notes::of_empty_list(T::is_empty_list(seen)).or(T::notes(seen)),
+        Some(seen) => note_of_empty_list(T::is_empty_list(seen)).or(T::notes(seen)),
         None => Notes::none(),
     }
 }

@@ -4,13 +4,25 @@ ghost use Rattle.std.specs.Prelude.{◌≡◌, true, map};
 ghost use Rattle.std.specs.List.{list_any};
 ghost use Rattle.krb_msg.specs.Shape.{has_octet_tags, is_unambiguous};
 ghost use Rattle.krb_msg.specs.Viewed.{AreViewed, items_of};
-ghost use Rattle.krb_msg.specs.Notes.{EmptyList, HasNoNotes, has, list_has, notes_by};
+ghost use Rattle.krb_msg.specs.Notes.{EmptyList, has, list_has, notes_by};
+ghost use Rattle.krb_msg.specs.inner.Notes.{HasNoNotes, empty_list_note};
 
 use crate::fields::{Noted, NotedView, View};
 use crate::item::Item;
 use crate::notes::Notes;
 use crate::view::items::{ItemsView, next_item};
 use krb_der::Many;
+
+/// Returns the note on a list that may be left out, if it is there and has no items.
+#[inline(always)]
+pub fn note_of_empty_list(empty_list: bool) -> Notes
+    ensures { result ≡ empty_list_note empty_list }
+{
+    Notes {
+        empty_list,
+        ..Notes::none()
+    }
+}
 
 /// Returns whether a list has no items.
 #[inline(always)]
@@ -50,14 +62,14 @@ pub fn has_no_items_in_view<'a, T: View<'a>>(items: &ItemsView<'a>) -> bool
 }
 
 /// Returns the notes that hold in some of the items of a list that is viewed.
-pub fn notes_of_items_in_view<'a, T: NotedView<'a>>(items: &ItemsView<'a>) -> Notes
+pub fn notes_of_items_in_view<'a, T: NotedView<'a>>(items: ItemsView<'a>) -> Notes
     requires tags { has_octet_tags T.View.term ≡ true }
     requires unambiguous { is_unambiguous T.View.term ≡ true }
-    requires viewed { AreViewed T.View.term items.now.octets.now }
-    ensures { result ≡ notes_by (λ note. list_any (has note T.View.term) (items_of T.View.term items.now.octets.now)) }
+    requires viewed { AreViewed T.View.term items.octets.now }
+    ensures { result ≡ notes_by (λ note. list_any (has note T.View.term) (items_of T.View.term items.entry.octets.now)) }
 {
     let mut notes = Notes::none();
-    let mut rest = *items;
+    let mut rest = items;
     'items: while let Some((seen, others)) = next_item::<T>(rest) {
         notes = notes.or(T::notes(&seen));
         rest = others;

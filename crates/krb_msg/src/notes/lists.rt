@@ -80,7 +80,7 @@ impl<'a> NotedView<'a> for Many<KString> {
 
     #[inline(always)]
     fn notes(seen: &ItemsView<'a>) -> Notes {
-        notes_of_items_in_view::<KString>(seen)
+        notes_of_items_in_view::<KString>(*seen)
     }
 }
 
@@ -128,6 +128,6 @@ impl<'a> NotedView<'a> for Many<Ticket> {
 
     #[inline(always)]
     fn notes(seen: &ItemsView<'a>) -> Notes {
-        notes_of_items_in_view::<Ticket>(seen)
+        notes_of_items_in_view::<Ticket>(*seen)
     }
 }

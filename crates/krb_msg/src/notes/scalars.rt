@@ -40,6 +40,7 @@ impl<'a> NotedView<'a> for KString {
         false
     }
 
+    #[inline(always)]
     fn notes(seen: &&'a [u8]) -> Notes {
         Notes {
             high_octet: has_high_octet(seen),

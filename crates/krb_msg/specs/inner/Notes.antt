@@ -1,0 +1,13 @@
+-- What is known of notes on parts.
+use Rattle.std.specs.Prelude.{◌≡◌, Bool, false}
+use Rattle.krb_msg.specs.Term.{Term, Value}
+use Rattle.krb_msg.specs.Notes.{Note, has}
+use Rattle.krb_msg.specs.declared.notes.Notes.{Notes}
+
+-- no note holds of any value of a term
+abbrev pub HasNoNotes : Term → Type 0
+HasNoNotes term = (note : Note) (value : Value term) → has note term value ≡ false
+
+-- the note on an empty list alone, if there is one
+abbrev pub empty_list_note : Bool → Notes
+empty_list_note empty = record { high_octet = false; few_flags = false; negative = false; empty_list = empty }
