@@ -13,7 +13,7 @@
 //! frames: `krb_frame` does. It allocates for the marks alone.
 //!
 //! `specs/`, to be read in this order: `Scan` (the scan of the octets present), `ValueMarks` (the
-//! marks of a value), `Positions` and `State` (the fields of a scanner, as a state of the scan),
+//! marks of a value), `Expectations` and `State` (the fields of a scanner, as a state of the scan),
 //! `Scanned` (a scanner that has scanned octets), `Laws` (that the verdict of a scan is the
 //! judgement, and that the marks of a whole message are those of its value), `Runs` (how many
 //! octets of an open string are to come) and `Scanner` (what contracts see of one). `specs/inner`
@@ -22,20 +22,23 @@
 
 mod building;
 mod closing;
+mod event;
+mod expected;
 mod head;
 pub mod law;
 mod leaf;
 mod ledger;
+mod machine;
 mod mark;
 mod open;
 mod path;
-mod positions;
 mod scanned;
 mod scanner;
 mod tip;
 
 pub use building::build;
 pub use krb_der::{Memory, Refusal, Verdict, Why};
+pub use machine::Machine;
 pub use mark::Mark;
 pub use scanned::Scanned;
 pub use scanner::Scanner;

@@ -1,4 +1,4 @@
-use Rattle.krb_scan.specs.Scanner.{profile_of}
+use Rattle.krb_scan.specs.Machine.{profile_of}
 use Rattle.krb_msg.specs.Grammar.{messages}
 use Rattle.std.proofs.Common.{◌≡◌, length, sym, ◌∙◌, ap, arith}
 use Rattle.krb_frame.proofs.DecoderFrames.{contents-at}

@@ -5,8 +5,8 @@ use Rattle.krb_der.specs.declared.verdict.Verdict.TheVariants.{Whole}
 use Rattle.krb_msg.specs.Grammar.{messages}
 use Rattle.krb_msg.specs.Judgement.{judgement}
 use Rattle.krb_msg.specs.ViewValues.{IsMessageView}
-use Rattle.krb_scan.specs.Scanner.{ledger_of, profile_of, capacity_of}
-use Rattle.krb_frame.specs.Decoding.{decoding_of, octets_of, capacity_for}
+use Rattle.krb_scan.specs.Machine.{ledger_of, profile_of}
+use Rattle.krb_frame.specs.Decoding.{decoding_of, octets_of}
 use Rattle.krb_frame.specs.Passes.{first_frame, passed_after}
 use Rattle.krb_frame.specs.inner.Passing.{BeginWithContents, IsPassedOf}
 use Rattle.krb_frame.specs.inner.Phases.{IsPhaseOf, HasPartOfLength}
@@ -42,4 +42,4 @@ returns-clause-passes c =
     let none = alone p d.limit d.length d.contents.items d.phase (c.in-Length-eq0.is ∙ ap phase.Length (sym c.in-Length-eq0.field-0-is ∙ c.in-Length-eq0.field-0-test)) c.self.invariant.0 in
     let passed : Passed = record { message = c.in-Some.message; rest = c.in_ok-contents.rest } in
     let seen = viewed p c.profile.result d.limit c.args.piece.now _ passed c.profile.ensures c.in_ok-contents.ensures c.in-Some.ensures in
-    rw (← c.self.view_is) (passes_some (messages p) d.limit (decoding_of p d.limit (ledger_of d.scanner) (capacity_for (vec_capacity d.contents) (capacity_of d.scanner)) d.length d.contents.items d.phase) c.args.piece.now (Some passed) refl none seen)
+    rw (← c.self.view_is) (passes_some (messages p) d.limit (decoding_of p d.limit (ledger_of d.scanner) (vec_capacity d.contents) d.length d.contents.items d.phase) c.args.piece.now (Some passed) refl none seen)

@@ -1,26 +1,25 @@
 use Rattle.krb_msg.specs.Grammar.{messages}
-use Rattle.krb_scan.specs.Scanner.{ledger_of, profile_of, capacity_of}
+use Rattle.krb_scan.specs.Machine.{ledger_of, profile_of}
 use Rattle.std.proofs.Common.{◌≡◌, sym, subst, length, ◌∙◌, ap, arith}
 use Rattle.std.specs.Prelude.{Some, vec_capacity}
 use Rattle.krb_der.specs.declared.profile.Profile.TheVariants.{Lenient}
 use Rattle.krb_der.specs.declared.verdict.Verdict.TheVariants.{Whole}
 use Rattle.krb_msg.specs.Judgement.{judgement}
 use Rattle.krb_msg.proofs.Judged.{lenient_whole}
-use Rattle.krb_scan.specs.Scanner.{HasScanned}
+use Rattle.krb_scan.specs.Machine.{HasScanned}
 use Rattle.krb_frame.specs.inner.Phases.{IsPhaseOf, IsScanned, HasFrame}
-use Rattle.krb_frame.specs.Decoding.{capacity_for}
 use Rattle.krb_frame.proofs.DecoderFrames.{borrowed-none, borrowed-ready}
 use Rattle.krb_frame.proofs.decoder.Decoder.ready.Goals as goal
 
 pub returns-in-Ready : goal.returns-in-Ready
 returns-in-Ready c =
     let d = c.self.inside in
-    rw (← c.self.view_is) (ap Some (c.new.ensures ∙ c.as_slice.ensures.value) ∙ sym (borrowed-ready (messages (profile_of d.scanner)) (profile_of d.scanner) d.limit (ledger_of d.scanner) (capacity_for (vec_capacity d.contents) (capacity_of d.scanner)) d.length d.contents.items d.phase c.self.invariant.0 c.in-Ready.is))
+    rw (← c.self.view_is) (ap Some (c.new.ensures ∙ c.as_slice.ensures.value) ∙ sym (borrowed-ready (messages (profile_of d.scanner)) (profile_of d.scanner) d.limit (ledger_of d.scanner) (vec_capacity d.contents) d.length d.contents.items d.phase c.self.invariant.0 c.in-Ready.is))
 
 pub returns-in_default : goal.returns-in_default
 returns-in_default c =
     let d = c.self.inside in
-    rw (← c.self.view_is) (sym (borrowed-none (messages (profile_of d.scanner)) (profile_of d.scanner) d.limit (ledger_of d.scanner) (capacity_for (vec_capacity d.contents) (capacity_of d.scanner)) d.length d.contents.items d.phase c.self.invariant.0 c.in_default.not-Ready))
+    rw (← c.self.view_is) (sym (borrowed-none (messages (profile_of d.scanner)) (profile_of d.scanner) d.limit (ledger_of d.scanner) (vec_capacity d.contents) d.length d.contents.items d.phase c.self.invariant.0 c.in_default.not-Ready))
 
 pub new-requires-clause-whole : goal.new-requires-clause-whole
 new-requires-clause-whole c =
