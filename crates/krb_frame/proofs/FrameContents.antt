@@ -1,6 +1,6 @@
 -- The contents of a frame as they come.
-use Rattle.std.specs.Prelude.{if◌then◌else◌, is_ok, is_err}
-use Rattle.std.proofs.Common.{◌≡◌, ◌≢◌, ℕ, suc, ◌+◌, ◌-◌, ◌^◌, ◌<◌, ◌≤◌, min, inl, inr, List, ◌++◌, length, take, false, Result, Ok, Err, refl, sym, ◌∙◌, ap, subst, arith, length-append, length-take}
+use Rattle.std.specs.Prelude.{if◌then◌else◌, is_ok, is_err, OnErr}
+use Rattle.std.proofs.Common.{◌≡◌, ◌≢◌, ℕ, suc, ◌+◌, ◌-◌, ◌^◌, ◌<◌, ◌≤◌, min, inl, inr, List, ◌++◌, length, take, true, false, Result, Ok, Err, refl, sym, ◌∙◌, ap, subst, arith, length-append, length-take}
 use Rattle.std.proofs.lemmas.Bool.{cases_lt}
 use Rattle.std.proofs.lemmas.List.{take-append-le, take-take}
 use Rattle.std.proofs.Math.Seq.{take-append-add}
@@ -24,6 +24,16 @@ use Rattle.krb_frame.specs.inner.Phases.{IsFedContents, IsEarly, status_by}
 pub extended : {A B : Type 0} (r : Result A B) (held all kept : List ℕ) → held ≡ (if is_ok r then all else kept) → false ≡ is_err r → held ≡ all
 extended (Ok done) held all kept e f = e
 extended (Err error) held all kept e f = absurd cc
+
+-- what holds at Err, of a call that returned one
+pub held_at_err : {A B P : Type 0} (r : Result A B) → OnErr r P → true ≡ is_err r → P
+held_at_err (Ok done) p f = absurd cc
+held_at_err (Err error) p f = p
+
+-- those of one for which there was no memory
+pub kept_still : {A B : Type 0} (r : Result A B) (held all kept : List ℕ) → held ≡ (if is_ok r then all else kept) → true ≡ is_err r → held ≡ kept
+kept_still (Ok done) held all kept e f = absurd cc
+kept_still (Err error) held all kept e f = e
 
 -- a verdict is not out of memory
 pub not_memory : (decided : Verdict) → status_by decided ≢ status.Memory

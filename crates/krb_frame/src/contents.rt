@@ -1,6 +1,6 @@
 //! The contents of a frame, as they come.
 
-ghost use Rattle.std.specs.Prelude.{◌≡◌, ◌≢◌, ◌+◌, ◌<◌, ◌≤◌, ◌^◌, true, [], length, vec_capacity};
+ghost use Rattle.std.specs.Prelude.{◌≡◌, ◌≢◌, ◌+◌, ◌<◌, ◌≤◌, ◌^◌, ◌++◌, true, [], length, vec_capacity, if◌then◌else◌, is_ok, OnErr};
 ghost use Rattle.krb_der.specs.declared.verdict.Verdict.TheVariants.{Open};
 ghost use Rattle.krb_msg.specs.Grammar.{messages};
 ghost use Rattle.krb_msg.specs.Judgement.{judgement};
@@ -9,7 +9,7 @@ ghost use Rattle.krb_frame.specs.inner.Phases.{IsFedContents, IsEarly, status_by
 ghost use Rattle.krb_frame.specs.declared.decoder.Status.TheVariants as status;
 
 use crate::decoder::{Fed, LENGTH_OCTETS, Status};
-use krb_der::{Refusal, Verdict};
+use krb_der::{Memory, Refusal, Verdict};
 use krb_scan::Machine;
 use std::alloc::Global;
 
@@ -17,8 +17,8 @@ use std::alloc::Global;
 const CONTENTS_KEPT: usize = 1 << 22;
 
 /// Uses octets of the contents of a frame of `size` octets, as many as are missing and come, up to
-/// one that is refused. The scanner looks at each of them once. If out of memory none is taken; it
-/// is not if there is capacity for the whole frame.
+/// one that is refused. The scanner looks at each of them once. If out of memory, none is used;
+/// that cannot be if there is capacity for the whole frame.
 pub(crate) fn take_contents(
     contents: &mut Vec<u8>,
     scanner: &mut Machine,
@@ -40,7 +40,7 @@ pub(crate) fn take_contents(
     let before = contents.len();
     let count = piece.len().min(size as usize - before);
     let octets = &piece[..count];
-    if contents.extend_from_slice(octets).is_err() {
+    if append(contents, size as usize, octets).is_err() {
         return Fed {
             used: 0,
             status: Status::Memory,
@@ -52,6 +52,23 @@ pub(crate) fn take_contents(
         used,
         status: status_after(scanner.verdict()),
     }
+}
+
+/// Appends octets to the contents of a frame of `size` octets. If memory has to be allocated and
+/// half of them are there, it is for all of them and no more. If out of memory, they stay.
+fn append(contents: &mut Vec<u8>, size: usize, octets: &[u8]) -> Result<(), Memory>
+    requires { length contents.old.items + length octets.now ≤ size }
+    ensures items { contents.new.items ≡ (if is_ok result then contents.old.items ++ octets.now else contents.old.items) }
+    ensures full { OnErr result (vec_capacity contents.old < size) }
+    ensures some { OnErr result (0 < length octets.now) }
+    ensures capacity { vec_capacity contents.old ≤ vec_capacity contents.new }
+{
+    let there = contents.len() + octets.len();
+    if contents.capacity() < there && size - there <= there {
+        contents.reserve_exact(size - contents.len())?;
+    }
+    contents.extend_from_slice(octets)?;
+    Ok(())
 }
 
 /// Returns what is answered if a scanner decides so.

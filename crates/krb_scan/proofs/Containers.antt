@@ -47,7 +47,7 @@ limit_is inner outer stack h = let i : Innermost inner outer stack = innermost i
 
 -- that what is expected is known
 known-prop : (given : Expected) → IsProp (IsKnown given)
-known-prop (expected.Fields sequence from) = le_prop
+known-prop (expected.Fields from sequence) = le_prop
 known-prop (expected.Each node) = le_prop
 known-prop (expected.Only node) = le_prop
 known-prop (expected.Message profile) = Unit-prop

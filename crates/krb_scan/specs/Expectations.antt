@@ -25,7 +25,7 @@ abbrev pub only : Term → scan.Expected
 only term = scan.OneOf (term ∷ [])
 
 abbrev pub expected_of : Expected → scan.Expected
-expected_of (expected.Fields sequence from) = scan.Listed (fields_after from (fields_in (term_at sequence)))
+expected_of (expected.Fields from sequence) = scan.Listed (fields_after from (fields_in (term_at sequence)))
 expected_of (expected.Each node) = scan.Each (term_at node)
 expected_of (expected.Only node) = only (term_at node)
 expected_of (expected.Message profile) = scan.OneOf (messages profile)
@@ -33,7 +33,7 @@ expected_of expected.Nothing = scan.OneOf []
 
 -- it names rows of the table
 abbrev pub IsKnown : Expected → Type 0
-IsKnown (expected.Fields sequence from) = IsNode sequence
+IsKnown (expected.Fields from sequence) = IsNode sequence
 IsKnown (expected.Each node) = IsNode node
 IsKnown (expected.Only node) = IsNode node
 IsKnown other = Unit {0}

@@ -16,8 +16,8 @@ use krb_msg::grammar::{Form, LENIENT, STRICT, Slot, form_of, tables, tag_of};
 /// What the contents of a container may go on with.
 #[derive(Clone, Copy)]
 pub(crate) enum Expected {
-    /// The fields of a node's term, a SEQUENCE, from the one at an index on.
-    Fields { sequence: u16, from: u8 },
+    /// The fields from the one at an index on, of a node's term, which is a SEQUENCE.
+    Fields { from: u8, sequence: u16 },
     /// Any number of items of a node's term.
     Each { node: u16 },
     /// One item of a node's term, which fills the container.
@@ -54,7 +54,7 @@ impl Expected {
         ensures { result ≡ item_required (expected_of self) }
     {
         match self {
-            Expected::Fields { sequence, from } => requires_field(sequence, from),
+            Expected::Fields { from, sequence } => requires_field(sequence, from),
             Expected::Each { .. } | Expected::Nothing => false,
             Expected::Only { .. } | Expected::Message { .. } => true,
         }
@@ -66,7 +66,7 @@ impl Expected {
         ensures { IsChoice octet (expected_of self) result }
     {
         match self {
-            Expected::Fields { sequence, from } => pick_field(octet, sequence, from),
+            Expected::Fields { from, sequence } => pick_field(octet, sequence, from),
             Expected::Each { node } => pick_node(octet, node, self),
             Expected::Only { node } => pick_node(octet, node, Expected::Nothing),
             Expected::Message { profile } => pick_message(octet, profile),
@@ -126,8 +126,8 @@ fn pick_field(octet: u8, sequence: u16, from: u8) -> Option<Picked>
     let mut at = from;
     'fields: while (at as usize) < fields.len() {
         let left = Expected::Fields {
-            sequence,
             from: at + 1,
+            sequence,
         };
         match fields[at as usize] {
             Slot::Required { node } => return pick_node(octet, node, left),

@@ -88,8 +88,8 @@ fn sized_contents(node: u16, len: u32) -> Sized
         },
         Form::Fields { .. } => Sized::Items {
             first: Expected::Fields {
-                sequence: node,
                 from: 0,
+                sequence: node,
             },
         },
     }

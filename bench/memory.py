@@ -1,0 +1,54 @@
+"""Says how much memory bin/krbls has on what costs it most: captures of 65536 directions of connections that each
+have the first octets of a frame, and a stream of one frame of 16 MiB, of the smallest items, strings without octets."""
+
+import struct
+import tempfile
+
+from capture import ACK, CAPTURE, ETHERNET, MIB, STREAM, SYN, ends, segment
+from timing import most_octets
+
+DIRECTIONS = 65536
+SEGMENT_SIZES = (256, 512, 1024)
+FRAME = 16 * MIB
+STRING = b"\x1b\0"
+
+
+def opened(tag, size):
+    """The octets before the contents of an item of a number of octets in all, at least 258 and less than 16 MiB."""
+    octets = 2 if size < 0x10004 else 3
+    return bytes([tag, 0x80 | octets]) + (size - 2 - octets).to_bytes(octets, "big")
+
+
+def names(size, present):
+    """The first octets of a frame of a number of octets: an AS-REP whose client has a name of strings without octets."""
+    octets = struct.pack(">I", size)
+    for before in ("6b", "30", "a003020105 a10302010b a3031b0141 a4", "30", "a003020101 a1", "30"):
+        *whole, tag = bytes.fromhex(before)
+        octets += bytes(whole)
+        octets += opened(tag, 4 + size - len(octets))
+    return octets + STRING * ((present - len(octets)) // len(STRING))
+
+
+def open_frames(size):
+    """A capture of directions that each have the first octets of a frame, in two segments of a number of octets each."""
+    yield struct.pack("<IHHIIII", 0xA1B2C3D4, 2, 4, 0, 0, 262144, ETHERNET)
+    frame = names(60000, 2 * size)
+    for number in range(DIRECTIONS):
+        for flags, place in ((SYN, 0), (ACK, size)):
+            sequence = 1000 + place + (flags == ACK)
+            packet = segment(*ends(number), sequence, flags, frame[place : place + size])
+            yield struct.pack("<IIII", 0, 0, len(packet), len(packet)) + packet
+
+
+def print_memory(name, command, parts):
+    """Prints the most memory that a command had on octets in parts."""
+    with tempfile.NamedTemporaryFile() as file:
+        size = sum(file.write(part) for part in parts)
+        file.flush()
+        most = most_octets(command, file.name)
+    print(f"{name}, {size} octets: {most / MIB:.1f} MiB of memory, {most / size:.2f} times as many octets", flush=True)
+
+
+for size in SEGMENT_SIZES:
+    print_memory(f"{DIRECTIONS} directions, each with {2 * size} octets of a frame", CAPTURE, open_frames(size))
+print_memory("a frame of strings without octets", STREAM, [names(FRAME, 4 + FRAME)])
