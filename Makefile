@@ -77,6 +77,7 @@ bench: build
 	bench/keytab
 	bench/ccache
 	bench/capture
+	bench/memory
 
 clean:
 	rm -rf bin crates/*/out

@@ -8,7 +8,7 @@ from capture import ACK, CAPTURE, ETHERNET, MIB, STREAM, SYN, ends, segment
 from timing import most_octets
 
 DIRECTIONS = 65536
-SEGMENT_SIZES = (256, 512, 1024)
+PRESENT = (512, 1024, 2048)
 FRAME = 16 * MIB
 STRING = b"\x1b\0"
 
@@ -30,13 +30,13 @@ def names(size, present):
 
 
 def open_frames(size):
-    """A capture of directions that each have the first octets of a frame, in two segments of a number of octets each."""
+    """A capture of connections, which each begin and then have the first octets of a frame, in two segments."""
     yield struct.pack("<IHHIIII", 0xA1B2C3D4, 2, 4, 0, 0, 262144, ETHERNET)
-    frame = names(60000, 2 * size)
+    frame = names(60000, size)
+    half = size // 2
     for number in range(DIRECTIONS):
-        for flags, place in ((SYN, 0), (ACK, size)):
-            sequence = 1000 + place + (flags == ACK)
-            packet = segment(*ends(number), sequence, flags, frame[place : place + size])
+        for flags, sequence, octets in ((SYN, 999, b""), (ACK, 1000, frame[:half]), (ACK, 1000 + half, frame[half:])):
+            packet = segment(*ends(number), sequence, flags, octets)
             yield struct.pack("<IIII", 0, 0, len(packet), len(packet)) + packet
 
 
@@ -49,6 +49,6 @@ def print_memory(name, command, parts):
     print(f"{name}, {size} octets: {most / MIB:.1f} MiB of memory, {most / size:.2f} times as many octets", flush=True)
 
 
-for size in SEGMENT_SIZES:
-    print_memory(f"{DIRECTIONS} directions, each with {2 * size} octets of a frame", CAPTURE, open_frames(size))
+for size in PRESENT:
+    print_memory(f"{DIRECTIONS} directions, each with {size} octets of a frame", CAPTURE, open_frames(size))
 print_memory("a frame of strings without octets", STREAM, [names(FRAME, 4 + FRAME)])
