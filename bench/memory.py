@@ -19,25 +19,34 @@ def opened(tag, size):
     return bytes([tag, 0x80 | octets]) + (size - 2 - octets).to_bytes(octets, "big")
 
 
-def names(size, present):
-    """The first octets of a frame of a number of octets: an AS-REP whose client has a name of strings without octets."""
+def names(size):
+    """The first octets of a frame of a number of octets, up to the strings: an AS-REP whose client's name is strings."""
     octets = struct.pack(">I", size)
     for before in ("6b", "30", "a003020105 a10302010b a3031b0141 a4", "30", "a003020101 a1", "30"):
         *whole, tag = bytes.fromhex(before)
         octets += bytes(whole)
         octets += opened(tag, 4 + size - len(octets))
-    return octets + STRING * ((present - len(octets)) // len(STRING))
+    return octets
 
 
 def open_frames(size):
     """A capture of connections, which each begin and then have the first octets of a frame, in two segments."""
     yield struct.pack("<IHHIIII", 0xA1B2C3D4, 2, 4, 0, 0, 262144, ETHERNET)
-    frame = names(60000, size)
+    frame = names(60000)
+    frame += STRING * ((size - len(frame)) // 2)
     half = size // 2
     for number in range(DIRECTIONS):
         for flags, sequence, octets in ((SYN, 999, b""), (ACK, 1000, frame[:half]), (ACK, 1000 + half, frame[half:])):
             packet = segment(*ends(number), sequence, flags, octets)
             yield struct.pack("<IIII", 0, 0, len(packet), len(packet)) + packet
+
+
+def whole_frame():
+    """A stream of one frame, which is refused at its end, since the fields after the name are missing."""
+    first = names(FRAME)
+    yield first
+    for _ in range((4 + FRAME - len(first)) // 2):
+        yield STRING
 
 
 def print_memory(name, command, parts):
@@ -51,4 +60,4 @@ def print_memory(name, command, parts):
 
 for size in PRESENT:
     print_memory(f"{DIRECTIONS} directions, each with {size} octets of a frame", CAPTURE, open_frames(size))
-print_memory("a frame of strings without octets", STREAM, [names(FRAME, 4 + FRAME)])
+print_memory("a frame of strings without octets", STREAM, whole_frame())

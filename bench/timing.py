@@ -56,8 +56,8 @@ def peak_octets(command, path):
 
 
 def most_octets(command, path):
-    """The most memory that a run of a command had on a file, in octets, whatever it returned; but not less than this
-    program has."""
+    """The most memory that a run of a command had on a file, in octets, whatever it returned. It is not less than what
+    this program has when it begins the run."""
     with open(path, "rb") as octets, open(os.devnull, "wb") as null:
         run = subprocess.Popen(command, stdin=octets, stdout=null)
         _, status, usage = os.wait4(run.pid, 0)

@@ -237,16 +237,16 @@ module _ (messages : List Term) (profile : Profile) where
   open-none limit looks space announced contents p h e =
       ap (open_count profile (number (take 4 (octets_of p announced contents)))) (contents-at limit announced contents p h ∙ nil_from_length contents e) ∙ none_open profile (number (take 4 (octets_of p announced contents)))
 
-  pub open-some : (limit looks count : ℕ) (space : ℕ) (announced contents : List ℕ) (p : Phase) (scanner : Machine) → IsPhaseOf messages limit announced contents p → IsScanned profile scanner announced contents p → 0 < length contents → ((n : ℕ) (octets : List ℕ) → HasScanned profile scanner n octets → count ≡ open_count profile n octets) → count ≡ open_lengths_of (decoding_of profile limit looks space announced contents p)
-  open-some limit looks count space announced contents p scanner h s some each = by p h s
+  pub open-some : (limit looks count : ℕ) (space : ℕ) (announced contents : List ℕ) (p : Phase) (machine : Machine) → IsPhaseOf messages limit announced contents p → IsScanned profile machine announced contents p → 0 < length contents → ((n : ℕ) (octets : List ℕ) → HasScanned profile machine n octets → count ≡ open_count profile n octets) → count ≡ open_lengths_of (decoding_of profile limit looks space announced contents p)
+  open-some limit looks count space announced contents p machine h s some each = by p h s
     where
-      of_length : (n : ℕ) → length announced ≡ 4 → number announced ≡ n → HasScanned profile scanner n contents → count ≡ open_count profile (number (take 4 (take 4 announced ++ contents))) (drop 4 (take 4 announced ++ contents))
+      of_length : (n : ℕ) → length announced ≡ 4 → number announced ≡ n → HasScanned profile machine n contents → count ≡ open_count profile (number (take 4 (take 4 announced ++ contents))) (drop 4 (take 4 announced ++ contents))
       of_length n four e at =
           let all : take 4 announced ++ contents ≡ announced ++ contents = four_octets announced contents four in
           each n contents at
           ∙ ap₂ (open_count profile) (sym (ap number (ap (take 4) all ∙ take_at announced contents 4 four) ∙ e)) (sym (ap (drop 4) all ∙ drop_at announced contents 4 four))
 
-      by : (p : Phase) → IsPhaseOf messages limit announced contents p → IsScanned profile scanner announced contents p → count ≡ open_lengths_of (decoding_of profile limit looks space announced contents p)
+      by : (p : Phase) → IsPhaseOf messages limit announced contents p → IsScanned profile machine announced contents p → count ≡ open_lengths_of (decoding_of profile limit looks space announced contents p)
       by (phase.Length k) h s = absurd (omega (arith, some, ap length h.none))
       by (phase.Contents size) h s = of_length size h.accepted.four h.accepted.is s
       by phase.Ready h s = of_length (length contents) h.accepted.four h.accepted.is s
@@ -285,9 +285,9 @@ module _ (messages : List Term) (profile : Profile) where
   }
   taken-at limit announced before piece after size used (status.Refused refusal) h t = refused_within limit announced after size refusal h.accepted t.present t.decided
 
-  -- the scanner has scanned them
-  pub scanned-at : (limit : ℕ) (announced before piece after : List ℕ) (size used : ℕ) (answer : Status) (scanner : Machine) → HasPart messages limit announced before size → IsFedContents messages size before piece after (record { used = used; status = answer }) → HasScanned profile scanner size after → IsScanned profile scanner announced after (phase_of size answer)
-  scanned-at limit announced before piece after size used status.More scanner h t at = at
-  scanned-at limit announced before piece after size used status.Memory scanner h t at = at
-  scanned-at limit announced before piece after size used status.Ready scanner h t at = subst (λ n. HasScanned profile scanner n after) (sym t.decided.1) at
-  scanned-at limit announced before piece after size used (status.Refused refusal) scanner h t at = inr (subst (λ n. HasScanned profile scanner n after) (sym h.accepted.is) at)
+  -- the machine has scanned them
+  pub scanned-at : (limit : ℕ) (announced before piece after : List ℕ) (size used : ℕ) (answer : Status) (machine : Machine) → HasPart messages limit announced before size → IsFedContents messages size before piece after (record { used = used; status = answer }) → HasScanned profile machine size after → IsScanned profile machine announced after (phase_of size answer)
+  scanned-at limit announced before piece after size used status.More machine h t at = at
+  scanned-at limit announced before piece after size used status.Memory machine h t at = at
+  scanned-at limit announced before piece after size used status.Ready machine h t at = subst (λ n. HasScanned profile machine n after) (sym t.decided.1) at
+  scanned-at limit announced before piece after size used (status.Refused refusal) machine h t at = inr (subst (λ n. HasScanned profile machine n after) (sym h.accepted.is) at)

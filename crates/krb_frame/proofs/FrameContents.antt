@@ -1,6 +1,6 @@
 -- The contents of a frame as they come.
-use Rattle.std.specs.Prelude.{if◌then◌else◌, is_ok, is_err, OnErr}
-use Rattle.std.proofs.Common.{◌≡◌, ◌≢◌, ℕ, suc, ◌+◌, ◌-◌, ◌^◌, ◌<◌, ◌≤◌, min, inl, inr, List, ◌++◌, length, take, true, false, Result, Ok, Err, refl, sym, ◌∙◌, ap, subst, arith, length-append, length-take}
+use Rattle.std.specs.Prelude.{if◌then◌else◌, is_ok, is_err}
+use Rattle.std.proofs.Common.{◌≡◌, ◌≢◌, ℕ, suc, ◌+◌, ◌-◌, ◌^◌, ◌<◌, ◌≤◌, min, inl, inr, List, ◌++◌, length, take, false, Result, Ok, Err, refl, sym, ◌∙◌, ap, subst, arith, length-append, length-take}
 use Rattle.std.proofs.lemmas.Bool.{cases_lt}
 use Rattle.std.proofs.lemmas.List.{take-append-le, take-take}
 use Rattle.std.proofs.Math.Seq.{take-append-add}
@@ -24,16 +24,6 @@ use Rattle.krb_frame.specs.inner.Phases.{IsFedContents, IsEarly, status_by}
 pub extended : {A B : Type 0} (r : Result A B) (held all kept : List ℕ) → held ≡ (if is_ok r then all else kept) → false ≡ is_err r → held ≡ all
 extended (Ok done) held all kept e f = e
 extended (Err error) held all kept e f = absurd cc
-
--- what holds at Err, of a call that returned one
-pub held_at_err : {A B P : Type 0} (r : Result A B) → OnErr r P → true ≡ is_err r → P
-held_at_err (Ok done) p f = absurd cc
-held_at_err (Err error) p f = p
-
--- those of one for which there was no memory
-pub kept_still : {A B : Type 0} (r : Result A B) (held all kept : List ℕ) → held ≡ (if is_ok r then all else kept) → true ≡ is_err r → held ≡ kept
-kept_still (Ok done) held all kept e f = absurd cc
-kept_still (Err error) held all kept e f = e
 
 -- a verdict is not out of memory
 pub not_memory : (decided : Verdict) → status_by decided ≢ status.Memory
@@ -129,21 +119,21 @@ module _ (messages : List Term) where
     }
 
 -- ---- by the messages of a profile
--- The octets of a piece that a scanner scanned: as many as are missing, or as the piece has.
-pub record Took (profile : Profile) (size n used : ℕ) (before piece : List ℕ) (scanner : Machine) : Type 0 where
+-- The octets of a piece that a machine scanned: as many as are missing, or as the piece has.
+pub record Took (profile : Profile) (size n used : ℕ) (before piece : List ℕ) (machine : Machine) : Type 0 where
   pub some : 0 < size
   pub fits : length before ≤ size
   pub many : n ≡ min (length piece) (size - length before)
   pub undecided : judgement profile size before ≡ verdict.Open
   pub within : used ≤ length (take n piece)
-  pub at : HasScanned profile scanner size (before ++ take used (take n piece))
-  pub all : verdict_of scanner ≡ verdict.Open → used ≡ length (take n piece)
+  pub at : HasScanned profile machine size (before ++ take used (take n piece))
+  pub all : verdict_of machine ≡ verdict.Open → used ≡ length (take n piece)
   pub sooner : (k : ℕ) → k < used → judgement profile size (before ++ take k (take n piece)) ≡ verdict.Open
 
-pub took : (profile : Profile) (size n used : ℕ) (before piece : List ℕ) (scanner : Machine) → 0 < size → length before ≤ size → n ≡ min (length piece) (size - length before) → judgement profile size before ≡ verdict.Open → used ≤ length (take n piece) → HasScanned profile scanner size (before ++ take used (take n piece)) → (verdict_of scanner ≡ verdict.Open → used ≡ length (take n piece)) → ((k : ℕ) → k < used → judgement profile size (before ++ take k (take n piece)) ≡ verdict.Open) → Took profile size n used before piece scanner
-took profile size n used before piece scanner some fits many undecided within at all sooner = record { some = some; fits = fits; many = many; undecided = undecided; within = within; at = at; all = all; sooner = sooner }
+pub took : (profile : Profile) (size n used : ℕ) (before piece : List ℕ) (machine : Machine) → 0 < size → length before ≤ size → n ≡ min (length piece) (size - length before) → judgement profile size before ≡ verdict.Open → used ≤ length (take n piece) → HasScanned profile machine size (before ++ take used (take n piece)) → (verdict_of machine ≡ verdict.Open → used ≡ length (take n piece)) → ((k : ℕ) → k < used → judgement profile size (before ++ take k (take n piece)) ≡ verdict.Open) → Took profile size n used before piece machine
+took profile size n used before piece machine some fits many undecided within at all sooner = record { some = some; fits = fits; many = many; undecided = undecided; within = within; at = at; all = all; sooner = sooner }
 
-module _ (profile : Profile) (size n used : ℕ) (before piece : List ℕ) (scanner : Machine) (t : Took profile size n used before piece scanner) where
+module _ (profile : Profile) (size n used : ℕ) (before piece : List ℕ) (machine : Machine) (t : Took profile size n used before piece machine) where
   few : used ≤ length piece
   few = omega (arith, t.within, length-take n piece)
 
@@ -157,20 +147,20 @@ module _ (profile : Profile) (size n used : ℕ) (before piece : List ℕ) (scan
   pub took-cut : (held : List ℕ) → held ≡ before ++ take n piece → take (length before + used) held ≡ before ++ take used piece
   took-cut held e = ap (take (length before + used)) e ∙ take-append-add before (take n piece) used ∙ prefix used (omega arith)
 
-  pub took-at : HasScanned profile scanner size (before ++ take used piece)
-  took-at = subst (HasScanned profile scanner size) (prefix used (omega arith)) t.at
+  pub took-at : HasScanned profile machine size (before ++ take used piece)
+  took-at = subst (HasScanned profile machine size) (prefix used (omega arith)) t.at
 
   -- a refusal is of one of the octets
-  pub took-early : size < 2 ^ 31 → IsEarly (verdict_of scanner)
-  took-early short = by (verdict_of scanner) took-at.decides
+  pub took-early : size < 2 ^ 31 → IsEarly (verdict_of machine)
+  took-early short = by (verdict_of machine) took-at.decides
     where
       by : (decided : Verdict) → decided ≡ judgement profile size (before ++ take used piece) → IsEarly decided
       by verdict.Open e = tt
       by verdict.Whole e = tt
       by (verdict.Refused refusal) e = omega (arith, short, (stops (grammar profile) size used before piece few fits refusal t.undecided (sym e)).small)
 
-  pub took-taken : IsFedContents (grammar profile) size before piece (before ++ take used piece) (record { used = used; status = status_by (verdict_of scanner) })
-  took-taken = by (verdict_of scanner) took-at.decides t.all
+  pub took-taken : IsFedContents (grammar profile) size before piece (before ++ take used piece) (record { used = used; status = status_by (verdict_of machine) })
+  took-taken = by (verdict_of machine) took-at.decides t.all
     where
       sooner : (k : ℕ) → k < used → judgement profile size (before ++ take k piece) ≡ verdict.Open
       sooner k h = ap (judgement profile size) (sym (prefix k (omega (arith, h)))) ∙ t.sooner k h

@@ -1,6 +1,6 @@
 //! The contents of a frame, as they come.
 
-ghost use Rattle.std.specs.Prelude.{◌≡◌, ◌≢◌, ◌+◌, ◌<◌, ◌≤◌, ◌^◌, ◌++◌, true, [], length, vec_capacity, if◌then◌else◌, is_ok, OnErr};
+ghost use Rattle.std.specs.Prelude.{◌≡◌, ◌≢◌, ◌+◌, ◌<◌, ◌≤◌, ◌^◌, true, [], length, vec_capacity};
 ghost use Rattle.krb_der.specs.declared.verdict.Verdict.TheVariants.{Open};
 ghost use Rattle.krb_msg.specs.Grammar.{messages};
 ghost use Rattle.krb_msg.specs.Judgement.{judgement};
@@ -9,7 +9,7 @@ ghost use Rattle.krb_frame.specs.inner.Phases.{IsFedContents, IsEarly, status_by
 ghost use Rattle.krb_frame.specs.declared.decoder.Status.TheVariants as status;
 
 use crate::decoder::{Fed, LENGTH_OCTETS, Status};
-use krb_der::{Memory, Refusal, Verdict};
+use krb_der::{Refusal, Verdict};
 use krb_scan::Machine;
 use std::alloc::Global;
 
@@ -17,61 +17,44 @@ use std::alloc::Global;
 const CONTENTS_KEPT: usize = 1 << 22;
 
 /// Uses octets of the contents of a frame of `size` octets, as many as are missing and come, up to
-/// one that is refused. The scanner looks at each of them once. If out of memory, none is used;
+/// one that is refused. The machine looks at each of them once. If out of memory, none is used;
 /// that cannot be if there is capacity for the whole frame.
 pub(crate) fn take_contents(
     contents: &mut Vec<u8>,
-    scanner: &mut Machine,
+    machine: &mut Machine,
     size: u32,
     piece: &[u8],
 ) -> Fed
     requires some { 0 < size }
     requires short { size < 2 ^ 31 }
     requires present { length contents.old.items ≤ size }
-    requires undecided { judgement (profile_of scanner.old) size contents.old.items ≡ Open }
-    requires scanned { HasScanned (profile_of scanner.old) scanner.old size contents.old.items }
-    ensures taken { IsFedContents (messages (profile_of scanner.old)) size contents.old.items piece.now contents.new.items result }
-    ensures scanned { HasScanned (profile_of scanner.old) scanner.new size contents.new.items }
-    ensures profile { profile_of scanner.new ≡ profile_of scanner.old }
-    ensures looks { ledger_of scanner.new ≡ ledger_of scanner.old + result.used }
+    requires undecided { judgement (profile_of machine.old) size contents.old.items ≡ Open }
+    requires scanned { HasScanned (profile_of machine.old) machine.old size contents.old.items }
+    ensures taken { IsFedContents (messages (profile_of machine.old)) size contents.old.items piece.now contents.new.items result }
+    ensures scanned { HasScanned (profile_of machine.old) machine.new size contents.new.items }
+    ensures profile { profile_of machine.new ≡ profile_of machine.old }
+    ensures looks { ledger_of machine.new ≡ ledger_of machine.old + result.used }
     ensures capacity { vec_capacity contents.old ≤ vec_capacity contents.new }
     ensures enough { size ≤ vec_capacity contents.old → result.status ≢ status.Memory }
 {
     let before = contents.len();
     let count = piece.len().min(size as usize - before);
     let octets = &piece[..count];
-    if append(contents, size as usize, octets).is_err() {
+    if contents.extend_from_slice(octets).is_err() {
         return Fed {
             used: 0,
             status: Status::Memory,
         };
     }
-    let used = scanner.take(octets);
+    let used = machine.take(octets);
     contents.truncate(before + used);
     Fed {
         used,
-        status: status_after(scanner.verdict()),
+        status: status_after(machine.verdict()),
     }
 }
 
-/// Appends octets to the contents of a frame of `size` octets. If memory has to be allocated and
-/// half of them are there, it is for all of them and no more. If out of memory, they stay.
-fn append(contents: &mut Vec<u8>, size: usize, octets: &[u8]) -> Result<(), Memory>
-    requires { length contents.old.items + length octets.now ≤ size }
-    ensures items { contents.new.items ≡ (if is_ok result then contents.old.items ++ octets.now else contents.old.items) }
-    ensures full { OnErr result (vec_capacity contents.old < size) }
-    ensures some { OnErr result (0 < length octets.now) }
-    ensures capacity { vec_capacity contents.old ≤ vec_capacity contents.new }
-{
-    let there = contents.len() + octets.len();
-    if contents.capacity() < there && size - there <= there {
-        contents.reserve_exact(size - contents.len())?;
-    }
-    contents.extend_from_slice(octets)?;
-    Ok(())
-}
-
-/// Returns what is answered if a scanner decides so.
+/// Returns what is answered if a machine decides so.
 fn status_after(verdict: Verdict) -> Status
     requires { IsEarly verdict }
     ensures { result ≡ status_by verdict }

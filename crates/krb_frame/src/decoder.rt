@@ -68,7 +68,7 @@ pub struct Decoder {
     length: [u8; LENGTH_OCTETS],
     phase: Phase,
     contents: Vec<u8>,
-    scanner: Machine,
+    machine: Machine,
 }
 
 impl Model for Decoder {
@@ -82,9 +82,9 @@ impl Model for Decoder {
     ghost use Rattle.krb_frame.specs.inner.Phases.{IsPhaseOf, IsScanned};
     ghost use Rattle.krb_frame.specs.Decoding.{decoding_of};
 
-    ghost view = { λ d. decoding_of (profile_of d.scanner) d.limit (ledger_of d.scanner) (vec_capacity d.contents) d.length d.contents.items d.phase };
+    ghost view = { λ d. decoding_of (profile_of d.machine) d.limit (ledger_of d.machine) (vec_capacity d.contents) d.length d.contents.items d.phase };
 
-    ghost invariant = { λ d. IsPhaseOf (messages (profile_of d.scanner)) d.limit d.length d.contents.items d.phase × IsScanned (profile_of d.scanner) d.scanner d.length d.contents.items d.phase };
+    ghost invariant = { λ d. IsPhaseOf (messages (profile_of d.machine)) d.limit d.length d.contents.items d.phase × IsScanned (profile_of d.machine) d.machine d.length d.contents.items d.phase };
 }
 
 ghost use Rattle.std.specs.Prelude.{◌≡◌, ◌≤◌, ◌<◌, ◌⊎◌, ◌^◌, ◌↔◌, true, [], length, vec_capacity, IfOk, IfSome, IsTrue, MatchOption};
@@ -158,7 +158,7 @@ impl Decoder {
             length: [0; LENGTH_OCTETS],
             phase: Phase::Length(0),
             contents,
-            scanner: Machine::new(profile, 1),
+            machine: Machine::new(profile, 1),
         }
     }
 
@@ -201,7 +201,7 @@ impl Decoder {
 
     /// Passes the frame with which a piece begins, if it is all there and its contents are a
     /// message, and returns that message as a view of the piece, and what follows the frame. It is
-    /// as if the frame had been fed and cleared, but nothing is kept of it and the scanner looks at
+    /// as if the frame had been fed and cleared, but nothing is kept of it and the machine looks at
     /// none of its octets. Returns `None` of any other piece, and if a part of a frame was fed
     /// before or one is ready or refused: then the piece is to be fed. It allocates nothing.
     pub fn pass<'p>(&self, piece: &'p [u8]) -> Option<Passed<'p>>
@@ -214,7 +214,7 @@ impl Decoder {
         let (contents, rest) = first_contents(self.limit, piece)?;
         // With `?` the view would be moved more often, which takes longer than what else is done
         // here.
-        let Some(message) = view_message_in(self.scanner.profile(), contents) else {
+        let Some(message) = view_message_in(self.machine.profile(), contents) else {
             return None;
         };
         Some(Passed { message, rest })
@@ -231,7 +231,7 @@ impl Decoder {
         self.phase = if present + used < LENGTH_OCTETS {
             Phase::Length(present + used)
         } else {
-            judge_length(&mut self.scanner, self.limit, self.length)
+            judge_length(&mut self.machine, self.limit, self.length)
         };
         used
     }
@@ -247,7 +247,7 @@ impl Decoder {
             Phase::Refused(refusal) => return answer(Status::Refused(refusal)),
             Phase::Contents(size) => size,
         };
-        let fed = take_contents(&mut self.contents, &mut self.scanner, size, piece);
+        let fed = take_contents(&mut self.contents, &mut self.machine, size, piece);
         self.phase = phase_after(size, fed.status);
         fed
     }
@@ -339,7 +339,7 @@ impl Decoder {
         if self.contents.is_empty() {
             0
         } else {
-            self.scanner.open_lengths()
+            self.machine.open_lengths()
         }
     }
 
@@ -347,7 +347,7 @@ impl Decoder {
     pub fn profile(&self) -> Profile
         ensures { result ≡ self.now.profile }
     {
-        self.scanner.profile()
+        self.machine.profile()
     }
 
     /// Returns the message of the current frame as far as it came, borrowed: of one that is refused
@@ -424,18 +424,18 @@ fn put_octets(length: &mut [u8; LENGTH_OCTETS], present: usize, piece: &[u8]) ->
     count
 }
 
-/// Returns what the four octets of a length come to. If contents follow, the scanner is cleared for
+/// Returns what the four octets of a length come to. If contents follow, the machine is cleared for
 /// them.
-fn judge_length(scanner: &mut Machine, limit: Limit, announced: [u8; LENGTH_OCTETS]) -> Phase
+fn judge_length(machine: &mut Machine, limit: Limit, announced: [u8; LENGTH_OCTETS]) -> Phase
     requires { length announced ≡ 4 }
-    ensures judged { IsLengthJudged (messages (profile_of scanner.old)) limit announced result }
-    ensures scanned { IsScanned (profile_of scanner.old) scanner.new announced [] result }
-    ensures profile { profile_of scanner.new ≡ profile_of scanner.old }
-    ensures looks { ledger_of scanner.new ≡ ledger_of scanner.old }
+    ensures judged { IsLengthJudged (messages (profile_of machine.old)) limit announced result }
+    ensures scanned { IsScanned (profile_of machine.old) machine.new announced [] result }
+    ensures profile { profile_of machine.new ≡ profile_of machine.old }
+    ensures looks { ledger_of machine.new ≡ ledger_of machine.old }
 {
     match accepted_size(limit, announced) {
         Ok(size) => {
-            scanner.clear(size);
+            machine.clear(size);
             Phase::Contents(size)
         }
         Err(why) => Phase::Refused(Refusal { place: 3, why }),

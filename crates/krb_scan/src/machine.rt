@@ -1,4 +1,4 @@
-//! The scanner without marks.
+//! The machine that judges octets as they come.
 
 ghost use Rattle.std.specs.Prelude.{ℕ, List};
 ghost use Rattle.krb_der.specs.declared.profile.Profile.{Profile};
@@ -11,8 +11,9 @@ use crate::tip::Tip;
 use arrayvec::ArrayVec;
 use krb_der::{Profile, Verdict};
 
-/// It scans the octets of one message, one after another, and looks at each once. It holds none of
-/// them, only which containers are open and what is partly read, and allocates nothing.
+/// It scans the octets of one message, one after another, and looks at each once: whether they are
+/// a message, and which one is refused and why. It holds none of them, only which containers are
+/// open and what is partly read, and allocates nothing.
 #[derive(Drop)]
 pub struct Machine {
     profile: Profile,
@@ -26,11 +27,9 @@ impl Machine {
     ghost use Rattle.std.specs.Prelude.{◌≡◌, ◌<◌, ◌≤◌, ◌+◌, ◌^◌, [], ◌∷◌, ◌++◌, length, min, take};
     ghost use Rattle.krb_msg.specs.Grammar.{messages};
     ghost use Rattle.krb_msg.specs.Judgement.{judgement};
-    ghost use Rattle.krb_scan.specs.Scan.{scan};
-    ghost use Rattle.krb_scan.specs.Scanned.{Marks, open_count};
+    ghost use Rattle.krb_scan.specs.Scanned.{open_count};
     ghost use Rattle.krb_scan.specs.Runs.{string_left};
     ghost use Rattle.krb_scan.specs.Machine.{HasScanned, profile_of, verdict_of, ledger_of};
-    ghost use Rattle.krb_scan.specs.inner.Paths.{ChangesTo};
 
     /// Creates a machine for a message of `n` octets, of which none is scanned, by a profile.
     #[inline(always)]
@@ -68,7 +67,7 @@ impl Machine {
         self.verdict
     }
 
-    /// Scans an octet.
+    /// Scans an octet and returns what all so far decide.
     #[inline(always)]
     pub fn step(&mut self, octet: u8) -> Verdict
         requires { verdict_of self.old ≡ Verdict.Open }
@@ -172,6 +171,16 @@ impl Machine {
         self.ledger = self.ledger.raised(&count);
         count as usize
     }
+}
+
+impl Machine {
+    ghost use Rattle.std.specs.Prelude.{◌≡◌, [], ◌∷◌, ◌++◌};
+    ghost use Rattle.krb_msg.specs.Grammar.{messages};
+    ghost use Rattle.krb_msg.specs.Judgement.{judgement};
+    ghost use Rattle.krb_scan.specs.Scan.{scan};
+    ghost use Rattle.krb_scan.specs.Scanned.{Marks};
+    ghost use Rattle.krb_scan.specs.Machine.{HasScanned, verdict_of};
+    ghost use Rattle.krb_scan.specs.inner.Paths.{ChangesTo};
 
     /// Returns what one octet more decides.
     pub(crate) fn peek(&self, octet: u8) -> Verdict

@@ -1,4 +1,4 @@
-//! The path of a scanner from the message down to what is partly read, and its steps.
+//! The path of a machine from the message down to what is partly read, and its steps.
 
 ghost use Rattle.std.specs.Prelude.{pos, negsuc, ◌≤ℤ◌, ◌<ℤ◌, ◌≡◌, ◌<◌, ◌≤◌, ◌+◌, ◌-◌, ◌^◌, ℕ, [], ◌∷◌, ◌++◌, true, List, length, min, take};
 ghost use Rattle.arrayvec.specs.ArrayVec.{array_vec_len};

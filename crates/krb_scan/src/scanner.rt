@@ -1,4 +1,4 @@
-//! The scanner.
+//! The scanner: a machine with a mark for each item.
 
 ghost use Rattle.std.specs.Prelude.{ℕ, List};
 ghost use Rattle.krb_der.specs.declared.profile.Profile.{Profile};

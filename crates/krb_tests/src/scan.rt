@@ -82,9 +82,9 @@ fn is_taken(octets: &[u8]) -> bool {
     if n == 0 || n >= 1 << 31 {
         return false;
     }
-    let mut machine = Machine::new(Profile::Strict, n as u32);
+    let mut machine = Machine::new(Profile::Lenient, n as u32);
     machine.clear(n as u32);
-    (machine.profile(), machine.take(octets)) == (Profile::Strict, n)
+    (machine.profile(), machine.take(octets)) == (Profile::Lenient, n)
         && machine.verdict() == Verdict::Whole
         && (machine.looked(), machine.open_lengths()) == (n as u32, 0)
 }

@@ -44,7 +44,7 @@ abbrev pub IsEarly : Verdict → Type 0
 IsEarly (verdict.Refused refusal) = refusal.place < 2 ^ 31
 IsEarly other = Unit {0}
 
--- the status by the verdict of a scanner
+-- the status by the verdict of a machine
 abbrev pub status_by : Verdict → Status
 status_by verdict.Open = status.More
 status_by verdict.Whole = status.Ready
@@ -106,12 +106,12 @@ IsPhaseOf messages limit announced contents (phase.Contents size) = HasPart mess
 IsPhaseOf messages limit announced contents phase.Ready = HasFrame messages limit announced contents
 IsPhaseOf messages limit announced contents (phase.Refused refusal) = HasRefused messages limit announced contents refusal
 
--- if there are contents, the scanner has scanned them
+-- if there are contents, the machine has scanned them
 abbrev pub IsScanned : Profile → Machine → List ℕ → List ℕ → Phase → Type 0
-IsScanned profile scanner announced contents (phase.Length count) = Unit {0}
-IsScanned profile scanner announced contents (phase.Contents size) = HasScanned profile scanner size contents
-IsScanned profile scanner announced contents phase.Ready = HasScanned profile scanner (length contents) contents
-IsScanned profile scanner announced contents (phase.Refused refusal) = (contents ≡ []) ⊎ HasScanned profile scanner (number announced) contents
+IsScanned profile machine announced contents (phase.Length count) = Unit {0}
+IsScanned profile machine announced contents (phase.Contents size) = HasScanned profile machine size contents
+IsScanned profile machine announced contents phase.Ready = HasScanned profile machine (length contents) contents
+IsScanned profile machine announced contents (phase.Refused refusal) = (contents ≡ []) ⊎ HasScanned profile machine (number announced) contents
 
 -- the phase after the last octet of a length
 pub record IsLengthJudged (messages : List Term) (limit : ℕ) (announced : List ℕ) (phase : Phase) : Type 0 where

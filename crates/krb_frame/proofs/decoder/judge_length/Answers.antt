@@ -12,4 +12,4 @@ returns-in-Ok c = record {
 }
 
 pub returns-in-Err : goal.returns-in-Err
-returns-in-Err c = record { judged = record { at = c.in-Err.ensures (messages (profile_of c.args.scanner.now)); all = refl }; scanned = inl refl; profile = refl; looks = refl }
+returns-in-Err c = record { judged = record { at = c.in-Err.ensures (messages (profile_of c.args.machine.now)); all = refl }; scanned = inl refl; profile = refl; looks = refl }
