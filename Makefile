@@ -70,13 +70,14 @@ fuzz: build
 	tests/fuzz 100000 1
 
 # Octets per second: of the listing of streams, of a keytab, of a cache and of captures, and of messages judged, scanned,
-# parsed and encoded.
+# parsed and encoded; and memory, of what costs most of it.
 bench: build
 	cd crates/krb_roundtrip && rt run < stdin > /dev/null
 	bench/stream
 	bench/keytab
 	bench/ccache
 	bench/capture
+	bench/memory
 
 clean:
 	rm -rf bin crates/*/out

@@ -126,4 +126,5 @@ def main():
                 print_cost("tshark of the capture", TSHARK, capture, messages)
 
 
-main()
+if __name__ == "__main__":
+    main()

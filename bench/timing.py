@@ -55,6 +55,18 @@ def peak_octets(command, path):
     return most
 
 
+def most_octets(command, path):
+    """The most memory that a run of a command had on a file, in octets, whatever it returned. It is not less than what
+    this program has when it begins the run."""
+    with open(path, "rb") as octets, open(os.devnull, "wb") as null:
+        run = subprocess.Popen(command, stdin=octets, stdout=null)
+        _, status, usage = os.wait4(run.pid, 0)
+        run.returncode = os.waitstatus_to_exitcode(status)
+    if run.returncode < 0:
+        raise subprocess.CalledProcessError(run.returncode, command)
+    return usage.ru_maxrss * 1024
+
+
 def rate(size, seconds):
     return f"{seconds:.3f} s, {size / seconds / 1e6:.1f} MB/s"
 

@@ -6,7 +6,7 @@ use Rattle.krb_der.specs.declared.why.Why.TheVariants as why
 use Rattle.krb_msg.specs.Grammar.{messages}
 use Rattle.krb_msg.specs.Stream.{Frames, End, Boundary, Within, Refused, ends, frames}
 use Rattle.krb_msg.proofs.FramePrefixes.{frames-nil}
-use Rattle.krb_frame.specs.Decoding.{Decoding, Capacity, AreOfOne, finish_at, finish_of, found, status_at, status_of}
+use Rattle.krb_frame.specs.Decoding.{Decoding, AreOfOne, finish_at, finish_of, found, status_at, status_of}
 use Rattle.krb_frame.specs.GoingOn.{GoesOn, Skipping}
 use Rattle.krb_frame.specs.declared.decoder.Status.TheVariants as status
 use Rattle.krb_frame.proofs.DecoderFrames.{more-nothing}
@@ -19,7 +19,7 @@ use Rattle.krb_capture.proofs.Framed.{framed-waiting}
 use Rattle.krb_capture.proofs.Unfinished.{waits-all}
 
 -- of a direction of which nothing came
-pub took-new : (alloc : Global) (decoder : Decoding) (s : Skipping) (limit looks : ℕ) (room : Capacity) → decoder ≡ record { profile = Lenient; limit = limit; octets = []; looks = looks; capacity = room } → s ≡ record { current = decoder; skipped = 0 } → (decoder.octets ≡ [] → GoesOn (messages decoder.profile) s [] []) → TookMessages (record { alloc = alloc; limit = limit; decoder = s; part = None; is_over = false }) limit []
+pub took-new : (alloc : Global) (decoder : Decoding) (s : Skipping) (limit looks : ℕ) (room : ℕ) → decoder ≡ record { profile = Lenient; limit = limit; octets = []; looks = looks; capacity = room } → s ≡ record { current = decoder; skipped = 0 } → (decoder.octets ≡ [] → GoesOn (messages decoder.profile) s [] []) → TookMessages (record { alloc = alloc; limit = limit; decoder = s; part = None; is_over = false }) limit []
 took-new alloc decoder s limit looks room e f g =
     let same : s.current ≡ decoder = ap (λ (t : Skipping). t.current) f in
     record {

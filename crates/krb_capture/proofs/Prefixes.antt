@@ -39,7 +39,7 @@ use Rattle.krb_capture.proofs.Passed.{frame-high, frame-long, frame-empty, frame
 -- ---- frames of messages
 
 abbrev waiting : ℕ → List ℕ → ℕ → Skipping
-waiting limit octets skipped = record { current = record { profile = Lenient; limit = limit; octets = octets; looks = 0; capacity = record { octets = 0; marks = 0 } }; skipped = skipped }
+waiting limit octets skipped = record { current = record { profile = Lenient; limit = limit; octets = octets; looks = 0; capacity = 0 }; skipped = skipped }
 
 -- After frames that are done, part of the next one is there, or octets are to be skipped; or one has no known length.
 pub data Known (limit : ℕ) (stream : List ℕ) : Type 0 where

@@ -13,9 +13,9 @@ use Rattle.krb_msg.specs.Stream.{Frames, Boundary, Within, Refused, ends, with_f
 use Rattle.krb_msg.proofs.FramePrefixes.{MayFollow, frames-high, frames-long, frames-empty, frames-open, frames-bad, frames-done_more, frames-short, frames-nil}
 use Rattle.krb_msg.proofs.Grammars.{whole_outcome, refused_outcome, open_outcome}
 use Rattle.krb_scan.specs.Scanned.{open_count}
-use Rattle.krb_scan.specs.Scanner.{HasScanned}
-use Rattle.krb_scan.specs.declared.scanner.Scanner.{Scanner}
-use Rattle.krb_frame.specs.Decoding.{Decoding, Capacity, found, status_at, status_of, first_of, borrowed, open_lengths_of, finish_at, finish_of, AreOfOne, IsOfOneFrame, octets_of, decoding_of, length_present}
+use Rattle.krb_scan.specs.Machine.{HasScanned}
+use Rattle.krb_scan.specs.declared.machine.Machine.{Machine}
+use Rattle.krb_frame.specs.Decoding.{Decoding, found, status_at, status_of, first_of, borrowed, open_lengths_of, finish_at, finish_of, AreOfOne, IsOfOneFrame, octets_of, decoding_of, length_present}
 use Rattle.krb_frame.specs.inner.Phases.{end_after, IsRefusedIn, IsFedContents, phase_of, IsAccepted, HasPartOfLength, HasPart, HasFrame, HasRefused, IsPhaseOf, IsScanned, phase_status}
 use Rattle.krb_frame.specs.declared.decoder.Phase.{Phase}
 use Rattle.krb_frame.specs.declared.decoder.Phase.TheVariants as phase
@@ -186,18 +186,18 @@ module _ (messages : List Term) (profile : Profile) where
     pub is : status_of messages d ≡ answer
     pub one : IsOfOneFrame messages d
 
-  pub comes : (limit looks : ℕ) (space : Capacity) (announced contents : List ℕ) (p : Phase) → IsPhaseOf messages limit announced contents p → Comes (decoding_of profile limit looks space announced contents p) (phase_status p)
+  pub comes : (limit looks : ℕ) (space : ℕ) (announced contents : List ℕ) (p : Phase) → IsPhaseOf messages limit announced contents p → Comes (decoding_of profile limit looks space announced contents p) (phase_status p)
   unfolding found
   comes limit looks space announced contents p h = record {
     is = ap (λ f. status_at f.contents f.end) (found-at limit announced contents p h) ∙ status-at p contents;
     one = subst (λ f. AreOfOne (octets_of p announced contents) f.contents f.end) (sym (found-at limit announced contents p h)) (one-at limit announced contents p h);
   }
 
-  pub one-nothing : (limit looks : ℕ) (space : Capacity) → IsOfOneFrame messages (record { profile = profile; limit = limit; octets = []; looks = looks; capacity = space })
+  pub one-nothing : (limit looks : ℕ) (space : ℕ) → IsOfOneFrame messages (record { profile = profile; limit = limit; octets = []; looks = looks; capacity = space })
   unfolding found
   one-nothing limit looks space = subst (λ f. AreOfOne [] f.contents f.end) (sym (frames-nil messages limit)) refl
 
-  pub more-nothing : (limit looks : ℕ) (space : Capacity) → status_of messages (record { profile = profile; limit = limit; octets = []; looks = looks; capacity = space }) ≡ status.More
+  pub more-nothing : (limit looks : ℕ) (space : ℕ) → status_of messages (record { profile = profile; limit = limit; octets = []; looks = looks; capacity = space }) ≡ status.More
   unfolding found
   more-nothing limit looks space = ap (λ f. status_at f.contents f.end) (frames-nil messages limit)
 
@@ -206,15 +206,15 @@ module _ (messages : List Term) (profile : Profile) where
   unfolding found
   same-status old new l o = ap₂ (λ limit octets. status_at (frames messages limit octets).contents (frames messages limit octets).end) l o
 
-  pub borrowed-none : (limit looks : ℕ) (space : Capacity) (announced contents : List ℕ) (p : Phase) → IsPhaseOf messages limit announced contents p → (p ≡ phase.Ready → ⊥) → borrowed messages (decoding_of profile limit looks space announced contents p) ≡ None
+  pub borrowed-none : (limit looks : ℕ) (space : ℕ) (announced contents : List ℕ) (p : Phase) → IsPhaseOf messages limit announced contents p → (p ≡ phase.Ready → ⊥) → borrowed messages (decoding_of profile limit looks space announced contents p) ≡ None
   unfolding found
   borrowed-none limit looks space announced contents p h n = ap (λ f. first_of f.contents) (found-at limit announced contents p h) ∙ none_ready p contents n
 
-  pub borrowed-ready : (limit looks : ℕ) (space : Capacity) (announced contents : List ℕ) (p : Phase) → IsPhaseOf messages limit announced contents p → p ≡ phase.Ready → borrowed messages (decoding_of profile limit looks space announced contents p) ≡ Some contents
+  pub borrowed-ready : (limit looks : ℕ) (space : ℕ) (announced contents : List ℕ) (p : Phase) → IsPhaseOf messages limit announced contents p → p ≡ phase.Ready → borrowed messages (decoding_of profile limit looks space announced contents p) ≡ Some contents
   unfolding found
   borrowed-ready limit looks space announced contents p h e = ap (λ f. first_of f.contents) (found-at limit announced contents p h ∙ ap (λ q. frames_at q contents) e)
 
-  pub finish-at : (limit looks : ℕ) (space : Capacity) (announced contents : List ℕ) (p : Phase) → IsPhaseOf messages limit announced contents p → finish_of messages (decoding_of profile limit looks space announced contents p) ≡ finish_at (frames_at p contents).end
+  pub finish-at : (limit looks : ℕ) (space : ℕ) (announced contents : List ℕ) (p : Phase) → IsPhaseOf messages limit announced contents p → finish_of messages (decoding_of profile limit looks space announced contents p) ≡ finish_at (frames_at p contents).end
   unfolding found
   finish-at limit looks space announced contents p h = ap (λ f. finish_at f.end) (found-at limit announced contents p h)
 
@@ -233,20 +233,20 @@ module _ (messages : List Term) (profile : Profile) where
   looked-at limit announced contents (phase.Refused refusal) h = omega (arith, h.four, length-append (take 4 announced) contents, length-take 4 announced)
 
   -- ---- the lengths that are open
-  pub open-none : (limit looks : ℕ) (space : Capacity) (announced contents : List ℕ) (p : Phase) → IsPhaseOf messages limit announced contents p → length contents ≡ 0 → open_lengths_of (decoding_of profile limit looks space announced contents p) ≡ 0
+  pub open-none : (limit looks : ℕ) (space : ℕ) (announced contents : List ℕ) (p : Phase) → IsPhaseOf messages limit announced contents p → length contents ≡ 0 → open_lengths_of (decoding_of profile limit looks space announced contents p) ≡ 0
   open-none limit looks space announced contents p h e =
       ap (open_count profile (number (take 4 (octets_of p announced contents)))) (contents-at limit announced contents p h ∙ nil_from_length contents e) ∙ none_open profile (number (take 4 (octets_of p announced contents)))
 
-  pub open-some : (limit looks count : ℕ) (space : Capacity) (announced contents : List ℕ) (p : Phase) (scanner : Scanner) → IsPhaseOf messages limit announced contents p → IsScanned profile scanner announced contents p → 0 < length contents → ((n : ℕ) (octets : List ℕ) → HasScanned profile scanner n octets → count ≡ open_count profile n octets) → count ≡ open_lengths_of (decoding_of profile limit looks space announced contents p)
-  open-some limit looks count space announced contents p scanner h s some each = by p h s
+  pub open-some : (limit looks count : ℕ) (space : ℕ) (announced contents : List ℕ) (p : Phase) (machine : Machine) → IsPhaseOf messages limit announced contents p → IsScanned profile machine announced contents p → 0 < length contents → ((n : ℕ) (octets : List ℕ) → HasScanned profile machine n octets → count ≡ open_count profile n octets) → count ≡ open_lengths_of (decoding_of profile limit looks space announced contents p)
+  open-some limit looks count space announced contents p machine h s some each = by p h s
     where
-      of_length : (n : ℕ) → length announced ≡ 4 → number announced ≡ n → HasScanned profile scanner n contents → count ≡ open_count profile (number (take 4 (take 4 announced ++ contents))) (drop 4 (take 4 announced ++ contents))
+      of_length : (n : ℕ) → length announced ≡ 4 → number announced ≡ n → HasScanned profile machine n contents → count ≡ open_count profile (number (take 4 (take 4 announced ++ contents))) (drop 4 (take 4 announced ++ contents))
       of_length n four e at =
           let all : take 4 announced ++ contents ≡ announced ++ contents = four_octets announced contents four in
           each n contents at
           ∙ ap₂ (open_count profile) (sym (ap number (ap (take 4) all ∙ take_at announced contents 4 four) ∙ e)) (sym (ap (drop 4) all ∙ drop_at announced contents 4 four))
 
-      by : (p : Phase) → IsPhaseOf messages limit announced contents p → IsScanned profile scanner announced contents p → count ≡ open_lengths_of (decoding_of profile limit looks space announced contents p)
+      by : (p : Phase) → IsPhaseOf messages limit announced contents p → IsScanned profile machine announced contents p → count ≡ open_lengths_of (decoding_of profile limit looks space announced contents p)
       by (phase.Length k) h s = absurd (omega (arith, some, ap length h.none))
       by (phase.Contents size) h s = of_length size h.accepted.four h.accepted.is s
       by phase.Ready h s = of_length (length contents) h.accepted.four h.accepted.is s
@@ -285,9 +285,9 @@ module _ (messages : List Term) (profile : Profile) where
   }
   taken-at limit announced before piece after size used (status.Refused refusal) h t = refused_within limit announced after size refusal h.accepted t.present t.decided
 
-  -- the scanner has scanned them
-  pub scanned-at : (limit : ℕ) (announced before piece after : List ℕ) (size used : ℕ) (answer : Status) (scanner : Scanner) → HasPart messages limit announced before size → IsFedContents messages size before piece after (record { used = used; status = answer }) → HasScanned profile scanner size after → IsScanned profile scanner announced after (phase_of size answer)
-  scanned-at limit announced before piece after size used status.More scanner h t at = at
-  scanned-at limit announced before piece after size used status.Memory scanner h t at = at
-  scanned-at limit announced before piece after size used status.Ready scanner h t at = subst (λ n. HasScanned profile scanner n after) (sym t.decided.1) at
-  scanned-at limit announced before piece after size used (status.Refused refusal) scanner h t at = inr (subst (λ n. HasScanned profile scanner n after) (sym h.accepted.is) at)
+  -- the machine has scanned them
+  pub scanned-at : (limit : ℕ) (announced before piece after : List ℕ) (size used : ℕ) (answer : Status) (machine : Machine) → HasPart messages limit announced before size → IsFedContents messages size before piece after (record { used = used; status = answer }) → HasScanned profile machine size after → IsScanned profile machine announced after (phase_of size answer)
+  scanned-at limit announced before piece after size used status.More machine h t at = at
+  scanned-at limit announced before piece after size used status.Memory machine h t at = at
+  scanned-at limit announced before piece after size used status.Ready machine h t at = subst (λ n. HasScanned profile machine n after) (sym t.decided.1) at
+  scanned-at limit announced before piece after size used (status.Refused refusal) machine h t at = inr (subst (λ n. HasScanned profile machine n after) (sym h.accepted.is) at)

@@ -1,5 +1,5 @@
 -- The stream that a decoder has decoded when it is fed, and when a frame is cleared.
-use Rattle.std.proofs.Common.{◌≡◌, ◌≢◌, ℕ, ◌+◌, ◌-◌, ◌/◌, ◌<◌, ◌≤◌, ◌⊎◌, inl, inr, List, [], ◌∷◌, ◌++◌, length, take, drop, true, false, Some, None, refl, sym, ◌∙◌, ap, subst, arith, append_assoc, append-nil, length-append, length-take, length-drop}
+use Rattle.std.proofs.Common.{◌≡◌, ◌≢◌, ℕ, ◌+◌, ◌-◌, ◌<◌, ◌≤◌, ◌⊎◌, inl, inr, List, [], ◌∷◌, ◌++◌, length, take, drop, true, false, Some, None, refl, sym, ◌∙◌, ap, subst, arith, append_assoc, append-nil, length-append, length-take, length-drop}
 use Rattle.std.proofs.lemmas.Bool.{cases_lt}
 use Rattle.std.proofs.lemmas.List.Sums.{sum_by-append, sum_by-cons}
 use Rattle.std.proofs.Math.Seq.{take-add}
@@ -7,10 +7,10 @@ use Rattle.std.specs.Prelude.{is_some}
 use Rattle.krb_der.specs.declared.profile.Profile.{Profile}
 use Rattle.krb_msg.specs.Term.{Term}
 use Rattle.krb_msg.specs.Stream.{with_first, frames}
-use Rattle.krb_frame.specs.Decoding.{Decoding, Capacity, IsAmple, status_of, borrowed, kept_contents, IsOfOneFrame, octets_of, decoding_of, length_present}
+use Rattle.krb_frame.specs.Decoding.{Decoding, IsAmple, status_of, borrowed, kept_contents, IsOfOneFrame, octets_of, decoding_of, length_present}
 use Rattle.krb_frame.specs.Decoded.{HasDecoded, after_frames, frames_size}
 use Rattle.krb_frame.specs.Feeds.{IsAnswer, Feeds, Clears}
-use Rattle.krb_frame.specs.inner.Phases.{IsDecided, IsFedContents, phase_of, HasPartOfLength, HasPart, HasFrame, IsPhaseOf, IsPut, KeepsCapacity, FeedsLength, phase_status}
+use Rattle.krb_frame.specs.inner.Phases.{IsDecided, IsFedContents, phase_of, HasPartOfLength, HasPart, HasFrame, IsPhaseOf, IsPut, FeedsLength, phase_status}
 use Rattle.krb_frame.specs.declared.decoder.Phase.{Phase}
 use Rattle.krb_frame.specs.declared.decoder.Phase.TheVariants as phase
 use Rattle.krb_frame.specs.declared.decoder.Fed.{Fed}
@@ -33,15 +33,12 @@ same_contents : (contents other : List ℕ) → Some contents ≡ Some other →
 same_contents contents other e = cc
 
 -- capacity that is not lost is enough as before
-pub ample-kept : (old new : Decoding) → new.limit ≡ old.limit → KeepsCapacity old.capacity new.capacity → IsAmple old → IsAmple new
-ample-kept old new l k a = record { octets = omega (arith, l, k.octets, a.octets); marks = omega (arith, l, k.marks, a.marks) }
-
-pub capacity-same : (capacity : Capacity) → KeepsCapacity capacity capacity
-capacity-same capacity = record { octets = omega arith; marks = omega arith }
+pub ample-kept : (old new : Decoding) → new.limit ≡ old.limit → old.capacity ≤ new.capacity → IsAmple old → IsAmple new
+ample-kept old new l k a = record { octets = omega (arith, l, k, a.octets) }
 
 -- ---- by any messages
 module _ (messages : List Term) (profile : Profile) where
-  pub HasDecoded-new : (limit looks : ℕ) (space : Capacity) → HasDecoded messages (record { profile = profile; limit = limit; octets = []; looks = looks; capacity = space }) [] []
+  pub HasDecoded-new : (limit looks : ℕ) (space : ℕ) → HasDecoded messages (record { profile = profile; limit = limit; octets = []; looks = looks; capacity = space }) [] []
   HasDecoded-new limit looks space = record { goes_on = λ more. refl; last = record { before = []; parts = refl }; counted = refl; one = one-nothing messages profile limit looks space }
 
   -- octets more
@@ -63,7 +60,7 @@ module _ (messages : List Term) (profile : Profile) where
   counted-more contents cleared before e = omega (arith, e, sum_by-append (λ (c : List ℕ). 4 + length c) cleared (contents ∷ []), sum_by-cons (λ (c : List ℕ). 4 + length c) contents [])
 
   -- one frame less
-  pub HasDecoded-cleared : (limit looks : ℕ) (space made : Capacity) (octets contents : List ℕ) → length octets ≡ 4 + length contents → ((more : List ℕ) → frames messages limit (octets ++ more) ≡ with_first contents (frames messages limit more)) → (stream : List ℕ) (cleared : List (List ℕ)) → HasDecoded messages (record { profile = profile; limit = limit; octets = octets; looks = looks; capacity = space }) stream cleared → HasDecoded messages (record { profile = profile; limit = limit; octets = []; looks = looks; capacity = made }) stream (cleared ++ contents ∷ [])
+  pub HasDecoded-cleared : (limit looks : ℕ) (space made : ℕ) (octets contents : List ℕ) → length octets ≡ 4 + length contents → ((more : List ℕ) → frames messages limit (octets ++ more) ≡ with_first contents (frames messages limit more)) → (stream : List ℕ) (cleared : List (List ℕ)) → HasDecoded messages (record { profile = profile; limit = limit; octets = octets; looks = looks; capacity = space }) stream cleared → HasDecoded messages (record { profile = profile; limit = limit; octets = []; looks = looks; capacity = made }) stream (cleared ++ contents ∷ [])
   HasDecoded-cleared limit looks space made octets contents size first stream cleared s = record {
     goes_on = λ more.
         s.goes_on more
@@ -75,7 +72,7 @@ module _ (messages : List Term) (profile : Profile) where
   }
 
   -- ---- feeds
-  pub Feeds-made : (old new : Decoding) (piece : List ℕ) (count : ℕ) (answer came : Status) → count ≤ length piece → new.profile ≡ old.profile → new.limit ≡ old.limit → new.octets ≡ old.octets ++ take count piece → new.looks ≡ old.looks + (length (kept_contents new) - length (kept_contents old)) → status_of messages old ≡ status.More → Comes messages profile new came → (answer ≡ came) ⊎ ((answer ≡ status.Memory) × (came ≡ status.More)) → (answer ≡ status.More → count ≡ length piece) → (answer ≡ status.Memory → (4 ≤ length new.octets) × (count < length piece)) → KeepsCapacity old.capacity new.capacity → (IsAmple old → answer ≢ status.Memory) → Feeds messages old piece new (record { used = count; status = answer })
+  pub Feeds-made : (old new : Decoding) (piece : List ℕ) (count : ℕ) (answer came : Status) → count ≤ length piece → new.profile ≡ old.profile → new.limit ≡ old.limit → new.octets ≡ old.octets ++ take count piece → new.looks ≡ old.looks + (length (kept_contents new) - length (kept_contents old)) → status_of messages old ≡ status.More → Comes messages profile new came → (answer ≡ came) ⊎ ((answer ≡ status.Memory) × (came ≡ status.More)) → (answer ≡ status.More → count ≡ length piece) → (answer ≡ status.Memory → (4 ≤ length new.octets) × (count < length piece)) → old.capacity ≤ new.capacity → (IsAmple old → answer ≢ status.Memory) → Feeds messages old piece new (record { used = count; status = answer })
   Feeds-made old new piece count answer came k q l o s w c a more memory capacity enough = record {
     within = k;
     same_profile = q;
@@ -112,7 +109,7 @@ module _ (messages : List Term) (profile : Profile) where
     decoded = HasDecoded-fed d d [] refl (sym (append-nil d.octets)) c.one;
   }
 
-  pub Feeds-idle : (limit looks : ℕ) (space : Capacity) (announced contents piece : List ℕ) (p : Phase) (answer : Status) → IsPhaseOf messages limit announced contents p → phase_status p ≡ answer → (answer ≡ status.More → piece ≡ []) → answer ≢ status.Memory → Feeds messages (decoding_of profile limit looks space announced contents p) piece (decoding_of profile limit looks space announced contents p) (record { used = 0; status = answer })
+  pub Feeds-idle : (limit looks : ℕ) (space : ℕ) (announced contents piece : List ℕ) (p : Phase) (answer : Status) → IsPhaseOf messages limit announced contents p → phase_status p ≡ answer → (answer ≡ status.More → piece ≡ []) → answer ≢ status.Memory → Feeds messages (decoding_of profile limit looks space announced contents p) piece (decoding_of profile limit looks space announced contents p) (record { used = 0; status = answer })
   Feeds-idle limit looks space announced contents piece p answer h e none n =
       Feeds-nothing (decoding_of profile limit looks space announced contents p) piece answer
       (subst (Comes messages profile (decoding_of profile limit looks space announced contents p)) e (comes messages profile limit looks space announced contents p h)) none n
@@ -135,7 +132,7 @@ module _ (messages : List Term) (profile : Profile) where
   memory_of size used after piece status.Ready d e = absurd cc
   memory_of size used after piece (status.Refused refusal) d e = absurd cc
 
-  pub Feeds-contents : (limit looks looked : ℕ) (space made : Capacity) (announced before piece after : List ℕ) (size : ℕ) (p : Phase) (fed : Fed) → HasPart messages limit announced before size → IsFedContents messages size before piece after fed → looked ≡ looks + fed.used → KeepsCapacity space made → (size ≤ space.octets → size / 2 ≤ space.marks → fed.status ≢ status.Memory) → p ≡ phase_of size fed.status → Feeds messages (decoding_of profile limit looks space announced before (phase.Contents size)) piece (decoding_of profile limit looked made announced after p) fed
+  pub Feeds-contents : (limit looks looked : ℕ) (space made : ℕ) (announced before piece after : List ℕ) (size : ℕ) (p : Phase) (fed : Fed) → HasPart messages limit announced before size → IsFedContents messages size before piece after fed → looked ≡ looks + fed.used → space ≤ made → (size ≤ space → fed.status ≢ status.Memory) → p ≡ phase_of size fed.status → Feeds messages (decoding_of profile limit looks space announced before (phase.Contents size)) piece (decoding_of profile limit looked made announced after p) fed
   Feeds-contents limit looks looked space made announced before piece after size p fed h t k capacity enough e =
       let old : Decoding = decoding_of profile limit looks space announced before (phase.Contents size) in
       let octets : octets_of (phase_of size fed.status) announced after ≡ octets_of (phase.Contents size) announced before ++ take fed.used piece =
@@ -168,10 +165,10 @@ module _ (messages : List Term) (profile : Profile) where
       (all_of size fed.used after piece fed.status t.decided)
       (λ m. (four, memory_of size fed.used after piece fed.status t.decided m))
       capacity
-      (λ a. enough (omega (arith, h.accepted.within, a.octets)) (omega (arith, h.accepted.within, a.marks))))
+      (λ a. enough (omega (arith, h.accepted.within, a.octets))))
 
   -- no octet of a length is missing
-  pub FeedsLength-none : (limit looks : ℕ) (space : Capacity) (announced contents piece : List ℕ) (p : Phase) → IsPhaseOf messages limit announced contents p → ((count : ℕ) → p ≡ phase.Length count → ⊥) → FeedsLength messages (decoding_of profile limit looks space announced contents p) piece (decoding_of profile limit looks space announced contents p) 0
+  pub FeedsLength-none : (limit looks : ℕ) (space : ℕ) (announced contents piece : List ℕ) (p : Phase) → IsPhaseOf messages limit announced contents p → ((count : ℕ) → p ≡ phase.Length count → ⊥) → FeedsLength messages (decoding_of profile limit looks space announced contents p) piece (decoding_of profile limit looks space announced contents p) 0
   FeedsLength-none limit looks space announced contents piece p h n = record {
     within = omega arith;
     same_profile = refl;
@@ -180,7 +177,7 @@ module _ (messages : List Term) (profile : Profile) where
     looks = refl;
     contents = refl;
     again = λ m. refl;
-    capacity = capacity-same space;
+    capacity = omega arith;
     on = inr (four p h n);
     one = (comes messages profile limit looks space announced contents p h).one;
   }
@@ -192,7 +189,7 @@ module _ (messages : List Term) (profile : Profile) where
       four (phase.Refused refusal) h n = omega (arith, h.four, length-append (take 4 announced) contents, length-take 4 announced)
 
   -- octets of a length
-  pub FeedsLength-made : (limit looks looked : ℕ) (space made : Capacity) (announced contents piece after : List ℕ) (present used : ℕ) (p : Phase) → HasPartOfLength announced contents present → IsPut announced present piece after used → length after ≡ 4 → length_present p ≡ present + used → looked ≡ looks → KeepsCapacity space made → IsPhaseOf messages limit after contents p → FeedsLength messages (record { profile = profile; limit = limit; octets = take present announced ++ contents; looks = looks; capacity = space }) piece (decoding_of profile limit looked made after contents p) used
+  pub FeedsLength-made : (limit looks looked : ℕ) (space made : ℕ) (announced contents piece after : List ℕ) (present used : ℕ) (p : Phase) → HasPartOfLength announced contents present → IsPut announced present piece after used → length after ≡ 4 → length_present p ≡ present + used → looked ≡ looks → space ≤ made → IsPhaseOf messages limit after contents p → FeedsLength messages (record { profile = profile; limit = limit; octets = take present announced ++ contents; looks = looks; capacity = space }) piece (decoding_of profile limit looked made after contents p) used
   FeedsLength-made limit looks looked space made announced contents piece after present used p h put four n k capacity at = record {
     within = omega (arith, put.many);
     same_profile = refl;
@@ -274,7 +271,7 @@ module _ (messages : List Term) (profile : Profile) where
       no_contents : (contents : List ℕ) → None ≡ Some contents → ⊥
       no_contents contents n = cc
 
-  pub Clears-frame : (limit looks : ℕ) (space : Capacity) (announced contents : List ℕ) (new : Decoding) → HasFrame messages limit announced contents → new ≡ record { profile = profile; limit = limit; octets = []; looks = looks; capacity = new.capacity } → (IsAmple (decoding_of profile limit looks space announced contents phase.Ready) → IsAmple new) → Clears messages (decoding_of profile limit looks space announced contents phase.Ready) new true
+  pub Clears-frame : (limit looks : ℕ) (space : ℕ) (announced contents : List ℕ) (new : Decoding) → HasFrame messages limit announced contents → new ≡ record { profile = profile; limit = limit; octets = []; looks = looks; capacity = new.capacity } → (IsAmple (decoding_of profile limit looks space announced contents phase.Ready) → IsAmple new) → Clears messages (decoding_of profile limit looks space announced contents phase.Ready) new true
   Clears-frame limit looks space announced contents new h left ample =
       let d : Decoding = decoding_of profile limit looks space announced contents phase.Ready in
       let there : borrowed messages d ≡ Some contents = borrowed-ready messages profile limit looks space announced contents phase.Ready h refl in

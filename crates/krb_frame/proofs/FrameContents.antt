@@ -1,12 +1,11 @@
 -- The contents of a frame as they come.
-use Rattle.std.specs.Prelude.{if◌then◌else◌, is_ok, is_err, IsOk, IfOk, OnErr}
+use Rattle.std.specs.Prelude.{if◌then◌else◌, is_ok, is_err}
 use Rattle.std.proofs.Common.{◌≡◌, ◌≢◌, ℕ, suc, ◌+◌, ◌-◌, ◌^◌, ◌<◌, ◌≤◌, min, inl, inr, List, ◌++◌, length, take, false, Result, Ok, Err, refl, sym, ◌∙◌, ap, subst, arith, length-append, length-take}
 use Rattle.std.proofs.lemmas.Bool.{cases_lt}
-use Rattle.std.proofs.lemmas.List.{take-append-le, take-take, take_all}
+use Rattle.std.proofs.lemmas.List.{take-append-le, take-take}
 use Rattle.std.proofs.Math.Seq.{take-append-add}
 use Rattle.krb_der.specs.Octets.{AreOctets}
 use Rattle.krb_der.specs.declared.profile.Profile.{Profile}
-use Rattle.krb_der.specs.declared.memory.Memory.{Memory}
 use Rattle.krb_der.specs.declared.why.Why.{Why}
 use Rattle.krb_der.specs.declared.verdict.Refusal.{Refusal}
 use Rattle.krb_der.specs.declared.verdict.Verdict.{Verdict}
@@ -16,9 +15,8 @@ use Rattle.krb_msg.specs.Grammar.{messages as grammar}
 use Rattle.krb_msg.specs.Judgement.{judgement, judgement_by}
 use Rattle.krb_msg.specs.Laws.{IsFinal}
 use Rattle.krb_msg.proofs.Grammars.{refusal_is_final, all_is_decided, whole_is_one_of}
-use Rattle.krb_scan.specs.Scanned.{Marks}
-use Rattle.krb_scan.specs.Scanner.{HasScanned, verdict_of}
-use Rattle.krb_scan.specs.declared.scanner.Scanner.{Scanner}
+use Rattle.krb_scan.specs.Machine.{HasScanned, verdict_of}
+use Rattle.krb_scan.specs.declared.machine.Machine.{Machine}
 use Rattle.krb_frame.specs.declared.decoder.Status.TheVariants as status
 use Rattle.krb_frame.specs.inner.Phases.{IsFedContents, IsEarly, status_by}
 
@@ -27,12 +25,11 @@ pub extended : {A B : Type 0} (r : Result A B) (held all kept : List ℕ) → he
 extended (Ok done) held all kept e f = e
 extended (Err error) held all kept e f = absurd cc
 
--- the status if it is not out of memory
-pub not_memory : (r : Result Verdict Memory) → IsOk r → status_by r ≢ status.Memory
-not_memory (Ok verdict.Open) some e = cc
-not_memory (Ok verdict.Whole) some e = cc
-not_memory (Ok (verdict.Refused refusal)) some e = cc
-not_memory (Err memory) some e = absurd cc
+-- a verdict is not out of memory
+pub not_memory : (decided : Verdict) → status_by decided ≢ status.Memory
+not_memory verdict.Open e = cc
+not_memory verdict.Whole e = cc
+not_memory (verdict.Refused refusal) e = cc
 
 -- ---- by any messages
 module _ (messages : List Term) where
@@ -122,28 +119,21 @@ module _ (messages : List Term) where
     }
 
 -- ---- by the messages of a profile
-both_err : {A B : Type 0} (P Q : Type 0) (r : Result A B) → OnErr r P → OnErr r Q → OnErr r (P × Q)
-both_err P Q (Ok done) p q = tt
-both_err P Q (Err error) p q = (p, q)
-
--- The octets of a piece that a scanner scanned: as many as are missing, or as the piece has.
-pub record Took (profile : Profile) (size n used : ℕ) (before piece : List ℕ) (scanner : Scanner) (result : Result Verdict Memory) : Type 0 where
+-- The octets of a piece that a machine scanned: as many as are missing, or as the piece has.
+pub record Took (profile : Profile) (size n used : ℕ) (before piece : List ℕ) (machine : Machine) : Type 0 where
   pub some : 0 < size
   pub fits : length before ≤ size
   pub many : n ≡ min (length piece) (size - length before)
   pub undecided : judgement profile size before ≡ verdict.Open
   pub within : used ≤ length (take n piece)
-  pub at : HasScanned profile scanner size (before ++ take used (take n piece))
-  pub answer : IfOk result (λ decided. decided ≡ verdict_of scanner)
-  pub all : result ≡ Ok verdict.Open → used ≡ length (take n piece)
+  pub at : HasScanned profile machine size (before ++ take used (take n piece))
+  pub all : verdict_of machine ≡ verdict.Open → used ≡ length (take n piece)
   pub sooner : (k : ℕ) → k < used → judgement profile size (before ++ take k (take n piece)) ≡ verdict.Open
-  pub memory : OnErr result (verdict_of scanner ≡ verdict.Open)
-  pub ends : OnErr result (length (Marks profile size (before ++ take (used + 1) (take n piece))) ≡ length (Marks profile size (before ++ take used (take n piece))) + 1)
 
-pub took : (profile : Profile) (size n used : ℕ) (before piece : List ℕ) (scanner : Scanner) (result : Result Verdict Memory) → 0 < size → length before ≤ size → n ≡ min (length piece) (size - length before) → judgement profile size before ≡ verdict.Open → used ≤ length (take n piece) → HasScanned profile scanner size (before ++ take used (take n piece)) → IfOk result (λ decided. decided ≡ verdict_of scanner) → (result ≡ Ok verdict.Open → used ≡ length (take n piece)) → ((k : ℕ) → k < used → judgement profile size (before ++ take k (take n piece)) ≡ verdict.Open) → OnErr result (verdict_of scanner ≡ verdict.Open) → OnErr result (length (Marks profile size (before ++ take (used + 1) (take n piece))) ≡ length (Marks profile size (before ++ take used (take n piece))) + 1) → Took profile size n used before piece scanner result
-took profile size n used before piece scanner result some fits many undecided within at answer all sooner memory ends = record { some = some; fits = fits; many = many; undecided = undecided; within = within; at = at; answer = answer; all = all; sooner = sooner; memory = memory; ends = ends }
+pub took : (profile : Profile) (size n used : ℕ) (before piece : List ℕ) (machine : Machine) → 0 < size → length before ≤ size → n ≡ min (length piece) (size - length before) → judgement profile size before ≡ verdict.Open → used ≤ length (take n piece) → HasScanned profile machine size (before ++ take used (take n piece)) → (verdict_of machine ≡ verdict.Open → used ≡ length (take n piece)) → ((k : ℕ) → k < used → judgement profile size (before ++ take k (take n piece)) ≡ verdict.Open) → Took profile size n used before piece machine
+took profile size n used before piece machine some fits many undecided within at all sooner = record { some = some; fits = fits; many = many; undecided = undecided; within = within; at = at; all = all; sooner = sooner }
 
-module _ (profile : Profile) (size n used : ℕ) (before piece : List ℕ) (scanner : Scanner) (result : Result Verdict Memory) (t : Took profile size n used before piece scanner result) where
+module _ (profile : Profile) (size n used : ℕ) (before piece : List ℕ) (machine : Machine) (t : Took profile size n used before piece machine) where
   few : used ≤ length piece
   few = omega (arith, t.within, length-take n piece)
 
@@ -157,37 +147,25 @@ module _ (profile : Profile) (size n used : ℕ) (before piece : List ℕ) (scan
   pub took-cut : (held : List ℕ) → held ≡ before ++ take n piece → take (length before + used) held ≡ before ++ take used piece
   took-cut held e = ap (take (length before + used)) e ∙ take-append-add before (take n piece) used ∙ prefix used (omega arith)
 
-  pub took-at : HasScanned profile scanner size (before ++ take used piece)
-  took-at = subst (HasScanned profile scanner size) (prefix used (omega arith)) t.at
-
-  -- out of memory, there is an octet that was not scanned
-  some_left : (r : Result Verdict Memory) → OnErr r (length (Marks profile size (before ++ take (used + 1) (take n piece))) ≡ length (Marks profile size (before ++ take used (take n piece))) + 1) → OnErr r (used < length piece)
-  some_left (Ok decided) e = tt
-  some_left (Err error) e = elim (cases_lt used (length (take n piece))) [
-    | inl h ↦ omega (arith, h, length-take n piece)
-    | inr h ↦
-        let same = ap (λ l. length (Marks profile size (before ++ l))) (take_all (used + 1) (take n piece) (omega (arith, h)) ∙ sym (take_all used (take n piece) h)) in
-        absurd (omega (arith, e, same))
-  ]
+  pub took-at : HasScanned profile machine size (before ++ take used piece)
+  took-at = subst (HasScanned profile machine size) (prefix used (omega arith)) t.at
 
   -- a refusal is of one of the octets
-  pub took-early : size < 2 ^ 31 → IfOk result IsEarly
-  took-early short = by result t.answer
+  pub took-early : size < 2 ^ 31 → IsEarly (verdict_of machine)
+  took-early short = by (verdict_of machine) took-at.decides
     where
-      by : (r : Result Verdict Memory) → IfOk r (λ decided. decided ≡ verdict_of scanner) → IfOk r IsEarly
-      by (Ok verdict.Open) a = tt
-      by (Ok verdict.Whole) a = tt
-      by (Ok (verdict.Refused refusal)) a = omega (arith, short, (stops (grammar profile) size used before piece few fits refusal t.undecided (sym (a ∙ took-at.decides))).small)
-      by (Err error) a = tt
+      by : (decided : Verdict) → decided ≡ judgement profile size (before ++ take used piece) → IsEarly decided
+      by verdict.Open e = tt
+      by verdict.Whole e = tt
+      by (verdict.Refused refusal) e = omega (arith, short, (stops (grammar profile) size used before piece few fits refusal t.undecided (sym e)).small)
 
-  pub took-taken : IsFedContents (grammar profile) size before piece (before ++ take used piece) (record { used = used; status = status_by result })
-  took-taken = by result t.answer t.all (both_err _ _ result t.memory (some_left result t.ends))
+  pub took-taken : IsFedContents (grammar profile) size before piece (before ++ take used piece) (record { used = used; status = status_by (verdict_of machine) })
+  took-taken = by (verdict_of machine) took-at.decides t.all
     where
       sooner : (k : ℕ) → k < used → judgement profile size (before ++ take k piece) ≡ verdict.Open
       sooner k h = ap (judgement profile size) (sym (prefix k (omega (arith, h)))) ∙ t.sooner k h
 
-      by : (r : Result Verdict Memory) → IfOk r (λ decided. decided ≡ verdict_of scanner) → (r ≡ Ok verdict.Open → used ≡ length (take n piece)) → OnErr r ((verdict_of scanner ≡ verdict.Open) × (used < length piece)) → IsFedContents (grammar profile) size before piece (before ++ take used piece) (record { used = used; status = status_by r })
-      by (Ok verdict.Open) a all m = taken-open (grammar profile) size used before piece few fits t.some (omega (arith, all refl, t.many, length-take n piece)) (a ∙ took-at.decides)
-      by (Ok verdict.Whole) a all m = taken-whole (grammar profile) size used before piece few fits took-at.are_octets (a ∙ took-at.decides)
-      by (Ok (verdict.Refused refusal)) a all m = taken-refused (grammar profile) size used before piece few fits refusal.place refusal.why t.undecided sooner (sym (a ∙ took-at.decides))
-      by (Err error) a all m = record { within = few; contents = refl; present = took-at.fits; decided = (sym took-at.decides ∙ m.0, m.1) }
+      by : (decided : Verdict) → decided ≡ judgement profile size (before ++ take used piece) → (decided ≡ verdict.Open → used ≡ length (take n piece)) → IsFedContents (grammar profile) size before piece (before ++ take used piece) (record { used = used; status = status_by decided })
+      by verdict.Open e all = taken-open (grammar profile) size used before piece few fits t.some (omega (arith, all refl, t.many, length-take n piece)) e
+      by verdict.Whole e all = taken-whole (grammar profile) size used before piece few fits took-at.are_octets e
+      by (verdict.Refused refusal) e all = taken-refused (grammar profile) size used before piece few fits refusal.place refusal.why t.undecided sooner (sym e)

@@ -14,7 +14,7 @@ use Rattle.krb_msg.specs.Judgement.{Outcome, Open, Bad, Done, message_outcome, v
 use Rattle.krb_msg.specs.Stream.{Frames, End, Boundary, Within, Refused, ends, with_first, frames}
 use Rattle.krb_msg.proofs.FramePrefixes.{MayFollow, frames-long, frames-empty, frames-open, frames-bad, frames-done, frames-nil}
 use Rattle.krb_msg.proofs.Grammars.{refusal_is_final}
-use Rattle.krb_frame.specs.Decoding.{Decoding, Capacity, IsAmple, decoding_of, octets_of}
+use Rattle.krb_frame.specs.Decoding.{Decoding, IsAmple, decoding_of, octets_of}
 use Rattle.krb_frame.specs.inner.Phases.{IsPhaseOf, HasRefused, phase_status}
 use Rattle.krb_frame.specs.declared.decoder.Phase.{Phase}
 use Rattle.krb_frame.specs.declared.decoder.Phase.TheVariants as phase
@@ -186,7 +186,7 @@ keeps messages d e = record { rest = sym e; left = refl; ample = λ a. a }
 pub gives-up : (messages : List Term) (old new : Decoding) (rest : ℕ) → rest_to_come messages old ≡ Some rest → new ≡ record { profile = old.profile; limit = old.limit; octets = []; looks = old.looks; capacity = new.capacity } → (IsAmple old → IsAmple new) → GivesUp messages old new (Some rest)
 gives-up messages old new rest e l a = record { rest = sym e; left = l; ample = a }
 
-module _ (messages : List Term) (profile : Profile) (limit looks : ℕ) (space : Capacity) (announced contents : List ℕ) (p : Phase) (h : IsPhaseOf messages limit announced contents p) where
+module _ (messages : List Term) (profile : Profile) (limit looks : ℕ) (space : ℕ) (announced contents : List ℕ) (p : Phase) (h : IsPhaseOf messages limit announced contents p) where
   abbrev d : Decoding
   d = decoding_of profile limit looks space announced contents p
 
@@ -194,7 +194,7 @@ module _ (messages : List Term) (profile : Profile) (limit looks : ℕ) (space :
   rest-none n = ap (λ s. rest_at s d.octets) (comes messages profile limit looks space announced contents p h).is ∙ none_to_come p d.octets n
 
 -- the octets of a refused phase
-module _ (messages : List Term) (profile : Profile) (limit looks : ℕ) (space : Capacity) (announced contents : List ℕ) (refusal : Refusal) (h : HasRefused messages limit announced contents refusal) where
+module _ (messages : List Term) (profile : Profile) (limit looks : ℕ) (space : ℕ) (announced contents : List ℕ) (refusal : Refusal) (h : HasRefused messages limit announced contents refusal) where
   abbrev held : List ℕ
   held = octets_of (phase.Refused refusal) announced contents
 

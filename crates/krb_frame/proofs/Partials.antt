@@ -9,7 +9,7 @@ use Rattle.krb_der.specs.declared.why.Why.TheVariants as why
 use Rattle.krb_msg.specs.Term.{Term}
 use Rattle.krb_msg.specs.Stream.{Refused, ends, frames}
 use Rattle.krb_msg.proofs.FramePrefixes.{frames-high}
-use Rattle.krb_frame.specs.Decoding.{Capacity, IsPartial, decoding_of, octets_of}
+use Rattle.krb_frame.specs.Decoding.{IsPartial, decoding_of, octets_of}
 use Rattle.krb_frame.specs.inner.Phases.{IsPhaseOf}
 use Rattle.krb_frame.specs.declared.decoder.Phase.{Phase}
 use Rattle.krb_frame.specs.declared.decoder.Phase.TheVariants as phase
@@ -23,7 +23,7 @@ record Announces (announced contents : List ℕ) (p : Phase) : Type 0 where
   pub short : number announced < 2 ^ 31
   pub present : length contents ≤ number announced
 
-module _ (messages : List Term) (profile : Profile) (limit looks : ℕ) (space : Capacity) (announced contents : List ℕ) (some : 0 < length contents) where
+module _ (messages : List Term) (profile : Profile) (limit looks : ℕ) (space : ℕ) (announced contents : List ℕ) (some : 0 < length contents) where
   same_place : (p q : ℕ) (r s : Why) → ends (Refused p r) ≡ ends (Refused q s) → p ≡ q
   same_place p q r s e = let f : Refused p r ≡ Refused q s = ap (λ x. x.end) e in cc
 

@@ -12,7 +12,7 @@ use Rattle.krb_der.specs.declared.why.Why.TheVariants as why
 use Rattle.krb_der.specs.declared.verdict.Refusal.{Refusal}
 use Rattle.krb_msg.specs.Term.{Term}
 use Rattle.krb_msg.specs.Stream.{Frames, End, Boundary, Within, Refused, ends, with_first, frames}
-use Rattle.krb_frame.specs.Decoding.{Decoding, Capacity, found, status_at, status_of, borrowed, first_of, AreOfOne, IsOfOneFrame}
+use Rattle.krb_frame.specs.Decoding.{Decoding, found, status_at, status_of, borrowed, first_of, AreOfOne, IsOfOneFrame}
 use Rattle.krb_frame.specs.Decoded.{HasDecoded, frames_size}
 use Rattle.krb_frame.specs.Feeds.{Feeds, Clears}
 use Rattle.krb_frame.specs.GoingOn.{Entry, Contents, Fault, last_entry, entries, rest_of, rest_at, rest_to_come, GivesUp, Skipping, GoesOn, without, FeedsAfter, PassesEntry, ClearsEntry, Skips}
@@ -157,7 +157,7 @@ module _ (messages : List Term) where
       by (first ∷ []) (Refused place reason) h m one = absurd one
       by (first ∷ second ∷ others) end h m one = absurd one
 
-  cleared-octets : (old : Decoding) (capacity : Capacity) (o : Option (List ℕ)) (contents : List ℕ) → o ≡ Some contents → (if is_some o then record old { octets = []; capacity = capacity } else old) ≡ record old { octets = []; capacity = capacity }
+  cleared-octets : (old : Decoding) (capacity : ℕ) (o : Option (List ℕ)) (contents : List ℕ) → o ≡ Some contents → (if is_some o then record old { octets = []; capacity = capacity } else old) ≡ record old { octets = []; capacity = capacity }
   cleared-octets old capacity o contents e = rw e refl
 
   pub clears-entry : (old new : Skipping) (answer : Bool) → new.skipped ≡ old.skipped → Clears messages old.current new.current answer → ClearsEntry messages old new answer

@@ -1,5 +1,5 @@
 -- A decoder as contracts see it, and the results of its calls, by any messages.
-use Rattle.std.specs.Prelude.{ℕ, ◌+◌, ◌++◌, ◌/◌, ◌≡◌, ◌<◌, ◌≤◌, ◌^◌, if◌then◌else◌, List, [], ◌∷◌, length, take, drop, Option, Some, None, is_some, Result, Ok, Err}
+use Rattle.std.specs.Prelude.{ℕ, ◌+◌, ◌++◌, ◌≡◌, ◌<◌, ◌≤◌, ◌^◌, if◌then◌else◌, List, [], ◌∷◌, length, take, drop, Option, Some, None, is_some, Result, Ok, Err}
 use Rattle.krb_der.specs.Octets.{number}
 use Rattle.krb_der.specs.declared.profile.Profile.{Profile}
 use Rattle.krb_der.specs.declared.verdict.Refusal.{Refusal}
@@ -12,18 +12,13 @@ use Rattle.krb_frame.specs.declared.decoder.Phase.TheVariants as phase
 use Rattle.krb_frame.specs.declared.decoder.Status.{Status}
 use Rattle.krb_frame.specs.declared.decoder.Status.TheVariants as status
 
--- for how many octets of contents and for how many marks memory is allocated
-pub record Capacity : Type 0 where
-  pub octets : ℕ
-  pub marks : ℕ
-
--- A decoder: the profile of the messages; the greatest length of a frame; the octets of the current frame that were used, its length first; how many octets of contents were looked at in all, which only contracts see; and the capacity for contents.
+-- A decoder: the profile of the messages; the greatest length of a frame; the octets of the current frame that were used, its length first; how many octets of contents were looked at in all, which only contracts see; and for how many octets of contents memory is allocated.
 pub record Decoding : Type 0 where
   pub profile : Profile
   pub limit : ℕ
   pub octets : List ℕ
   pub looks : ℕ
-  pub capacity : Capacity
+  pub capacity : ℕ
 
 -- ---- the fields of a decoder, as a Decoding
 -- the number of octets of a length that are present
@@ -38,17 +33,12 @@ abbrev pub octets_of : Phase → List ℕ → List ℕ → List ℕ
 octets_of phase announced contents = take (length_present phase) announced ++ contents
 
 -- the fields of a decoder as a Decoding
-abbrev pub decoding_of : Profile → ℕ → ℕ → Capacity → List ℕ → List ℕ → Phase → Decoding
+abbrev pub decoding_of : Profile → ℕ → ℕ → ℕ → List ℕ → List ℕ → Phase → Decoding
 decoding_of profile limit looks capacity announced contents phase = record { profile = profile; limit = limit; octets = octets_of phase announced contents; looks = looks; capacity = capacity }
-
--- the capacity for numbers of octets and marks
-abbrev pub capacity_for : ℕ → ℕ → Capacity
-capacity_for octets marks = record { octets = octets; marks = marks }
 
 -- there is capacity for any frame that the limit allows
 pub record IsAmple (d : Decoding) : Type 0 where
-  pub octets : d.limit ≤ d.capacity.octets
-  pub marks : d.limit / 2 ≤ d.capacity.marks
+  pub octets : d.limit ≤ d.capacity
 
 -- the frames of these octets: the current one, if it is whole, and the end
 unfoldable pub found : List Term → Decoding → Frames
@@ -73,7 +63,7 @@ abbrev pub borrowed : List Term → Decoding → Option (List ℕ)
 borrowed messages d = first_of (found messages d).contents
 
 -- the decoder after the frame that is ready is cleared, if one is, with this capacity
-abbrev pub after_next : List Term → Decoding → Capacity → Decoding
+abbrev pub after_next : List Term → Decoding → ℕ → Decoding
 after_next messages d capacity = if is_some (borrowed messages d) then record d { octets = []; capacity = capacity } else d
 
 -- why a stream with this end is refused, if it is

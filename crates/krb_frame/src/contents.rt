@@ -1,46 +1,41 @@
 //! The contents of a frame, as they come.
 
-ghost use Rattle.std.specs.Prelude.{◌≡◌, ◌≢◌, ◌+◌, ◌/◌, ◌<◌, ◌≤◌, ◌^◌, true, [], length, vec_capacity, IfOk};
+ghost use Rattle.std.specs.Prelude.{◌≡◌, ◌≢◌, ◌+◌, ◌<◌, ◌≤◌, ◌^◌, true, [], length, vec_capacity};
 ghost use Rattle.krb_der.specs.declared.verdict.Verdict.TheVariants.{Open};
 ghost use Rattle.krb_msg.specs.Grammar.{messages};
 ghost use Rattle.krb_msg.specs.Judgement.{judgement};
-ghost use Rattle.krb_scan.specs.Scanner.{HasScanned, ledger_of, profile_of, capacity_of};
-ghost use Rattle.krb_frame.specs.inner.Phases.{IsFedContents, IsEarly, KeepsCapacity, status_by};
-ghost use Rattle.krb_frame.specs.Decoding.{capacity_for};
+ghost use Rattle.krb_scan.specs.Machine.{HasScanned, ledger_of, profile_of};
+ghost use Rattle.krb_frame.specs.inner.Phases.{IsFedContents, IsEarly, status_by};
 ghost use Rattle.krb_frame.specs.declared.decoder.Status.TheVariants as status;
 
 use crate::decoder::{Fed, LENGTH_OCTETS, Status};
-use krb_der::{Memory, Refusal, Verdict};
-use krb_scan::Scanner;
+use krb_der::{Refusal, Verdict};
+use krb_scan::Machine;
 use std::alloc::Global;
 
 /// The greatest number of contents octets whose memory is kept for the next frame: 4 MiB.
 const CONTENTS_KEPT: usize = 1 << 22;
 
-/// The greatest number of marks whose memory is kept for the next frame: 3 MiB, at 24 octets
-/// each.
-const MARKS_KEPT: usize = 1 << 17;
-
 /// Uses octets of the contents of a frame of `size` octets, as many as are missing and come, up to
-/// one that is refused. The scanner looks at each of them once. If memory is refused none is
-/// taken after those that it has looked at; none is if there is capacity for the whole frame.
+/// one that is refused. The machine looks at each of them once. If out of memory, none is used;
+/// that cannot be if there is capacity for the whole frame.
 pub(crate) fn take_contents(
     contents: &mut Vec<u8>,
-    scanner: &mut Scanner,
+    machine: &mut Machine,
     size: u32,
     piece: &[u8],
 ) -> Fed
     requires some { 0 < size }
     requires short { size < 2 ^ 31 }
     requires present { length contents.old.items ≤ size }
-    requires undecided { judgement (profile_of scanner.old) size contents.old.items ≡ Open }
-    requires scanned { HasScanned (profile_of scanner.old) scanner.old size contents.old.items }
-    ensures taken { IsFedContents (messages (profile_of scanner.old)) size contents.old.items piece.now contents.new.items result }
-    ensures scanned { HasScanned (profile_of scanner.old) scanner.new size contents.new.items }
-    ensures profile { profile_of scanner.new ≡ profile_of scanner.old }
-    ensures looks { ledger_of scanner.new ≡ ledger_of scanner.old + result.used }
-    ensures capacity { KeepsCapacity (capacity_for (vec_capacity contents.old) (capacity_of scanner.old)) (capacity_for (vec_capacity contents.new) (capacity_of scanner.new)) }
-    ensures enough { size ≤ vec_capacity contents.old → size / 2 ≤ capacity_of scanner.old → result.status ≢ status.Memory }
+    requires undecided { judgement (profile_of machine.old) size contents.old.items ≡ Open }
+    requires scanned { HasScanned (profile_of machine.old) machine.old size contents.old.items }
+    ensures taken { IsFedContents (messages (profile_of machine.old)) size contents.old.items piece.now contents.new.items result }
+    ensures scanned { HasScanned (profile_of machine.old) machine.new size contents.new.items }
+    ensures profile { profile_of machine.new ≡ profile_of machine.old }
+    ensures looks { ledger_of machine.new ≡ ledger_of machine.old + result.used }
+    ensures capacity { vec_capacity contents.old ≤ vec_capacity contents.new }
+    ensures enough { size ≤ vec_capacity contents.old → result.status ≢ status.Memory }
 {
     let before = contents.len();
     let count = piece.len().min(size as usize - before);
@@ -51,27 +46,26 @@ pub(crate) fn take_contents(
             status: Status::Memory,
         };
     }
-    let taken = scanner.take(octets);
-    contents.truncate(before + taken.used);
+    let used = machine.take(octets);
+    contents.truncate(before + used);
     Fed {
-        used: taken.used,
-        status: status_after(taken.verdict),
+        used,
+        status: status_after(machine.verdict()),
     }
 }
 
-/// Returns what is answered if a scanner decides so, or was out of memory.
-fn status_after(verdict: Result<Verdict, Memory>) -> Status
-    requires { IfOk verdict IsEarly }
+/// Returns what is answered if a machine decides so.
+fn status_after(verdict: Verdict) -> Status
+    requires { IsEarly verdict }
     ensures { result ≡ status_by verdict }
 {
     match verdict {
-        Ok(Verdict::Open) => Status::More,
-        Ok(Verdict::Whole) => Status::Ready,
-        Ok(Verdict::Refused(Refusal { place, why })) => Status::Refused(Refusal {
+        Verdict::Open => Status::More,
+        Verdict::Whole => Status::Ready,
+        Verdict::Refused(Refusal { place, why }) => Status::Refused(Refusal {
             place: LENGTH_OCTETS as u32 + place,
             why,
         }),
-        Err(_) => Status::Memory,
     }
 }
 
@@ -84,16 +78,5 @@ pub(crate) fn clear_contents(contents: &mut Vec<u8>, alloc: Global, stays: bool)
         *contents = Vec::new(alloc);
     } else {
         contents.clear();
-    }
-}
-
-/// Frees the memory of many marks, if it is not to stay.
-pub(crate) fn clear_marks(scanner: &mut Scanner, alloc: Global, stays: bool)
-    ensures looks { ledger_of scanner.new ≡ ledger_of scanner.old }
-    ensures profile { profile_of scanner.new ≡ profile_of scanner.old }
-    ensures capacity { stays ≡ true → capacity_of scanner.old ≤ capacity_of scanner.new }
-{
-    if !stays && scanner.marks().len() > MARKS_KEPT {
-        scanner.restart(alloc, 1);
     }
 }

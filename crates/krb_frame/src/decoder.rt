@@ -1,13 +1,13 @@
 //! Frames out of a stream that comes in pieces.
 
-use crate::contents::{clear_contents, clear_marks, take_contents};
+use crate::contents::{clear_contents, take_contents};
 use crate::framed::Framed;
 use crate::length::accepted_size;
 use crate::limit::Limit;
 use crate::pass::{Passed, first_contents};
 use krb_der::{Memory, Profile, Refusal, Why};
 use krb_msg::view_message_in;
-use krb_scan::Scanner;
+use krb_scan::Machine;
 use std::alloc::Global;
 use std::marker::Model;
 
@@ -68,7 +68,7 @@ pub struct Decoder {
     length: [u8; LENGTH_OCTETS],
     phase: Phase,
     contents: Vec<u8>,
-    scanner: Scanner,
+    machine: Machine,
 }
 
 impl Model for Decoder {
@@ -78,20 +78,20 @@ impl Model for Decoder {
 
     ghost use Rattle.std.specs.Prelude.{vec_capacity};
     ghost use Rattle.krb_msg.specs.Grammar.{messages};
-    ghost use Rattle.krb_scan.specs.Scanner.{ledger_of, profile_of, capacity_of};
+    ghost use Rattle.krb_scan.specs.Machine.{ledger_of, profile_of};
     ghost use Rattle.krb_frame.specs.inner.Phases.{IsPhaseOf, IsScanned};
-    ghost use Rattle.krb_frame.specs.Decoding.{decoding_of, capacity_for};
+    ghost use Rattle.krb_frame.specs.Decoding.{decoding_of};
 
-    ghost view = { λ d. decoding_of (profile_of d.scanner) d.limit (ledger_of d.scanner) (capacity_for (vec_capacity d.contents) (capacity_of d.scanner)) d.length d.contents.items d.phase };
+    ghost view = { λ d. decoding_of (profile_of d.machine) d.limit (ledger_of d.machine) (vec_capacity d.contents) d.length d.contents.items d.phase };
 
-    ghost invariant = { λ d. IsPhaseOf (messages (profile_of d.scanner)) d.limit d.length d.contents.items d.phase × IsScanned (profile_of d.scanner) d.scanner d.length d.contents.items d.phase };
+    ghost invariant = { λ d. IsPhaseOf (messages (profile_of d.machine)) d.limit d.length d.contents.items d.phase × IsScanned (profile_of d.machine) d.machine d.length d.contents.items d.phase };
 }
 
 ghost use Rattle.std.specs.Prelude.{◌≡◌, ◌≤◌, ◌<◌, ◌⊎◌, ◌^◌, ◌↔◌, true, [], length, vec_capacity, IfOk, IfSome, IsTrue, MatchOption};
 ghost use Rattle.std.specs.Option.{option_map};
 ghost use Rattle.krb_msg.specs.Grammar.{messages};
-ghost use Rattle.krb_scan.specs.Scanner.{ledger_of, profile_of, capacity_of};
-ghost use Rattle.krb_frame.specs.Decoding.{IsAmple, borrowed, finish_at, finish_of, kept_contents, IsPartial, open_lengths_of, decoding_of, capacity_for};
+ghost use Rattle.krb_scan.specs.Machine.{ledger_of, profile_of};
+ghost use Rattle.krb_frame.specs.Decoding.{IsAmple, borrowed, finish_at, finish_of, kept_contents, IsPartial, open_lengths_of, decoding_of};
 ghost use Rattle.krb_frame.specs.Decoded.{HasDecoded};
 ghost use Rattle.krb_frame.specs.Feeds.{Feeds, Clears};
 ghost use Rattle.krb_frame.specs.GoingOn.{GivesUp};
@@ -116,13 +116,11 @@ impl Decoder {
         ensures nothing { result ≡ record { profile = profile; limit = limit; octets = []; looks = result.looks; capacity = result.capacity } }
         ensures decoded { HasDecoded (messages profile) result [] [] }
     {
-        let scanner = Scanner::with_profile(alloc, profile, 1);
-        Decoder::over(alloc, limit, Vec::new(alloc), scanner)
+        Decoder::over(alloc, limit, profile, Vec::new(alloc))
     }
 
     /// Creates a decoder of a stream of which nothing came yet, by the lenient profile, with memory
-    /// for any frame that the limit allows: for that number of octets, and for half that number of
-    /// marks, the most that they can have. It keeps that, and `feed` never returns
+    /// for any frame that the limit allows. It keeps that, and `feed` never returns
     /// [`Status::Memory`].
     pub fn reserved(alloc: Global, limit: Limit) -> Result<Decoder, Memory>
         ensures nothing { IfOk result (λ d. d ≡ record { profile = Profile.Lenient; limit = limit; octets = []; looks = d.looks; capacity = d.capacity }) }
@@ -144,17 +142,15 @@ impl Decoder {
     {
         let octets = limit.get() as usize;
         let contents = Vec::with_capacity(alloc, octets)?;
-        let mut scanner = Scanner::with_profile(alloc, profile, 1);
-        scanner.reserve(octets / 2)?;
-        Ok(Decoder::over(alloc, limit, contents, scanner))
+        Ok(Decoder::over(alloc, limit, profile, contents))
     }
 
-    /// Creates a decoder of a stream of which nothing came yet, with the memory of contents and a
-    /// scanner.
+    /// Creates a decoder of a stream of which nothing came yet, by a profile, with the memory of
+    /// contents.
     #[inline(always)]
-    fn over(alloc: Global, limit: Limit, contents: Vec<u8>, scanner: Scanner) -> Decoder
+    fn over(alloc: Global, limit: Limit, profile: Profile, contents: Vec<u8>) -> Decoder
         requires { contents.items ≡ [] }
-        ensures { result ≡ record { profile = profile_of scanner; limit = limit; octets = []; looks = ledger_of scanner; capacity = capacity_for (vec_capacity contents) (capacity_of scanner) } }
+        ensures { result ≡ record { profile = profile; limit = limit; octets = []; looks = result.looks; capacity = vec_capacity contents } }
     {
         Decoder {
             alloc,
@@ -162,7 +158,7 @@ impl Decoder {
             length: [0; LENGTH_OCTETS],
             phase: Phase::Length(0),
             contents,
-            scanner,
+            machine: Machine::new(profile, 1),
         }
     }
 
@@ -171,7 +167,7 @@ impl Decoder {
         ensures { (result ≡ true) ↔ IsAmple self.now }
     {
         let octets = self.limit.get() as usize;
-        octets <= self.contents.capacity() && octets / 2 <= self.scanner.capacity()
+        octets <= self.contents.capacity()
     }
 
     /// Uses the first octets of a piece: all of them, or those up to the end of the frame, or
@@ -205,7 +201,7 @@ impl Decoder {
 
     /// Passes the frame with which a piece begins, if it is all there and its contents are a
     /// message, and returns that message as a view of the piece, and what follows the frame. It is
-    /// as if the frame had been fed and cleared, but nothing is kept of it and the scanner looks at
+    /// as if the frame had been fed and cleared, but nothing is kept of it and the machine looks at
     /// none of its octets. Returns `None` of any other piece, and if a part of a frame was fed
     /// before or one is ready or refused: then the piece is to be fed. It allocates nothing.
     pub fn pass<'p>(&self, piece: &'p [u8]) -> Option<Passed<'p>>
@@ -218,7 +214,7 @@ impl Decoder {
         let (contents, rest) = first_contents(self.limit, piece)?;
         // With `?` the view would be moved more often, which takes longer than what else is done
         // here.
-        let Some(message) = view_message_in(self.scanner.profile(), contents) else {
+        let Some(message) = view_message_in(self.machine.profile(), contents) else {
             return None;
         };
         Some(Passed { message, rest })
@@ -235,7 +231,7 @@ impl Decoder {
         self.phase = if present + used < LENGTH_OCTETS {
             Phase::Length(present + used)
         } else {
-            judge_length(&mut self.scanner, self.limit, self.length)
+            judge_length(&mut self.machine, self.limit, self.length)
         };
         used
     }
@@ -251,7 +247,7 @@ impl Decoder {
             Phase::Refused(refusal) => return answer(Status::Refused(refusal)),
             Phase::Contents(size) => size,
         };
-        let fed = take_contents(&mut self.contents, &mut self.scanner, size, piece);
+        let fed = take_contents(&mut self.contents, &mut self.machine, size, piece);
         self.phase = phase_after(size, fed.status);
         fed
     }
@@ -306,7 +302,6 @@ impl Decoder {
     {
         let stays = self.is_ample();
         clear_contents(&mut self.contents, self.alloc, stays);
-        clear_marks(&mut self.scanner, self.alloc, stays);
         self.phase = Phase::Length(0);
     }
 
@@ -344,7 +339,7 @@ impl Decoder {
         if self.contents.is_empty() {
             0
         } else {
-            self.scanner.open_lengths()
+            self.machine.open_lengths()
         }
     }
 
@@ -352,7 +347,7 @@ impl Decoder {
     pub fn profile(&self) -> Profile
         ensures { result ≡ self.now.profile }
     {
-        self.scanner.profile()
+        self.machine.profile()
     }
 
     /// Returns the message of the current frame as far as it came, borrowed: of one that is refused
@@ -429,19 +424,18 @@ fn put_octets(length: &mut [u8; LENGTH_OCTETS], present: usize, piece: &[u8]) ->
     count
 }
 
-/// Returns what the four octets of a length come to. If contents follow, the scanner is cleared for
+/// Returns what the four octets of a length come to. If contents follow, the machine is cleared for
 /// them.
-fn judge_length(scanner: &mut Scanner, limit: Limit, announced: [u8; LENGTH_OCTETS]) -> Phase
+fn judge_length(machine: &mut Machine, limit: Limit, announced: [u8; LENGTH_OCTETS]) -> Phase
     requires { length announced ≡ 4 }
-    ensures judged { IsLengthJudged (messages (profile_of scanner.old)) limit announced result }
-    ensures scanned { IsScanned (profile_of scanner.old) scanner.new announced [] result }
-    ensures profile { profile_of scanner.new ≡ profile_of scanner.old }
-    ensures looks { ledger_of scanner.new ≡ ledger_of scanner.old }
-    ensures capacity { capacity_of scanner.old ≤ capacity_of scanner.new }
+    ensures judged { IsLengthJudged (messages (profile_of machine.old)) limit announced result }
+    ensures scanned { IsScanned (profile_of machine.old) machine.new announced [] result }
+    ensures profile { profile_of machine.new ≡ profile_of machine.old }
+    ensures looks { ledger_of machine.new ≡ ledger_of machine.old }
 {
     match accepted_size(limit, announced) {
         Ok(size) => {
-            scanner.clear(size);
+            machine.clear(size);
             Phase::Contents(size)
         }
         Err(why) => Phase::Refused(Refusal { place: 3, why }),

@@ -1,42 +1,40 @@
 //! Three ways of judging whether octets are a message.
 
 use krb_judge::judge;
-use krb_scan::{Scanner, Verdict};
+use krb_scan::{Machine, Verdict};
 
 /// How octets are judged.
 #[derive(Clone, Copy)]
 pub(crate) enum Judging {
     /// By `judge`.
     AtOnce,
-    /// By a scanner, octet by octet except inside strings.
+    /// By a machine, octet by octet except inside strings.
     Step,
-    /// By a scanner, all octets at once.
+    /// By a machine, all octets at once.
     Take,
 }
 
-/// Scans octets one at a time, except those inside a string, which it scans by `run`, and returns
-/// the verdict. If memory runs out it is the verdict before that.
-fn step_all(scanner: &mut Scanner, octets: &[u8]) -> Verdict {
+/// Judges octets one at a time, except those inside a string, which `run` takes, and returns the
+/// verdict.
+fn step_all(machine: &mut Machine, octets: &[u8]) -> Verdict {
     let mut rest = octets;
-    // each turn scans at least one octet
+    // each turn takes at least one octet
     for _ in octets {
-        let run = scanner.run(rest);
+        let run = machine.run(rest);
         let Some([octet, after @ ..]) = rest.get(run..) else {
             break;
         };
-        let Verdict::Open = scanner.verdict() else {
+        let Verdict::Open = machine.verdict() else {
             break;
         };
-        if scanner.step(*octet).is_err() {
-            break;
-        }
+        machine.step(*octet);
         rest = after;
     }
-    scanner.verdict()
+    machine.verdict()
 }
 
-/// Returns whether octets are a message. The scanner is cleared first, and its memory used again.
-pub(crate) fn is_whole(scanner: &mut Scanner, octets: &[u8], judging: Judging) -> bool {
+/// Returns whether octets are a message. The machine is cleared first.
+pub(crate) fn is_whole(machine: &mut Machine, octets: &[u8], judging: Judging) -> bool {
     if octets.is_empty() || octets.len() > 2147483647 {
         return false;
     }
@@ -44,12 +42,13 @@ pub(crate) fn is_whole(scanner: &mut Scanner, octets: &[u8], judging: Judging) -
     let verdict = match judging {
         Judging::AtOnce => judge(n, octets),
         Judging::Step => {
-            scanner.clear(n);
-            step_all(scanner, octets)
+            machine.clear(n);
+            step_all(machine, octets)
         }
         Judging::Take => {
-            scanner.clear(n);
-            scanner.take(octets).verdict.unwrap_or(Verdict::Open)
+            machine.clear(n);
+            machine.take(octets);
+            machine.verdict()
         }
     };
     matches!(verdict, Verdict::Whole)

@@ -1,7 +1,7 @@
 //! Reads framed messages from the standard input, parses each, encodes it again, and compares the
 //! octets. It tests `krb_judge` and `krb_msg` on real messages, and `make bench` measures it: with
 //! the word `frames` it only finds the frames, and with `parse` it only parses; `encode` is what it
-//! does without a word. With `judge` it judges each message, with `step` a scanner scans it octet
+//! does without a word. With `judge` it judges each message, with `step` a machine takes it octet
 //! by octet except inside strings, and with `take` all octets at once. A number after the word is
 //! how many more times it does all this with the same octets, which then are in the processor's
 //! cache, as those of a pipe are. Other words are refused.
@@ -13,9 +13,10 @@
 mod judging;
 
 use judging::{Judging, is_whole};
+use krb_der::Profile;
 use krb_judge::parse;
 use krb_msg::{Message, encode};
-use krb_scan::Scanner;
+use krb_scan::Machine;
 use std::alloc::Global;
 use std::io::Read;
 use std::process::ExitCode;
@@ -84,11 +85,11 @@ fn first_frame(octets: &[u8]) -> Option<(&[u8], &[u8])> {
 }
 
 /// Does the work with the contents of a frame; returns whether they are a message, and are encoded
-/// as the same octets if that is asked for. The scanner's memory is used again.
-fn is_done(alloc: Global, scanner: &mut Scanner, octets: &[u8], work: Work) -> bool {
+/// as the same octets if that is asked for.
+fn is_done(alloc: Global, machine: &mut Machine, octets: &[u8], work: Work) -> bool {
     match work {
         Work::Frames => true,
-        Work::Judge(judging) => is_whole(scanner, octets, judging),
+        Work::Judge(judging) => is_whole(machine, octets, judging),
         Work::Parse => is_parsed(alloc, octets, false),
         Work::Encode => is_parsed(alloc, octets, true),
     }
@@ -106,7 +107,7 @@ struct Outcome {
 }
 
 /// Does the work with each frame of a stream up to the first that fails.
-fn work_on(alloc: Global, scanner: &mut Scanner, stream: &[u8], work: Work) -> Outcome {
+fn work_on(alloc: Global, machine: &mut Machine, stream: &[u8], work: Work) -> Outcome {
     let mut rest = stream;
     let mut messages = 0u64;
     let mut is_other = false;
@@ -114,7 +115,7 @@ fn work_on(alloc: Global, scanner: &mut Scanner, stream: &[u8], work: Work) -> O
         let Some((contents, others)) = first_frame(rest) else {
             break;
         };
-        if !is_done(alloc, scanner, contents, work) {
+        if !is_done(alloc, machine, contents, work) {
             is_other = true;
             break;
         }
@@ -149,10 +150,10 @@ fn main(rt: HostRuntime) -> io::Result<ExitCode> {
     };
     let mut stream = Vec::new(alloc);
     rt.stdin().read_to_end(&mut stream)?;
-    let mut scanner = Scanner::new(alloc, 1);
-    let mut outcome = work_on(alloc, &mut scanner, stream.as_slice(), work);
+    let mut machine = Machine::new(Profile::Lenient, 1);
+    let mut outcome = work_on(alloc, &mut machine, stream.as_slice(), work);
     for _ in 0..times {
-        outcome = work_on(alloc, &mut scanner, stream.as_slice(), work);
+        outcome = work_on(alloc, &mut machine, stream.as_slice(), work);
     }
     let Outcome {
         messages,

@@ -8,7 +8,10 @@ use Rattle.krb_der.specs.Octets.{when}
 use Rattle.krb_der.specs.declared.why.Why.TheVariants as why
 use Rattle.krb_scan.specs.Scan as scan
 use Rattle.krb_scan.specs.Scan.{Container, limit}
-use Rattle.krb_scan.specs.Positions.{IsPosition, expected_at}
+use Rattle.std.specs.Coded.{Unit-prop}
+use Rattle.krb_scan.specs.declared.expected.Expected.{Expected}
+use Rattle.krb_scan.specs.declared.expected.Expected.TheVariants as expected
+use Rattle.krb_scan.specs.Expectations.{IsKnown, expected_of}
 use Rattle.krb_scan.specs.State.{IsContainer, AreContainers, AreOpen}
 use Rattle.krb_scan.specs.inner.Machine.{settle, requires_item}
 use Rattle.krb_scan.specs.inner.Outcomes.{HasContainers, StaysOpen}
@@ -42,8 +45,16 @@ open_length inner outer stack h = containers_length (inner ∷ reverse outer) st
 pub limit_is : (inner : Open) (outer : List Open) (stack : List Container) → AreOpen inner outer stack → inner.end ≡ limit stack
 limit_is inner outer stack h = let i : Innermost inner outer stack = innermost inner outer stack h in i.is.end ∙ ap limit (sym i.same)
 
-pub known_expected : (inner : Open) (outer : List Open) → HasContainers inner outer → IsPosition inner.expected
-known_expected inner outer h = ∥∥₁_elim h le_prop (λ (k : (stack : List Container) × AreOpen inner outer stack). (innermost inner outer k.0 k.1).is.known)
+-- that what is expected is known
+known-prop : (given : Expected) → IsProp (IsKnown given)
+known-prop (expected.Fields from sequence) = le_prop
+known-prop (expected.Each node) = le_prop
+known-prop (expected.Only node) = le_prop
+known-prop (expected.Message profile) = Unit-prop
+known-prop expected.Nothing = Unit-prop
+
+pub known_expected : (inner : Open) (outer : List Open) → HasContainers inner outer → IsKnown inner.expected
+known_expected inner outer h = ∥∥₁_elim h (known-prop inner.expected) (λ (k : (stack : List Container) × AreOpen inner outer stack). (innermost inner outer k.0 k.1).is.known)
 
 -- another innermost container in the same ones
 pub open_same : (inner other : Open) (outer : List Open) (stack : List Container) (container : Container) (h : AreOpen inner outer stack) → IsContainer other container → AreOpen other outer (container ∷ (innermost inner outer stack h).others)
@@ -85,7 +96,7 @@ none_passed first outer left place some e =
 
 -- a container that is full
 full_at : (inner : Open) (outer : List Open) (place : ℕ) (stack : List Container) (marks : List scan.Mark) (h : AreOpen inner outer stack) → inner.end ≤ place →
-    settle stack marks place ≡ when (requires_item (expected_at inner.expected)) (λ _. scan.Refusing (place - 1) why.Missing) (λ _. settle (innermost inner outer stack h).others marks place)
+    settle stack marks place ≡ when (requires_item (expected_of inner.expected)) (λ _. scan.Refusing (place - 1) why.Missing) (λ _. settle (innermost inner outer stack h).others marks place)
 full_at inner outer place stack marks h full =
     let i : Innermost inner outer stack = innermost inner outer stack h in
     let ends : i.container.end ≤ place = omega (arith, i.is.end) in
@@ -93,16 +104,16 @@ full_at inner outer place stack marks h full =
     ∙ ap (λ b. when b (λ _. scan.Ongoing (scan.state_of marks (i.container ∷ i.others) (scan.Between place))) (λ _. when (requires_item i.container.expected) (λ _. scan.Refusing (place - 1) why.Missing) (λ _. settle i.others marks place))) (le-ltb place i.container.end ends)
     ∙ ap (λ d. when (requires_item d) (λ _. scan.Refusing (place - 1) why.Missing) (λ _. settle i.others marks place)) (sym i.is.expected)
 
-pub missing_at : (first : Open) (outer : List Open) (inner : Open) (left place : ℕ) (stack : List Container) (marks : List scan.Mark) → Passes first outer inner left place → inner.end ≤ place → requires_item (expected_at inner.expected) ≡ true → AreOpen first outer stack → settle stack marks place ≡ scan.Refusing (place - 1) why.Missing
+pub missing_at : (first : Open) (outer : List Open) (inner : Open) (left place : ℕ) (stack : List Container) (marks : List scan.Mark) → Passes first outer inner left place → inner.end ≤ place → requires_item (expected_of inner.expected) ≡ true → AreOpen first outer stack → settle stack marks place ≡ scan.Refusing (place - 1) why.Missing
 missing_at first outer inner left place stack marks p full e h =
     let r : Rest outer inner left place stack marks = p.rests stack marks h in
     r.same ∙ full_at inner (take left outer) place r.rest marks r.containers full ∙ ap (λ b. when b (λ _. scan.Refusing (place - 1) why.Missing) (λ _. settle (innermost inner (take left outer) r.rest r.containers).others marks place)) e
 
-passed_at : (outer : List Open) (inner : Open) (left place : ℕ) (rest : List Container) (marks : List scan.Mark) (h : AreOpen inner (take left outer) rest) → inner.end ≤ place → requires_item (expected_at inner.expected) ≡ false → settle rest marks place ≡ settle (innermost inner (take left outer) rest h).others marks place
+passed_at : (outer : List Open) (inner : Open) (left place : ℕ) (rest : List Container) (marks : List scan.Mark) (h : AreOpen inner (take left outer) rest) → inner.end ≤ place → requires_item (expected_of inner.expected) ≡ false → settle rest marks place ≡ settle (innermost inner (take left outer) rest h).others marks place
 passed_at outer inner left place rest marks h full e =
     full_at inner (take left outer) place rest marks h full ∙ ap (λ b. when b (λ _. scan.Refusing (place - 1) why.Missing) (λ _. settle (innermost inner (take left outer) rest h).others marks place)) e
 
-pub whole_at : (first : Open) (outer : List Open) (inner : Open) (left place : ℕ) (stack : List Container) (marks : List scan.Mark) → Passes first outer inner left place → inner.end ≤ place → requires_item (expected_at inner.expected) ≡ false → left ≡ 0 → AreOpen first outer stack → settle stack marks place ≡ scan.Whole marks
+pub whole_at : (first : Open) (outer : List Open) (inner : Open) (left place : ℕ) (stack : List Container) (marks : List scan.Mark) → Passes first outer inner left place → inner.end ≤ place → requires_item (expected_of inner.expected) ≡ false → left ≡ 0 → AreOpen first outer stack → settle stack marks place ≡ scan.Whole marks
 whole_at first outer inner left place stack marks p full e none h =
     let r : Rest outer inner left place stack marks = p.rests stack marks h in
     let i : Innermost inner (take left outer) r.rest = innermost inner (take left outer) r.rest r.containers in
@@ -118,7 +129,7 @@ round_it : (outer : List Open) (inner : Open) (left : ℕ) (none : Open) (rest :
 round_it outer inner left none rest lt h =
     record { containers = subst (λ all. AreContainers all (innermost inner (take (suc left) outer) rest h).others) (reverse_last outer left none lt) (innermost inner (take (suc left) outer) rest h).around }
 
-pub more_passed : (first : Open) (outer : List Open) (inner : Open) (left place : ℕ) (none : Open) → Passes first outer inner (suc left) place → inner.end ≤ place → requires_item (expected_at inner.expected) ≡ false → Passes first outer (get_or outer left none) left place
+pub more_passed : (first : Open) (outer : List Open) (inner : Open) (left place : ℕ) (none : Open) → Passes first outer inner (suc left) place → inner.end ≤ place → requires_item (expected_of inner.expected) ≡ false → Passes first outer (get_or outer left none) left place
 more_passed first outer inner left place none p full e = record {
   within = omega (arith, p.within);
   some = ∥∥₁_map p.some (λ (k : (stack : List Container) × AreOpen inner (take (suc left) outer) stack). ((innermost inner (take (suc left) outer) k.0 k.1).others, round_it outer inner left none k.0 p.within k.1));

@@ -1,32 +1,33 @@
 -- The octets present of a leaf, and one more.
-use Rattle.std.proofs.Common.{◌≡◌, ℕ, suc, ne_eqb, ℤ, pos, ◌+◌, ◌-◌, ◌<◌, ◌≤◌, Bool, true, ◌==◌, if◌then◌else◌, List, [], ◌∷◌, ◌++◌, length, refl, sym, ap, ◌∙◌, subst, arith}
+use Rattle.std.proofs.Common.{◌≡◌, ℕ, suc, ne_eqb, ℤ, ◌+◌, ◌-◌, ◌<◌, ◌≤◌, Bool, true, ◌==◌, if◌then◌else◌, List, [], ◌∷◌, ◌++◌, length, refl, sym, ap, ◌∙◌, subst, arith}
 use Rattle.std.proofs.lemmas.Bool.{eqb-true}
 use Rattle.krb_der.specs.Octets.{integer_value}
 use Rattle.krb_der.specs.declared.why.Why.TheVariants as why
 use Rattle.krb_msg.specs.Term.{Term, Integer, Text, Octets, Time, Bits, Sequence, SequenceOf, Tagged, Application}
 use Rattle.krb_msg.specs.Judgement.{Outcome, Open as OpenOutcome, Bad, Done, has_size, text_octet, time_octet}
 use Rattle.krb_scan.specs.Scan as scan
-use Rattle.krb_scan.specs.Scan.{leaf_outcome, leaf_value}
+use Rattle.krb_scan.specs.Scan.{leaf_outcome}
 use Rattle.krb_scan.specs.inner.Numbers.{extended, in_range, integer_with, integer_next, each_next, bits_next, any_next}
 use Rattle.krb_scan.specs.inner.Outcomes.{LeafIs, LeafReads, LeafEnds}
-use Rattle.krb_scan.specs.Positions.{IsItemPosition, item_at}
+use Rattle.krb_msg.specs.Nodes.{nodes, term_at}
+use Rattle.krb_msg.specs.Table.{IsNode, IsFormOf}
 use Rattle.krb_scan.specs.State.{KeepsOf, TipIs, first_or_zero}
-use Rattle.krb_scan.specs.inner.Positions.{AreContents}
-use Rattle.krb_scan.specs.declared.positions.Contents.TheVariants as contents
+use Rattle.krb_msg.specs.declared.grammar.Slot.{Slot}
+use Rattle.std.specs.Borrow.{Bor}
+use Rattle.krb_msg.specs.declared.grammar.Form.TheVariants as form
 use Rattle.krb_scan.specs.declared.leaf.Leaf.{Leaf}
 use Rattle.krb_scan.specs.declared.tip.Tip.TheVariants as tip
 use Rattle.krb_scan.proofs.Numbers.{length_push, value_push, leaf_next_right}
 use Rattle.krb_scan.proofs.Stable.{Counts, leaf_counts}
 
--- what the octets of a leaf and one more decide, what is kept of them, and their value
-pub record GoesOn (term : Term) (count : ℕ) (octets : List ℕ) (octet : ℕ) (next : Leaf) (value : ℤ) (unused : ℕ) (number : ℤ) : Type 0 where
+-- what the octets of a leaf and one more decide, and what is kept of them
+pub record GoesOn (term : Term) (count : ℕ) (octets : List ℕ) (octet : ℕ) (next : Leaf) (value : ℤ) (unused : ℕ) : Type 0 where
   pub decides : LeafIs next (leaf_outcome term count (octets ++ octet ∷ []))
   pub keeps : KeepsOf term value unused (octets ++ octet ∷ [])
-  pub number_is : number ≡ leaf_value term (octets ++ octet ∷ [])
 
 -- an INTEGER
-pub integer_reads : (term : Term) (low high : ℤ) (widest count seen : ℕ) (value with : ℤ) (unused octet : ℕ) (octets : List ℕ) (within : Bool) (next : Leaf) → AreContents (contents.Integer low high widest) term → LeafReads term count value unused octets → octet < 256 → seen ≡ length octets →
-    with ≡ extended seen value octet → within ≡ in_range low high with → LeafIs next (integer_with within count seen value octet) → GoesOn term count octets octet next with unused with
+pub integer_reads : (term : Term) (low high : ℤ) (widest count seen : ℕ) (value with : ℤ) (unused octet : ℕ) (octets : List ℕ) (within : Bool) (next : Leaf) → IsFormOf nodes (form.Integer low high widest) term → LeafReads term count value unused octets → octet < 256 → seen ≡ length octets →
+    with ≡ extended seen value octet → within ≡ in_range low high with → LeafIs next (integer_with within count seen value octet) → GoesOn term count octets octet next with unused
 integer_reads (Integer from to) low high widest count seen value with unused octet octets within next is reads small at e f h =
     let number : with ≡ integer_value (octets ++ octet ∷ []) = e ∙ ap (λ k. extended k value octet) at ∙ ap (λ v. extended (length octets) v octet) reads.keeps.0 ∙ sym (value_push octets octet small) in
     record {
@@ -38,7 +39,6 @@ integer_reads (Integer from to) low high widest count seen value with unused oct
           (subst (λ low_value. LeafIs next (integer_next low_value high count seen value octet)) is.0
           (subst (λ b. LeafIs next (integer_with b count seen value octet)) (f ∙ ap (in_range low high) e) h)))));
       keeps = (number, reads.keeps.1);
-      number_is = number;
     }
 integer_reads (Text greatest) low high widest count seen value with unused octet octets within next is reads small at e f h = absurd is
 integer_reads Octets low high widest count seen value with unused octet octets within next is reads small at e f h = absurd is
@@ -50,13 +50,12 @@ integer_reads (Tagged index term) low high widest count seen value with unused o
 integer_reads (Application number term) low high widest count seen value with unused octet octets within next is reads small at e f h = absurd is
 
 -- a time
-pub time_reads : (term : Term) (count seen : ℕ) (value : ℤ) (unused octet : ℕ) (octets : List ℕ) (next : Leaf) → AreContents contents.Time term → LeafReads term count value unused octets → octet < 256 → seen ≡ length octets → count ≡ 15 → LeafIs next (each_next time_octet why.Time 15 seen octet) → GoesOn term count octets octet next value unused (pos 0)
+pub time_reads : (term : Term) (count seen : ℕ) (value : ℤ) (unused octet : ℕ) (octets : List ℕ) (next : Leaf) → IsFormOf nodes form.Time term → LeafReads term count value unused octets → octet < 256 → seen ≡ length octets → count ≡ 15 → LeafIs next (each_next time_octet why.Time 15 seen octet) → GoesOn term count octets octet next value unused
 time_reads Time count seen value unused octet octets next is reads small at size h = record {
   decides =
       subst (LeafIs next) (sym (leaf_next_right Time count octets octet reads.are_octets small reads.open_still))
       (subst (λ n. LeafIs next (each_next time_octet why.Time n (length octets) octet)) (sym size) (subst (λ k. LeafIs next (each_next time_octet why.Time 15 k octet)) at h));
   keeps = reads.keeps;
-  number_is = refl;
 }
 time_reads (Integer low high) count seen value unused octet octets next is reads small at size h = absurd is
 time_reads (Text greatest) count seen value unused octet octets next is reads small at size h = absurd is
@@ -72,14 +71,13 @@ first_push [] octet = refl
 first_push (first ∷ octets) octet = ap (λ b. if b then octet else first) (ne_eqb (suc (length octets)) 0 (λ e. omega arith))
 
 -- a BIT STRING
-pub bits_reads : (few : ℕ) (term : Term) (count seen : ℕ) (value : ℤ) (unused first octet : ℕ) (octets : List ℕ) (next : Leaf) → AreContents (contents.Bits few) term → LeafReads term count value unused octets → octet < 256 → seen ≡ length octets → first ≡ (if seen == 0 then octet else unused) → LeafIs next (bits_next few count seen unused octet) → GoesOn term count octets octet next value first (pos 0)
+pub bits_reads : (few : ℕ) (term : Term) (count seen : ℕ) (value : ℤ) (unused first octet : ℕ) (octets : List ℕ) (next : Leaf) → IsFormOf nodes (form.Bits few) term → LeafReads term count value unused octets → octet < 256 → seen ≡ length octets → first ≡ (if seen == 0 then octet else unused) → LeafIs next (bits_next few count seen unused octet) → GoesOn term count octets octet next value first
 bits_reads few (Bits least) count seen value unused first octet octets next is reads small at e h = record {
   decides =
       subst (LeafIs next) (sym (leaf_next_right (Bits least) count octets octet reads.are_octets small reads.open_still))
       (subst (λ fewest. LeafIs next (bits_next fewest count (length octets) (first_or_zero octets) octet)) is
       (subst (λ u. LeafIs next (bits_next few count (length octets) u octet)) reads.keeps.1 (subst (λ k. LeafIs next (bits_next few count k unused octet)) at h)));
   keeps = (reads.keeps.0, e ∙ ap (λ k. if k == 0 then octet else unused) at ∙ ap (λ u. if length octets == 0 then octet else u) reads.keeps.1 ∙ first_push octets octet);
-  number_is = refl;
 }
 bits_reads few (Integer low high) count seen value unused first octet octets next is reads small at e h = absurd is
 bits_reads few (Text greatest) count seen value unused first octet octets next is reads small at e h = absurd is
@@ -91,13 +89,12 @@ bits_reads few (Tagged index term) count seen value unused first octet octets ne
 bits_reads few (Application number term) count seen value unused first octet octets next is reads small at e h = absurd is
 
 -- a string
-pub text_reads : (most : ℕ) (term : Term) (count seen : ℕ) (value : ℤ) (unused octet : ℕ) (octets : List ℕ) (next : Leaf) → AreContents (contents.Text most) term → LeafReads term count value unused octets → octet < 256 → seen ≡ length octets → LeafIs next (each_next (text_octet most) why.Charset count seen octet) → GoesOn term count octets octet next value unused (pos 0)
+pub text_reads : (most : ℕ) (term : Term) (count seen : ℕ) (value : ℤ) (unused octet : ℕ) (octets : List ℕ) (next : Leaf) → IsFormOf nodes (form.Text most) term → LeafReads term count value unused octets → octet < 256 → seen ≡ length octets → LeafIs next (each_next (text_octet most) why.Charset count seen octet) → GoesOn term count octets octet next value unused
 text_reads most (Text greatest) count seen value unused octet octets next is reads small at h = record {
   decides =
       subst (LeafIs next) (sym (leaf_next_right (Text greatest) count octets octet reads.are_octets small reads.open_still))
       (subst (λ greatest. LeafIs next (each_next (text_octet greatest) why.Charset count (length octets) octet)) is (subst (λ k. LeafIs next (each_next (text_octet most) why.Charset count k octet)) at h));
   keeps = reads.keeps;
-  number_is = refl;
 }
 text_reads most (Integer low high) count seen value unused octet octets next is reads small at h = absurd is
 text_reads most Octets count seen value unused octet octets next is reads small at h = absurd is
@@ -108,52 +105,86 @@ text_reads most (SequenceOf empty term) count seen value unused octet octets nex
 text_reads most (Tagged index term) count seen value unused octet octets next is reads small at h = absurd is
 text_reads most (Application number term) count seen value unused octet octets next is reads small at h = absurd is
 
--- an OCTET STRING
-pub octets_reads : (term : Term) (count seen : ℕ) (value : ℤ) (unused octet : ℕ) (octets : List ℕ) (next : Leaf) → AreContents contents.Octets term → LeafReads term count value unused octets → octet < 256 → seen ≡ length octets → LeafIs next (any_next count seen) → GoesOn term count octets octet next value unused (pos 0)
-octets_reads Octets count seen value unused octet octets next is reads small at h = record {
+-- a term whose contents may be any octets, or are items: those have no octets of their own, and this is what they would decide
+abbrev pub IsAny : Term → Type 0
+IsAny (Integer low high) = ⊥
+IsAny (Text greatest) = ⊥
+IsAny Time = ⊥
+IsAny (Bits least) = ⊥
+IsAny other = Unit {0}
+
+pub any_reads : (term : Term) (count seen : ℕ) (value : ℤ) (unused octet : ℕ) (octets : List ℕ) (next : Leaf) → IsAny term → LeafReads term count value unused octets → octet < 256 → seen ≡ length octets → LeafIs next (any_next count seen) → GoesOn term count octets octet next value unused
+any_reads (Integer low high) count seen value unused octet octets next is reads small at h = absurd is
+any_reads (Text greatest) count seen value unused octet octets next is reads small at h = absurd is
+any_reads Octets count seen value unused octet octets next is reads small at h = record {
   decides = subst (LeafIs next) (sym (leaf_next_right Octets count octets octet reads.are_octets small reads.open_still)) (subst (λ k. LeafIs next (any_next count k)) at h);
   keeps = reads.keeps;
-  number_is = refl;
 }
-octets_reads (Integer low high) count seen value unused octet octets next is reads small at h = absurd is
-octets_reads (Text greatest) count seen value unused octet octets next is reads small at h = absurd is
-octets_reads Time count seen value unused octet octets next is reads small at h = absurd is
-octets_reads (Bits least) count seen value unused octet octets next is reads small at h = absurd is
-octets_reads (Sequence fields) count seen value unused octet octets next is reads small at h = absurd is
-octets_reads (SequenceOf empty term) count seen value unused octet octets next is reads small at h = absurd is
-octets_reads (Tagged index term) count seen value unused octet octets next is reads small at h = absurd is
-octets_reads (Application number term) count seen value unused octet octets next is reads small at h = absurd is
-
--- a container has no octets of its own, and this is what they would decide
-pub items_reads : (term : Term) (first : ℕ) (none : Bool) (count seen : ℕ) (value : ℤ) (unused octet : ℕ) (octets : List ℕ) (next : Leaf) → AreContents (contents.Items first none) term → LeafReads term count value unused octets → octet < 256 → seen ≡ length octets → LeafIs next (any_next count seen) → GoesOn term count octets octet next value unused (pos 0)
-items_reads (Sequence fields) first none count seen value unused octet octets next is reads small at h = record {
+any_reads Time count seen value unused octet octets next is reads small at h = absurd is
+any_reads (Bits least) count seen value unused octet octets next is reads small at h = absurd is
+any_reads (Sequence fields) count seen value unused octet octets next is reads small at h = record {
   decides = subst (LeafIs next) (sym (leaf_next_right (Sequence fields) count octets octet reads.are_octets small reads.open_still)) (subst (λ k. LeafIs next (any_next count k)) at h);
   keeps = reads.keeps;
-  number_is = refl;
 }
-items_reads (SequenceOf empty term) first none count seen value unused octet octets next is reads small at h = record {
+any_reads (SequenceOf empty term) count seen value unused octet octets next is reads small at h = record {
   decides = subst (LeafIs next) (sym (leaf_next_right (SequenceOf empty term) count octets octet reads.are_octets small reads.open_still)) (subst (λ k. LeafIs next (any_next count k)) at h);
   keeps = reads.keeps;
-  number_is = refl;
 }
-items_reads (Tagged index term) first none count seen value unused octet octets next is reads small at h = record {
+any_reads (Tagged index term) count seen value unused octet octets next is reads small at h = record {
   decides = subst (LeafIs next) (sym (leaf_next_right (Tagged index term) count octets octet reads.are_octets small reads.open_still)) (subst (λ k. LeafIs next (any_next count k)) at h);
   keeps = reads.keeps;
-  number_is = refl;
 }
-items_reads (Application number term) first none count seen value unused octet octets next is reads small at h = record {
+any_reads (Application number term) count seen value unused octet octets next is reads small at h = record {
   decides = subst (LeafIs next) (sym (leaf_next_right (Application number term) count octets octet reads.are_octets small reads.open_still)) (subst (λ k. LeafIs next (any_next count k)) at h);
   keeps = reads.keeps;
-  number_is = refl;
 }
-items_reads (Integer low high) first none count seen value unused octet octets next is reads small at h = absurd is
-items_reads (Text greatest) first none count seen value unused octet octets next is reads small at h = absurd is
-items_reads Octets first none count seen value unused octet octets next is reads small at h = absurd is
-items_reads Time first none count seen value unused octet octets next is reads small at h = absurd is
-items_reads (Bits least) first none count seen value unused octet octets next is reads small at h = absurd is
+
+pub octets_any : (term : Term) → IsFormOf nodes form.Octets term → IsAny term
+octets_any (Integer low high) h = absurd h
+octets_any (Text greatest) h = absurd h
+octets_any Octets h = tt {0}
+octets_any Time h = absurd h
+octets_any (Bits least) h = absurd h
+octets_any (Sequence fields) h = absurd h
+octets_any (SequenceOf empty term) h = absurd h
+octets_any (Tagged index term) h = absurd h
+octets_any (Application number term) h = absurd h
+
+pub items_any : (node : ℕ) (none : Bool) (term : Term) → IsFormOf nodes (form.Items node none) term → IsAny term
+items_any node none (Integer low high) h = absurd h
+items_any node none (Text greatest) h = absurd h
+items_any node none Octets h = absurd h
+items_any node none Time h = absurd h
+items_any node none (Bits least) h = absurd h
+items_any node none (Sequence fields) h = absurd h
+items_any node none (SequenceOf empty term) h = tt {0}
+items_any node none (Tagged index term) h = absurd h
+items_any node none (Application number term) h = absurd h
+
+pub item_any : (node : ℕ) (term : Term) → IsFormOf nodes (form.Item node) term → IsAny term
+item_any node (Integer low high) h = absurd h
+item_any node (Text greatest) h = absurd h
+item_any node Octets h = absurd h
+item_any node Time h = absurd h
+item_any node (Bits least) h = absurd h
+item_any node (Sequence fields) h = absurd h
+item_any node (SequenceOf empty term) h = absurd h
+item_any node (Tagged index term) h = tt {0}
+item_any node (Application number term) h = tt {0}
+
+pub fields_any : (slots : Bor (List Slot)) (term : Term) → IsFormOf nodes (form.Fields slots) term → IsAny term
+fields_any slots (Integer low high) h = absurd h
+fields_any slots (Text greatest) h = absurd h
+fields_any slots Octets h = absurd h
+fields_any slots Time h = absurd h
+fields_any slots (Bits least) h = absurd h
+fields_any slots (Sequence fields) h = tt {0}
+fields_any slots (SequenceOf empty term) h = absurd h
+fields_any slots (Tagged index term) h = absurd h
+fields_any slots (Application number term) h = absurd h
 
 -- the number of octets of a time
-pub time_size : (term : Term) (count : ℕ) → AreContents contents.Time term → has_size term count ≡ true → count ≡ 15
+pub time_size : (term : Term) (count : ℕ) → IsFormOf nodes form.Time term → has_size term count ≡ true → count ≡ 15
 time_size Time count is h = eqb-true count 15 h
 time_size (Integer low high) count is h = absurd is
 time_size (Text greatest) count is h = absurd is
@@ -165,19 +196,19 @@ time_size (Tagged index term) count is h = absurd is
 time_size (Application number term) count is h = absurd is
 
 -- if the octet completes a leaf, it ends there
-pub reads_end : (term : Term) (start count scanned : ℕ) (octets : List ℕ) (number : ℤ) → has_size term count ≡ true → leaf_outcome term count octets ≡ OpenOutcome → (octet : ℕ) → scanned ≡ start + length octets + 1 → number ≡ leaf_value term (octets ++ octet ∷ []) → LeafEnds term start count scanned (octets ++ octet ∷ []) number (leaf_outcome term count (octets ++ octet ∷ []))
-reads_end term start count scanned octets number size still octet at e =
+pub reads_end : (term : Term) (start count scanned : ℕ) (octets : List ℕ) → has_size term count ≡ true → leaf_outcome term count octets ≡ OpenOutcome → (octet : ℕ) → scanned ≡ start + length octets + 1 → LeafEnds start count scanned (leaf_outcome term count (octets ++ octet ∷ []))
+reads_end term start count scanned octets size still octet at =
     by_outcome (leaf_outcome term count (octets ++ octet ∷ [])) (leaf_counts term count (octets ++ octet ∷ []) size)
   where
     before : length octets < count
     before = subst (Counts count (length octets)) still (leaf_counts term count octets size)
 
-    by_outcome : (outcome : Outcome) → Counts count (length (octets ++ octet ∷ [])) outcome → LeafEnds term start count scanned (octets ++ octet ∷ []) number outcome
+    by_outcome : (outcome : Outcome) → Counts count (length (octets ++ octet ∷ [])) outcome → LeafEnds start count scanned outcome
     by_outcome OpenOutcome k = tt {0}
     by_outcome (Bad offset reason) k = tt {0}
-    by_outcome (Done done) k = let le : count ≤ length (octets ++ octet ∷ []) = k in (e, omega (arith, before, length_push octets octet))
+    by_outcome (Done done) k = let le : count ≤ length (octets ++ octet ∷ []) = k in omega (arith, before, length_push octets octet)
 
 -- what is kept of them after the octet
-pub tip_on : (position start end scanned : ℕ) (value there : ℤ) (unused : ℕ) (octets : List ℕ) (octet : ℕ) → there ≡ value → IsItemPosition position → start ≤ end → scanned ≡ start + length octets + 1 → KeepsOf (item_at position) value unused (octets ++ octet ∷ []) →
-    TipIs scanned (tip.Leaf position start end there unused) (scan.InLeaf (item_at position) start (end - start) (octets ++ octet ∷ []))
-tip_on position start end scanned value there unused octets octet same known le at keeps = (known, refl, refl, omega arith, subst (λ v. KeepsOf (item_at position) v unused (octets ++ octet ∷ [])) (sym same) keeps, omega (arith, length_push octets octet))
+pub tip_on : (node start end scanned : ℕ) (value there : ℤ) (unused : ℕ) (octets : List ℕ) (octet : ℕ) → there ≡ value → IsNode node → start ≤ end → scanned ≡ start + length octets + 1 → KeepsOf (term_at node) value unused (octets ++ octet ∷ []) →
+    TipIs scanned (tip.Leaf node start end there unused) (scan.InLeaf (term_at node) start (end - start) (octets ++ octet ∷ []))
+tip_on node start end scanned value there unused octets octet same known le at keeps = (known, refl, refl, omega arith, subst (λ v. KeepsOf (term_at node) v unused (octets ++ octet ∷ [])) (sym same) keeps, omega (arith, length_push octets octet))

@@ -4,7 +4,7 @@ pub mod Progress
 pub mod Stable
 pub mod Resume
 pub mod Outcome
-pub mod PositionTable
+pub mod Choices
 pub mod Numbers
 pub mod Faults
 pub mod Prefix
@@ -22,5 +22,9 @@ pub mod LeafSteps
 pub mod PathFacts
 pub mod PathSteps
 pub mod ScannerSteps
+pub mod MarkCounts
+pub mod Events
+pub mod MarkSteps
 pub mod Running
 pub mod ValueMarks
+pub mod Built

@@ -1,7 +1,7 @@
 -- Marks, and the number of the last one.
-use Rattle.std.proofs.Common.{◌≡◌, ℕ, zero, suc, ◌-◌, ◌<◌, ℤ, pos, List, [], ◌∷◌, ◌++◌, length, map, get_or, set, refl, sym, ap, ◌∙◌, arith}
-use Rattle.std.proofs.lemmas.List.{map-append}
-use Rattle.krb_scan.specs.inner.Paths.{with_value}
+use Rattle.std.proofs.Common.{◌≡◌, ℕ, zero, suc, ◌-◌, ◌<◌, ℤ, pos, List, [], ◌∷◌, ◌++◌, length, map, get_or, set, refl, sym, ap, ◌∙◌, subst, arith}
+use Rattle.std.proofs.lemmas.List.{map-append, length-append}
+use Rattle.krb_scan.specs.inner.Paths.{IsNumbered, with_value}
 use Rattle.krb_scan.specs.Scan as scan
 use Rattle.krb_scan.specs.Scan.{mark_of}
 use Rattle.krb_msg.specs.Term.{Term}
@@ -54,6 +54,22 @@ with_value-nodes (mark ∷ next ∷ marks) value h = (h.0, with_value-nodes (nex
 pub marks_with_value : (marks : List Mark) (given : List scan.Mark) (term : Term) (start count : ℕ) (value : ℤ) → AreMarks marks (given ++ mark_of term start count (pos 0) ∷ []) → AreMarks (with_value marks value) (given ++ mark_of term start count value ∷ [])
 marks_with_value marks given term start count value h = record { nodes = with_value-nodes marks value h.nodes; values = with_value-marks marks given term start count value h.values }
 
+pub length_values : (marks : List Mark) (given : List scan.Mark) → AreMarks marks given → length given ≡ length marks
+length_values marks given h = ap length (sym h.values) ∙ by_list marks
+  where
+    by_list : (some : List Mark) → length (map mark_value some) ≡ length some
+    by_list [] = refl
+    by_list (mark ∷ some) = ap suc (by_list some)
+
+-- the last mark of some, set to a number
+pub numbered : (marks : List Mark) (before after : List scan.Mark) (last : ℕ) (there : Mark) (value kept : ℤ) → last ≡ length marks → kept ≡ value → AreMarks marks before → IsNumbered before after value → there ≡ get_or marks (last - 1) there → AreMarks (set marks (last - 1) (with_number there kept)) after
+numbered marks before after last there value kept at same are n is =
+    let here : AreMarks marks (n.marks ++ mark_of n.term n.start n.count (pos 0) ∷ []) = subst (AreMarks marks) n.old are in
+    let some : 0 < length marks = omega (arith, length_values marks (n.marks ++ mark_of n.term n.start n.count (pos 0) ∷ []) here, length-append n.marks (mark_of n.term n.start n.count (pos 0) ∷ [])) in
+    subst (λ v. AreMarks (set marks (last - 1) (with_number there v)) after) (sym same)
+    (subst (λ all. AreMarks all after) (sym (set_last marks last there value some at is))
+    (subst (AreMarks (with_value marks value)) (sym n.new) (marks_with_value marks n.marks n.term n.start n.count value here)))
+
 nodes_push : (marks : List Mark) (mark : Mark) → AllByRecursion (λ m. IsNode m.node) marks → IsNode mark.node → AllByRecursion (λ m. IsNode m.node) (marks ++ mark ∷ [])
 nodes_push [] mark h k = (k, tt {0})
 nodes_push (first ∷ marks) mark h k = (h.0, nodes_push marks mark h.1 k)
@@ -61,13 +77,6 @@ nodes_push (first ∷ marks) mark h k = (h.0, nodes_push marks mark h.1 k)
 -- one mark more
 pub marks_push : (marks : List Mark) (given : List scan.Mark) (mark : Mark) → AreMarks marks given → IsNode mark.node → AreMarks (marks ++ mark ∷ []) (given ++ mark_value mark ∷ [])
 marks_push marks given mark h k = record { nodes = nodes_push marks mark h.nodes k; values = map-append mark_value marks (mark ∷ []) ∙ ap (λ some. some ++ mark_value mark ∷ []) h.values }
-
-pub length_values : (marks : List Mark) (given : List scan.Mark) → AreMarks marks given → length given ≡ length marks
-length_values marks given h = ap length (sym h.values) ∙ by_list marks
-  where
-    by_list : (some : List Mark) → length (map mark_value some) ≡ length some
-    by_list [] = refl
-    by_list (mark ∷ some) = ap suc (by_list some)
 
 pub no_marks : AreMarks [] []
 no_marks = record { nodes = tt {0}; values = refl }

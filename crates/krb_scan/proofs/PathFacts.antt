@@ -2,26 +2,23 @@
 use Rattle.std.proofs.Common.{◌≡◌, ℕ, suc, ℤ, pos, negsuc, ◌+◌, ◌-◌, ◌*◌, ◌<◌, ◌≤◌, ◌^◌, ◌≤ℤ◌, ◌<ℤ◌, Bool, true, false, ◌||◌, nat_lt, nat_le, max, if◌then◌else◌, List, [], ◌∷◌, ◌++◌, length, refl, sym, ap, ◌∙◌, subst, arith, rules, FitsSigned, w64}
 use Rattle.std.proofs.lemmas.Bool.{ltb-false, leb-true, and_parts}
 use Rattle.std.proofs.lemmas.Int.{ints}
-use Rattle.std.proofs.lemmas.List.{length-append}
 use Rattle.krb_der.specs.declared.profile.Profile.{Profile}
 use Rattle.krb_der.specs.Octets.{AreOctets, number, complement, integer_octets, integer_value}
 use Rattle.krb_msg.specs.Grammar.{messages}
 use Rattle.krb_msg.specs.Term.{Term, Integer, Text, Octets, Time, Bits, Sequence, SequenceOf, Tagged, Application}
 use Rattle.krb_msg.specs.Judgement.{Head, Partial, Refused, Got, Open as OpenOutcome, head, has_size, bits_contents}
 use Rattle.krb_scan.specs.Scan as scan
-use Rattle.krb_scan.specs.Scan.{Container, Mark as Marked, State, Tip, Between, InHead, InLeaf, Answer, Ongoing, limit, leaf_outcome, with_mark, mark_of, marks_at}
+use Rattle.krb_scan.specs.Scan.{Container, Mark as Marked, State, Tip, Between, InHead, InLeaf, Answer, Ongoing, limit, leaf_outcome}
 use Rattle.krb_scan.specs.inner.Machine.{step, step_at, go_on}
 use Rattle.krb_scan.specs.inner.Outcomes.{HeadIs, HeadEnds, IsShort, LeafReads}
-use Rattle.krb_scan.specs.Positions.{IsItemPosition, item_at}
-use Rattle.krb_scan.specs.State.{AreMarks, AreOpen, TipIs, KeepsOf, first_or_zero}
-use Rattle.krb_scan.specs.inner.Positions.{AreContents}
-use Rattle.krb_scan.specs.declared.positions.Contents.{Contents}
-use Rattle.krb_scan.specs.declared.positions.Contents.TheVariants as contents
-use Rattle.krb_scan.proofs.Marks.{length_values}
+use Rattle.krb_msg.specs.Nodes.{term_at, nodes}
+use Rattle.krb_msg.specs.Table.{IsNode, IsFormOf}
+use Rattle.krb_scan.specs.State.{AreOpen, TipIs, KeepsOf, first_or_zero}
+use Rattle.krb_msg.specs.declared.grammar.Form.{Form}
+use Rattle.krb_msg.specs.declared.grammar.Form.TheVariants as form
 use Rattle.krb_scan.specs.inner.Paths.{IsPathOf}
 use Rattle.krb_scan.specs.declared.head.Head.{Head as Found}
 use Rattle.krb_scan.specs.declared.head.Head.TheVariants as found
-use Rattle.krb_scan.specs.declared.mark.Mark.{Mark}
 use Rattle.krb_scan.specs.declared.path.Path.{Path}
 use Rattle.krb_scan.specs.declared.tip.Tip.TheVariants as tip
 use Rattle.krb_scan.proofs.Chunk.{scan_reached}
@@ -40,7 +37,6 @@ pub record AtTip (profile : Profile) (path : Path) (octets : List ℕ) (given : 
   pub marks : List Marked
   pub reads : scan.scan (messages profile) path.size octets ≡ Ongoing (scan.state_of marks stack given)
   pub containers : AreOpen path.inner path.outer.items stack
-  pub all_marks : AreMarks path.marks.items (marks_at given marks)
   pub reached : IsReached given stack marks
   pub nested : IsNested path.size stack
   pub roomy : IsRoomyTip given stack
@@ -63,7 +59,6 @@ at_tip {profile = profile} path octets s =
       marks = s.state.marks;
       reads = s.reads;
       containers = s.holds.containers;
-      all_marks = s.holds.marks;
       reached = reached.reached.at;
       nested = roomy.roomy.nested;
       roomy = roomy.roomy.tip;
@@ -84,32 +79,32 @@ stepped {profile = profile} path octets given a octet = scan_step (messages prof
 pub record BetweenAt (profile : Profile) (path : Path) (octets : List ℕ) : Type 0 where
   pub at : AtTip profile path octets (Between path.looked)
 
-pub record TaggedAt (profile : Profile) (path : Path) (octets : List ℕ) (position : ℕ) : Type 0 where
+pub record TaggedAt (profile : Profile) (path : Path) (octets : List ℕ) (node : ℕ) : Type 0 where
   pub from : ℕ
   pub tag : ℕ
-  pub at : AtTip profile path octets (InHead (item_at position) from (tag ∷ []))
-  pub known : IsItemPosition position
+  pub at : AtTip profile path octets (InHead (term_at node) from (tag ∷ []))
+  pub known : IsNode node
   pub looked : path.looked ≡ from + 1
 
-pub record LongAt (profile : Profile) (path : Path) (octets : List ℕ) (position digits seen value : ℕ) : Type 0 where
+pub record LongAt (profile : Profile) (path : Path) (octets : List ℕ) (node digits seen value : ℕ) : Type 0 where
   pub from : ℕ
   pub tag : ℕ
   pub first : ℕ
   pub present : List ℕ
-  pub at : AtTip profile path octets (InHead (item_at position) from (tag ∷ first ∷ present))
-  pub known : IsItemPosition position
+  pub at : AtTip profile path octets (InHead (term_at node) from (tag ∷ first ∷ present))
+  pub known : IsNode node
   pub digits_are : digits ≡ first - 0x80
   pub seen_are : seen ≡ length present
   pub value_is : value ≡ number present
   pub looked : path.looked ≡ from + 2 + seen
 
-pub record LeafAt (profile : Profile) (path : Path) (octets : List ℕ) (position start end : ℕ) (value : ℤ) (unused : ℕ) : Type 0 where
+pub record LeafAt (profile : Profile) (path : Path) (octets : List ℕ) (node start end : ℕ) (value : ℤ) (unused : ℕ) : Type 0 where
   pub count : ℕ
   pub present : List ℕ
-  pub at : AtTip profile path octets (InLeaf (item_at position) start count present)
-  pub known : IsItemPosition position
+  pub at : AtTip profile path octets (InLeaf (term_at node) start count present)
+  pub known : IsNode node
   pub ends : end ≡ start + count
-  pub keeps : KeepsOf (item_at position) value unused present
+  pub keeps : KeepsOf (term_at node) value unused present
   pub looked : path.looked ≡ start + length present
 
 pub between_at : {profile : Profile} (path : Path) (octets : List ℕ) → IsPathOf profile path octets → path.tip ≡ tip.Between → BetweenAt profile path octets
@@ -120,20 +115,20 @@ between_at {profile = profile} path octets s e = by_tip s.state.tip (at_tip path
     by_tip (InHead term from present) a h = absurd h
     by_tip (InLeaf term start count present) a h = absurd h
 
-pub tagged_at : {profile : Profile} (path : Path) (octets : List ℕ) (position : ℕ) → IsPathOf profile path octets → path.tip ≡ tip.Tagged position → TaggedAt profile path octets position
-tagged_at {profile = profile} path octets position s e = by_tip s.state.tip (at_tip path octets s) (subst (λ kept. TipIs path.looked kept s.state.tip) e s.holds.tip)
+pub tagged_at : {profile : Profile} (path : Path) (octets : List ℕ) (node : ℕ) → IsPathOf profile path octets → path.tip ≡ tip.Tagged node → TaggedAt profile path octets node
+tagged_at {profile = profile} path octets node s e = by_tip s.state.tip (at_tip path octets s) (subst (λ kept. TipIs path.looked kept s.state.tip) e s.holds.tip)
   where
-    by_tip : (given : Tip) → AtTip profile path octets given → TipIs path.looked (tip.Tagged position) given → TaggedAt profile path octets position
+    by_tip : (given : Tip) → AtTip profile path octets given → TipIs path.looked (tip.Tagged node) given → TaggedAt profile path octets node
     by_tip (Between place) a h = absurd h
     by_tip (InHead term from []) a h = absurd h
     by_tip (InHead term from (tag ∷ [])) a h = record { from = from; tag = tag; at = subst (λ t. AtTip profile path octets (InHead t from (tag ∷ []))) (sym h.1) a; known = h.0; looked = h.2 }
     by_tip (InHead term from (tag ∷ first ∷ present)) a h = absurd h
     by_tip (InLeaf term start count present) a h = absurd h
 
-pub long_at : {profile : Profile} (path : Path) (octets : List ℕ) (position digits seen value : ℕ) → IsPathOf profile path octets → path.tip ≡ tip.Long position digits seen value → LongAt profile path octets position digits seen value
-long_at {profile = profile} path octets position digits seen value s e = by_tip s.state.tip (at_tip path octets s) (subst (λ kept. TipIs path.looked kept s.state.tip) e s.holds.tip)
+pub long_at : {profile : Profile} (path : Path) (octets : List ℕ) (node digits seen value : ℕ) → IsPathOf profile path octets → path.tip ≡ tip.Long node digits seen value → LongAt profile path octets node digits seen value
+long_at {profile = profile} path octets node digits seen value s e = by_tip s.state.tip (at_tip path octets s) (subst (λ kept. TipIs path.looked kept s.state.tip) e s.holds.tip)
   where
-    by_tip : (given : Tip) → AtTip profile path octets given → TipIs path.looked (tip.Long position digits seen value) given → LongAt profile path octets position digits seen value
+    by_tip : (given : Tip) → AtTip profile path octets given → TipIs path.looked (tip.Long node digits seen value) given → LongAt profile path octets node digits seen value
     by_tip (Between place) a h = absurd h
     by_tip (InHead term from []) a h = absurd h
     by_tip (InHead term from (tag ∷ [])) a h = absurd h
@@ -151,16 +146,16 @@ long_at {profile = profile} path octets position digits seen value s e = by_tip 
     }
     by_tip (InLeaf term start count present) a h = absurd h
 
-pub leaf_at : {profile : Profile} (path : Path) (octets : List ℕ) (position start end : ℕ) (value : ℤ) (unused : ℕ) → IsPathOf profile path octets → path.tip ≡ tip.Leaf position start end value unused → LeafAt profile path octets position start end value unused
-leaf_at {profile = profile} path octets position start end value unused s e = by_tip s.state.tip (at_tip path octets s) (subst (λ kept. TipIs path.looked kept s.state.tip) e s.holds.tip)
+pub leaf_at : {profile : Profile} (path : Path) (octets : List ℕ) (node start end : ℕ) (value : ℤ) (unused : ℕ) → IsPathOf profile path octets → path.tip ≡ tip.Leaf node start end value unused → LeafAt profile path octets node start end value unused
+leaf_at {profile = profile} path octets node start end value unused s e = by_tip s.state.tip (at_tip path octets s) (subst (λ kept. TipIs path.looked kept s.state.tip) e s.holds.tip)
   where
-    by_tip : (given : Tip) → AtTip profile path octets given → TipIs path.looked (tip.Leaf position start end value unused) given → LeafAt profile path octets position start end value unused
+    by_tip : (given : Tip) → AtTip profile path octets given → TipIs path.looked (tip.Leaf node start end value unused) given → LeafAt profile path octets node start end value unused
     by_tip (Between place) a h = absurd h
     by_tip (InHead term from present) a h = absurd h
     by_tip (InLeaf term begin count present) a h = record {
       count = count;
       present = present;
-      at = subst (λ k. AtTip profile path octets (InLeaf (item_at position) k count present)) (sym h.2) (subst (λ t. AtTip profile path octets (InLeaf t begin count present)) (sym h.1) a);
+      at = subst (λ k. AtTip profile path octets (InLeaf (term_at node) k count present)) (sym h.2) (subst (λ t. AtTip profile path octets (InLeaf t begin count present)) (sym h.1) a);
       known = h.0;
       ends = h.3 ∙ ap (λ k. k + count) (sym h.2);
       keeps = subst (λ t. KeepsOf t value unused present) (sym h.1) h.4;
@@ -244,15 +239,17 @@ small_integer (first ∷ octets) a le =
 none_small : (value : ℤ) → value ≡ pos 0 → IsSmall value
 none_small value e = subst IsSmall (sym e) (omega (arith, ints), omega (arith, ints))
 
-narrow : (given : Contents) (low high : ℤ) → AreContents given (Integer low high) → max (length (integer_octets low)) (length (integer_octets high)) ≤ 5
-narrow (contents.Integer from to widest) low high h = omega (arith, h.2, h.3)
-narrow (contents.Text most) low high h = absurd h
-narrow contents.Octets low high h = absurd h
-narrow contents.Time low high h = absurd h
-narrow (contents.Bits few) low high h = absurd h
-narrow (contents.Items first none) low high h = absurd h
+narrow : (given : Form) (low high : ℤ) → IsFormOf nodes given (Integer low high) → max (length (integer_octets low)) (length (integer_octets high)) ≤ 5
+narrow (form.Integer from to widest) low high h = omega (arith, h.2, h.3)
+narrow (form.Text most) low high h = absurd h
+narrow form.Octets low high h = absurd h
+narrow form.Time low high h = absurd h
+narrow (form.Bits few) low high h = absurd h
+narrow (form.Items node none) low high h = absurd h
+narrow (form.Item node) low high h = absurd h
+narrow (form.Fields slots) low high h = absurd h
 
-value_small : (given : Contents) (term : Term) (count : ℕ) (value : ℤ) (unused : ℕ) (present : List ℕ) → AreContents given term → has_size term count ≡ true → KeepsOf term value unused present → AreOctets present → length present < count → IsSmall value
+value_small : (given : Form) (term : Term) (count : ℕ) (value : ℤ) (unused : ℕ) (present : List ℕ) → IsFormOf nodes given term → has_size term count ≡ true → KeepsOf term value unused present → AreOctets present → length present < count → IsSmall value
 value_small given (Integer low high) count value unused present is size keeps a lt =
     let le : count ≤ max (length (integer_octets low)) (length (integer_octets high)) = leb-true count (max (length (integer_octets low)) (length (integer_octets high))) (and_parts (nat_lt 0 count) (nat_le count (max (length (integer_octets low)) (length (integer_octets high)))) size).1 in
     let five : max (length (integer_octets low)) (length (integer_octets high)) ≤ 5 = narrow given low high is in
@@ -287,22 +284,18 @@ unused_few (SequenceOf empty term) count value unused present keeps h = omega (a
 unused_few (Tagged index term) count value unused present keeps h = omega (arith, keeps.1)
 unused_few (Application number_of term) count value unused present keeps h = omega (arith, keeps.1)
 
-has_mark : (marks : List Mark) (given : List Marked) (last : Marked) → AreMarks marks (given ++ last ∷ []) → 0 < length marks
-has_mark marks given last h = omega (arith, length_values marks (given ++ last ∷ []) h, length-append given (last ∷ []))
-
 -- the conditions of a step in the contents of a leaf
-pub record LeafReady (path : Path) (position start end : ℕ) (value : ℤ) (unused : ℕ) : Type 0 where
-  pub known : IsItemPosition position
+pub record LeafReady (path : Path) (node start end : ℕ) (value : ℤ) (unused : ℕ) : Type 0 where
+  pub known : IsNode node
   pub begun : start ≤ path.looked
   pub some : path.looked < end
   pub near : end < 2 ^ 31
-  pub fits : has_size (item_at position) (end - start) ≡ true
+  pub fits : has_size (term_at node) (end - start) ≡ true
   pub small : IsSmall value
   pub few : unused < 8
-  pub marked : 0 < length path.marks.items
 
-pub leaf_ready : {profile : Profile} (path : Path) (octets : List ℕ) (position start end : ℕ) (value : ℤ) (unused : ℕ) (given : Contents) → AreContents given (item_at position) → LeafAt profile path octets position start end value unused → LeafReady path position start end value unused
-leaf_ready path octets position start end value unused given are leaf =
+pub leaf_ready : {profile : Profile} (path : Path) (octets : List ℕ) (node start end : ℕ) (value : ℤ) (unused : ℕ) (given : Form) → IsFormOf nodes given (term_at node) → LeafAt profile path octets node start end value unused → LeafReady path node start end value unused
+leaf_ready path octets node start end value unused given are leaf =
     let room : start + leaf.count ≤ limit leaf.at.stack = leaf.at.roomy.0 in
     let lt : length leaf.present < leaf.count = leaf.at.roomy.1 in
     let whole : limit leaf.at.stack ≤ path.size = limit_within path.size leaf.at.stack leaf.at.nested in
@@ -312,16 +305,15 @@ leaf_ready path octets position start end value unused given are leaf =
       begun = omega (arith, leaf.looked);
       some = omega (arith, leaf.looked, leaf.ends);
       near = omega (arith, leaf.ends, leaf.at.short);
-      fits = subst (λ count. has_size (item_at position) count ≡ true) same leaf.at.reached.0;
-      small = value_small given (item_at position) leaf.count value unused leaf.present are leaf.at.reached.0 leaf.keeps leaf.at.are_octets lt;
-      few = unused_few (item_at position) leaf.count value unused leaf.present leaf.keeps leaf.at.reached.1;
-      marked = has_mark path.marks.items leaf.at.marks (mark_of (item_at position) start leaf.count (pos 0)) leaf.at.all_marks;
+      fits = subst (λ count. has_size (term_at node) count ≡ true) same leaf.at.reached.0;
+      small = value_small given (term_at node) leaf.count value unused leaf.present are leaf.at.reached.0 leaf.keeps leaf.at.are_octets lt;
+      few = unused_few (term_at node) leaf.count value unused leaf.present leaf.keeps leaf.at.reached.1;
     }
 
-pub leaf_reads : {profile : Profile} (path : Path) (octets : List ℕ) (position start end : ℕ) (value : ℤ) (unused : ℕ) (leaf : LeafAt profile path octets position start end value unused) → LeafReads (item_at position) (end - start) value unused leaf.present
-leaf_reads path octets position start end value unused leaf =
+pub leaf_reads : {profile : Profile} (path : Path) (octets : List ℕ) (node start end : ℕ) (value : ℤ) (unused : ℕ) (leaf : LeafAt profile path octets node start end value unused) → LeafReads (term_at node) (end - start) value unused leaf.present
+leaf_reads path octets node start end value unused leaf =
     let same : leaf.count ≡ end - start = omega (arith, leaf.ends) in
-    record { are_octets = leaf.at.are_octets; open_still = subst (λ count. leaf_outcome (item_at position) count leaf.present ≡ OpenOutcome) same leaf.at.reached.1; keeps = leaf.keeps }
+    record { are_octets = leaf.at.are_octets; open_still = subst (λ count. leaf_outcome (term_at node) count leaf.present ≡ OpenOutcome) same leaf.at.reached.1; keeps = leaf.keeps }
 
 pub small_fits : {value : ℤ} → IsSmall value → FitsSigned w64 value
 small_fits h = search (rules, h.0, h.1)

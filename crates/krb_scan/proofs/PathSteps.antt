@@ -1,19 +1,18 @@
 -- The step of a path that has scanned octets.
-use Rattle.std.proofs.Common.{◌≡◌, ℕ, ℤ, ◌^◌, ◌+◌, ◌-◌, ◌*◌, ◌<◌, ◌≤◌, Ok, Result, Some, None, List, [], ◌∷◌, ◌++◌, length, refl, sym, ap, ◌∙◌, subst, arith}
+use Rattle.std.proofs.Common.{◌≡◌, ℕ, ℤ, ◌^◌, ◌+◌, ◌-◌, ◌*◌, ◌<◌, ◌≤◌, List, [], ◌∷◌, ◌++◌, length, refl, sym, ap, ◌∙◌, subst, arith}
 use Rattle.std.specs.Coded.{le_prop, Unit-prop}
 use Rattle.krb_der.specs.Octets.{AreOctets, number}
-use Rattle.krb_der.specs.declared.memory.Memory.{Memory}
 use Rattle.krb_der.specs.declared.profile.Profile.{Profile}
 use Rattle.krb_der.specs.declared.verdict.Verdict.{Verdict}
 use Rattle.krb_msg.specs.Grammar.{messages}
 use Rattle.krb_msg.specs.Judgement.{Head, Partial, head}
 use Rattle.krb_scan.specs.Scan as scan
-use Rattle.krb_scan.specs.Scan.{Container, Mark as Marked, InHead, limit, with_mark}
-use Rattle.krb_scan.specs.inner.Machine.{Pick, step_between, headed, in_leaf}
+use Rattle.krb_scan.specs.Scan.{Container, Mark as Marked, InHead, limit}
+use Rattle.krb_scan.specs.inner.Machine.{step_between, headed, in_leaf}
 use Rattle.krb_scan.specs.inner.Numbers.{first_head, next_head}
 use Rattle.krb_scan.specs.inner.Outcomes.{HeadIs, HeadEnds, IsShort, LeafReads}
-use Rattle.krb_scan.specs.Positions.{IsItemPosition, IsSome, offered, expected_at, item_at}
-use Rattle.krb_scan.specs.State.{AreMarks, AreOpen, TipIs}
+use Rattle.krb_msg.specs.Nodes.{term_at}
+use Rattle.krb_scan.specs.State.{AreOpen, TipIs}
 use Rattle.krb_scan.specs.inner.Paths.{IsStep}
 use Rattle.krb_scan.specs.declared.head.Head.{Head as Found}
 use Rattle.krb_scan.specs.declared.head.Head.TheVariants as found
@@ -25,33 +24,33 @@ use Rattle.krb_scan.proofs.Stable.{IsPartial}
 use Rattle.krb_scan.proofs.PathFacts.{BetweenAt, TaggedAt, LongAt, LeafAt, stepped, head_ends, is_short, leaf_reads, small_number}
 
 pub between_taken : {profile : Profile} (old new : Path) (octets : List ℕ) (octet : ℕ) (decided : Verdict) → BetweenAt profile old octets →
-    ((stack : List Container) (marks : List Marked) → AreOpen old.inner old.outer.items stack → AreMarks old.marks.items marks → IsStep old new (Ok decided) (step_between stack marks old.looked octet)) →
-    IsStep old new (Ok decided) (scan.scan (messages profile) old.size (octets ++ octet ∷ []))
+    ((stack : List Container) (marks : List Marked) → AreOpen old.inner old.outer.items stack → IsStep old new decided (step_between stack marks old.looked octet)) →
+    IsStep old new decided (scan.scan (messages profile) old.size (octets ++ octet ∷ []))
 between_taken old new octets octet decided s goes =
-    subst (IsStep old new (Ok decided)) (sym (stepped old octets (scan.Between old.looked) s.at octet)) (goes s.at.stack s.at.marks s.at.containers s.at.all_marks)
+    subst (IsStep old new decided) (sym (stepped old octets (scan.Between old.looked) s.at octet)) (goes s.at.stack s.at.marks s.at.containers)
 
 -- the result of a step by the head after it
-abbrev pub HeadGoes : Path → Path → Result Verdict Memory → Found → Kept → ℕ → Type 0
-HeadGoes old new result kept partial position =
-    (stack : List Container) (marks : List Marked) (got : Head) (from : ℕ) (octets : List ℕ) → AreOpen old.inner old.outer.items stack → AreMarks old.marks.items marks → HeadIs kept got → HeadEnds from (old.looked + 1) (limit stack) got →
-    (got ≡ Partial → TipIs (old.looked + 1) partial (InHead (item_at position) from octets)) → IsStep old new result (headed got (item_at position) stack marks from octets)
+abbrev pub HeadGoes : Path → Path → Verdict → Found → Kept → ℕ → Type 0
+HeadGoes old new result kept partial node =
+    (stack : List Container) (marks : List Marked) (got : Head) (from : ℕ) (octets : List ℕ) → AreOpen old.inner old.outer.items stack → HeadIs kept got → HeadEnds from (old.looked + 1) (limit stack) got →
+    (got ≡ Partial → TipIs (old.looked + 1) partial (InHead (term_at node) from octets)) → IsStep old new result (headed got (term_at node) stack marks from octets)
 
-pub tagged_is : {profile : Profile} (path : Path) (octets : List ℕ) (position octet room : ℕ) (t : TaggedAt profile path octets position) (kept : Found) → room ≡ limit t.at.stack - path.looked + 1 → HeadIs kept (first_head room octet) → HeadIs kept (head (limit t.at.stack - t.from) (t.tag ∷ octet ∷ []))
-tagged_is path octets position octet room t kept e h =
+pub tagged_is : {profile : Profile} (path : Path) (octets : List ℕ) (node octet room : ℕ) (t : TaggedAt profile path octets node) (kept : Found) → room ≡ limit t.at.stack - path.looked + 1 → HeadIs kept (first_head room octet) → HeadIs kept (head (limit t.at.stack - t.from) (t.tag ∷ octet ∷ []))
+tagged_is path octets node octet room t kept e h =
     let lt : t.from + 1 < limit t.at.stack = t.at.roomy.0 in
     let same : room ≡ limit t.at.stack - t.from = omega (arith, t.looked) in
     subst (HeadIs kept) (ap (λ r. first_head r octet) same ∙ sym (first_head_right (limit t.at.stack - t.from) t.tag octet)) h
 
-pub tagged_taken : {profile : Profile} (old new : Path) (octets : List ℕ) (position octet digits : ℕ) (result : Result Verdict Memory) (kept : Found) (t : TaggedAt profile old octets position) → HeadIs kept (head (limit t.at.stack - t.from) (t.tag ∷ octet ∷ [])) → digits ≡ octet - 0x80 →
-    HeadGoes old new result kept (tip.Long position digits 0 0) position → IsStep old new result (scan.scan (messages profile) old.size (octets ++ octet ∷ []))
-tagged_taken old new octets position octet digits result kept t is e goes =
-    subst (IsStep old new result) (sym (stepped old octets (InHead (item_at position) t.from (t.tag ∷ [])) t.at octet))
-    (goes t.at.stack t.at.marks (head (limit t.at.stack - t.from) (t.tag ∷ octet ∷ [])) t.from (t.tag ∷ octet ∷ []) t.at.containers t.at.all_marks is
-    (head_ends old octets (item_at position) t.from (t.tag ∷ []) t.at octet t.looked) (λ partial. (t.known, refl, e, refl, refl, omega (arith, t.looked))))
+pub tagged_taken : {profile : Profile} (old new : Path) (octets : List ℕ) (node octet digits : ℕ) (result : Verdict) (kept : Found) (t : TaggedAt profile old octets node) → HeadIs kept (head (limit t.at.stack - t.from) (t.tag ∷ octet ∷ [])) → digits ≡ octet - 0x80 →
+    HeadGoes old new result kept (tip.Long node digits 0 0) node → IsStep old new result (scan.scan (messages profile) old.size (octets ++ octet ∷ []))
+tagged_taken old new octets node octet digits result kept t is e goes =
+    subst (IsStep old new result) (sym (stepped old octets (InHead (term_at node) t.from (t.tag ∷ [])) t.at octet))
+    (goes t.at.stack t.at.marks (head (limit t.at.stack - t.from) (t.tag ∷ octet ∷ [])) t.from (t.tag ∷ octet ∷ []) t.at.containers is
+    (head_ends old octets (term_at node) t.from (t.tag ∷ []) t.at octet t.looked) (λ partial. (t.known, refl, e, refl, refl, omega (arith, t.looked))))
 
-pub long_is : {profile : Profile} (path : Path) (octets : List ℕ) (position digits seen value octet room : ℕ) (t : LongAt profile path octets position digits seen value) (kept : Found) → room ≡ limit t.at.stack - path.looked + (2 + seen) → HeadIs kept (next_head room digits seen value octet) →
+pub long_is : {profile : Profile} (path : Path) (octets : List ℕ) (node digits seen value octet room : ℕ) (t : LongAt profile path octets node digits seen value) (kept : Found) → room ≡ limit t.at.stack - path.looked + (2 + seen) → HeadIs kept (next_head room digits seen value octet) →
     HeadIs kept (head (limit t.at.stack - t.from) (t.tag ∷ t.first ∷ t.present ++ octet ∷ []))
-long_is path octets position digits seen value octet room t kept e h =
+long_is path octets node digits seen value octet room t kept e h =
     let lt : t.from + length (t.tag ∷ t.first ∷ t.present) < limit t.at.stack = t.at.roomy.0 in
     let same : room ≡ limit t.at.stack - t.from = omega (arith, t.looked, t.seen_are) in
     subst (HeadIs kept)
@@ -59,25 +58,25 @@ long_is path octets position digits seen value octet room t kept e h =
     ∙ ap (λ k. next_head (limit t.at.stack - t.from) (t.first - 0x80) k value octet) t.seen_are ∙ ap (λ v. next_head (limit t.at.stack - t.from) (t.first - 0x80) (length t.present) v octet) t.value_is
     ∙ sym (next_head_right (limit t.at.stack - t.from) t.tag t.first t.present octet (subst IsPartial (sym t.at.reached) (tt {0})))) h
 
-pub long_taken : {profile : Profile} (old new : Path) (octets : List ℕ) (position digits seen value octet seen_next value_next : ℕ) (result : Result Verdict Memory) (kept : Found) (t : LongAt profile old octets position digits seen value) → HeadIs kept (head (limit t.at.stack - t.from) (t.tag ∷ t.first ∷ t.present ++ octet ∷ [])) →
-    seen_next ≡ seen + 1 → value_next ≡ value * 256 + octet → HeadGoes old new result kept (tip.Long position digits seen_next value_next) position → IsStep old new result (scan.scan (messages profile) old.size (octets ++ octet ∷ []))
-long_taken old new octets position digits seen value octet seen_next value_next result kept t is e f goes =
+pub long_taken : {profile : Profile} (old new : Path) (octets : List ℕ) (node digits seen value octet seen_next value_next : ℕ) (result : Verdict) (kept : Found) (t : LongAt profile old octets node digits seen value) → HeadIs kept (head (limit t.at.stack - t.from) (t.tag ∷ t.first ∷ t.present ++ octet ∷ [])) →
+    seen_next ≡ seen + 1 → value_next ≡ value * 256 + octet → HeadGoes old new result kept (tip.Long node digits seen_next value_next) node → IsStep old new result (scan.scan (messages profile) old.size (octets ++ octet ∷ []))
+long_taken old new octets node digits seen value octet seen_next value_next result kept t is e f goes =
     let present : List ℕ = t.tag ∷ t.first ∷ t.present in
-    subst (IsStep old new result) (sym (stepped old octets (InHead (item_at position) t.from present) t.at octet))
-    (goes t.at.stack t.at.marks (head (limit t.at.stack - t.from) (present ++ octet ∷ [])) t.from (present ++ octet ∷ []) t.at.containers t.at.all_marks is
-    (head_ends old octets (item_at position) t.from present t.at octet (omega (arith, t.looked, t.seen_are)))
+    subst (IsStep old new result) (sym (stepped old octets (InHead (term_at node) t.from present) t.at octet))
+    (goes t.at.stack t.at.marks (head (limit t.at.stack - t.from) (present ++ octet ∷ [])) t.from (present ++ octet ∷ []) t.at.containers is
+    (head_ends old octets (term_at node) t.from present t.at octet (omega (arith, t.looked, t.seen_are)))
     (λ partial. (t.known, refl, t.digits_are, omega (arith, t.seen_are, length_push t.present octet), f ∙ ap (λ v. v * 256 + octet) t.value_is ∙ sym (number_push 0 t.present octet), omega (arith, t.looked))))
 
-pub leaf_taken : {profile : Profile} (old new : Path) (octets : List ℕ) (position start end : ℕ) (value : ℤ) (unused octet : ℕ) (decided : Verdict) (leaf : LeafAt profile old octets position start end value unused) →
-    ((stack : List Container) (marks : List Marked) (present : List ℕ) → AreOpen old.inner old.outer.items stack → AreMarks old.marks.items (with_mark marks (item_at position) start (end - start)) → LeafReads (item_at position) (end - start) value unused present → old.looked ≡ start + length present →
-    IsStep old new (Ok decided) (in_leaf (item_at position) start (end - start) stack marks (present ++ octet ∷ []))) →
-    IsStep old new (Ok decided) (scan.scan (messages profile) old.size (octets ++ octet ∷ []))
-leaf_taken old new octets position start end value unused octet decided leaf goes =
+pub leaf_taken : {profile : Profile} (old new : Path) (octets : List ℕ) (node start end : ℕ) (value : ℤ) (unused octet : ℕ) (decided : Verdict) (leaf : LeafAt profile old octets node start end value unused) →
+    ((stack : List Container) (marks : List Marked) (present : List ℕ) → AreOpen old.inner old.outer.items stack → LeafReads (term_at node) (end - start) value unused present → old.looked ≡ start + length present →
+    IsStep old new decided (in_leaf (term_at node) start (end - start) stack marks (present ++ octet ∷ []))) →
+    IsStep old new decided (scan.scan (messages profile) old.size (octets ++ octet ∷ []))
+leaf_taken old new octets node start end value unused octet decided leaf goes =
     let same : leaf.count ≡ end - start = omega (arith, leaf.ends) in
-    subst (IsStep old new (Ok decided)) (sym (stepped old octets (scan.InLeaf (item_at position) start leaf.count leaf.present) leaf.at octet))
-    (subst (λ count. IsStep old new (Ok decided) (in_leaf (item_at position) start count leaf.at.stack leaf.at.marks (leaf.present ++ octet ∷ []))) (sym same)
-    (goes leaf.at.stack leaf.at.marks leaf.present leaf.at.containers (subst (λ count. AreMarks old.marks.items (with_mark leaf.at.marks (item_at position) start count)) same leaf.at.all_marks)
-    (leaf_reads old octets position start end value unused leaf) leaf.looked))
+    subst (IsStep old new decided) (sym (stepped old octets (scan.InLeaf (term_at node) start leaf.count leaf.present) leaf.at octet))
+    (subst (λ count. IsStep old new decided (in_leaf (term_at node) start count leaf.at.stack leaf.at.marks (leaf.present ++ octet ∷ []))) (sym same)
+    (goes leaf.at.stack leaf.at.marks leaf.present leaf.at.containers
+    (leaf_reads old octets node start end value unused leaf) leaf.looked))
 
 -- the conditions of a step in a long length
 pub record LongReady (path : Path) (digits seen value limited : ℕ) : Type 0 where
@@ -86,8 +85,8 @@ pub record LongReady (path : Path) (digits seen value limited : ℕ) : Type 0 wh
   pub spelled : value < 2 ^ 24
   pub within : path.looked ≤ limited
 
-pub long_ready : {profile : Profile} (path : Path) (octets : List ℕ) (position digits seen value limited : ℕ) (t : LongAt profile path octets position digits seen value) → ((stack : List Container) → AreOpen path.inner path.outer.items stack → limited ≡ limit stack) → LongReady path digits seen value limited
-long_ready path octets position digits seen value limited t is =
+pub long_ready : {profile : Profile} (path : Path) (octets : List ℕ) (node digits seen value limited : ℕ) (t : LongAt profile path octets node digits seen value) → ((stack : List Container) → AreOpen path.inner path.outer.items stack → limited ≡ limit stack) → LongReady path digits seen value limited
+long_ready path octets node digits seen value limited t is =
     let long : (length t.present < t.first - 0x80) × (t.first ≤ 0x84) × (2 + (t.first - 0x80) ≤ limit t.at.stack - t.from) = partial_long (limit t.at.stack - t.from) t.tag t.first t.present (subst IsPartial (sym t.at.reached) (tt {0})) in
     let few : t.first ≤ 0x84 = long.1 in
     let lt : length t.present < t.first - 0x80 = long.0 in
@@ -102,28 +101,20 @@ long_ready path octets position digits seen value limited t is =
       within = omega (arith, t.looked, t.seen_are);
     }
 
-pub tagged_within : {profile : Profile} (path : Path) (octets : List ℕ) (position limited : ℕ) (t : TaggedAt profile path octets position) → ((stack : List Container) → AreOpen path.inner path.outer.items stack → limited ≡ limit stack) → path.looked ≤ limited
-tagged_within path octets position limited t is =
+pub tagged_within : {profile : Profile} (path : Path) (octets : List ℕ) (node limited : ℕ) (t : TaggedAt profile path octets node) → ((stack : List Container) → AreOpen path.inner path.outer.items stack → limited ≡ limit stack) → path.looked ≤ limited
+tagged_within path octets node limited t is =
     let room : t.from + 1 < limit t.at.stack = t.at.roomy.0 in
     let e : limited ≡ limit t.at.stack = is t.at.stack t.at.containers in
     omega (arith, t.looked)
 
-pub tagged_short : {profile : Profile} (path : Path) (octets : List ℕ) (position octet : ℕ) (t : TaggedAt profile path octets position) (kept : Found) → HeadIs kept (head (limit t.at.stack - t.from) (t.tag ∷ octet ∷ [])) → IsShort (path.looked + 1) kept
-tagged_short path octets position octet t kept is = is_short path octets (item_at position) t.from (t.tag ∷ []) t.at kept _ is (head_ends path octets (item_at position) t.from (t.tag ∷ []) t.at octet t.looked)
+pub tagged_short : {profile : Profile} (path : Path) (octets : List ℕ) (node octet : ℕ) (t : TaggedAt profile path octets node) (kept : Found) → HeadIs kept (head (limit t.at.stack - t.from) (t.tag ∷ octet ∷ [])) → IsShort (path.looked + 1) kept
+tagged_short path octets node octet t kept is = is_short path octets (term_at node) t.from (t.tag ∷ []) t.at kept _ is (head_ends path octets (term_at node) t.from (t.tag ∷ []) t.at octet t.looked)
 
-pub long_short : {profile : Profile} (path : Path) (octets : List ℕ) (position digits seen value octet : ℕ) (t : LongAt profile path octets position digits seen value) (kept : Found) → HeadIs kept (head (limit t.at.stack - t.from) (t.tag ∷ t.first ∷ t.present ++ octet ∷ [])) → IsShort (path.looked + 1) kept
-long_short path octets position digits seen value octet t kept is =
-    is_short path octets (item_at position) t.from (t.tag ∷ t.first ∷ t.present) t.at kept _ is (head_ends path octets (item_at position) t.from (t.tag ∷ t.first ∷ t.present) t.at octet (omega (arith, t.looked, t.seen_are)))
+pub long_short : {profile : Profile} (path : Path) (octets : List ℕ) (node digits seen value octet : ℕ) (t : LongAt profile path octets node digits seen value) (kept : Found) → HeadIs kept (head (limit t.at.stack - t.from) (t.tag ∷ t.first ∷ t.present ++ octet ∷ [])) → IsShort (path.looked + 1) kept
+long_short path octets node digits seen value octet t kept is =
+    is_short path octets (term_at node) t.from (t.tag ∷ t.first ∷ t.present) t.at kept _ is (head_ends path octets (term_at node) t.from (t.tag ∷ t.first ∷ t.present) t.at octet (omega (arith, t.looked, t.seen_are)))
 
 pub short-prop : (scanned : ℕ) (kept : Found) → IsProp (IsShort scanned kept)
 short-prop scanned found.Partial = Unit-prop
 short-prop scanned (found.Refused why) = Unit-prop
 short-prop scanned (found.Got size) = le_prop
-
-some-prop : (offer : Pick) → IsProp (IsSome offer)
-some-prop None = λ a b. absurd a
-some-prop (Some choice) = Unit-prop
-
--- that a position has an item
-pub known-prop : (position : ℕ) → IsProp (IsItemPosition position)
-known-prop position = λ a b. ap (λ k. (k, a.1)) (le_prop a.0 b.0) ∙ ap (λ k. (b.0, k)) (some-prop (offered (expected_at position)) a.1 b.1)

@@ -1,8 +1,7 @@
 -- Items that begin.
-use Rattle.std.proofs.Common.{◌≡◌, ℕ, ◌+◌, ◌-◌, ◌<◌, ◌≤◌, Bool, true, false, ◌&&◌, ◌==◌, nat_lt, ne_eqb, eq-eqb, Ok, Result, Some, None, List, [], ◌∷◌, refl, sym, ap, ◌∙◌, subst, arith}
+use Rattle.std.proofs.Common.{◌≡◌, ℕ, ◌+◌, ◌-◌, ◌<◌, ◌≤◌, Bool, true, false, ◌&&◌, ◌==◌, nat_lt, ne_eqb, eq-eqb, None, List, [], ◌∷◌, refl, sym, ap, ◌∙◌, subst, arith}
 use Rattle.std.proofs.lemmas.Bool.{le-ltb, lt-ltb}
 use Rattle.krb_der.specs.Octets.{when}
-use Rattle.krb_der.specs.declared.memory.Memory.{Memory}
 use Rattle.krb_der.specs.declared.verdict.Verdict.{Verdict}
 use Rattle.krb_der.specs.declared.verdict.Verdict.TheVariants as verdict
 use Rattle.krb_der.specs.declared.why.Why.TheVariants as why
@@ -10,72 +9,55 @@ use Rattle.krb_msg.specs.Term.{Term}
 use Rattle.krb_msg.specs.Judgement.{Head, Partial, Refused, Got}
 use Rattle.krb_scan.specs.Scan as scan
 use Rattle.krb_scan.specs.Scan.{Container, Expected, Mark as Marked, container_of, state_of, limit, sole_in}
-use Rattle.krb_scan.specs.Positions.{IsItemPosition, IsSome, expected_at, offered, item_of, item_at}
-use Rattle.krb_scan.specs.State.{AreMarks, AreOpen}
-use Rattle.krb_scan.specs.inner.Machine.{Pick, pick, picked, step_between, headed, sized}
-use Rattle.krb_scan.specs.inner.Positions.{IsPicked, IsPositionOf, IsOffer, IsItem}
+use Rattle.krb_msg.specs.Nodes.{term_at}
+use Rattle.krb_scan.specs.Expectations.{expected_of}
+use Rattle.krb_scan.specs.State.{AreOpen}
+use Rattle.krb_scan.specs.inner.Machine.{pick, picked, step_between, headed, sized}
+use Rattle.krb_scan.specs.inner.Choices.{IsItem}
 use Rattle.krb_scan.specs.inner.Outcomes.{HeadIs, HeadEnds}
 use Rattle.krb_scan.specs.inner.Paths.{IsStep, IsUnchanged}
 use Rattle.krb_scan.specs.declared.head.Head.TheVariants as found
 use Rattle.krb_scan.specs.declared.path.Path.{Path}
-use Rattle.krb_scan.specs.declared.positions.Position.{Position}
+use Rattle.krb_scan.specs.declared.expected.Picked.{Picked}
 use Rattle.krb_scan.specs.declared.tip.Tip.TheVariants as tip
 use Rattle.krb_scan.proofs.Containers.{Innermost, innermost, open_same}
 
--- the row of a position with an item
-pub item_row : (row : Position) (position : ℕ) → IsItemPosition position → IsPositionOf row (expected_at position) → (left : Expected) × IsItem row (item_at position) left
-item_row row position h is = by_offer (offered (expected_at position)) h.1 is.offer
-  where
-    by_offer : (offer : Pick) → IsSome offer → IsOffer row offer → (left : Expected) × IsItem row (item_of offer) left
-    by_offer None k o = absurd k
-    by_offer (Some choice) k o = (choice.1, o)
-
-picked_item : (octet position : ℕ) (expected : Expected) (p : IsPicked octet expected position) → IsItemPosition position × (item_at position ≡ p.item)
-picked_item octet position expected p = ((p.known, subst IsSome (sym p.offers) (tt {0})), ap item_of p.offers)
-
-picked_row : (row : Position) (octet position : ℕ) (expected : Expected) (p : IsPicked octet expected position) → IsPositionOf row (expected_at position) → IsItem row p.item p.left
-picked_row row octet position expected p is = subst (IsOffer row) p.offers is.offer
-
 -- no item is expected here
-pub none_begins : (old new : Path) (octet : ℕ) (decided : Verdict) (stack : List Container) (marks : List Marked) → AreOpen old.inner old.outer.items stack → pick octet (expected_at old.inner.expected) ≡ None → decided ≡ verdict.Refused (record { place = old.looked; why = why.Tag }) → IsUnchanged old new →
-    IsStep old new (Ok decided) (step_between stack marks old.looked octet)
+pub none_begins : (old new : Path) (octet : ℕ) (decided : Verdict) (stack : List Container) (marks : List Marked) → AreOpen old.inner old.outer.items stack → pick octet (expected_of old.inner.expected) ≡ None → decided ≡ verdict.Refused (record { place = old.looked; why = why.Tag }) → IsUnchanged old new →
+    IsStep old new decided (step_between stack marks old.looked octet)
 none_begins old new octet decided stack marks h none is kept =
     let i : Innermost old.inner old.outer.items stack = innermost old.inner old.outer.items stack h in
-    subst (λ all. IsStep old new (Ok decided) (step_between all marks old.looked octet)) (sym i.same)
-    (subst (λ given. IsStep old new (Ok decided) (picked given i.container.end i.others marks old.looked octet)) (sym none ∙ ap (pick octet) i.is.expected)
-    (subst (λ v. IsStep old new (Ok v) (scan.Refusing old.looked why.Tag)) (sym is) (record { steps = (refl, refl, kept) })))
+    subst (λ all. IsStep old new decided (step_between all marks old.looked octet)) (sym i.same)
+    (subst (λ given. IsStep old new decided (picked given i.container.end i.others marks old.looked octet)) (sym none ∙ ap (pick octet) i.is.expected)
+    (subst (λ v. IsStep old new v (scan.Refusing old.looked why.Tag)) (sym is) (record { steps = (refl, refl, kept) })))
 
 -- an item without room for its length
-pub overrun_begins : (old new : Path) (octet position : ℕ) (decided : Verdict) (stack : List Container) (marks : List Marked) → AreOpen old.inner old.outer.items stack → IsPicked octet (expected_at old.inner.expected) position → old.looked + 1 ≡ old.inner.end → decided ≡ verdict.Refused (record { place = old.looked; why = why.Overrun }) → IsUnchanged old new →
-    IsStep old new (Ok decided) (step_between stack marks old.looked octet)
-overrun_begins old new octet position decided stack marks h p room is kept =
+pub overrun_begins : (old new : Path) (octet : ℕ) (picked_is : Picked) (decided : Verdict) (stack : List Container) (marks : List Marked) → AreOpen old.inner old.outer.items stack → IsItem picked_is (pick octet (expected_of old.inner.expected)) → old.looked + 1 ≡ old.inner.end → decided ≡ verdict.Refused (record { place = old.looked; why = why.Overrun }) → IsUnchanged old new →
+    IsStep old new decided (step_between stack marks old.looked octet)
+overrun_begins old new octet picked_is decided stack marks h p room is kept =
     let i : Innermost old.inner old.outer.items stack = innermost old.inner old.outer.items stack h in
     let test : (i.container.end - old.looked == 1) ≡ true = eq-eqb (i.container.end - old.looked) 1 (omega (arith, i.is.end)) in
-    subst (λ all. IsStep old new (Ok decided) (step_between all marks old.looked octet)) (sym i.same)
-    (subst (λ given. IsStep old new (Ok decided) (picked given i.container.end i.others marks old.looked octet)) (sym p.picks ∙ ap (pick octet) i.is.expected)
-    (subst (λ b. IsStep old new (Ok decided) (when b (λ _. scan.Refusing old.looked why.Overrun) (λ _. scan.Ongoing (state_of marks (container_of i.container.end p.left ∷ i.others) (scan.InHead p.item old.looked (octet ∷ [])))))) (sym test)
-    (subst (λ v. IsStep old new (Ok v) (scan.Refusing old.looked why.Overrun)) (sym is) (record { steps = (refl, refl, kept) }))))
+    subst (λ all. IsStep old new decided (step_between all marks old.looked octet)) (sym i.same)
+    (subst (λ given. IsStep old new decided (picked given i.container.end i.others marks old.looked octet)) (sym p.is ∙ ap (pick octet) i.is.expected)
+    (subst (λ b. IsStep old new decided (when b (λ _. scan.Refusing old.looked why.Overrun) (λ _. scan.Ongoing (state_of marks (container_of i.container.end (expected_of picked_is.left) ∷ i.others) (scan.InHead (term_at picked_is.node) old.looked (octet ∷ [])))))) (sym test)
+    (subst (λ v. IsStep old new v (scan.Refusing old.looked why.Overrun)) (sym is) (record { steps = (refl, refl, kept) }))))
 
 -- an item begins
-pub some_begins : (old new : Path) (octet position : ℕ) (row : Position) (stack : List Container) (marks : List Marked) → AreOpen old.inner old.outer.items stack → AreMarks old.marks.items marks → IsPicked octet (expected_at old.inner.expected) position → IsPositionOf row (expected_at position) → (old.looked + 1 ≡ old.inner.end → ⊥) →
-    new.tip ≡ tip.Tagged position → new.marks.items ≡ old.marks.items → new.inner ≡ record { end = old.inner.end; expected = row.next } → new.outer.items ≡ old.outer.items →
-    IsStep old new (Ok verdict.Open) (step_between stack marks old.looked octet)
-some_begins old new octet position row stack marks h m p of_row room at_tip at_marks at_inner at_outer =
+pub some_begins : (old new : Path) (octet : ℕ) (picked_is : Picked) (stack : List Container) (marks : List Marked) → AreOpen old.inner old.outer.items stack → IsItem picked_is (pick octet (expected_of old.inner.expected)) → (old.looked + 1 ≡ old.inner.end → ⊥) →
+    new.tip ≡ tip.Tagged picked_is.node → new.inner ≡ record { end = old.inner.end; expected = picked_is.left } → new.outer.items ≡ old.outer.items → IsStep old new verdict.Open (step_between stack marks old.looked octet)
+some_begins old new octet picked_is stack marks h p room at_tip at_inner at_outer =
     let i : Innermost old.inner old.outer.items stack = innermost old.inner old.outer.items stack h in
     let apart : i.container.end - old.looked ≡ 1 → ⊥ = λ one. room (omega (arith, one, i.is.end)) in
     let test : (i.container.end - old.looked == 1) ≡ false = ne_eqb (i.container.end - old.looked) 1 apart in
-    let item : IsItem row p.item p.left = picked_row row octet position (expected_at old.inner.expected) p of_row in
-    let next : Container = container_of i.container.end p.left in
-    let at : IsItemPosition position × (item_at position ≡ p.item) = picked_item octet position (expected_at old.inner.expected) p in
-    subst (λ all. IsStep old new (Ok verdict.Open) (step_between all marks old.looked octet)) (sym i.same)
-    (subst (λ given. IsStep old new (Ok verdict.Open) (picked given i.container.end i.others marks old.looked octet)) (sym p.picks ∙ ap (pick octet) i.is.expected)
-    (subst (λ b. IsStep old new (Ok verdict.Open) (when b (λ _. scan.Refusing old.looked why.Overrun) (λ _. scan.Ongoing (state_of marks (next ∷ i.others) (scan.InHead p.item old.looked (octet ∷ [])))))) (sym test)
+    let next : Container = container_of i.container.end (expected_of picked_is.left) in
+    subst (λ all. IsStep old new verdict.Open (step_between all marks old.looked octet)) (sym i.same)
+    (subst (λ given. IsStep old new verdict.Open (picked given i.container.end i.others marks old.looked octet)) (sym p.is ∙ ap (pick octet) i.is.expected)
+    (subst (λ b. IsStep old new verdict.Open (when b (λ _. scan.Refusing old.looked why.Overrun) (λ _. scan.Ongoing (state_of marks (next ∷ i.others) (scan.InHead (term_at picked_is.node) old.looked (octet ∷ [])))))) (sym test)
     (record {
       steps = record {
-        tip = rw at_tip (at.0, at.1, refl);
+        tip = rw at_tip (p.known, refl, refl);
         containers = subst (λ all. AreOpen new.inner all (next ∷ i.others)) (sym at_outer) (subst (λ top. AreOpen top old.outer.items (next ∷ i.others)) (sym at_inner)
-            (open_same old.inner (record { end = old.inner.end; expected = row.next }) old.outer.items stack next h (record { end = i.is.end; known = item.leads; expected = item.next })));
-        marks = subst (λ all. AreMarks all marks) (sym at_marks) m;
+            (open_same old.inner (record { end = old.inner.end; expected = picked_is.left }) old.outer.items stack next h (record { end = i.is.end; known = p.leads; expected = refl })));
       };
     })))
 
@@ -86,7 +68,7 @@ not_loose : (sole : Bool) (from header count scanned limit : ℕ) → from + hea
 not_loose false from header count scanned limit e le full = refl
 not_loose true from header count scanned limit e le full = let h : limit ≤ scanned + count = full refl in le-ltb (header + count) (limit - from) (omega arith)
 
-pub headed_whole : (old new : Path) (result : Result Verdict Memory) (size : ℕ) (term : Term) (stack : List Container) (marks : List Marked) (got : Head) (from : ℕ) (octets : List ℕ) → HeadIs (found.Got size) got → HeadEnds from (old.looked + 1) (limit stack) got → (sole_in stack ≡ true → limit stack ≤ old.looked + 1 + size) →
+pub headed_whole : (old new : Path) (result : Verdict) (size : ℕ) (term : Term) (stack : List Container) (marks : List Marked) (got : Head) (from : ℕ) (octets : List ℕ) → HeadIs (found.Got size) got → HeadEnds from (old.looked + 1) (limit stack) got → (sole_in stack ≡ true → limit stack ≤ old.looked + 1 + size) →
     IsStep old new result (sized term (old.looked + 1) size stack marks) → IsStep old new result (headed got term stack marks from octets)
 headed_whole old new result size term stack marks Partial from octets is ends full h = absurd is
 headed_whole old new result size term stack marks (Refused offset reason) from octets is ends full h = absurd is
@@ -98,12 +80,12 @@ headed_whole old new result size term stack marks (Got header count) from octets
     (subst (λ start. IsStep old new result (sized term start count stack marks)) (sym at) (subst (λ n. IsStep old new result (sized term (old.looked + 1) n stack marks)) same h))
 
 pub headed_loose : (old new : Path) (decided : Verdict) (size : ℕ) (term : Term) (stack : List Container) (marks : List Marked) (got : Head) (from : ℕ) (octets : List ℕ) → HeadIs (found.Got size) got → HeadEnds from (old.looked + 1) (limit stack) got → sole_in stack ≡ true → old.looked + 1 + size < limit stack →
-    decided ≡ verdict.Refused (record { place = old.looked; why = why.Loose }) → IsUnchanged old new → IsStep old new (Ok decided) (headed got term stack marks from octets)
+    decided ≡ verdict.Refused (record { place = old.looked; why = why.Loose }) → IsUnchanged old new → IsStep old new decided (headed got term stack marks from octets)
 headed_loose old new decided size term stack marks Partial from octets is ends sole lt refused kept = absurd is
 headed_loose old new decided size term stack marks (Refused offset reason) from octets is ends sole lt refused kept = absurd is
 headed_loose old new decided size term stack marks (Got header count) from octets is ends sole lt refused kept =
     let same : size ≡ count = is in
     let at : from + header ≡ old.looked + 1 = ends.0 in
     let test : (sole_in stack && nat_lt (header + count) (limit stack - from)) ≡ true = ap (λ b. b && nat_lt (header + count) (limit stack - from)) sole ∙ lt-ltb (header + count) (limit stack - from) (omega arith) in
-    subst (λ b. IsStep old new (Ok decided) (when b (λ _. scan.Refusing (from + header - 1) why.Loose) (λ _. sized term (from + header) count stack marks))) (sym test)
-    (subst (λ v. IsStep old new (Ok v) (scan.Refusing (from + header - 1) why.Loose)) (sym refused) (record { steps = (omega arith, refl, kept) }))
+    subst (λ b. IsStep old new decided (when b (λ _. scan.Refusing (from + header - 1) why.Loose) (λ _. sized term (from + header) count stack marks))) (sym test)
+    (subst (λ v. IsStep old new v (scan.Refusing (from + header - 1) why.Loose)) (sym refused) (record { steps = (omega arith, refl, kept) }))

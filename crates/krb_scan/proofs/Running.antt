@@ -1,5 +1,5 @@
 -- Octets of an open string, scanned at once.
-use Rattle.std.proofs.Common.{◌≡◌, ℕ, ℤ, ◌+◌, ◌-◌, ◌<◌, if◌then◌else◌, min, true, List, ◌++◌, length, take, refl, sym, ap, ◌∙◌, subst, arith}
+use Rattle.std.proofs.Common.{◌≡◌, ℕ, ℤ, ◌+◌, ◌-◌, ◌<◌, if◌then◌else◌, min, ◌≤◌, Bool, true, false, append-nil, List, [], ◌∷◌, ◌++◌, length, take, refl, sym, ap, ◌∙◌, subst, arith}
 use Rattle.std.proofs.lemmas.List.{length-append, length-take}
 use Rattle.std.proofs.Math.Logic.{∥∥₁_map}
 use Rattle.krb_der.specs.declared.profile.Profile.{Profile}
@@ -11,18 +11,19 @@ use Rattle.krb_msg.specs.Grammar.{messages}
 use Rattle.krb_msg.specs.Judgement.{verdict_of}
 use Rattle.krb_msg.specs.Term.{Term, Integer, Text, Octets, Time, Bits, Sequence, SequenceOf, Tagged, Application}
 use Rattle.krb_scan.specs.Scan as scan
-use Rattle.krb_scan.specs.Scan.{InLeaf, Answer, Ongoing, state_of}
+use Rattle.krb_scan.specs.Scan.{Mark, Container, InLeaf, Answer, Ongoing, state_of}
 use Rattle.krb_scan.specs.inner.Machine.{outcome_of}
 use Rattle.krb_scan.specs.Runs.{is_string, left_at, left_of, string_left}
-use Rattle.krb_scan.specs.Positions.{item_at}
-use Rattle.krb_scan.specs.State.{TipIs, KeepsOf, AreMarks}
+use Rattle.krb_msg.specs.Nodes.{term_at}
+use Rattle.krb_scan.specs.State.{TipIs, KeepsOf}
 use Rattle.krb_scan.specs.inner.Paths.{IsPathOf}
-use Rattle.krb_scan.specs.Scanned.{IsScanOf, Keeps, marks_from, lengths_from}
+use Rattle.krb_scan.specs.Scanned.{IsScanOf, Keeps, Marks, marks_from, lengths_from}
 use Rattle.krb_scan.specs.declared.path.Path.{Path}
 use Rattle.krb_scan.specs.declared.tip.Tip.{Tip as Kept}
 use Rattle.krb_scan.specs.declared.tip.Tip.TheVariants as tip
 use Rattle.krb_scan.proofs.Chunk.{chunk_right}
 use Rattle.krb_scan.proofs.Outcome.{scan_outcome}
+use Rattle.krb_scan.proofs.Partial.{KeepsOctets, scan_octets}
 use Rattle.krb_scan.proofs.ScannerSteps.{SomeAt, same_lengths, is_path_of}
 use Rattle.krb_scan.proofs.Room.{open_short}
 use Rattle.krb_scan.proofs.PathFacts.{LeafAt, leaf_at}
@@ -42,10 +43,10 @@ keeps_still (Application number term) value unused octets more s h = absurd (cc 
 abbrev pub passed : Path → ℕ → Path
 passed path count = record path { looked = path.looked + count }
 
-pub run_goes : {profile : Profile} (path : Path) (octets : List ℕ) (position start end : ℕ) (value : ℤ) (unused count : ℕ) (given : List ℕ) → IsPathOf profile path octets → path.tip ≡ tip.Leaf position start end value unused → is_string (item_at position) ≡ true →
+pub run_goes : {profile : Profile} (path : Path) (octets : List ℕ) (node start end : ℕ) (value : ℤ) (unused count : ℕ) (given : List ℕ) → IsPathOf profile path octets → path.tip ≡ tip.Leaf node start end value unused → is_string (term_at node) ≡ true →
     count ≡ min (length given) (end - 1 - path.looked) → AreOctets (take count given) → IsPathOf profile (passed path count) (octets ++ take count given)
-run_goes {profile = profile} path octets position start end value unused count given s e string is are =
-    let leaf : LeafAt profile path octets position start end value unused = leaf_at path octets position start end value unused s e in
+run_goes {profile = profile} path octets node start end value unused count given s e string is are =
+    let leaf : LeafAt profile path octets node start end value unused = leaf_at path octets node start end value unused s e in
     let chunk : List ℕ = take count given in
     let size : length (take count given) ≡ count = omega (arith, length-take count given) in
     let lt : length leaf.present < leaf.count = leaf.at.roomy.1 in
@@ -55,13 +56,12 @@ run_goes {profile = profile} path octets position start end value unused count g
       some = s.some;
       short = s.short;
       looked = omega (arith, s.looked, length-append octets (take count given));
-      state = state_of leaf.at.marks leaf.at.stack (InLeaf (item_at position) start leaf.count (leaf.present ++ take count given));
-      reads = chunk_right (messages profile) path.size octets (take count given) (item_at position) start leaf.count leaf.present leaf.at.stack leaf.at.marks s.some string (AreOctets-append leaf.present (take count given) leaf.at.are_octets are) short leaf.at.reads;
+      state = state_of leaf.at.marks leaf.at.stack (InLeaf (term_at node) start leaf.count (leaf.present ++ take count given));
+      reads = chunk_right (messages profile) path.size octets (take count given) (term_at node) start leaf.count leaf.present leaf.at.stack leaf.at.marks s.some string (AreOctets-append leaf.present (take count given) leaf.at.are_octets are) short leaf.at.reads;
       holds = record {
-        tip = subst (λ t. TipIs (path.looked + count) t (InLeaf (item_at position) start leaf.count (leaf.present ++ take count given))) (sym e)
-            (leaf.known, refl, refl, leaf.ends, keeps_still (item_at position) value unused leaf.present (leaf.present ++ take count given) string leaf.keeps, omega (arith, leaf.looked, length-append leaf.present (take count given)));
+        tip = subst (λ t. TipIs (path.looked + count) t (InLeaf (term_at node) start leaf.count (leaf.present ++ take count given))) (sym e)
+            (leaf.known, refl, refl, leaf.ends, keeps_still (term_at node) value unused leaf.present (leaf.present ++ take count given) string leaf.keeps, omega (arith, leaf.looked, length-append leaf.present (take count given)));
         containers = leaf.at.containers;
-        marks = leaf.at.all_marks;
       };
     }
 
@@ -77,7 +77,6 @@ path_at {profile = profile} path octets s =
       size = refl;
       decides = sym (ap verdict_of (scan_outcome (messages profile) path.size octets s.some (omega arith) ∙ ap (outcome_of path.size) s.reads));
       looked = s.looked;
-      marks = subst (λ given. AreMarks path.marks.items (marks_from given (λ place. scan.scan (messages profile) path.size (take place octets)))) (sym s.reads) s.holds.marks;
       lengths = same_lengths path path.looked s.state s.holds ∙ ap (λ given. lengths_from given (λ place. scan.scan (messages profile) path.size (take place octets))) (sym s.reads);
       keeps = subst (Keeps path) (sym s.reads) (s.holds.containers, s.holds.tip);
     }
@@ -101,26 +100,52 @@ some_run old new decided count given r still size goes =
     ∥∥₁_map r (λ (k : (octets : List ℕ) × (profile : Profile) × IsScanOf profile old decided old.size octets). (k.0 ++ take count given, k.1, subst (λ n. IsScanOf k.1 new decided n (k.0 ++ take count given)) (sym size) (run_at old new decided old.size count k.0 given k.2 still size (goes k.1))))
 
 -- how far an open string reaches
-pub leaf_left : {profile : Profile} (path : Path) (octets : List ℕ) (position start end : ℕ) (value : ℤ) (unused : ℕ) → IsPathOf profile path octets → path.tip ≡ tip.Leaf position start end value unused → string_left (messages profile) path.size octets ≡ (if is_string (item_at position) then end - 1 - path.looked else 0)
-leaf_left {profile = profile} path octets position start end value unused s e =
-    let leaf : LeafAt profile path octets position start end value unused = leaf_at path octets position start end value unused s e in
+pub leaf_left : {profile : Profile} (path : Path) (octets : List ℕ) (node start end : ℕ) (value : ℤ) (unused : ℕ) → IsPathOf profile path octets → path.tip ≡ tip.Leaf node start end value unused → string_left (messages profile) path.size octets ≡ (if is_string (term_at node) then end - 1 - path.looked else 0)
+leaf_left {profile = profile} path octets node start end value unused s e =
+    let leaf : LeafAt profile path octets node start end value unused = leaf_at path octets node start end value unused s e in
     let same : leaf.count - 1 - length leaf.present ≡ end - 1 - path.looked = omega (arith, leaf.ends, leaf.looked) in
-    ap left_of leaf.at.reads ∙ ap (λ k. if is_string (item_at position) then k else 0) same
+    ap left_of leaf.at.reads ∙ ap (λ k. if is_string (term_at node) then k else 0) same
 
-pub leaf_some : {profile : Profile} (path : Path) (octets : List ℕ) (position start end : ℕ) (value : ℤ) (unused : ℕ) → IsPathOf profile path octets → path.tip ≡ tip.Leaf position start end value unused → path.looked < end
-leaf_some {profile = profile} path octets position start end value unused s e =
-    let leaf : LeafAt profile path octets position start end value unused = leaf_at path octets position start end value unused s e in
+pub leaf_some : {profile : Profile} (path : Path) (octets : List ℕ) (node start end : ℕ) (value : ℤ) (unused : ℕ) → IsPathOf profile path octets → path.tip ≡ tip.Leaf node start end value unused → path.looked < end
+leaf_some {profile = profile} path octets node start end value unused s e =
+    let leaf : LeafAt profile path octets node start end value unused = leaf_at path octets node start end value unused s e in
     let lt : length leaf.present < leaf.count = leaf.at.roomy.1 in
     omega (arith, leaf.looked, leaf.ends)
 
 -- no string is open if no leaf is
-pub none_open : {profile : Profile} (path : Path) (octets : List ℕ) → IsPathOf profile path octets → ((position start end : ℕ) (value : ℤ) (unused : ℕ) → path.tip ≡ tip.Leaf position start end value unused → ⊥) → string_left (messages profile) path.size octets ≡ 0
+pub none_open : {profile : Profile} (path : Path) (octets : List ℕ) → IsPathOf profile path octets → ((node start end : ℕ) (value : ℤ) (unused : ℕ) → path.tip ≡ tip.Leaf node start end value unused → ⊥) → string_left (messages profile) path.size octets ≡ 0
 none_open path octets s not = ap left_of s.reads ∙ by_tips path.tip s.state.tip refl s.holds.tip
   where
     by_tips : (a : Kept) (b : scan.Tip) → path.tip ≡ a → TipIs path.looked a b → left_at b ≡ 0
     by_tips a (scan.Between place) e h = refl
     by_tips a (scan.InHead term from octets) e h = refl
     by_tips tip.Between (scan.InLeaf term start count octets) e h = absurd h
-    by_tips (tip.Tagged position) (scan.InLeaf term start count octets) e h = absurd h
-    by_tips (tip.Long position digits seen value) (scan.InLeaf term start count octets) e h = absurd h
-    by_tips (tip.Leaf position start end value unused) (scan.InLeaf term begin count octets) e h = absurd (not position start end value unused e)
+    by_tips (tip.Tagged node) (scan.InLeaf term start count octets) e h = absurd h
+    by_tips (tip.Long node digits seen value) (scan.InLeaf term start count octets) e h = absurd h
+    by_tips (tip.Leaf node start end value unused) (scan.InLeaf term begin count octets) e h = absurd (not node start end value unused e)
+
+-- octets inside an open string change no mark
+pub run_marks : (profile : Profile) (n : ℕ) (before chunk : List ℕ) → 0 < n → AreOctets before → AreOctets chunk → length chunk ≤ string_left (messages profile) n before → Marks profile n (before ++ chunk) ≡ Marks profile n before
+run_marks profile n before [] some are more le = ap (Marks profile n) (append-nil before)
+run_marks profile n before (first ∷ others) some are more le = by_answer (scan.scan (messages profile) n before) refl le
+  where
+    chunk : List ℕ
+    chunk = first ∷ others
+
+    by_string : (b : Bool) (term : Term) (start count : ℕ) (octets : List ℕ) (marks : List Mark) (stack : List Container) → is_string term ≡ b → scan.scan (messages profile) n before ≡ Ongoing (state_of marks stack (InLeaf term start count octets)) → length chunk ≤ (if b then count - 1 - length octets else 0) → Marks profile n (before ++ chunk) ≡ Marks profile n before
+    by_string false term start count octets marks stack s e room = absurd (omega (arith, room))
+    by_string true term start count octets marks stack s e room =
+        let partial : KeepsOctets (Ongoing (state_of marks stack (InLeaf term start count octets))) = subst KeepsOctets e (scan_octets (messages profile) n before some are) in
+        let next : scan.scan (messages profile) n (before ++ chunk) ≡ Ongoing (state_of marks stack (InLeaf term start count (octets ++ chunk))) = chunk_right (messages profile) n before chunk term start count octets stack marks some s (AreOctets-append octets chunk partial.keeps more) (omega (arith, room)) e in
+        ap (λ given. marks_from given (λ place. scan.scan (messages profile) n (take place (before ++ chunk)))) next
+        ∙ sym (ap (λ given. marks_from given (λ place. scan.scan (messages profile) n (take place before))) e)
+
+    by_tip : (marks : List Mark) (stack : List Container) (given : scan.Tip) → scan.scan (messages profile) n before ≡ Ongoing (state_of marks stack given) → length chunk ≤ left_at given → Marks profile n (before ++ chunk) ≡ Marks profile n before
+    by_tip marks stack (scan.Between place) e room = absurd (omega (arith, room))
+    by_tip marks stack (scan.InHead term from octets) e room = absurd (omega (arith, room))
+    by_tip marks stack (InLeaf term start count octets) e room = by_string (is_string term) term start count octets marks stack refl e room
+
+    by_answer : (given : Answer) → scan.scan (messages profile) n before ≡ given → length chunk ≤ left_of given → Marks profile n (before ++ chunk) ≡ Marks profile n before
+    by_answer (Ongoing state) e room = by_tip state.marks state.stack state.tip e room
+    by_answer (scan.Refusing place reason) e room = absurd (omega (arith, room))
+    by_answer (scan.Whole marks) e room = absurd (omega (arith, room))

@@ -1,15 +1,12 @@
 -- A scanner's path and verdict after an octet more.
-use Rattle.std.proofs.Common.{◌≡◌, ℕ, suc, pos, zero-le, ◌+◌, ◌-◌, ◌*◌, ◌/◌, ◌<◌, ◌≤◌, ◌^◌, ◌⊎◌, inl, inr, Ok, Err, Result, OnErr, List, [], ◌∷◌, ◌++◌, length, reverse, take, refl, sym, ap, ◌∙◌, subst, arith}
-use Rattle.std.specs.Prelude.{IsOk}
-use Rattle.std.proofs.lemmas.Bool.{cases_lt}
-use Rattle.std.proofs.lemmas.List.{length-append, length-take, take-append-le, take_all}
+use Rattle.std.proofs.Common.{◌≡◌, ℕ, suc, zero-le, ◌+◌, ◌-◌, ◌<◌, ◌≤◌, ◌^◌, List, [], ◌∷◌, ◌++◌, length, reverse, take, refl, sym, ap, ◌∙◌, subst, arith}
+use Rattle.std.proofs.lemmas.List.{length-append, take-append-le, take_all}
 use Rattle.std.proofs.Math.Logic.{∥∥₁_elim, ∥∥₁_map}
 use Rattle.std.specs.Coded.{le_prop}
 use Rattle.krb_der.specs.declared.profile.Profile.{Profile}
 use Rattle.krb_der.specs.inner.Numbers.{AreOctets-append}
 use Rattle.krb_der.specs.declared.verdict.Verdict.{Verdict}
 use Rattle.krb_der.specs.declared.verdict.Verdict.TheVariants as verdict
-use Rattle.krb_der.specs.declared.memory.Memory.{Memory}
 use Rattle.krb_der.specs.declared.why.Why.{Why}
 use Rattle.krb_msg.specs.Grammar.{messages}
 use Rattle.krb_msg.specs.Judgement.{judgement, verdict_of}
@@ -17,21 +14,18 @@ use Rattle.krb_scan.specs.Scan as scan
 use Rattle.krb_scan.specs.Scan.{Mark as Marked, State, Tip, Answer, Ongoing, Refusing, Whole, OneOf, mark_of, marks_of, container_of, open_lengths, lengths_at, marks_at, scanned, scanned_at as taken_at_tip}
 use Rattle.krb_scan.specs.inner.Machine.{step, outcome_of, go_on, initial}
 use Rattle.krb_scan.specs.State.{AreMarks, AreOpen, AreContainers, TipIs, open_lengths_of}
-use Rattle.krb_scan.specs.Positions.{IsPosition, expected_at}
-use Rattle.krb_scan.specs.inner.Paths.{IsPathOf, HasState, IsUnchanged, IsStep, IsReached, Becomes, AddsMark}
+use Rattle.krb_scan.specs.Expectations.{IsKnown, expected_of}
+use Rattle.krb_scan.specs.inner.Paths.{IsPathOf, HasState, IsUnchanged, IsStep, IsReached, Becomes}
 use Rattle.krb_scan.specs.State as kept
-use Rattle.krb_msg.proofs.Grammars.{all_is_decided}
-use Rattle.krb_scan.specs.Laws.{MarksAreFew}
-use Rattle.krb_scan.specs.Scanned.{IsScanOf, Keeps, Marks, marks_from, marks_before, lengths_from, lengths_before}
+use Rattle.krb_scan.specs.Scanned.{IsScanOf, Keeps, lengths_from, lengths_before}
 use Rattle.krb_scan.specs.declared.path.Path.{Path}
 use Rattle.krb_scan.specs.declared.tip.Tip.{Tip as Kept}
 use Rattle.krb_scan.specs.declared.tip.Tip.TheVariants as tip
 use Rattle.krb_scan.proofs.Chunk.{scan_reached}
 use Rattle.krb_scan.proofs.Containers.{open_length}
-use Rattle.krb_scan.proofs.Marks.{length_values, no_marks}
 use Rattle.krb_scan.proofs.Levels.{OpenAtMost, levels_at, scan_deep}
 use Rattle.krb_scan.proofs.Outcome.{scan_outcome}
-use Rattle.krb_scan.proofs.Faults.{Placed, IsPlaced, IsMarked, scan_placed, step_placed}
+use Rattle.krb_scan.proofs.Faults.{Placed, IsPlaced, scan_placed, step_placed}
 use Rattle.krb_scan.proofs.Resume.{ReachedAnswer, scan_step, run_scan}
 use Rattle.krb_scan.proofs.Room.{open_short}
 
@@ -53,7 +47,7 @@ is_path_of {profile = profile} path decided n octets at still = by_answer (scan.
           looked = at.looked;
           state = state;
           reads = ap (λ k. scan.scan (messages profile) k octets) at.size ∙ e;
-          holds = record { tip = keeps.1; containers = keeps.0; marks = subst (λ given. AreMarks path.marks.items (marks_from given (λ place. scan.scan (messages profile) n (take place octets)))) e at.marks };
+          holds = record { tip = keeps.1; containers = keeps.0 };
         }
     by_answer (Refusing place reason) e =
         let same : verdict.Open ≡ verdict.Refused (record { place = place; why = reason }) = sym still ∙ at.decides ∙ judged profile n octets (Refusing place reason) at.some at.fits e in
@@ -66,15 +60,15 @@ same_tip : (scanned : ℕ) (a : Kept) (b : Tip) (count : ℕ) → TipIs scanned 
 same_tip scanned tip.Between (scan.Between place) count h = refl
 same_tip scanned tip.Between (scan.InHead term from octets) count h = absurd h
 same_tip scanned tip.Between (scan.InLeaf term start size octets) count h = absurd h
-same_tip scanned (tip.Tagged position) (scan.Between at) count h = absurd h
-same_tip scanned (tip.Tagged position) (scan.InHead term from octets) count h = refl
-same_tip scanned (tip.Tagged position) (scan.InLeaf term start size octets) count h = absurd h
-same_tip scanned (tip.Long position digits seen value) (scan.Between at) count h = absurd h
-same_tip scanned (tip.Long position digits seen value) (scan.InHead term from octets) count h = refl
-same_tip scanned (tip.Long position digits seen value) (scan.InLeaf term start size octets) count h = absurd h
-same_tip scanned (tip.Leaf position start end value unused) (scan.Between at) count h = absurd h
-same_tip scanned (tip.Leaf position start end value unused) (scan.InHead term from octets) count h = absurd h
-same_tip scanned (tip.Leaf position start end value unused) (scan.InLeaf term begin size octets) count h = refl
+same_tip scanned (tip.Tagged node) (scan.Between at) count h = absurd h
+same_tip scanned (tip.Tagged node) (scan.InHead term from octets) count h = refl
+same_tip scanned (tip.Tagged node) (scan.InLeaf term start size octets) count h = absurd h
+same_tip scanned (tip.Long node digits seen value) (scan.Between at) count h = absurd h
+same_tip scanned (tip.Long node digits seen value) (scan.InHead term from octets) count h = refl
+same_tip scanned (tip.Long node digits seen value) (scan.InLeaf term start size octets) count h = absurd h
+same_tip scanned (tip.Leaf node start end value unused) (scan.Between at) count h = absurd h
+same_tip scanned (tip.Leaf node start end value unused) (scan.InHead term from octets) count h = absurd h
+same_tip scanned (tip.Leaf node start end value unused) (scan.InLeaf term begin size octets) count h = refl
 
 pub same_lengths : (path : Path) (scanned : ℕ) (state : State) → HasState path scanned state → open_lengths_of path ≡ open_lengths state
 same_lengths path scanned state h =
@@ -92,7 +86,6 @@ unchanged_at {profile = profile} old new decided n octets at same size looked = 
   size = size ∙ at.size;
   decides = at.decides;
   looked = looked ∙ at.looked;
-  marks = subst (λ all. AreMarks all (Marks profile n octets)) (sym same.marks) at.marks;
   lengths = ap (λ t. kept.lengths_at t (length new.outer.items)) same.tip ∙ ap (λ items. kept.lengths_at old.tip (length items)) same.outer ∙ at.lengths;
   keeps = by_answer (scan.scan (messages profile) n octets) at.keeps;
 }
@@ -110,7 +103,7 @@ abbrev pub counted : Path → Path
 counted path = record path { looked = path.looked + 1 }
 
 -- an octet that is refused is that of the step
-refused_here : {profile : Profile} (path : Path) (octets : List ℕ) (octet place : ℕ) (reason : Why) (s : IsPathOf profile path octets) → scan.scan (messages profile) path.size (octets ++ octet ∷ []) ≡ Refusing place reason → place ≡ length octets
+pub refused_here : {profile : Profile} (path : Path) (octets : List ℕ) (octet place : ℕ) (reason : Why) (s : IsPathOf profile path octets) → scan.scan (messages profile) path.size (octets ++ octet ∷ []) ≡ Refusing place reason → place ≡ length octets
 refused_here {profile = profile} path octets octet place reason s e =
     let stepped : step s.state octet ≡ Refusing place reason = sym (scan_step (messages profile) path.size octets octet s.some ∙ ap (λ given. go_on given (λ state. step state octet)) s.reads) ∙ e in
     let placed : Placed (length octets) (Ongoing s.state) = subst (Placed (length octets)) s.reads (scan_placed (messages profile) path.size octets s.some) in
@@ -120,7 +113,7 @@ refused_here {profile = profile} path octets octet place reason s e =
 
 -- after a step
 pub scanned_at : {profile : Profile} (old new : Path) (decided before : Verdict) (n : ℕ) (octets : List ℕ) (octet : ℕ) → IsScanOf profile old before n octets → before ≡ verdict.Open → octet < 256 → new.size ≡ old.size → new.looked ≡ old.looked →
-    IsStep old new (Ok decided) (scan.scan (messages profile) old.size (octets ++ octet ∷ [])) → IsScanOf profile (counted new) decided n (octets ++ octet ∷ [])
+    IsStep old new decided (scan.scan (messages profile) old.size (octets ++ octet ∷ [])) → IsScanOf profile (counted new) decided n (octets ++ octet ∷ [])
 scanned_at {profile = profile} old new decided before n octets octet at still small size looked is =
     by_answer decided (scan.scan (messages profile) n (octets ++ octet ∷ [])) refl (subst (λ k. Becomes old new decided (scan.scan (messages profile) k (octets ++ octet ∷ []))) at.size is.steps)
   where
@@ -140,10 +133,9 @@ scanned_at {profile = profile} old new decided before n octets octet at still sm
     here = ap (λ k. k + 1) looked
 
     made : (verdict_now : Verdict) (given : Answer) → scan.scan (messages profile) n (octets ++ octet ∷ []) ≡ given → verdict_now ≡ verdict_of (outcome_of n given) →
-        AreMarks new.marks.items (marks_from given (λ place. scan.scan (messages profile) n (take place (octets ++ octet ∷ [])))) →
         open_lengths_of new ≡ lengths_from given (λ place. scan.scan (messages profile) n (take place (octets ++ octet ∷ []))) →
         Keeps (counted new) given → IsScanOf profile (counted new) verdict_now n (octets ++ octet ∷ [])
-    made verdict_now given e decides marks lengths keeps = record {
+    made verdict_now given e decides lengths keeps = record {
       are_octets = AreOctets-append octets (octet ∷ []) at.are_octets (small, tt {0});
       some = at.some;
       short = at.short;
@@ -151,7 +143,6 @@ scanned_at {profile = profile} old new decided before n octets octet at still sm
       size = size ∙ at.size;
       decides = decides ∙ sym (judged profile n (octets ++ octet ∷ []) given at.some fits e);
       looked = here ∙ ap (λ k. k + 1) at.looked ∙ sym more;
-      marks = subst (λ answer. AreMarks new.marks.items (marks_from answer (λ place. scan.scan (messages profile) n (take place (octets ++ octet ∷ []))))) (sym e) marks;
       lengths = lengths ∙ ap (λ answer. lengths_from answer (λ place. scan.scan (messages profile) n (take place (octets ++ octet ∷ [])))) (sym e);
       keeps = subst (Keeps (counted new)) (sym e) keeps;
     }
@@ -161,7 +152,7 @@ scanned_at {profile = profile} old new decided before n octets octet at still sm
 
     by_answer : (verdict_now : Verdict) (given : Answer) → scan.scan (messages profile) n (octets ++ octet ∷ []) ≡ given → Becomes old new verdict_now given → IsScanOf profile (counted new) verdict_now n (octets ++ octet ∷ [])
     by_answer verdict.Open (Ongoing state) e h =
-        made verdict.Open (Ongoing state) e refl h.marks (same_lengths new (old.looked + 1) state h) (h.containers, subst (λ k. TipIs k new.tip state.tip) (sym here) h.tip)
+        made verdict.Open (Ongoing state) e refl (same_lengths new (old.looked + 1) state h) (h.containers, subst (λ k. TipIs k new.tip state.tip) (sym here) h.tip)
     by_answer verdict.Open (Refusing place reason) e h = absurd h
     by_answer verdict.Open (Whole marks) e h = absurd h
     by_answer (verdict.Refused refusal) (Ongoing state) e h = absurd h
@@ -169,14 +160,13 @@ scanned_at {profile = profile} old new decided before n octets octet at still sm
         let there : place ≡ length octets = refused_here old octets octet place reason s (ap (λ k. scan.scan (messages profile) k (octets ++ octet ∷ [])) at.size ∙ e) in
         made (verdict.Refused refusal) (Refusing place reason) e
         (ap (λ k. verdict.Refused (record { place = k; why = refusal.why })) (h.0 ∙ at.looked ∙ sym there) ∙ ap (λ w. verdict.Refused (record { place = place; why = w })) h.1)
-        (subst (λ all. AreMarks all (marks_before (scan.scan (messages profile) n (take place (octets ++ octet ∷ []))))) (sym h.2.marks) (subst (λ given. AreMarks old.marks.items (marks_before given)) (sym (prefix place there)) s.holds.marks))
         (ap (λ t. kept.lengths_at t (length new.outer.items)) h.2.tip ∙ ap (λ items. kept.lengths_at old.tip (length items)) h.2.outer ∙ same_lengths old old.looked s.state s.holds ∙ ap lengths_before (sym (prefix place there)))
         (tt {0})
     by_answer (verdict.Refused refusal) (Whole marks) e h = absurd h
     by_answer verdict.Whole (Ongoing state) e h = absurd h
     by_answer verdict.Whole (Refusing place reason) e h = absurd h
     by_answer verdict.Whole (Whole marks) e h =
-        made verdict.Whole (Whole marks) e refl h.marks (ap (λ t. kept.lengths_at t (length new.outer.items)) h.tip ∙ ap length h.outer) (tt {0})
+        made verdict.Whole (Whole marks) e refl (ap (λ t. kept.lengths_at t (length new.outer.items)) h.tip ∙ ap length h.outer) (tt {0})
 
 -- ---- some octets
 
@@ -191,17 +181,13 @@ some_unchanged old new decided r same size looked =
     ∥∥₁_map r (λ (k : (octets : List ℕ) × (profile : Profile) × IsScanOf profile old decided old.size octets). (k.0, k.1, subst (λ n. IsScanOf k.1 new decided n k.0) (sym size) (unchanged_at old new decided old.size k.0 k.2 same size looked)))
 
 pub some_taken : (old new : Path) (decided before : Verdict) (octet : ℕ) → SomeAt old before → before ≡ verdict.Open → octet < 256 → new.size ≡ old.size → new.looked ≡ old.looked →
-    ((profile : Profile) (octets : List ℕ) → IsPathOf profile old octets → IsStep old new (Ok decided) (scan.scan (messages profile) old.size (octets ++ octet ∷ []))) → SomeAt (counted new) decided
+    ((profile : Profile) (octets : List ℕ) → IsPathOf profile old octets → IsStep old new decided (scan.scan (messages profile) old.size (octets ++ octet ∷ []))) → SomeAt (counted new) decided
 some_taken old new decided before octet r still small size looked steps =
     ∥∥₁_map r (λ (k : (octets : List ℕ) × (profile : Profile) × IsScanOf profile old before old.size octets).
     (k.0 ++ octet ∷ [], k.1, subst (λ n. IsScanOf k.1 (counted new) decided n (k.0 ++ octet ∷ [])) (sym size) (scanned_at old new decided before old.size k.0 octet k.2 still small size looked (steps k.1 k.0 (is_path_of old before old.size k.0 k.2 still)))))
 
 pub looked_small : (path : Path) (decided : Verdict) → SomeAt path decided → path.looked < 2 ^ 31
 looked_small path decided r = ∥∥₁_elim r le_prop (λ (k : (octets : List ℕ) × (profile : Profile) × IsScanOf profile path decided path.size octets). omega (arith, k.2.looked, k.2.fits, k.2.short))
-
-pub err_holds : {A E P : Type 0} (result : Result A E) → P → OnErr result P
-err_holds (Ok value) p = tt {0}
-err_holds (Err error) p = p
 
 -- ---- bounds
 
@@ -224,55 +210,10 @@ pub lengths_few : (path : Path) (decided : Verdict) → SomeAt path decided → 
 lengths_few path decided r = ∥∥₁_elim r le_prop (λ (k : (octets : List ℕ) × (profile : Profile) × IsScanOf profile path decided path.size octets).
     subst (λ count. count ≤ 13) (sym k.2.lengths) (open_few (scan.scan (messages k.1) path.size k.0) (λ place. scan.scan (messages k.1) path.size (take place k.0)) (scan_deep k.1 path.size k.0) (λ place. scan_deep k.1 path.size (take place k.0))))
 
-few_before : (count : ℕ) (given : Answer) → Placed count given → 2 * length (marks_before given) ≤ count
-few_before count (Ongoing state) h = by_tip state.tip state.marks h.0 h.1
-  where
-    by_tip : (given : Tip) (marks : List Marked) → taken_at_tip given ≡ count → IsMarked given marks → 2 * length (marks_at given marks) ≤ count
-    by_tip (scan.Between place) marks e k = omega (arith, k)
-    by_tip (scan.InHead term from octets) marks e k = omega (arith, k.0)
-    by_tip (scan.InLeaf term start size octets) marks e k = omega (arith, k, length-append marks (mark_of term start size (pos 0) ∷ []))
-few_before count (Refusing place reason) h = omega arith
-few_before count (Whole marks) h = omega arith
-
-few_from : (profile : Profile) (n : ℕ) (octets : List ℕ) (given : Answer) → 0 < n → Placed (length octets) given → 2 * length (marks_from given (λ place. scan.scan (messages profile) n (take place octets))) ≤ length octets
-few_from profile n octets (Ongoing state) some h = few_before (length octets) (Ongoing state) h
-few_from profile n octets (Refusing place reason) some h =
-    let few : 2 * length (marks_before (scan.scan (messages profile) n (take place octets))) ≤ length (take place octets) = few_before (length (take place octets)) (scan.scan (messages profile) n (take place octets)) (scan_placed (messages profile) n (take place octets) some) in
-    omega (arith, few, length-take place octets)
-few_from profile n octets (Whole marks) some h = h
-
--- twice the marks is at most the octets
-pub marks_are_few : MarksAreFew
-marks_are_few profile n octets some = few_from profile n octets (scan.scan (messages profile) n octets) some (scan_placed (messages profile) n octets some)
-
-pub marks_few : (path : Path) (decided : Verdict) → SomeAt path decided → 2 * length path.marks.items ≤ path.looked
-marks_few path decided r = ∥∥₁_elim r le_prop (λ (k : (octets : List ℕ) × (profile : Profile) × IsScanOf profile path decided path.size octets).
-    omega (arith, marks_are_few k.1 path.size k.0 k.2.some, length_values path.marks.items (Marks k.1 path.size k.0) k.2.marks, k.2.looked))
-
--- capacity for half as many marks as the message has octets is enough for what an octet more can add
-pub enough : {profile : Profile} (result : Result Verdict Memory) (path : Path) (decided : Verdict) (n : ℕ) (octets longer : List ℕ) (room : ℕ) → IsScanOf profile path decided n octets → OnErr result (decided ≡ verdict.Open) → length longer ≤ length octets + 1 → OnErr result (length (Marks profile n longer) ≡ length (Marks profile n octets) + 1) → OnErr result (room ≤ length path.marks.items) → n / 2 ≤ room → IsOk result
-enough (Ok value) path decided n octets longer room at undecided one ends full much = refl
-enough {profile = profile} (Err error) path decided n octets longer room at undecided one ends full much = absurd (by (cases_lt (length octets) n))
-  where
-    by : (length octets < n) ⊎ (n ≤ length octets) → ⊥
-    by (inl h) = omega (arith, marks_are_few profile n longer at.some, length_values path.marks.items (Marks profile n octets) at.marks, h, one, ends, full, much)
-    by (inr h) = all_is_decided (messages profile) n octets at.some (omega (arith, at.fits, h)) (sym at.decides ∙ undecided)
-
--- if memory was refused, the octet ends a length
-pub ends_length : {profile : Profile} (old new : Path) (decided : Verdict) (n : ℕ) (octets : List ℕ) (octet : ℕ) (memory : Memory) → IsScanOf profile old decided n octets → IsStep old new (Err memory) (scan.scan (messages profile) old.size (octets ++ octet ∷ [])) → length (Marks profile n (octets ++ octet ∷ [])) ≡ length (Marks profile n octets) + 1
-ends_length {profile = profile} old new decided n octets octet memory at is =
-    by_answer (scan.scan (messages profile) n (octets ++ octet ∷ [])) (subst (λ k. AddsMark (length old.marks.items) (scan.scan (messages profile) k (octets ++ octet ∷ []))) at.size is.steps.1)
-    ∙ ap (λ count. count + 1) (sym (length_values old.marks.items (Marks profile n octets) at.marks))
-  where
-    by_answer : (given : Answer) → AddsMark (length old.marks.items) given → length (marks_from given (λ place. scan.scan (messages profile) n (take place (octets ++ octet ∷ [])))) ≡ length old.marks.items + 1
-    by_answer (Ongoing state) h = h
-    by_answer (Refusing place reason) h = absurd h
-    by_answer (Whole marks) h = h
-
 -- ---- none of the octets
 
-pub none_at : {profile : Profile} (path : Path) (n : ℕ) → 0 < n → n < 2 ^ 31 → path.size ≡ n → path.looked ≡ 0 → path.tip ≡ tip.Between → path.inner.end ≡ n → IsPosition path.inner.expected → expected_at path.inner.expected ≡ OneOf (messages profile) → path.outer.items ≡ [] → path.marks.items ≡ [] → IsScanOf profile path verdict.Open n []
-none_at {profile = profile} path n some short size looked at_tip ends known expected outer marks = record {
+pub none_at : {profile : Profile} (path : Path) (n : ℕ) → 0 < n → n < 2 ^ 31 → path.size ≡ n → path.looked ≡ 0 → path.tip ≡ tip.Between → path.inner.end ≡ n → IsKnown path.inner.expected → expected_of path.inner.expected ≡ OneOf (messages profile) → path.outer.items ≡ [] → IsScanOf profile path verdict.Open n []
+none_at {profile = profile} path n some short size looked at_tip ends known expected outer = record {
   are_octets = tt {0};
   some = some;
   short = short;
@@ -280,7 +221,6 @@ none_at {profile = profile} path n some short size looked at_tip ends known expe
   size = size;
   decides = refl;
   looked = looked;
-  marks = subst (λ given. AreMarks path.marks.items (marks_from given (λ place. scan.scan (messages profile) n (take place [])))) (sym reads) (subst (λ all. AreMarks all []) (sym marks) no_marks);
   lengths = ap (λ t. kept.lengths_at t (length path.outer.items)) at_tip ∙ ap length outer ∙ ap (λ given. lengths_from given (λ place. scan.scan (messages profile) n (take place []))) (sym reads);
   keeps = subst (Keeps path) (sym reads) (
     record { containers = subst (λ items. AreContainers (path.inner ∷ reverse items) (container_of n (OneOf (messages profile)) ∷ [])) (sym outer) (record { end = ends; known = known; expected = expected }, tt {0}) },

@@ -77,8 +77,8 @@ pub then_taken : (before octets rest : List ℕ) (used count : ℕ) → rest ≡
 then_taken before octets rest used count e =
     append_assoc before (take used octets) (take count rest) ∙ ap (λ l. before ++ (take used octets ++ take count l)) e ∙ ap (λ l. before ++ l) (sym (take-add used count octets))
 
-pub then_at : {profile : Profile} (path : Path) (decided : Verdict) (n : ℕ) (before octets rest : List ℕ) (used count : ℕ) → rest ≡ drop used octets → IsScanOf profile path decided n ((before ++ take used octets) ++ take count rest) → IsScanOf profile path decided n (before ++ take (used + count) octets)
-then_at {profile = profile} path decided n before octets rest used count e at = subst (IsScanOf profile path decided n) (then_taken before octets rest used count e) at
+pub then_at : (P : List ℕ → Type 0) (before octets rest : List ℕ) (used count : ℕ) → rest ≡ drop used octets → P ((before ++ take used octets) ++ take count rest) → P (before ++ take (used + count) octets)
+then_at P before octets rest used count e at = subst P (then_taken before octets rest used count e) at
 
 -- if neither some octets nor those after them decide anything sooner, all of them do not
 pub then_sooner : (profile : Profile) (n : ℕ) (before octets rest : List ℕ) (used count k : ℕ) → rest ≡ drop used octets → (k < used → judgement profile n (before ++ take k octets) ≡ verdict.Open) →

@@ -16,7 +16,8 @@ use Rattle.krb_msg.proofs.Heads.{head-length_octets}
 use Rattle.krb_msg.proofs.Items.{ItemDone, item_done}
 use Rattle.krb_msg.proofs.LeavesDone.{done_from_after}
 use Rattle.krb_msg.proofs.Grammars.{unambiguous_message}
-use Rattle.krb_msg.proofs.Judged.{messages_are_grammar, kind_is_one_of, message_der_in}
+use Rattle.krb_msg.proofs.Judged.{messages_are_grammar, message_der_in}
+use Rattle.krb_msg.proofs.KindLaws.{kind_is_one_of}
 use Rattle.krb_msg.proofs.Messages.{IsChosen, chosen_one_of}
 use Rattle.krb_msg.specs.Grammar.{messages}
 use Rattle.krb_msg.specs.Views.{kind_of, kind_term_in, message_value_in, message_der}

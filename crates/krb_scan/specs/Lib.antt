@@ -1,10 +1,11 @@
 pub mod Scan
 pub mod ValueMarks
-pub mod Positions
+pub mod Expectations
 pub mod State
 pub mod Scanned
 pub mod Laws
 pub mod Runs
+pub mod Machine
 pub mod Scanner
 pub mod Examples
 pub mod inner

@@ -52,7 +52,6 @@ pub record IsScanOf (profile : Profile) (path : Path) (decided : Verdict) (n : �
   pub size : path.size ≡ n
   pub decides : decided ≡ judgement profile n octets
   pub looked : path.looked ≡ length octets
-  pub marks : AreMarks path.marks.items (Marks profile n octets)
   pub lengths : open_lengths_of path ≡ open_count profile n octets
   pub keeps : Keeps path (scan (messages profile) n octets)
 

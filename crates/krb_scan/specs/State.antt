@@ -6,7 +6,7 @@ use Rattle.krb_msg.specs.Term.{Term, Integer, Bits}
 use Rattle.krb_msg.specs.Nodes.{term_at}
 use Rattle.krb_msg.specs.Table.{IsNode}
 use Rattle.krb_scan.specs.Scan as scan
-use Rattle.krb_scan.specs.Positions.{IsPosition, IsItemPosition, expected_at, item_at}
+use Rattle.krb_scan.specs.Expectations.{IsKnown, expected_of}
 use Rattle.krb_scan.specs.declared.mark.Mark.{Mark}
 use Rattle.krb_scan.specs.declared.open.Open.{Open}
 use Rattle.krb_scan.specs.declared.path.Path.{Path}
@@ -23,8 +23,8 @@ pub record AreMarks (marks : List Mark) (given : List scan.Mark) : Type 0 where
 
 pub record IsContainer (inner : Open) (container : scan.Container) : Type 0 where
   pub end : inner.end ≡ container.end
-  pub known : IsPosition inner.expected
-  pub expected : expected_at inner.expected ≡ container.expected
+  pub known : IsKnown inner.expected
+  pub expected : expected_of inner.expected ≡ container.expected
 
 -- from the inner to the outer
 abbrev pub AreContainers : List Open → List scan.Container → Type 0
@@ -50,15 +50,15 @@ KeepsOf term value unused octets = (value ≡ pos 0) × (unused ≡ 0)
 -- a tip of the code is that of a state, after a number of octets in all
 abbrev pub TipIs : ℕ → Tip → scan.Tip → Type 0
 TipIs scanned tip.Between (scan.Between place) = scanned ≡ place
-TipIs scanned (tip.Tagged position) (scan.InHead term from (tag ∷ [])) = IsItemPosition position × (item_at position ≡ term) × (scanned ≡ from + 1)
-TipIs scanned (tip.Long position digits seen value) (scan.InHead term from (tag ∷ first ∷ octets)) =
-    IsItemPosition position × (item_at position ≡ term) × (digits ≡ first - 0x80) × (seen ≡ length octets) × (value ≡ number octets) × (scanned ≡ from + 2 + seen)
-TipIs scanned (tip.Leaf position start end value unused) (scan.InLeaf term begin count octets) =
-    IsItemPosition position × (item_at position ≡ term) × (start ≡ begin) × (end ≡ begin + count) × KeepsOf term value unused octets × (scanned ≡ begin + length octets)
+TipIs scanned (tip.Tagged node) (scan.InHead term from (tag ∷ [])) = IsNode node × (term_at node ≡ term) × (scanned ≡ from + 1)
+TipIs scanned (tip.Long node digits seen value) (scan.InHead term from (tag ∷ first ∷ octets)) =
+    IsNode node × (term_at node ≡ term) × (digits ≡ first - 0x80) × (seen ≡ length octets) × (value ≡ number octets) × (scanned ≡ from + 2 + seen)
+TipIs scanned (tip.Leaf node start end value unused) (scan.InLeaf term begin count octets) =
+    IsNode node × (term_at node ≡ term) × (start ≡ begin) × (end ≡ begin + count) × KeepsOf term value unused octets × (scanned ≡ begin + length octets)
 TipIs scanned other there = ⊥
 
 abbrev pub lengths_at : Tip → ℕ → ℕ
-lengths_at (tip.Leaf position start end value unused) containers = containers + 1
+lengths_at (tip.Leaf node start end value unused) containers = containers + 1
 lengths_at other containers = containers
 
 -- the lengths that are whole whose contents are not complete; the message has no length

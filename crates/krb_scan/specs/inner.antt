@@ -1,5 +1,5 @@
 pub mod Machine
-pub mod Positions
+pub mod Choices
 pub mod Numbers
 pub mod Outcomes
 pub mod Paths

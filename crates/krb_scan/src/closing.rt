@@ -7,7 +7,6 @@ ghost use Rattle.krb_scan.specs.inner.Machine.{settle};
 ghost use Rattle.krb_scan.specs.inner.Outcomes.{HasContainers, ClosedIs};
 
 use crate::open::Open;
-use crate::positions::position_at;
 
 /// The containers that are still not complete at a place.
 #[derive(Clone, Copy)]
@@ -29,7 +28,7 @@ pub(crate) fn closing(inner: Open, outer: &[Open], place: u32) -> Closed
     let mut left = outer.len();
     let mut inner = inner;
     'closing: while inner.end <= place {
-        if position_at(inner.expected).requires_item {
+        if inner.expected.requires_item() {
             return Closed::Missing;
         }
         if left == 0 {

@@ -6,8 +6,8 @@ ghost use Rattle.krb_der.specs.declared.why.Why.TheVariants as why;
 ghost use Rattle.krb_msg.specs.Judgement.{text_octet, time_octet};
 ghost use Rattle.krb_scan.specs.inner.Outcomes.{LeafIs};
 
-use crate::positions::Contents;
 use krb_der::Why;
+use krb_msg::grammar::Form;
 
 /// What an octet makes of the contents.
 #[derive(Clone, Copy)]
@@ -54,11 +54,11 @@ fn is_padded(seen: u32, value: i64, octet: u8) -> bool
 }
 
 /// Returns whether a number is in the range of contents that have one.
-pub(crate) fn is_within(contents: Contents, value: i64) -> bool
-    ensures { (low high : ℤ) (widest : ℕ) → contents ≡ Contents.Integer low high widest → result ≡ in_range low high value }
+pub(crate) fn is_within(form: Form, value: i64) -> bool
+    ensures { (low high : ℤ) (widest : ℕ) → form ≡ Form.Integer low high widest → result ≡ in_range low high value }
 {
-    match contents {
-        Contents::Integer { low, high, .. } => low <= value && value <= high,
+    match form {
+        Form::Integer { low, high, .. } => low <= value && value <= high,
         _ => false,
     }
 }

@@ -1,36 +1,38 @@
-//! The path of a scanner from the message down to what is partly read, and its steps.
+//! The path of a machine from the message down to what is partly read, and its steps.
 
-ghost use Rattle.std.specs.Prelude.{pos, negsuc, ◌≤ℤ◌, ◌<ℤ◌, ◌≡◌, ◌<◌, ◌≤◌, ◌+◌, ◌-◌, ◌^◌, ℕ, [], ◌∷◌, ◌++◌, true, List, Ok, OnOk, OnErr, length, min, take, vec_len, vec_capacity};
+ghost use Rattle.std.specs.Prelude.{pos, negsuc, ◌≤ℤ◌, ◌<ℤ◌, ◌≡◌, ◌<◌, ◌≤◌, ◌+◌, ◌-◌, ◌^◌, ℕ, [], ◌∷◌, ◌++◌, true, List, length, min, take};
 ghost use Rattle.arrayvec.specs.ArrayVec.{array_vec_len};
 ghost use Rattle.krb_der.specs.declared.profile.Profile.{Profile};
 ghost use Rattle.krb_msg.specs.Term.{Term};
 ghost use Rattle.krb_msg.specs.Grammar.{messages};
 ghost use Rattle.krb_msg.specs.Judgement.{Head as HeadOf, Outcome, Partial, Open as OpenOutcome, has_size};
-ghost use Rattle.krb_msg.specs.Nodes.{term_at};
-ghost use Rattle.krb_msg.specs.Table.{IsNode};
-ghost use Rattle.krb_scan.specs.Scan.{Container, Mark as Marked, InHead, InLeaf, OneOf, limit, scan, sole_in, with_mark};
+ghost use Rattle.krb_scan.specs.Scan.{Container, Mark as Marked, InHead, InLeaf, OneOf, limit, scan, sole_in};
 ghost use Rattle.krb_scan.specs.Runs.{is_string as string_term, string_left};
-ghost use Rattle.krb_scan.specs.Positions.{IsPosition, IsItemPosition, expected_at, item_at};
-ghost use Rattle.krb_scan.specs.State.{AreMarks, AreOpen, TipIs};
+ghost use Rattle.krb_msg.specs.Nodes.{nodes, term_at};
+ghost use Rattle.krb_msg.specs.Table.{IsFormOf, IsNode};
+ghost use Rattle.krb_scan.specs.Expectations.{IsKnown, expected_of};
+ghost use Rattle.krb_scan.specs.State.{AreOpen, TipIs};
 ghost use Rattle.krb_scan.specs.inner.Machine.{settle, sized, enter as enters, headed as head_decides, leafed as leaf_decides, step_between, in_leaf};
-ghost use Rattle.krb_scan.specs.inner.Positions.{IsPositionOf};
+ghost use Rattle.krb_scan.specs.Scanned.{Marks};
 ghost use Rattle.krb_scan.specs.inner.Outcomes.{HasContainers, HeadIs, LeafIs, IsSized, IsLeaf, BeginsWith, HeadEnds, IsShort, LeafEnds, LeafReads};
-ghost use Rattle.krb_scan.specs.inner.Paths.{IsStep, IsReached, IsUnchanged, IsPathOf, with_value};
+ghost use Rattle.krb_scan.specs.inner.Paths.{ChangesTo, IsLengthOf, IsStep, IsReached, IsUnchanged, IsPathOf, number_with};
 
 use crate::closing::{Closed, closing};
+use crate::event::Event;
+use crate::expected::{Expected, Picked};
 use crate::head::{Head, first_head, next_head};
 use crate::leaf::{
     Leaf, any_next, bits_next, extend, first_octet, integer_next, is_within, text_next, time_next,
 };
 use crate::mark::Mark;
 use crate::open::Open;
-use crate::positions::{Contents, Position, message_position, pick, position_at};
 use crate::tip::Tip;
 use arrayvec::ArrayVec;
-use krb_der::{Memory, Profile, Refusal, Verdict, Why};
+use krb_der::{Profile, Refusal, Verdict, Why};
+use krb_msg::grammar::{Form, form_of};
 use krb_msg::has_bits;
 
-/// The items that are not complete, and the marks of all items.
+/// The items that are not complete.
 #[derive(Drop)]
 pub(crate) struct Path {
     /// The number of octets of the message.
@@ -43,63 +45,62 @@ pub(crate) struct Path {
     pub(crate) inner: Open,
     /// The message and the containers round the innermost, from the outer to the inner.
     pub(crate) outer: ArrayVec<Open, 13>,
-    /// A mark for each length that is whole, in the order of the lengths.
-    pub(crate) marks: Vec<Mark>,
 }
 
 /// What the contents of an item are to become.
 #[derive(Clone, Copy)]
 pub(crate) enum Sized {
-    /// Items of this position have no contents of this length.
+    /// Items of this node have no contents of this length.
     Wrong,
     /// Octets.
     Leaf,
-    /// Items, the first of which is expected at a position.
-    Items { first: u16 },
+    /// Items, the first of which is given.
+    Items { first: Expected },
 }
 
-/// Returns what contents of `len` octets of the item of a position are.
-fn sized_contents(position: u16, len: u32) -> Sized
-    requires { IsItemPosition position }
-    ensures { IsSized (item_at position) len result }
+/// Returns what contents of `len` octets of the item of a node's term are.
+fn sized_contents(node: u16, len: u32) -> Sized
+    requires { IsNode node }
+    ensures { IsSized (term_at node) len result }
 {
-    match position_at(position).contents {
-        Contents::Integer { widest, .. } => if 0 < len && len <= widest {
+    match form_of(node) {
+        Form::Integer { widest, .. } => if 0 < len && len <= widest {
             Sized::Leaf
         } else {
             Sized::Wrong
         },
-        Contents::Time => if len == 15 { Sized::Leaf } else { Sized::Wrong },
-        Contents::Bits { least } => if has_bits(least, len) {
+        Form::Time => if len == 15 { Sized::Leaf } else { Sized::Wrong },
+        Form::Bits { least } => if has_bits(least, len) {
             Sized::Leaf
         } else {
             Sized::Wrong
         },
-        Contents::Text { .. } | Contents::Octets => Sized::Leaf,
-        Contents::Items { first, empty } => if empty || 0 < len {
-            Sized::Items { first }
+        Form::Text { .. } | Form::Octets => Sized::Leaf,
+        Form::Items { node, empty } => if empty || 0 < len {
+            Sized::Items {
+                first: Expected::Each { node },
+            }
         } else {
             Sized::Wrong
+        },
+        Form::Item { node } => Sized::Items {
+            first: Expected::Only { node },
+        },
+        Form::Fields { .. } => Sized::Items {
+            first: Expected::Fields {
+                from: 0,
+                sequence: node,
+            },
         },
     }
-}
-
-/// Returns the row in `krb_msg::grammar` of the item of a position.
-fn node_of(position: u16) -> u16
-    requires { IsItemPosition position }
-    ensures known { IsNode result }
-    ensures term { term_at result ≡ item_at position }
-{
-    position_at(position).node
 }
 
 impl Path {
     /// Returns whether the next item fills its container.
     fn is_sole(&self) -> bool
-        requires { HasContainers self.now.inner self.now.outer.items }
         ensures { (stack : List Container) → AreOpen self.now.inner self.now.outer.items stack → result ≡ sole_in stack }
     {
-        position_at(self.inner.expected).sole
+        self.inner.expected.is_sole()
     }
 
     /// Refuses the next octet.
@@ -110,24 +111,6 @@ impl Path {
             place: self.looked,
             why,
         })
-    }
-
-    /// Adds the mark of a length that ends with the next octet.
-    fn mark(&mut self, node: u16, len: u32) -> Result<(), Memory>
-        requires { self.old.looked + 1 < 2 ^ 32 }
-        ensures ok { OnOk result (self.new.marks.items ≡ self.old.marks.items ++ record { node = node; start = self.old.looked + 1; len = len; value = pos 0 } ∷ []) }
-        ensures err { OnErr result (self.new.marks.items ≡ self.old.marks.items) }
-        ensures full { OnErr result (vec_capacity self.old.marks ≡ vec_len self.old.marks) }
-        ensures capacity { vec_capacity self.old.marks ≤ vec_capacity self.new.marks }
-        ensures same { self.new ≡ record self.old { marks = self.new.marks } }
-    {
-        self.marks.push(Mark {
-            node,
-            start: self.looked + 1,
-            len,
-            value: 0,
-        })?;
-        Ok(())
     }
 
     /// Leaves this container open within a number of others, and no item partly read.
@@ -147,148 +130,115 @@ impl Path {
         self.tip = Tip::Between;
     }
 
-    /// Sets the value of the last mark.
-    fn complete(&mut self, value: i64)
-        requires { 0 < length self.old.marks.items }
-        ensures items { self.new.marks.items ≡ with_value self.old.marks.items value }
-        ensures capacity { vec_capacity self.old.marks ≤ vec_capacity self.new.marks }
-        ensures same { self.new ≡ record self.old { marks = self.new.marks } }
-    {
-        let last = self.marks.len() - 1;
-        self.marks[last].value = value;
-    }
-
     /// Scans the last length octet of an item without contents octets.
-    fn close_empty(&mut self, node: u16) -> Result<Verdict, Memory>
-        requires known { IsNode node }
+    fn close_empty(&mut self) -> Verdict
         requires short { self.old.looked + 1 < 2 ^ 31 }
         requires containers { HasContainers self.old.inner self.old.outer.items }
-        ensures step { (stack : List Container) (marks : List Marked) → AreOpen self.old.inner self.old.outer.items stack → AreMarks self.old.marks.items marks → IsStep self.old self.new result (settle stack (with_mark marks (term_at node) (self.old.looked + 1) 0) (self.old.looked + 1)) }
-        ensures full { OnErr result (vec_capacity self.old.marks ≤ vec_len self.old.marks) }
-        ensures capacity { vec_capacity self.old.marks ≤ vec_capacity self.new.marks }
-        ensures memory { OnErr result (IsUnchanged self.old self.new) }
+        ensures step { (stack : List Container) (marks : List Marked) → AreOpen self.old.inner self.old.outer.items stack → IsStep self.old self.new result (settle stack marks (self.old.looked + 1)) }
         ensures same { (self.new.size ≡ self.old.size) × (self.new.looked ≡ self.old.looked) }
     {
         match closing(self.inner, self.outer.as_slice(), self.looked + 1) {
-            Closed::Missing => Ok(self.refused(Why::Missing)),
+            Closed::Missing => self.refused(Why::Missing),
             Closed::Stays { inner, outer } => {
-                self.mark(node, 0)?;
                 self.close_to(inner, outer);
-                Ok(Verdict::Open)
+                Verdict::Open
             }
             Closed::Whole => {
-                self.mark(node, 0)?;
                 self.close_all();
-                Ok(Verdict::Whole)
+                Verdict::Whole
             }
         }
     }
 
     /// Scans the last length octet of an item without items in it.
     #[inline(always)]
-    fn enter_leaf(&mut self, position: u16, len: u32) -> Result<Verdict, Memory>
-        requires known { IsItemPosition position }
-        requires leaf { IsLeaf (item_at position) }
-        requires fits { has_size (item_at position) len ≡ true }
+    fn enter_leaf(&mut self, node: u16, len: u32) -> Verdict
+        requires known { IsNode node }
+        requires leaf { IsLeaf (term_at node) }
+        requires fits { has_size (term_at node) len ≡ true }
         requires short { self.old.looked + 1 + len < 2 ^ 31 }
         requires containers { HasContainers self.old.inner self.old.outer.items }
-        ensures step { (stack : List Container) (marks : List Marked) → AreOpen self.old.inner self.old.outer.items stack → AreMarks self.old.marks.items marks → IsStep self.old self.new result (enters (item_at position) (self.old.looked + 1) len stack marks) }
-        ensures full { OnErr result (vec_capacity self.old.marks ≤ vec_len self.old.marks) }
-        ensures capacity { vec_capacity self.old.marks ≤ vec_capacity self.new.marks }
-        ensures memory { OnErr result (IsUnchanged self.old self.new) }
+        ensures step { (stack : List Container) (marks : List Marked) → AreOpen self.old.inner self.old.outer.items stack → IsStep self.old self.new result (enters (term_at node) (self.old.looked + 1) len stack marks) }
         ensures same { (self.new.size ≡ self.old.size) × (self.new.looked ≡ self.old.looked) }
     {
-        let node = node_of(position);
         if len == 0 {
-            return self.close_empty(node);
+            return self.close_empty();
         }
-        self.mark(node, len)?;
         self.tip = Tip::Leaf {
-            position,
+            node,
             start: self.looked + 1,
             end: self.looked + 1 + len,
             value: 0,
             unused: 0,
         };
-        Ok(Verdict::Open)
+        Verdict::Open
     }
 
     /// Scans the last length octet of an item with items in it.
     #[inline(always)]
-    fn enter_items(&mut self, position: u16, len: u32, first: u16) -> Result<Verdict, Memory>
-        requires known { IsItemPosition position }
-        requires listed { IsPosition first }
-        requires items { BeginsWith (item_at position) (expected_at first) }
+    fn enter_items(&mut self, node: u16, len: u32, first: Expected) -> Verdict
+        requires known { IsNode node }
+        requires listed { IsKnown first }
+        requires items { BeginsWith (term_at node) (expected_of first) }
         requires short { self.old.looked + 1 + len < 2 ^ 31 }
         requires containers { HasContainers self.old.inner self.old.outer.items }
         requires levels { array_vec_len self.old.outer < 13 }
-        ensures step { (stack : List Container) (marks : List Marked) → AreOpen self.old.inner self.old.outer.items stack → AreMarks self.old.marks.items marks → IsStep self.old self.new result (enters (item_at position) (self.old.looked + 1) len stack marks) }
-        ensures full { OnErr result (vec_capacity self.old.marks ≤ vec_len self.old.marks) }
-        ensures capacity { vec_capacity self.old.marks ≤ vec_capacity self.new.marks }
-        ensures memory { OnErr result (IsUnchanged self.old self.new) }
+        ensures step { (stack : List Container) (marks : List Marked) → AreOpen self.old.inner self.old.outer.items stack → IsStep self.old self.new result (enters (term_at node) (self.old.looked + 1) len stack marks) }
         ensures same { (self.new.size ≡ self.old.size) × (self.new.looked ≡ self.old.looked) }
     {
-        let node = node_of(position);
         if len == 0 {
-            if position_at(first).requires_item {
-                return Ok(self.refused(Why::Missing));
+            if first.requires_item() {
+                return self.refused(Why::Missing);
             }
-            return self.close_empty(node);
+            return self.close_empty();
         }
-        self.mark(node, len)?;
         self.outer.push(self.inner);
         self.inner = Open {
             end: self.looked + 1 + len,
             expected: first,
         };
         self.tip = Tip::Between;
-        Ok(Verdict::Open)
+        Verdict::Open
     }
 
     /// Scans the last length octet of an item.
     #[inline(always)]
-    fn enter(&mut self, position: u16, len: u32) -> Result<Verdict, Memory>
-        requires known { IsItemPosition position }
+    fn enter(&mut self, node: u16, len: u32) -> Verdict
+        requires known { IsNode node }
         requires short { self.old.looked + 1 + len < 2 ^ 31 }
         requires containers { HasContainers self.old.inner self.old.outer.items }
         requires levels { array_vec_len self.old.outer < 13 }
-        ensures step { (stack : List Container) (marks : List Marked) → AreOpen self.old.inner self.old.outer.items stack → AreMarks self.old.marks.items marks → IsStep self.old self.new result (sized (item_at position) (self.old.looked + 1) len stack marks) }
-        ensures full { OnErr result (vec_capacity self.old.marks ≤ vec_len self.old.marks) }
-        ensures capacity { vec_capacity self.old.marks ≤ vec_capacity self.new.marks }
-        ensures memory { OnErr result (IsUnchanged self.old self.new) }
+        ensures step { (stack : List Container) (marks : List Marked) → AreOpen self.old.inner self.old.outer.items stack → IsStep self.old self.new result (sized (term_at node) (self.old.looked + 1) len stack marks) }
         ensures same { (self.new.size ≡ self.old.size) × (self.new.looked ≡ self.old.looked) }
     {
-        match sized_contents(position, len) {
-            Sized::Wrong => Ok(self.refused(Why::Size)),
-            Sized::Leaf => self.enter_leaf(position, len),
-            Sized::Items { first } => self.enter_items(position, len, first),
+        match sized_contents(node, len) {
+            Sized::Wrong => self.refused(Why::Size),
+            Sized::Leaf => self.enter_leaf(node, len),
+            Sized::Items { first } => self.enter_items(node, len, first),
         }
     }
 
     /// Scans a length octet of an item, by the head after it.
     #[inline(always)]
-    fn headed(&mut self, head: Head, partial: Tip, position: u16) -> Result<Verdict, Memory>
-        requires known { IsItemPosition position }
+    fn headed(&mut self, head: Head, partial: Tip, node: u16) -> Verdict
+        requires known { IsNode node }
         requires near { self.old.looked + 1 < 2 ^ 31 }
         requires short { IsShort (self.old.looked + 1) head }
         requires containers { HasContainers self.old.inner self.old.outer.items }
         requires levels { array_vec_len self.old.outer < 13 }
-        ensures step { (stack : List Container) (marks : List Marked) (got : HeadOf) (from : ℕ) (octets : List ℕ) → AreOpen self.old.inner self.old.outer.items stack → AreMarks self.old.marks.items marks → HeadIs head got → HeadEnds from (self.old.looked + 1) (limit stack) got → (got ≡ Partial → TipIs (self.old.looked + 1) partial (InHead (item_at position) from octets)) → IsStep self.old self.new result (head_decides got (item_at position) stack marks from octets) }
-        ensures full { OnErr result (vec_capacity self.old.marks ≤ vec_len self.old.marks) }
-        ensures capacity { vec_capacity self.old.marks ≤ vec_capacity self.new.marks }
-        ensures memory { OnErr result (IsUnchanged self.old self.new) }
+        ensures step { (stack : List Container) (marks : List Marked) (got : HeadOf) (from : ℕ) (octets : List ℕ) → AreOpen self.old.inner self.old.outer.items stack → HeadIs head got → HeadEnds from (self.old.looked + 1) (limit stack) got → (got ≡ Partial → TipIs (self.old.looked + 1) partial (InHead (term_at node) from octets)) → IsStep self.old self.new result (head_decides got (term_at node) stack marks from octets) }
         ensures same { (self.new.size ≡ self.old.size) × (self.new.looked ≡ self.old.looked) }
     {
         match head {
             Head::Partial => {
                 self.tip = partial;
-                Ok(Verdict::Open)
+                Verdict::Open
             }
-            Head::Refused(why) => Ok(self.refused(why)),
+            Head::Refused(why) => self.refused(why),
             Head::Got { size } => if self.is_sole() && self.looked + 1 + size < self.inner.end {
-                Ok(self.refused(Why::Loose))
+                self.refused(Why::Loose)
             } else {
-                self.enter(position, size)
+                self.enter(node, size)
             },
         }
     }
@@ -298,19 +248,18 @@ impl Path {
     fn begin(&mut self, octet: u8) -> Verdict
         requires short { self.old.looked + 1 < 2 ^ 31 }
         requires containers { HasContainers self.old.inner self.old.outer.items }
-        ensures step { (stack : List Container) (marks : List Marked) → AreOpen self.old.inner self.old.outer.items stack → AreMarks self.old.marks.items marks → IsStep self.old self.new (Ok result) (step_between stack marks self.old.looked octet) }
-        ensures capacity { vec_capacity self.old.marks ≤ vec_capacity self.new.marks }
+        ensures step { (stack : List Container) (marks : List Marked) → AreOpen self.old.inner self.old.outer.items stack → IsStep self.old self.new result (step_between stack marks self.old.looked octet) }
         ensures same { (self.new.size ≡ self.old.size) × (self.new.looked ≡ self.old.looked) }
     {
-        match pick(octet, self.inner.expected) {
+        match self.inner.expected.pick(octet) {
             None => self.refused(Why::Tag),
             Some(_) if self.looked + 1 == self.inner.end => self.refused(Why::Overrun),
-            Some(position) => {
+            Some(Picked { node, left }) => {
                 self.inner = Open {
                     end: self.inner.end,
-                    expected: position_at(position).next,
+                    expected: left,
                 };
-                self.tip = Tip::Tagged { position };
+                self.tip = Tip::Tagged { node };
                 Verdict::Open
             }
         }
@@ -318,12 +267,10 @@ impl Path {
 
     /// Scans a contents octet of a leaf, by what it decides of the leaf.
     #[inline(always)]
-    fn leafed(&mut self, next: Leaf, partial: Tip, value: i64) -> Verdict
+    fn leafed(&mut self, next: Leaf, partial: Tip) -> Verdict
         requires short { self.old.looked + 1 < 2 ^ 31 }
         requires containers { HasContainers self.old.inner self.old.outer.items }
-        requires marked { 0 < length self.old.marks.items }
-        ensures step { (stack : List Container) (marks : List Marked) (outcome : Outcome) (term : Term) (start count : ℕ) (octets : List ℕ) → AreOpen self.old.inner self.old.outer.items stack → AreMarks self.old.marks.items (with_mark marks term start count) → LeafIs next outcome → LeafEnds term start count (self.old.looked + 1) octets value outcome → (outcome ≡ OpenOutcome → TipIs (self.old.looked + 1) partial (InLeaf term start count octets)) → IsStep self.old self.new (Ok result) (leaf_decides outcome term start count stack marks octets) }
-        ensures capacity { vec_capacity self.old.marks ≤ vec_capacity self.new.marks }
+        ensures step { (stack : List Container) (marks : List Marked) (outcome : Outcome) (term : Term) (start count : ℕ) (octets : List ℕ) → AreOpen self.old.inner self.old.outer.items stack → LeafIs next outcome → LeafEnds start count (self.old.looked + 1) outcome → (outcome ≡ OpenOutcome → TipIs (self.old.looked + 1) partial (InLeaf term start count octets)) → IsStep self.old self.new result (leaf_decides outcome term start count stack marks octets) }
         ensures same { (self.new.size ≡ self.old.size) × (self.new.looked ≡ self.old.looked) }
     {
         match next {
@@ -335,12 +282,10 @@ impl Path {
             Leaf::Done => match closing(self.inner, self.outer.as_slice(), self.looked + 1) {
                 Closed::Missing => self.refused(Why::Missing),
                 Closed::Stays { inner, outer } => {
-                    self.complete(value);
                     self.close_to(inner, outer);
                     Verdict::Open
                 }
                 Closed::Whole => {
-                    self.complete(value);
                     self.close_all();
                     Verdict::Whole
                 }
@@ -352,150 +297,197 @@ impl Path {
     #[inline(always)]
     fn content(
         &mut self,
-        row: &Position,
-        position: u16,
+        form: Form,
+        node: u16,
         start: u32,
         end: u32,
         value: i64,
         unused: u8,
         octet: u8,
     ) -> Verdict
-        requires known { IsItemPosition position }
-        requires row { IsPositionOf row.now (expected_at position) }
+        requires known { IsNode node }
+        requires form { IsFormOf nodes form (term_at node) }
         requires begun { start ≤ self.old.looked }
         requires some { self.old.looked < end }
         requires near { end < 2 ^ 31 }
-        requires fits { has_size (item_at position) (end - start) ≡ true }
+        requires fits { has_size (term_at node) (end - start) ≡ true }
         requires above { negsuc 549755813887 ≤ℤ value }
         requires below { value <ℤ pos 549755813888 }
         requires few { unused < 8 }
         requires containers { HasContainers self.old.inner self.old.outer.items }
-        requires marked { 0 < length self.old.marks.items }
-        ensures step { (stack : List Container) (marks : List Marked) (octets : List ℕ) → AreOpen self.old.inner self.old.outer.items stack → AreMarks self.old.marks.items (with_mark marks (item_at position) start (end - start)) → LeafReads (item_at position) (end - start) value unused octets → self.old.looked ≡ start + length octets → IsStep self.old self.new (Ok result) (in_leaf (item_at position) start (end - start) stack marks (octets ++ octet ∷ [])) }
-        ensures capacity { vec_capacity self.old.marks ≤ vec_capacity self.new.marks }
+        ensures step { (stack : List Container) (marks : List Marked) (octets : List ℕ) → AreOpen self.old.inner self.old.outer.items stack → LeafReads (term_at node) (end - start) value unused octets → self.old.looked ≡ start + length octets → IsStep self.old self.new result (in_leaf (term_at node) start (end - start) stack marks (octets ++ octet ∷ [])) }
         ensures same { (self.new.size ≡ self.old.size) × (self.new.looked ≡ self.old.looked) }
     {
         let size = end - start;
         let seen = self.looked - start;
-        let contents = row.contents;
         let partial = Tip::Leaf {
-            position,
+            node,
             start,
             end,
             value,
             unused,
         };
-        match contents {
-            Contents::Integer { .. } => {
+        match form {
+            Form::Integer { .. } => {
                 let with = extend(seen, value, octet);
                 let partial = Tip::Leaf {
-                    position,
+                    node,
                     start,
                     end,
                     value: with,
                     unused,
                 };
-                let next = integer_next(is_within(contents, with), size, seen, value, octet);
-                self.leafed(next, partial, with)
+                let next = integer_next(is_within(form, with), size, seen, value, octet);
+                self.leafed(next, partial)
             }
-            Contents::Time => self.leafed(time_next(seen, octet), partial, 0),
-            Contents::Bits { least } => {
+            Form::Time => self.leafed(time_next(seen, octet), partial),
+            Form::Bits { least } => {
                 let first = first_octet(seen, unused, octet);
                 let partial = Tip::Leaf {
-                    position,
+                    node,
                     start,
                     end,
                     value,
                     unused: first,
                 };
-                self.leafed(bits_next(least, size, seen, unused, octet), partial, 0)
+                self.leafed(bits_next(least, size, seen, unused, octet), partial)
             }
-            Contents::Text { greatest } => {
-                self.leafed(text_next(greatest, size, seen, octet), partial, 0)
+            Form::Text { greatest } => {
+                self.leafed(text_next(greatest, size, seen, octet), partial)
             }
-            Contents::Octets => self.leafed(any_next(size, seen), partial, 0),
-            Contents::Items { .. } => self.leafed(any_next(size, seen), partial, 0),
+            Form::Octets => self.leafed(any_next(size, seen), partial),
+            Form::Items { .. } => self.leafed(any_next(size, seen), partial),
+            Form::Item { .. } => self.leafed(any_next(size, seen), partial),
+            Form::Fields { .. } => self.leafed(any_next(size, seen), partial),
         }
     }
 
-    /// Scans an octet. If memory is refused, nothing changes but the capacity for marks.
+    /// Scans an octet.
     #[inline(always)]
-    pub(crate) fn take(&mut self, octet: u8) -> Result<Verdict, Memory>
+    pub(crate) fn take(&mut self, octet: u8) -> Verdict
         requires { IsReached self.old }
         ensures step { (profile : Profile) (octets : List ℕ) → IsPathOf profile self.old octets → IsStep self.old self.new result (scan (messages profile) self.old.size (octets ++ octet ∷ [])) }
-        ensures full { OnErr result (vec_capacity self.old.marks ≤ vec_len self.old.marks) }
-        ensures capacity { vec_capacity self.old.marks ≤ vec_capacity self.new.marks }
-        ensures memory { OnErr result (IsUnchanged self.old self.new) }
         ensures same { (self.new.size ≡ self.old.size) × (self.new.looked ≡ self.old.looked) }
     {
         match self.tip {
-            Tip::Between => Ok(self.begin(octet)),
-            Tip::Tagged { position } => {
+            Tip::Between => self.begin(octet),
+            Tip::Tagged { node } => {
                 let room = self.inner.end - self.looked + 1;
                 let long = Tip::Long {
-                    position,
+                    node,
                     digits: u32::from(octet.saturating_sub(0x80)),
                     seen: 0,
                     value: 0,
                 };
-                self.headed(first_head(room, octet), long, position)
+                self.headed(first_head(room, octet), long, node)
             }
             Tip::Long {
-                position,
+                node,
                 digits,
                 seen,
                 value,
             } => {
                 let room = self.inner.end - self.looked + (2 + seen);
                 let long = Tip::Long {
-                    position,
+                    node,
                     digits,
                     seen: seen + 1,
                     value: value * 256 + u32::from(octet),
                 };
-                self.headed(next_head(room, digits, seen, value, octet), long, position)
+                self.headed(next_head(room, digits, seen, value, octet), long, node)
             }
             Tip::Leaf {
-                position,
+                node,
                 start,
                 end,
                 value,
                 unused,
             } => {
-                let row = position_at(position);
-                Ok(self.content(row, position, start, end, value, unused, octet))
+                let form = form_of(node);
+                self.content(form, node, start, end, value, unused, octet)
             }
         }
     }
 
-    /// As of a message of a profile of `size` octets of which none is scanned. The capacity for
-    /// marks stays.
+    /// Returns what an octet does to the marks, if it is not refused.
+    pub(crate) fn event(&self, octet: u8) -> Event
+        requires { IsReached self.now }
+        ensures { (profile : Profile) (octets : List ℕ) → IsPathOf profile self.now octets → ChangesTo result (Marks profile self.now.size octets) (scan (messages profile) self.now.size (octets ++ octet ∷ [])) }
+    {
+        match self.tip {
+            Tip::Between => Event::None,
+            Tip::Tagged { node } => if octet < 0x80 {
+                self.length(node, u32::from(octet))
+            } else {
+                Event::None
+            },
+            Tip::Long {
+                node,
+                digits,
+                seen,
+                value,
+            } => if seen + 1 < digits {
+                Event::None
+            } else {
+                self.length(node, value * 256 + u32::from(octet))
+            },
+            Tip::Leaf {
+                node,
+                start,
+                end,
+                value,
+                ..
+            } => {
+                let form = form_of(node);
+                if self.looked + 1 < end {
+                    return Event::None;
+                }
+                Event::Number(number_of(form, self.looked - start, value, octet))
+            }
+        }
+    }
+
+    /// Returns that a length of the item of a node ends with the next octet.
+    fn length(&self, node: u16, len: u32) -> Event
+        requires known { IsNode node }
+        requires short { self.now.looked + 1 < 2 ^ 31 }
+        ensures { IsLengthOf result (term_at node) (self.now.looked + 1) len }
+    {
+        Event::Length(Mark {
+            node,
+            start: self.looked + 1,
+            len,
+            value: 0,
+        })
+    }
+
+    /// Returns a path that is as this one.
+    pub(crate) fn copy(&self) -> Path
+        ensures unchanged { IsUnchanged self.now result }
+        ensures same { (result.size ≡ self.now.size) × (result.looked ≡ self.now.looked) }
+    {
+        let mut outer = ArrayVec::new();
+        let _ = outer.try_extend_from_slice(self.outer.as_slice());
+        Path {
+            size: self.size,
+            looked: self.looked,
+            tip: self.tip,
+            inner: self.inner,
+            outer,
+        }
+    }
+
+    /// As of a message of a profile of `size` octets of which none is scanned.
     pub(crate) fn clear(&mut self, profile: Profile, size: u32)
         ensures kept { (self.new.size ≡ size) × (self.new.looked ≡ 0) × (self.new.tip ≡ Tip.Between) }
-        ensures message { (self.new.inner.end ≡ size) × IsPosition self.new.inner.expected × (expected_at self.new.inner.expected ≡ OneOf (messages profile)) }
-        ensures none { (self.new.outer.items ≡ []) × (self.new.marks.items ≡ []) }
-        ensures capacity { vec_capacity self.old.marks ≤ vec_capacity self.new.marks }
+        ensures message { (self.new.inner.end ≡ size) × IsKnown self.new.inner.expected × (expected_of self.new.inner.expected ≡ OneOf (messages profile)) }
+        ensures none { self.new.outer.items ≡ [] }
     {
         self.size = size;
         self.looked = 0;
         self.tip = Tip::Between;
         self.inner = message(profile, size);
         self.outer.clear();
-        self.marks.clear();
-    }
-
-    /// Allocates memory for a number of marks in all.
-    pub(crate) fn reserve(&mut self, marks: usize) -> Result<(), Memory>
-        ensures ok { OnOk result (marks ≤ vec_capacity self.new.marks) }
-        ensures unchanged { IsUnchanged self.old self.new }
-        ensures same { (self.new.size ≡ self.old.size) × (self.new.looked ≡ self.old.looked) }
-        ensures capacity { vec_capacity self.old.marks ≤ vec_capacity self.new.marks }
-    {
-        let there = self.marks.len();
-        if marks > there {
-            self.marks.reserve(marks - there)?;
-        }
-        Ok(())
     }
 
     /// Scans the longest prefix of octets that lies inside an open string that may have any octets,
@@ -504,11 +496,10 @@ impl Path {
         requires { IsReached self.old }
         ensures goes { (profile : Profile) (before : List ℕ) → IsPathOf profile self.old before → IsPathOf profile self.new (before ++ take result octets.now) }
         ensures longest { (profile : Profile) (before : List ℕ) → IsPathOf profile self.old before → result ≡ min (length octets.now) (string_left (messages profile) self.old.size before) }
-        ensures marks { self.new.marks ≡ self.old.marks }
         ensures size { self.new.size ≡ self.old.size }
     {
         match self.tip {
-            Tip::Leaf { position, end, .. } if is_string(position) => {
+            Tip::Leaf { node, end, .. } if is_string(node) => {
                 let count = shorter(octets, end - 1 - self.looked);
                 self.looked += count;
                 count
@@ -521,12 +512,25 @@ impl Path {
 /// Returns a message of a profile of `size` octets, of which none is scanned.
 pub(crate) fn message(profile: Profile, size: u32) -> Open
     ensures end { result.end ≡ size }
-    ensures known { IsPosition result.expected }
-    ensures expected { expected_at result.expected ≡ OneOf (messages profile) }
+    ensures known { IsKnown result.expected }
+    ensures expected { expected_of result.expected ≡ OneOf (messages profile) }
 {
     Open {
         end: size,
-        expected: message_position(profile),
+        expected: Expected::Message { profile },
+    }
+}
+
+/// Returns the number of contents whose last octet comes after `seen` of them, if they are those of
+/// an INTEGER, else 0.
+fn number_of(form: Form, seen: u32, value: i64, octet: u8) -> i64
+    requires above { negsuc 549755813887 ≤ℤ value }
+    requires below { value <ℤ pos 549755813888 }
+    ensures { (term : Term) → IsFormOf nodes form term → result ≡ number_with term seen value octet }
+{
+    match form {
+        Form::Integer { .. } => extend(seen, value, octet),
+        _ => 0,
     }
 }
 
@@ -541,15 +545,15 @@ fn shorter(octets: &[u8], most: u32) -> u32
     }
 }
 
-/// Returns whether the item of a position is an OCTET STRING, or a GeneralString that may have any
+/// Returns whether the item of a node is an OCTET STRING, or a GeneralString that may have any
 /// octets.
-fn is_string(position: u16) -> bool
-    requires { IsItemPosition position }
-    ensures { result ≡ string_term (item_at position) }
+fn is_string(node: u16) -> bool
+    requires { IsNode node }
+    ensures { result ≡ string_term (term_at node) }
 {
-    match position_at(position).contents {
-        Contents::Text { greatest } => 0xFF <= greatest,
-        Contents::Octets => true,
+    match form_of(node) {
+        Form::Text { greatest } => 0xFF <= greatest,
+        Form::Octets => true,
         _ => false,
     }
 }

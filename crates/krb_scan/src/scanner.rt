@@ -1,15 +1,13 @@
-//! The scanner.
+//! The scanner: a machine with a mark for each item.
 
 ghost use Rattle.std.specs.Prelude.{ℕ, List};
 ghost use Rattle.krb_der.specs.declared.profile.Profile.{Profile};
-ghost use Rattle.krb_scan.specs.Scanned.{IsScanOf};
+ghost use Rattle.krb_scan.specs.Machine.{HasMarked};
 
-use crate::ledger::Ledger;
+use crate::event::Event;
+use crate::machine::Machine;
 use crate::mark::Mark;
-use crate::path::{Path, message};
 use crate::scanned::Scanned;
-use crate::tip::Tip;
-use arrayvec::ArrayVec;
 use krb_der::{Memory, Profile, Verdict};
 use std::alloc::Global;
 
@@ -17,11 +15,10 @@ use std::alloc::Global;
 /// them: only which containers are open, what is partly read, and a mark for each item.
 #[derive(Drop)]
 pub struct Scanner {
-    profile: Profile,
-    path: Path,
-    verdict: Verdict,
-    ledger: Ledger,
-    ghost reached: { ∥ ((octets : List ℕ) × (profile : Profile) × IsScanOf profile path verdict path.size octets) ∥₁ },
+    machine: Machine,
+    /// A mark for each length that is whole, in the order of the lengths.
+    marks: Vec<Mark>,
+    ghost reached: { ∥ ((octets : List ℕ) × (profile : Profile) × HasMarked profile machine marks.items machine.path.size octets) ∥₁ },
 }
 
 impl Scanner {
@@ -53,17 +50,8 @@ impl Scanner {
         ensures profile { profile_of result ≡ profile }
     {
         Scanner {
-            profile,
-            path: Path {
-                size: n,
-                looked: 0,
-                tip: Tip::Between,
-                inner: message(profile, n),
-                outer: ArrayVec::new(),
-                marks: Vec::new(alloc),
-            },
-            verdict: Verdict::Open,
-            ledger: Ledger::new(),
+            machine: Machine::new(profile, n),
+            marks: Vec::new(alloc),
         }
     }
 
@@ -71,19 +59,18 @@ impl Scanner {
     pub fn profile(&self) -> Profile
         ensures { result ≡ profile_of self.now }
     {
-        self.profile
+        self.machine.profile()
     }
 
     /// Returns what the octets scanned so far decide.
     pub fn verdict(&self) -> Verdict
         ensures { result ≡ verdict_of self.now }
     {
-        self.verdict
+        self.machine.verdict()
     }
 
     /// Scans an octet. If out of memory, it stays as it was and the octet may be scanned again.
     /// It allocates nothing if there is capacity for half as many marks as the message has octets.
-    #[inline(always)]
     pub fn step(&mut self, octet: u8) -> Result<Verdict, Memory>
         requires { verdict_of self.old ≡ Verdict.Open }
         ensures at { (profile : Profile) (n : ℕ) (octets : List ℕ) → HasScanned profile self.old n octets → OnOk result (HasScanned profile self.new n (octets ++ octet ∷ [])) }
@@ -97,11 +84,8 @@ impl Scanner {
         ensures profile { profile_of self.new ≡ profile_of self.old }
         ensures same { OnErr result ((ledger_of self.new ≡ ledger_of self.old) × (verdict_of self.new ≡ verdict_of self.old) × (marks_of self.new ≡ marks_of self.old)) }
     {
-        let decided = self.path.take(octet)?;
-        self.path.looked += 1;
-        self.verdict = decided;
-        self.ledger = self.ledger.raised(&1);
-        Ok(decided)
+        mark(&self.machine, &mut self.marks, octet)?;
+        Ok(self.machine.step(octet))
     }
 
     /// Scans octets as `run` and `step` would, one after another, until something is decided or
@@ -178,7 +162,7 @@ impl Scanner {
     pub fn looked(&self) -> u32
         ensures { (profile : Profile) (n : ℕ) (octets : List ℕ) → HasScanned profile self.now n octets → result ≡ length octets }
     {
-        self.path.looked
+        self.machine.looked()
     }
 
     /// Returns the number of lengths that are whole and whose contents are not complete.
@@ -186,10 +170,7 @@ impl Scanner {
         ensures count { (profile : Profile) (n : ℕ) (octets : List ℕ) → HasScanned profile self.now n octets → result ≡ open_count profile n octets }
         ensures few { result ≤ 13 }
     {
-        match self.path.tip {
-            Tip::Leaf { .. } => self.path.outer.len() + 1,
-            _ => self.path.outer.len(),
-        }
+        self.machine.open_lengths()
     }
 
     /// Returns a mark for each length that is whole, in the order of the lengths.
@@ -197,14 +178,14 @@ impl Scanner {
         ensures marks { result.now ≡ marks_of self.now }
         ensures few { 2 * length result.now ≤ looked_of self.now }
     {
-        self.path.marks.as_slice()
+        self.marks.as_slice()
     }
 
     /// Returns the number of marks for which memory is allocated, with those that are there.
     pub fn capacity(&self) -> usize
         ensures { result ≡ capacity_of self.now }
     {
-        self.path.marks.capacity()
+        self.marks.capacity()
     }
 
     /// As a new scanner of a message of `n` octets; but the capacity for marks stays, and the
@@ -217,8 +198,8 @@ impl Scanner {
         ensures ledger { ledger_of self.new ≡ ledger_of self.old }
         ensures capacity { capacity_of self.old ≤ capacity_of self.new }
     {
-        self.path.clear(self.profile, n);
-        self.verdict = Verdict::Open;
+        self.machine.clear(n);
+        self.marks.clear();
     }
 
     /// As [`Scanner::clear`], but the memory for marks is freed.
@@ -229,10 +210,8 @@ impl Scanner {
         ensures profile { profile_of self.new ≡ profile_of self.old }
         ensures ledger { ledger_of self.new ≡ ledger_of self.old }
     {
-        let path = &mut self.path;
-        path.clear(self.profile, n);
-        path.marks = Vec::new(alloc);
-        self.verdict = Verdict::Open;
+        self.machine.clear(n);
+        self.marks = Vec::new(alloc);
     }
 
     /// Allocates memory for a number of marks in all.
@@ -243,7 +222,11 @@ impl Scanner {
         ensures capacity { capacity_of self.old ≤ capacity_of self.new }
         ensures profile { profile_of self.new ≡ profile_of self.old }
     {
-        self.path.reserve(marks)
+        let there = self.marks.len();
+        if marks > there {
+            self.marks.reserve(marks - there)?;
+        }
+        Ok(())
     }
 
     /// Scans the longest prefix of octets that lies inside an open OCTET STRING, or a GeneralString
@@ -258,11 +241,46 @@ impl Scanner {
         ensures capacity { capacity_of self.new ≡ capacity_of self.old }
         ensures profile { profile_of self.new ≡ profile_of self.old }
     {
-        let Verdict::Open = self.verdict else {
-            return 0;
-        };
-        let count = self.path.run(octets);
-        self.ledger = self.ledger.raised(&count);
-        count as usize
+        self.machine.run(octets)
     }
+}
+
+ghost use Rattle.std.specs.Prelude.{◌≡◌, ◌≤◌, ◌+◌, [], ◌∷◌, ◌++◌, length, OnOk, OnErr, vec_capacity, vec_len};
+ghost use Rattle.krb_scan.specs.Scan.{Mark as Marked};
+ghost use Rattle.krb_scan.specs.Scanned.{Marks};
+ghost use Rattle.krb_scan.specs.State.{AreMarks};
+ghost use Rattle.krb_scan.specs.Machine.{verdict_of as decided_by};
+ghost use Rattle.krb_scan.specs.inner.Paths.{Changes, IsLength};
+
+/// Changes the marks beside a machine as an octet does that comes next.
+fn mark(machine: &Machine, marks: &mut Vec<Mark>, octet: u8) -> Result<(), Memory>
+    requires { decided_by machine.now ≡ Verdict.Open }
+    ensures ok { (profile : Profile) (n : ℕ) (octets : List ℕ) → HasMarked profile machine.now marks.old.items n octets → OnOk result (AreMarks marks.new.items (Marks profile n (octets ++ octet ∷ []))) }
+    ensures ends { (profile : Profile) (n : ℕ) (octets : List ℕ) → HasMarked profile machine.now marks.old.items n octets → OnErr result (length (Marks profile n (octets ++ octet ∷ [])) ≡ length (Marks profile n octets) + 1) }
+    ensures same { OnErr result (marks.new.items ≡ marks.old.items) }
+    ensures full { OnErr result (vec_capacity marks.old ≤ vec_len marks.old) }
+    ensures capacity { vec_capacity marks.old ≤ vec_capacity marks.new }
+{
+    if let Verdict::Refused(_) = machine.peek(octet) {
+        return Ok(());
+    }
+    change(marks, machine.event(octet))
+}
+
+/// Changes marks.
+fn change(marks: &mut Vec<Mark>, event: Event) -> Result<(), Memory>
+    ensures ok { (before after : List Marked) → AreMarks marks.old.items before → Changes event before after → OnOk result (AreMarks marks.new.items after) }
+    ensures err { OnErr result (IsLength event) }
+    ensures same { OnErr result (marks.new.items ≡ marks.old.items) }
+    ensures full { OnErr result (vec_capacity marks.old ≤ vec_len marks.old) }
+    ensures capacity { vec_capacity marks.old ≤ vec_capacity marks.new }
+{
+    match event {
+        Event::None => {}
+        Event::Length(mark) => marks.push(mark)?,
+        Event::Number(value) => if let Some(last) = marks.last_mut() {
+            last.value = value;
+        },
+    }
+    Ok(())
 }

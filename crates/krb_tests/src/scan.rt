@@ -7,7 +7,9 @@ use crate::examples::{
     AP_REP, AP_REQ, AS_REP, AS_REQ, KRB_CRED, KRB_ERROR, KRB_PRIV, KRB_SAFE, TGS_REP, TGS_REQ,
     contents,
 };
-use krb_scan::{Refusal, Scanner, Verdict, Why};
+use krb_der::{Memory, Profile};
+use krb_msg::encode;
+use krb_scan::{Machine, Refusal, Scanner, Verdict, Why, build};
 use std::alloc::Global;
 use std::test::Fail;
 
@@ -74,6 +76,38 @@ fn is_whole(alloc: Global, octets: &[u8], runs: bool, marked: bool) -> bool {
         && (!marked || has_marks(&scanner))
 }
 
+/// Returns whether a machine takes octets as a whole message, all at once.
+fn is_taken(octets: &[u8]) -> bool {
+    let n = octets.len();
+    if n == 0 || n >= 1 << 31 {
+        return false;
+    }
+    let mut machine = Machine::new(Profile::Lenient, n as u32);
+    machine.clear(n as u32);
+    (machine.profile(), machine.take(octets)) == (Profile::Lenient, n)
+        && machine.verdict() == Verdict::Whole
+        && (machine.looked(), machine.open_lengths()) == (n as u32, 0)
+}
+
+/// Returns whether the message that is built of octets has these octets.
+fn is_built(alloc: Global, octets: &[u8]) -> Result<bool, Memory> {
+    let n = octets.len();
+    if n == 0 || n >= 1 << 31 {
+        return Ok(false);
+    }
+    let mut scanner = Scanner::new(alloc, n as u32);
+    let Verdict::Whole = scanner.take(octets).verdict? else {
+        return Ok(false);
+    };
+    let message = build(alloc, scanner.marks(), octets)?;
+    let is_same = match encode(alloc, &message) {
+        Ok(encoded) => encoded.as_slice() == octets,
+        Err(_) => false,
+    };
+    drop(message);
+    Ok(is_same)
+}
+
 #[test]
 fn takes_messages_and_marks_each_item(rt: HostRuntime) -> Result<(), Fail> {
     let alloc = rt.alloc();
@@ -93,6 +127,8 @@ fn takes_messages_and_marks_each_item(rt: HostRuntime) -> Result<(), Fail> {
         let octets = octets.as_slice();
         assert!(rt; is_whole(alloc, octets, true, marked), "{frame}");
         assert!(rt; is_whole(alloc, octets, false, marked), "{frame}");
+        assert!(rt; is_taken(octets), "{frame}");
+        assert!(rt; is_built(alloc, octets)?, "{frame}");
     }
     Ok(())
 }

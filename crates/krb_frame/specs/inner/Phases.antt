@@ -1,7 +1,6 @@
 -- The contracts of the parts of a decoder by any messages.
-use Rattle.std.specs.Prelude.{ℕ, zero, suc, ◌≡◌, ◌≢◌, ◌+◌, ◌-◌, ◌<◌, ◌≤◌, ◌^◌, ◌⊎◌, List, [], ◌++◌, length, take, min, Result, Ok, Err}
+use Rattle.std.specs.Prelude.{ℕ, zero, suc, ◌≡◌, ◌≢◌, ◌+◌, ◌-◌, ◌<◌, ◌≤◌, ◌^◌, ◌⊎◌, List, [], ◌++◌, length, take, min}
 use Rattle.krb_der.specs.Octets.{number}
-use Rattle.krb_der.specs.declared.memory.Memory.{Memory}
 use Rattle.krb_der.specs.declared.profile.Profile.{Profile}
 use Rattle.krb_der.specs.declared.verdict.Refusal.{Refusal}
 use Rattle.krb_der.specs.declared.verdict.Verdict.{Verdict}
@@ -10,9 +9,9 @@ use Rattle.krb_der.specs.declared.why.Why.{Why}
 use Rattle.krb_msg.specs.Term.{Term}
 use Rattle.krb_msg.specs.Judgement.{judgement_by}
 use Rattle.krb_msg.specs.Stream.{End, Boundary, Within, Refused, ends, frames}
-use Rattle.krb_scan.specs.Scanner.{HasScanned}
-use Rattle.krb_scan.specs.declared.scanner.Scanner.{Scanner}
-use Rattle.krb_frame.specs.Decoding.{Decoding, Capacity, length_present, status_of, kept_contents, IsOfOneFrame}
+use Rattle.krb_scan.specs.Machine.{HasScanned}
+use Rattle.krb_scan.specs.declared.machine.Machine.{Machine}
+use Rattle.krb_frame.specs.Decoding.{Decoding, length_present, status_of, kept_contents, IsOfOneFrame}
 use Rattle.krb_frame.specs.declared.decoder.Fed.{Fed}
 use Rattle.krb_frame.specs.declared.decoder.Status.{Status}
 use Rattle.krb_frame.specs.declared.decoder.Status.TheVariants as status
@@ -45,12 +44,11 @@ abbrev pub IsEarly : Verdict → Type 0
 IsEarly (verdict.Refused refusal) = refusal.place < 2 ^ 31
 IsEarly other = Unit {0}
 
--- the status by the verdict of a scanner, or if it is out of memory
-abbrev pub status_by : Result Verdict Memory → Status
-status_by (Ok verdict.Open) = status.More
-status_by (Ok verdict.Whole) = status.Ready
-status_by (Ok (verdict.Refused refusal)) = status.Refused (record { place = 4 + refusal.place; why = refusal.why })
-status_by (Err memory) = status.Memory
+-- the status by the verdict of a machine
+abbrev pub status_by : Verdict → Status
+status_by verdict.Open = status.More
+status_by verdict.Whole = status.Ready
+status_by (verdict.Refused refusal) = status.Refused (record { place = 4 + refusal.place; why = refusal.why })
 
 -- the phase after them
 abbrev pub phase_of : ℕ → Status → Phase
@@ -65,11 +63,6 @@ end_after zero = Boundary
 end_after (suc present) = Within (suc present)
 
 -- ---- the fields of a decoder
--- no capacity is lost
-pub record KeepsCapacity (old new : Capacity) : Type 0 where
-  pub octets : old.octets ≤ new.octets
-  pub marks : old.marks ≤ new.marks
-
 -- a length that may be followed by contents
 pub record IsAccepted (limit : ℕ) (announced : List ℕ) (size : ℕ) : Type 0 where
   pub four : length announced ≡ 4
@@ -113,12 +106,12 @@ IsPhaseOf messages limit announced contents (phase.Contents size) = HasPart mess
 IsPhaseOf messages limit announced contents phase.Ready = HasFrame messages limit announced contents
 IsPhaseOf messages limit announced contents (phase.Refused refusal) = HasRefused messages limit announced contents refusal
 
--- if there are contents, the scanner has scanned them
-abbrev pub IsScanned : Profile → Scanner → List ℕ → List ℕ → Phase → Type 0
-IsScanned profile scanner announced contents (phase.Length count) = Unit {0}
-IsScanned profile scanner announced contents (phase.Contents size) = HasScanned profile scanner size contents
-IsScanned profile scanner announced contents phase.Ready = HasScanned profile scanner (length contents) contents
-IsScanned profile scanner announced contents (phase.Refused refusal) = (contents ≡ []) ⊎ HasScanned profile scanner (number announced) contents
+-- if there are contents, the machine has scanned them
+abbrev pub IsScanned : Profile → Machine → List ℕ → List ℕ → Phase → Type 0
+IsScanned profile machine announced contents (phase.Length count) = Unit {0}
+IsScanned profile machine announced contents (phase.Contents size) = HasScanned profile machine size contents
+IsScanned profile machine announced contents phase.Ready = HasScanned profile machine (length contents) contents
+IsScanned profile machine announced contents (phase.Refused refusal) = (contents ≡ []) ⊎ HasScanned profile machine (number announced) contents
 
 -- the phase after the last octet of a length
 pub record IsLengthJudged (messages : List Term) (limit : ℕ) (announced : List ℕ) (phase : Phase) : Type 0 where
@@ -140,7 +133,7 @@ pub record FeedsLength (messages : List Term) (old : Decoding) (piece : List ℕ
   pub looks : new.looks ≡ old.looks
   pub contents : length (kept_contents new) ≡ length (kept_contents old)
   pub again : status_of messages old ≢ status.More → used ≡ 0
-  pub capacity : KeepsCapacity old.capacity new.capacity
+  pub capacity : old.capacity ≤ new.capacity
   pub on : (used ≡ length piece) ⊎ (4 ≤ length new.octets)
   pub one : IsOfOneFrame messages new
 

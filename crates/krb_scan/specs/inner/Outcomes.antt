@@ -6,7 +6,7 @@ use Rattle.krb_msg.specs.Term.{Term, Integer, Text, Octets, Time, Bits, Sequence
 use Rattle.krb_msg.specs.Judgement.{has_size}
 use Rattle.krb_msg.specs.Judgement as judged
 use Rattle.krb_scan.specs.Scan as scan
-use Rattle.krb_scan.specs.Positions.{IsPosition, expected_at, only}
+use Rattle.krb_scan.specs.Expectations.{IsKnown, expected_of, only}
 use Rattle.krb_scan.specs.State.{AreOpen, KeepsOf}
 use Rattle.krb_scan.specs.declared.closing.Closed.{Closed}
 use Rattle.krb_scan.specs.declared.closing.Closed.TheVariants as closed
@@ -56,10 +56,10 @@ abbrev pub IsShort : ℕ → Head → Type 0
 IsShort scanned (head.Got size) = scanned + size < 2 ^ 31
 IsShort scanned other = Unit {0}
 
--- if an octet completes a leaf, this is its value, and it ends with the octets scanned
-abbrev pub LeafEnds : Term → ℕ → ℕ → ℕ → List ℕ → ℤ → judged.Outcome → Type 0
-LeafEnds term start count scanned octets value (judged.Done done) = (value ≡ scan.leaf_value term octets) × (start + count ≡ scanned)
-LeafEnds term start count scanned octets value other = Unit {0}
+-- if an octet completes a leaf, it ends with the octets scanned
+abbrev pub LeafEnds : ℕ → ℕ → ℕ → judged.Outcome → Type 0
+LeafEnds start count scanned (judged.Done done) = start + count ≡ scanned
+LeafEnds start count scanned other = Unit {0}
 
 -- a term without items
 abbrev pub IsLeaf : Term → Type 0
@@ -82,7 +82,7 @@ BeginsWith other expected = ⊥
 abbrev pub IsSized : Term → ℕ → Sized → Type 0
 IsSized term count sized.Wrong = has_size term count ≡ false
 IsSized term count sized.Leaf = (has_size term count ≡ true) × IsLeaf term
-IsSized term count (sized.Items first) = (has_size term count ≡ true) × IsPosition first × BeginsWith term (expected_at first)
+IsSized term count (sized.Items first) = (has_size term count ≡ true) × IsKnown first × BeginsWith term (expected_of first)
 
 -- the contents octets present of a leaf: they are octets, more are expected, and this is kept of them
 pub record LeafReads (term : Term) (count : ℕ) (value : ℤ) (unused : ℕ) (octets : List ℕ) : Type 0 where

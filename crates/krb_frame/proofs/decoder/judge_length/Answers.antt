@@ -1,4 +1,4 @@
-use Rattle.krb_scan.specs.Scanner.{profile_of}
+use Rattle.krb_scan.specs.Machine.{profile_of}
 use Rattle.krb_msg.specs.Grammar.{messages}
 use Rattle.std.proofs.Common.{inl, refl, arith}
 use Rattle.krb_frame.proofs.decoder.judge_length.Goals as goal
@@ -9,8 +9,7 @@ returns-in-Ok c = record {
   scanned = c.clear.ensures.at;
   profile = c.clear.ensures.profile;
   looks = c.clear.ensures.ledger;
-  capacity = c.clear.ensures.capacity;
 }
 
 pub returns-in-Err : goal.returns-in-Err
-returns-in-Err c = record { judged = record { at = c.in-Err.ensures (messages (profile_of c.args.scanner.now)); all = refl }; scanned = inl refl; profile = refl; looks = refl; capacity = omega arith }
+returns-in-Err c = record { judged = record { at = c.in-Err.ensures (messages (profile_of c.args.machine.now)); all = refl }; scanned = inl refl; profile = refl; looks = refl }

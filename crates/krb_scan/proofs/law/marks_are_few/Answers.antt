@@ -1,4 +1,4 @@
-use Rattle.krb_scan.proofs.ScannerSteps.{marks_are_few}
+use Rattle.krb_scan.proofs.MarkCounts.{marks_are_few}
 use Rattle.krb_scan.proofs.law.marks_are_few.Goals as goal
 
 pub returns : goal.returns

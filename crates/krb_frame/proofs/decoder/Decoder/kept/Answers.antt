@@ -1,4 +1,4 @@
-use Rattle.krb_scan.specs.Scanner.{profile_of}
+use Rattle.krb_scan.specs.Machine.{profile_of}
 use Rattle.krb_msg.specs.Grammar.{messages}
 use Rattle.std.proofs.Common.{◌≡◌, length, sym, ◌∙◌, ap, arith}
 use Rattle.krb_frame.proofs.DecoderFrames.{contents-at}
@@ -8,4 +8,4 @@ pub returns-clause-value : goal.returns-clause-value
 returns-clause-value c =
     let d = c.self.inside in
     let n : c.len.result ≡ length d.contents.items = omega arith in
-    rw (← c.self.view_is) (n ∙ ap length (sym (contents-at (messages (profile_of d.scanner)) (profile_of d.scanner) d.limit d.length d.contents.items d.phase c.self.invariant.0)))
+    rw (← c.self.view_is) (n ∙ ap length (sym (contents-at (messages (profile_of d.machine)) (profile_of d.machine) d.limit d.length d.contents.items d.phase c.self.invariant.0)))

@@ -5,8 +5,8 @@ use Rattle.krb_der.specs.declared.verdict.Verdict.TheVariants.{Whole}
 use Rattle.krb_msg.specs.Grammar.{messages}
 use Rattle.krb_msg.specs.Judgement.{judgement}
 use Rattle.krb_msg.specs.ViewValues.{IsMessageView}
-use Rattle.krb_scan.specs.Scanner.{ledger_of, profile_of, capacity_of}
-use Rattle.krb_frame.specs.Decoding.{decoding_of, octets_of, capacity_for}
+use Rattle.krb_scan.specs.Machine.{ledger_of, profile_of}
+use Rattle.krb_frame.specs.Decoding.{decoding_of, octets_of}
 use Rattle.krb_frame.specs.Passes.{first_frame, passed_after}
 use Rattle.krb_frame.specs.inner.Passing.{BeginWithContents, IsPassedOf}
 use Rattle.krb_frame.specs.inner.Phases.{IsPhaseOf, HasPartOfLength}
@@ -30,7 +30,7 @@ viewed p q limit octets contents seen same b v =
 pub returns-clause-frame : goal.returns-clause-frame
 returns-clause-frame c =
     let d = c.self.inside in
-    let p = profile_of d.scanner in
+    let p = profile_of d.machine in
     let none = alone p d.limit d.length d.contents.items d.phase (c.in-Length-eq0.is ∙ ap phase.Length (sym c.in-Length-eq0.field-0-is ∙ c.in-Length-eq0.field-0-test)) c.self.invariant.0 in
     let seen = viewed p c.profile.result d.limit c.args.piece.now _ (record { message = c.in-Some.message; rest = c.in_ok-contents.rest }) c.profile.ensures c.in_ok-contents.ensures c.in-Some.ensures in
     rw (← c.self.view_is) (sym (ap (λ octets. passed_after octets (first_frame (messages p) d.limit c.args.piece.now)) none ∙ first-some (messages p) d.limit _ _ _ seen.begin))
@@ -38,8 +38,8 @@ returns-clause-frame c =
 pub returns-clause-passes : goal.returns-clause-passes
 returns-clause-passes c =
     let d = c.self.inside in
-    let p = profile_of d.scanner in
+    let p = profile_of d.machine in
     let none = alone p d.limit d.length d.contents.items d.phase (c.in-Length-eq0.is ∙ ap phase.Length (sym c.in-Length-eq0.field-0-is ∙ c.in-Length-eq0.field-0-test)) c.self.invariant.0 in
     let passed : Passed = record { message = c.in-Some.message; rest = c.in_ok-contents.rest } in
     let seen = viewed p c.profile.result d.limit c.args.piece.now _ passed c.profile.ensures c.in_ok-contents.ensures c.in-Some.ensures in
-    rw (← c.self.view_is) (passes_some (messages p) d.limit (decoding_of p d.limit (ledger_of d.scanner) (capacity_for (vec_capacity d.contents) (capacity_of d.scanner)) d.length d.contents.items d.phase) c.args.piece.now (Some passed) refl none seen)
+    rw (← c.self.view_is) (passes_some (messages p) d.limit (decoding_of p d.limit (ledger_of d.machine) (vec_capacity d.contents) d.length d.contents.items d.phase) c.args.piece.now (Some passed) refl none seen)

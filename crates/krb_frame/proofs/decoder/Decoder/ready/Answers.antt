@@ -1,31 +1,30 @@
 use Rattle.krb_msg.specs.Grammar.{messages}
-use Rattle.krb_scan.specs.Scanner.{ledger_of, profile_of, capacity_of}
+use Rattle.krb_scan.specs.Machine.{ledger_of, profile_of}
 use Rattle.std.proofs.Common.{◌≡◌, sym, subst, length, ◌∙◌, ap, arith}
 use Rattle.std.specs.Prelude.{Some, vec_capacity}
 use Rattle.krb_der.specs.declared.profile.Profile.TheVariants.{Lenient}
 use Rattle.krb_der.specs.declared.verdict.Verdict.TheVariants.{Whole}
 use Rattle.krb_msg.specs.Judgement.{judgement}
 use Rattle.krb_msg.proofs.Judged.{lenient_whole}
-use Rattle.krb_scan.specs.Scanner.{HasScanned}
+use Rattle.krb_scan.specs.Machine.{HasScanned}
 use Rattle.krb_frame.specs.inner.Phases.{IsPhaseOf, IsScanned, HasFrame}
-use Rattle.krb_frame.specs.Decoding.{capacity_for}
 use Rattle.krb_frame.proofs.DecoderFrames.{borrowed-none, borrowed-ready}
 use Rattle.krb_frame.proofs.decoder.Decoder.ready.Goals as goal
 
 pub returns-in-Ready : goal.returns-in-Ready
 returns-in-Ready c =
     let d = c.self.inside in
-    rw (← c.self.view_is) (ap Some (c.new.ensures ∙ c.as_slice.ensures.value) ∙ sym (borrowed-ready (messages (profile_of d.scanner)) (profile_of d.scanner) d.limit (ledger_of d.scanner) (capacity_for (vec_capacity d.contents) (capacity_of d.scanner)) d.length d.contents.items d.phase c.self.invariant.0 c.in-Ready.is))
+    rw (← c.self.view_is) (ap Some (c.new.ensures ∙ c.as_slice.ensures.value) ∙ sym (borrowed-ready (messages (profile_of d.machine)) (profile_of d.machine) d.limit (ledger_of d.machine) (vec_capacity d.contents) d.length d.contents.items d.phase c.self.invariant.0 c.in-Ready.is))
 
 pub returns-in_default : goal.returns-in_default
 returns-in_default c =
     let d = c.self.inside in
-    rw (← c.self.view_is) (sym (borrowed-none (messages (profile_of d.scanner)) (profile_of d.scanner) d.limit (ledger_of d.scanner) (capacity_for (vec_capacity d.contents) (capacity_of d.scanner)) d.length d.contents.items d.phase c.self.invariant.0 c.in_default.not-Ready))
+    rw (← c.self.view_is) (sym (borrowed-none (messages (profile_of d.machine)) (profile_of d.machine) d.limit (ledger_of d.machine) (vec_capacity d.contents) d.length d.contents.items d.phase c.self.invariant.0 c.in_default.not-Ready))
 
 pub new-requires-clause-whole : goal.new-requires-clause-whole
 new-requires-clause-whole c =
     let d = c.self.inside in
-    let at : HasScanned (profile_of d.scanner) d.scanner (length d.contents.items) d.contents.items = subst (IsScanned (profile_of d.scanner) d.scanner d.length d.contents.items) c.in-Ready.is c.self.invariant.1 in
-    let frame : HasFrame (messages (profile_of d.scanner)) d.limit d.length d.contents.items = subst (IsPhaseOf (messages (profile_of d.scanner)) d.limit d.length d.contents.items) c.in-Ready.is c.self.invariant.0 in
+    let at : HasScanned (profile_of d.machine) d.machine (length d.contents.items) d.contents.items = subst (IsScanned (profile_of d.machine) d.machine d.length d.contents.items) c.in-Ready.is c.self.invariant.1 in
+    let frame : HasFrame (messages (profile_of d.machine)) d.limit d.length d.contents.items = subst (IsPhaseOf (messages (profile_of d.machine)) d.limit d.length d.contents.items) c.in-Ready.is c.self.invariant.0 in
     subst (λ octets. judgement Lenient (length octets) octets ≡ Whole) (sym c.as_slice.ensures.value)
-    (lenient_whole (profile_of d.scanner) _ d.contents.items frame.accepted.short at.are_octets (omega arith) frame.whole)
+    (lenient_whole (profile_of d.machine) _ d.contents.items frame.accepted.short at.are_octets (omega arith) frame.whole)

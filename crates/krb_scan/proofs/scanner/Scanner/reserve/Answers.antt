@@ -1,5 +1,5 @@
-use Rattle.krb_scan.proofs.ScannerSteps.{some_unchanged}
+use Rattle.krb_scan.proofs.MarkSteps.{some_kept}
 use Rattle.krb_scan.proofs.scanner.Scanner.reserve.Goals as goal
 
 pub invariant_of-self : goal.invariant_of-self
-invariant_of-self c = record { reached = some_unchanged c.args.self.now.path c.reserve.new.self c.args.self.now.verdict c.args.self.now.reached c.reserve.ensures.unchanged c.reserve.ensures.same.0 c.reserve.ensures.same.1 }
+invariant_of-self c = record { reached = some_kept c.args.self.now.machine c.args.self.now.marks.items c.reserve.new.self.items c.args.self.now.reached c.reserve.ensures.items }

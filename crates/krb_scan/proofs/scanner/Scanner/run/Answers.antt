@@ -1,22 +1,26 @@
-use Rattle.std.proofs.Common.{min, length, ap, ◌∙◌, arith}
-use Rattle.krb_msg.specs.Grammar.{messages}
-use Rattle.krb_scan.specs.Runs.{string_left}
-use Rattle.krb_scan.proofs.ScannerSteps.{is_path_of, some_path}
-use Rattle.krb_scan.proofs.Running.{none_left, run_at, some_run}
+use Rattle.std.proofs.Common.{◌++◌, take, sym, subst, arith}
+use Rattle.std.proofs.lemmas.List.{length-take}
+use Rattle.krb_der.specs.inner.Numbers.{AreOctets-slice, AreOctets-take}
+use Rattle.krb_scan.specs.State.{AreMarks}
+use Rattle.krb_scan.proofs.Running.{run_marks}
+use Rattle.krb_scan.proofs.MarkSteps.{some_then}
 use Rattle.krb_scan.proofs.scanner.Scanner.run.Goals as goal
 
-pub run-count-requires : goal.run-count-requires
-run-count-requires c = some_path c.args.self.now.path c.args.self.now.verdict c.args.self.now.reached c.in-Open.is
+pub returns-clause-at : goal.returns-clause-at
+returns-clause-at c = λ profile n before at.
+    record {
+      scanned = c.run.ensures.at profile n before at.scanned;
+      marks = subst (AreMarks c.args.self.now.marks.items) (sym (run_marks profile n before (take c.run.result c.args.octets.now) at.scanned.some at.scanned.are_octets (AreOctets-take c.run.result c.args.octets.now (AreOctets-slice c.args.octets.now c.type_inv.octets)) (omega (arith, length-take c.run.result c.args.octets.now, c.run.ensures.longest profile n before at.scanned)))) at.marks;
+    }
 
 pub invariant_of-self : goal.invariant_of-self
-invariant_of-self c = record { reached = some_run c.args.self.now.path c.run-count.new.self c.args.self.now.verdict c.run-count.result c.args.octets.now c.args.self.now.reached c.in-Open.is c.run-count.ensures.size c.run-count.ensures.goes }
-
-pub returns-clause-at : goal.returns-clause-at
-returns-clause-at c = λ profile n before at. run_at c.args.self.now.path c.run-count.new.self c.args.self.now.verdict n c.run-count.result before c.args.octets.now at c.in-Open.is c.run-count.ensures.size (c.run-count.ensures.goes profile)
+invariant_of-self c = record {
+  reached = some_then c.args.self.now.machine c.run.new.self c.args.self.now.marks.items c.args.self.now.marks.items (λ before. before ++ take c.run.result c.args.octets.now) c.args.self.now.reached (λ profile n before at.
+      record {
+        scanned = c.run.ensures.at profile n before at.scanned;
+        marks = subst (AreMarks c.args.self.now.marks.items) (sym (run_marks profile n before (take c.run.result c.args.octets.now) at.scanned.some at.scanned.are_octets (AreOctets-take c.run.result c.args.octets.now (AreOctets-slice c.args.octets.now c.type_inv.octets)) (omega (arith, length-take c.run.result c.args.octets.now, c.run.ensures.longest profile n before at.scanned)))) at.marks;
+      });
+}
 
 pub returns-clause-longest : goal.returns-clause-longest
-returns-clause-longest c = λ profile n before at.
-    c.run-count.ensures.longest profile before (is_path_of c.args.self.now.path c.args.self.now.verdict n before at c.in-Open.is) ∙ ap (λ k. min (length c.args.octets.now) (string_left (messages profile) k before)) at.size
-
-pub returns-in_default-clause-longest : goal.returns-in_default-clause-longest
-returns-in_default-clause-longest c = λ profile n before at. omega (arith, none_left c.args.self.now.path c.args.self.now.verdict n before at c.in_default.not-Open)
+returns-clause-longest c = λ profile n before at. c.run.ensures.longest profile n before at.scanned

@@ -2,15 +2,16 @@ use Rattle.std.proofs.Common.{◌≡◌, ℕ, List, ◌++◌, take, append-nil, 
 use Rattle.std.proofs.Math.Logic.{∥∥₁_elim}
 use Rattle.std.specs.Coded.{le_prop}
 use Rattle.krb_der.specs.declared.profile.Profile.{Profile}
-use Rattle.krb_scan.specs.Scanned.{IsScanOf, Marks}
+use Rattle.krb_scan.specs.Scanned.{Marks}
+use Rattle.krb_scan.specs.Machine.{HasMarked}
 use Rattle.krb_scan.specs.Scanner.{HasScanned}
 use Rattle.krb_scan.proofs.Undecided.{sooner, take_first}
 use Rattle.krb_scan.proofs.scanner.Scanner.take_some.Goals as goal
 
 pub returns-then-count-gt0-clause-sooner : goal.returns-then-count-gt0-clause-sooner
 returns-then-count-gt0-clause-sooner c = λ profile n before k at lt.
-    sooner c.run-count.new.self.path c.run-count.new.self.verdict n before c.args.octets.now c.run-count.result k
-    (c.run-count.ensures.at profile n before at)
+    sooner c.run-count.new.self.machine.path c.run-count.new.self.machine.verdict n before c.args.octets.now c.run-count.result k
+    (c.run-count.ensures.at profile n before at).scanned
     (λ refusal e. absurd (cc (sym (c.run-count.ensures.verdict ∙ c.requires.open) ∙ e)))
     (omega (arith, c.run-count.ensures.longest profile n before at))
     lt
@@ -32,8 +33,8 @@ returns-then-count-gt0-clause-at c = λ profile n before at. c.run-count.ensures
 
 pub returns-then-count-gt0-clause-within : goal.returns-then-count-gt0-clause-within
 returns-then-count-gt0-clause-within c =
-    ∥∥₁_elim c.args.self.now.reached le_prop (λ (k : (octets : List ℕ) × (profile : Profile) × IsScanOf profile c.args.self.now.path c.args.self.now.verdict c.args.self.now.path.size octets).
-    omega (arith, c.run-count.ensures.longest k.1 c.args.self.now.path.size k.0 k.2))
+    ∥∥₁_elim c.args.self.now.reached le_prop (λ (k : (octets : List ℕ) × (profile : Profile) × HasMarked profile c.args.self.now.machine c.args.self.now.marks.items c.args.self.now.machine.path.size octets).
+    omega (arith, c.run-count.ensures.longest k.1 c.args.self.now.machine.path.size k.0 k.2))
 
 pub returns-in-Ok-clause-at : goal.returns-in-Ok-clause-at
 returns-in-Ok-clause-at c = λ profile n before at.

@@ -1,0 +1,63 @@
+"""Says how much memory bin/krbls has on what costs it most: captures of 65536 directions of connections that each
+have the first octets of a frame, and a stream of one frame of 16 MiB, of the smallest items, strings without octets."""
+
+import struct
+import tempfile
+
+from capture import ACK, CAPTURE, ETHERNET, MIB, STREAM, SYN, ends, segment
+from timing import most_octets
+
+DIRECTIONS = 65536
+PRESENT = (512, 1024, 2048)
+FRAME = 16 * MIB
+STRING = b"\x1b\0"
+
+
+def opened(tag, size):
+    """The octets before the contents of an item of a number of octets in all, at least 258 and less than 16 MiB."""
+    octets = 2 if size < 0x10004 else 3
+    return bytes([tag, 0x80 | octets]) + (size - 2 - octets).to_bytes(octets, "big")
+
+
+def names(size):
+    """The first octets of a frame of a number of octets, up to the strings: an AS-REP whose client's name is strings."""
+    octets = struct.pack(">I", size)
+    for before in ("6b", "30", "a003020105 a10302010b a3031b0141 a4", "30", "a003020101 a1", "30"):
+        *whole, tag = bytes.fromhex(before)
+        octets += bytes(whole)
+        octets += opened(tag, 4 + size - len(octets))
+    return octets
+
+
+def open_frames(size):
+    """A capture of connections, which each begin and then have the first octets of a frame, in two segments."""
+    yield struct.pack("<IHHIIII", 0xA1B2C3D4, 2, 4, 0, 0, 262144, ETHERNET)
+    frame = names(60000)
+    frame += STRING * ((size - len(frame)) // 2)
+    half = size // 2
+    for number in range(DIRECTIONS):
+        for flags, sequence, octets in ((SYN, 999, b""), (ACK, 1000, frame[:half]), (ACK, 1000 + half, frame[half:])):
+            packet = segment(*ends(number), sequence, flags, octets)
+            yield struct.pack("<IIII", 0, 0, len(packet), len(packet)) + packet
+
+
+def whole_frame():
+    """A stream of one frame, which is refused at its end, since the fields after the name are missing."""
+    first = names(FRAME)
+    yield first
+    for _ in range((4 + FRAME - len(first)) // 2):
+        yield STRING
+
+
+def print_memory(name, command, parts):
+    """Prints the most memory that a command had on octets in parts."""
+    with tempfile.NamedTemporaryFile() as file:
+        size = sum(file.write(part) for part in parts)
+        file.flush()
+        most = most_octets(command, file.name)
+    print(f"{name}, {size} octets: {most / MIB:.1f} MiB of memory, {most / size:.2f} times as many octets", flush=True)
+
+
+for size in PRESENT:
+    print_memory(f"{DIRECTIONS} directions, each with {size} octets of a frame", CAPTURE, open_frames(size))
+print_memory("a frame of strings without octets", STREAM, whole_frame())
