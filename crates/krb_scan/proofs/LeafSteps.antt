@@ -10,8 +10,9 @@ use Rattle.krb_scan.specs.Scan.{leaf_outcome}
 use Rattle.krb_scan.specs.inner.Numbers.{extended, in_range, integer_with, integer_next, each_next, bits_next, any_next}
 use Rattle.krb_scan.specs.inner.Outcomes.{LeafIs, LeafReads, LeafEnds}
 use Rattle.krb_msg.specs.Nodes.{nodes, term_at}
-use Rattle.krb_msg.specs.Table.{IsNode, IsFormOf}
+use Rattle.krb_msg.specs.Table.{IsNode}
 use Rattle.krb_scan.specs.State.{KeepsOf, TipIs, first_or_zero}
+use Rattle.krb_msg.specs.Table.{IsFormOf}
 use Rattle.krb_msg.specs.declared.grammar.Slot.{Slot}
 use Rattle.std.specs.Borrow.{Bor}
 use Rattle.krb_msg.specs.declared.grammar.Form.TheVariants as form

@@ -11,9 +11,11 @@ use Rattle.krb_scan.specs.Scan as scan
 use Rattle.krb_scan.specs.Scan.{Container, Mark as Marked, State, Tip, Between, InHead, InLeaf, Answer, Ongoing, limit, leaf_outcome}
 use Rattle.krb_scan.specs.inner.Machine.{step, step_at, go_on}
 use Rattle.krb_scan.specs.inner.Outcomes.{HeadIs, HeadEnds, IsShort, LeafReads}
-use Rattle.krb_msg.specs.Nodes.{term_at, nodes}
-use Rattle.krb_msg.specs.Table.{IsNode, IsFormOf}
+use Rattle.krb_msg.specs.Nodes.{term_at}
+use Rattle.krb_msg.specs.Table.{IsNode}
 use Rattle.krb_scan.specs.State.{AreOpen, TipIs, KeepsOf, first_or_zero}
+use Rattle.krb_msg.specs.Nodes.{nodes}
+use Rattle.krb_msg.specs.Table.{IsFormOf}
 use Rattle.krb_msg.specs.declared.grammar.Form.{Form}
 use Rattle.krb_msg.specs.declared.grammar.Form.TheVariants as form
 use Rattle.krb_scan.specs.inner.Paths.{IsPathOf}

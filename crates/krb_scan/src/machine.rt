@@ -175,6 +175,8 @@ impl Machine {
 
 impl Machine {
     ghost use Rattle.std.specs.Prelude.{◌≡◌, [], ◌∷◌, ◌++◌};
+    ghost use Rattle.krb_msg.specs.Grammar.{messages};
+    ghost use Rattle.krb_msg.specs.Judgement.{judgement};
     ghost use Rattle.krb_scan.specs.Scan.{scan};
     ghost use Rattle.krb_scan.specs.Scanned.{Marks};
     ghost use Rattle.krb_scan.specs.Machine.{HasScanned, verdict_of};

@@ -222,7 +222,7 @@ pub(crate) struct EncryptionTypes<'a>(ItemsView<'a>);
 
 impl<'a> Model for EncryptionTypes<'a> {
     ghost use Rattle.std.specs.Prelude.{List, ℤ, map};
-    ghost use Rattle.krb_msg.specs.Grammar.{int32, pa_data};
+    ghost use Rattle.krb_msg.specs.Grammar.{int32};
     ghost use Rattle.krb_msg.specs.Viewed.{AreViewed, items_of};
     ghost use Rattle.krb_text.specs.inner.Items.{item_number};
 
@@ -263,6 +263,8 @@ pub(crate) struct PaDataTypes<'a>(ItemsView<'a>);
 
 impl<'a> Model for PaDataTypes<'a> {
     ghost use Rattle.std.specs.Prelude.{List, ℤ, map};
+    ghost use Rattle.krb_msg.specs.Grammar.{pa_data};
+    ghost use Rattle.krb_msg.specs.Viewed.{AreViewed, items_of};
     ghost use Rattle.krb_text.specs.inner.Items.{item_number};
 
     ghost Value = { List ℤ };

@@ -2,8 +2,9 @@ use Rattle.std.proofs.Common.{◌≡◌, ◌+◌, ◌-◌, ◌∙◌, ap, subst,
 use Rattle.std.proofs.lemmas.Int.{to_z-of_z}
 use Rattle.krb_scan.specs.inner.Numbers.{extended, in_range, integer_with}
 use Rattle.krb_scan.specs.inner.Outcomes.{LeafIs}
-use Rattle.krb_msg.specs.Nodes.{term_at, nodes}
+use Rattle.krb_msg.specs.Nodes.{term_at}
 use Rattle.krb_scan.proofs.LeafSteps.{GoesOn, integer_reads, time_reads, bits_reads, text_reads, any_reads, octets_any, items_any, item_any, fields_any, time_size, reads_end, tip_on}
+use Rattle.krb_msg.specs.Nodes.{nodes}
 use Rattle.krb_msg.specs.Table.{IsFormOf}
 use Rattle.krb_scan.proofs.path.Path.content.Goals as goal
 
