@@ -25,8 +25,10 @@ pub mod law;
 mod locating;
 mod parsing;
 
+pub use judging::head::{Head, read_head};
 pub use judging::{judge, judge_in};
 pub use krb_der::{Profile, Refusal, Verdict, Why};
+pub use locating::names::{Field, Names};
 pub use locating::path;
 pub use parsing::{
     ParseFault, parse, parse_in, parse_method_data, parse_ticket, parse_ticket_in, read_message,

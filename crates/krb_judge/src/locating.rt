@@ -3,7 +3,7 @@
 //! Each item that is whole is passed over, and then the first that is not is entered; so an octet
 //! is judged once for each SEQUENCE and SEQUENCE OF round it.
 
-mod names;
+pub(crate) mod names;
 
 ghost use Rattle.std.specs.Prelude.{◌≡◌, ◌^◌, ◌<◌, ◌≤◌, ℕ, List, length, IfOk, IfSome, OnOk, string_bytes};
 ghost use Rattle.std.specs.List.{AllByRecursion};

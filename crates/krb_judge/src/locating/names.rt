@@ -9,7 +9,7 @@ use krb_msg::Kind;
 /// The type of an item, by which the fields in it have their names. A tag has that of what is in
 /// it, and a SEQUENCE OF that of its items.
 #[derive(Clone, Copy)]
-pub(crate) enum Names {
+pub enum Names {
     /// A type that has no fields.
     Basic,
     PrincipalName,
@@ -32,9 +32,11 @@ pub(crate) enum Names {
 
 /// A field of a SEQUENCE: its name, and its type.
 #[derive(Clone, Copy)]
-pub(crate) struct Field {
-    pub(crate) name: &'static str,
-    pub(crate) inside: Names,
+pub struct Field {
+    /// The name.
+    pub name: &'static str,
+    /// The type, by which the fields in it have their names.
+    pub inside: Names,
 }
 
 macro_rules! fields {
@@ -129,7 +131,7 @@ static KRB_ERROR: [Field; 13] = fields![
 
 impl Names {
     /// Returns those of a message of a kind.
-    pub(crate) fn of_kind(kind: Kind) -> Names
+    pub fn of_kind(kind: Kind) -> Names
         ensures { result ≡ names_of_kind kind }
     {
         match kind {
@@ -170,7 +172,7 @@ impl Names {
     }
 
     /// Returns the field at an index of the type, or one without a name if there is none.
-    pub(crate) fn field(self, index: usize) -> Field
+    pub fn field(self, index: usize) -> Field
         ensures { named result ≡ field_at self index }
     {
         match self.fields().get(index) {

@@ -1,0 +1,7 @@
+mod Names
+mod Leaves
+mod Back
+mod Fit
+mod Printable
+mod Texts
+mod Messages

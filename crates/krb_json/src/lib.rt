@@ -1,0 +1,7 @@
+//! Kerberos V5 messages (RFC 4120) as JSON (RFC 8259), and back.
+#![tactic(auto)]
+
+pub mod law;
+mod wrong;
+
+pub use wrong::Wrong;
