@@ -5,3 +5,5 @@ mod Fit
 mod Printable
 mod Texts
 mod Messages
+mod Items
+mod Walks

@@ -6,3 +6,4 @@ pub mod Unsealed
 pub mod Lines
 pub mod Laws
 pub mod Examples
+pub mod inner

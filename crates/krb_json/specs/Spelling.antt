@@ -6,9 +6,13 @@ use Rattle.hex.specs.Hex.{encode_lower, hex_digit_value}
 use Rattle.krb_der.specs.Octets.{when}
 
 -- ---- strings: a KerberosString has any octets (RFC 4120, 5.2.1)
--- 20 to 7E but `\` are themselves, each other octet is `\x` and its two hexadecimal digits
+-- 20 to 7E but `\` are shown as themselves
+abbrev pub is_shown_itself : ℕ → Bool
+is_shown_itself octet = nat_le 0x20 octet && nat_le octet 0x7E && not (octet == 0x5C)
+
+-- and each other octet as `\x` and its two hexadecimal digits
 abbrev pub shown_octet : ℕ → List ℕ
-shown_octet octet = if nat_le 0x20 octet && nat_le octet 0x7E && not (octet == 0x5C) then octet ∷ [] else codes "\\x" ++ encode_lower (octet ∷ [])
+shown_octet octet = if is_shown_itself octet then octet ∷ [] else codes "\\x" ++ encode_lower (octet ∷ [])
 
 abbrev pub shown : List ℕ → List ℕ
 shown octets = flat_map shown_octet octets

@@ -2,6 +2,9 @@
 #![tactic(auto)]
 
 pub mod law;
+mod item;
+mod writing;
 mod wrong;
 
+pub use writing::put_text;
 pub use wrong::Wrong;
