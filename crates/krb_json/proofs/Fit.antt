@@ -54,8 +54,7 @@ number-fits low high path text value e =
     let whole = passed (not (is_integer text)) path _ _ value e in
     let within = passed (not (int_le low (signed_digits_value 10 text) && int_le (signed_digits_value 10 text) high)) path _ _ value whole.1 in
     let parts = and_parts (int_le low (signed_digits_value 10 text)) _ (was_true _ within.0) in
-    let same : signed_digits_value 10 text ≡ value = same_ok (signed_digits_value 10 text) value within.1 in
-    (
+    let same : signed_digits_value 10 text ≡ value = same_ok (signed_digits_value 10 text) value within.1 in (
       subst (λ z. low ≤ℤ z) same (int_le-true low (signed_digits_value 10 text) parts.0),
       subst (λ z. z ≤ℤ high) same (int_le-true (signed_digits_value 10 text) high parts.1),
     )

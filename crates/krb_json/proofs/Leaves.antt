@@ -126,5 +126,5 @@ pub bits-back : (least : ℕ) (path : List ℕ) (bits : ℕ × List ℕ) → Are
 bits-back least path bits are octets enough short =
     let value : octets_spelled (field_path path (codes "value")) (string (encode_lower bits.1)) ≡ Ok bits.1 = octets-back (field_path path (codes "value")) bits.1 octets in
     let count : integer_spelled (pos (8 * length bits.1 - 7)) (pos (8 * length bits.1)) (field_path path (codes "length")) (number (decimal (bit_count bits))) ≡ Ok (pos (bit_count bits)) =
-        number-back (pos (8 * length bits.1 - 7)) (pos (8 * length bits.1)) (field_path path (codes "length")) (pos (bit_count bits)) (omega arith) (omega (arith, ints, are.few)) (omega (arith, ints)) in
+    number-back (pos (8 * length bits.1 - 7)) (pos (8 * length bits.1)) (field_path path (codes "length")) (pos (bit_count bits)) (omega arith) (omega (arith, ints, are.few)) (omega (arith, ints)) in
     rw (value, count) (bits-from-back least path bits are enough)

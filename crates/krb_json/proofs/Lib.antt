@@ -5,5 +5,4 @@ mod Fit
 mod Printable
 mod Texts
 mod Messages
-mod Items
 mod Walks

@@ -22,23 +22,21 @@ use Rattle.krb_msg.specs.Laws.{AreMessage}
 use Rattle.krb_msg.specs.Grammar.{messages}
 use Rattle.krb_msg.specs.Judgement.{judgement}
 use Rattle.krb_msg.specs.Profiles.{narrowed, narrowed_fields, narrowed_value, narrowed_values, profile_term}
-use Rattle.krb_msg.specs.ValueOfDer.{value_of_der, message_of_der}
+use Rattle.krb_msg.specs.ValueOfDer.{message_of_der}
 use Rattle.krb_msg.specs.Term.{Term, Fields, Integer, Text, Octets, Time, Bits, Sequence, SequenceOf, Tagged, Application, End, Required, Optional, Value, Values, Fits, der}
 use Rattle.krb_msg.specs.Views.{kind_of, kind_name, kind_term, kind_term_in, message_value, message_value_in, message_of, message_der, IsInProfile}
 use Rattle.krb_msg.specs.declared.message.Kind.{Kind}
 use Rattle.krb_msg.specs.declared.message.Kind.TheVariants as kind
 use Rattle.krb_msg.specs.declared.message.Message.{Message}
-use Rattle.krb_msg.proofs.Profiles.{widened_value, widened_values, der_narrowed, fits_narrowed, narrowed_widened}
-use Rattle.krb_msg.proofs.Judged.{message_der_in, message_round_trips, kind_is_one_of, messages_are_grammar, whole_is_message}
+use Rattle.krb_msg.proofs.Judged.{message_der_in, kind_is_one_of, messages_are_grammar, whole_is_message}
 use Rattle.krb_msg.proofs.Grammars.{one_of_is_whole, one_of_is_octets}
 use Rattle.krb_msg.proofs.MessageOfDer.{message_of_der_is_message}
-use Rattle.krb_msg.proofs.ValueOfDer.{value_of_der_is_value}
 use Rattle.krb_judge.specs.FieldNames.{field_at, names_of_kind}
 use Rattle.krb_judge.specs.declared.locating.names.Names.{Names}
 use Rattle.krb_json.specs.Faults.{Fault, ◌>>=◌}
 use Rattle.krb_json.specs.Objects.{json, members_of, member_if, message_json}
 use Rattle.krb_json.specs.Spelled.{spelled, unless}
-use Rattle.krb_json.specs.Lines.{message_text, line_spells, value_of_line, value_spells, member_spells, named_spells, message_spelled, in_line, kind_named, sole_member, widened, LineFault}
+use Rattle.krb_json.specs.Lines.{message_text, line_spells, value_of_line, value_spells, member_spells, named_spells, message_spelled, in_line, kind_named, sole_member, LineFault}
 use Rattle.krb_json.specs.Laws.{is_named, are_named, IsText, IsSpelled}
 use Rattle.krb_json.proofs.Back.{term-back}
 use Rattle.krb_json.proofs.Fit.{term-fits, steps, passed, same_ok}
@@ -92,18 +90,6 @@ shallow kind.KrbPriv = refl
 shallow kind.KrbCred = refl
 shallow kind.KrbError = refl
 
-unambiguous : (k : Kind) → shape.is_unambiguous (kind_term k) ≡ true
-unambiguous kind.AsReq = refl
-unambiguous kind.AsRep = refl
-unambiguous kind.TgsReq = refl
-unambiguous kind.TgsRep = refl
-unambiguous kind.ApReq = refl
-unambiguous kind.ApRep = refl
-unambiguous kind.KrbSafe = refl
-unambiguous kind.KrbPriv = refl
-unambiguous kind.KrbCred = refl
-unambiguous kind.KrbError = refl
-
 -- ---- the strict profile: the same JSON, and values back
 map-same : {A B C : Type 0} (f : A → B) (g : B → C) (h : A → C) → ((a : A) → g (f a) ≡ h a) → (values : List A) → map g (map f values) ≡ map h values
 map-same f g h same [] = refl
@@ -112,14 +98,6 @@ map-same f g h same (a ∷ values) = ap₂ (λ x xs. x ∷ xs) (same a) (map-sam
 option-same : {A B C : Type 0} (f : A → B) (g : B → C) (h : A → C) → ((a : A) → g (f a) ≡ h a) → (o : Option A) → option_map g (option_map f o) ≡ option_map h o
 option-same f g h same None = refl
 option-same f g h same (Some a) = ap Some (same a)
-
-map-id : {A : Type 0} (values : List A) → map (λ a. a) values ≡ values
-map-id [] = refl
-map-id (a ∷ values) = ap (λ others. a ∷ others) (map-id values)
-
-option-id : {A : Type 0} (o : Option A) → option_map (λ a. a) o ≡ o
-option-id None = refl
-option-id (Some a) = refl
 
 mutual
   json-narrowed : (optional : Bool) (term : Term) (names : Names) (value : Value term) → json (narrowed optional term) names (narrowed_value optional term value) ≡ json term names value
@@ -143,32 +121,10 @@ mutual
       (option-same (narrowed_value true term) (json (narrowed true term) (field_at names index).inside) (json term (field_at names index).inside) (json-narrowed true term (field_at names index).inside) values.0)
       (members-narrowed fields names (index + 1) values.1)
 
-mutual
-  widened-narrowed : (optional : Bool) (term : Term) (value : Value term) → widened_value optional term (narrowed_value optional term value) ≡ value
-  widened-narrowed optional (Integer low high) value = refl
-  widened-narrowed optional (Text greatest) value = refl
-  widened-narrowed optional Octets value = refl
-  widened-narrowed optional Time value = refl
-  widened-narrowed optional (Bits least) value = refl
-  widened-narrowed optional (Sequence fields) values = widened-narrowed-fields fields values
-  widened-narrowed optional (SequenceOf empty term) values = map-same (narrowed_value false term) (widened_value false term) (λ v. v) (widened-narrowed false term) values ∙ map-id values
-  widened-narrowed optional (Tagged index term) value = widened-narrowed optional term value
-  widened-narrowed optional (Application tag term) value = widened-narrowed false term value
-
-  widened-narrowed-fields : (fields : Fields) (values : Values fields) → widened_values fields (narrowed_values fields values) ≡ values
-  widened-narrowed-fields End values = refl
-  widened-narrowed-fields (Required term fields) values = ap₂ (λ v vs. (v, vs)) (widened-narrowed false term values.0) (widened-narrowed-fields fields values.1)
-  widened-narrowed-fields (Optional term fields) values =
-      ap₂ (λ v vs. (v, vs)) (option-same (narrowed_value true term) (widened_value true term) (λ v. v) (widened-narrowed true term) values.0 ∙ option-id values.0) (widened-narrowed-fields fields values.1)
-
 -- the JSON of a message is that of its value in any profile
 json-in : (profile : Profile) (m : Message) → json (kind_term_in profile (kind_of m)) (names_of_kind (kind_of m)) (message_value_in profile m) ≡ json (kind_term (kind_of m)) (names_of_kind (kind_of m)) (message_value m)
 json-in profiles.Lenient m = refl
 json-in profiles.Strict m = json-narrowed false (kind_term (kind_of m)) (names_of_kind (kind_of m)) (message_value m)
-
-widened-in : (profile : Profile) (m : Message) → widened profile (kind_term (kind_of m)) (message_value_in profile m) ≡ message_value m
-widened-in profiles.Lenient m = refl
-widened-in profiles.Strict m = widened-narrowed false (kind_term (kind_of m)) (message_value m)
 
 depth-in : (profile : Profile) (k : Kind) → shape.depth (kind_term_in profile k) ≡ shape.depth (kind_term k)
 depth-in profiles.Lenient k = refl
@@ -197,9 +153,9 @@ message-good profile m i = subst (λ j. IsGood (object (member (kind_name (kind_
     one : {j : Json} → IsGood j (shape.depth (kind_term_in profile (kind_of m))) → IsGood (object (member (kind_name (kind_of m)) j no_members)) 128
     one {j} g =
         let ms : AreGoodMembers (member (kind_name (kind_of m)) j no_members) (max (shape.depth (kind_term_in profile (kind_of m))) 0) =
-            good-member (kind_name (kind_of m)) j no_members (shape.depth (kind_term_in profile (kind_of m))) 0 (printable-kind (kind_of m)) g (good-end 0) in
+        good-member (kind_name (kind_of m)) j no_members (shape.depth (kind_term_in profile (kind_of m))) 0 (printable-kind (kind_of m)) g (good-end 0) in
         let o : IsGood (object (member (kind_name (kind_of m)) j no_members)) (1 + max (shape.depth (kind_term_in profile (kind_of m))) 0) =
-            good-object (member (kind_name (kind_of m)) j no_members) (max (shape.depth (kind_term_in profile (kind_of m))) 0) (distinct-cons (kind_name (kind_of m)) [] tt distinct-none) ms in
+        good-object (member (kind_name (kind_of m)) j no_members) (max (shape.depth (kind_term_in profile (kind_of m))) 0) (distinct-cons (kind_name (kind_of m)) [] tt distinct-none) ms in
         record { numbers = o.numbers; shallow = omega (arith, o.shallow, levels); unique = o.unique; printable = o.printable }
 
 text-printable : (profile : Profile) (m : Message) → IsInProfile profile m → IsPrintable (message_text m)
@@ -226,10 +182,10 @@ message-back : (profile : Profile) (limit : ℕ) (m : Message) → IsInProfile p
 message-back profile limit m i short =
     let k : Kind = kind_of m in
     let back : spelled (kind_term_in profile k) (names_of_kind k) (kind_name k) (json (kind_term k) (names_of_kind k) (message_value m)) ≡ Ok (message_value_in profile m) =
-        ap (spelled (kind_term_in profile k) (names_of_kind k) (kind_name k)) (sym (json-in profile m))
-        ∙ term-back (kind_term_in profile k) (names_of_kind k) (named profile k) (kind_name k) (message_value_in profile m) i.fits (short-in profile m i) in
+    ap (spelled (kind_term_in profile k) (names_of_kind k) (kind_name k)) (sym (json-in profile m))
+    ∙ term-back (kind_term_in profile k) (names_of_kind k) (named profile k) (kind_name k) (message_value_in profile m) i.fits (short-in profile m i) in
     rw (back, le-ltb limit (length (der (kind_term_in profile k) (message_value_in profile m))) (omega (arith, ap length (message_der_in profile m), short)))
-    (ap (λ v. Ok (message_of k v)) (widened-in profile m) ∙ ap Ok (message_round_trips m))
+    (ap Ok (ap message_of_der (message_der_in profile m) ∙ message_of_der_is_message profile m i))
 
 pub texts_come_back : (profile : Profile) (limit : ℕ) (m : Message) → IsInProfile profile m → length (message_der m) ≤ limit → line_spells profile limit (message_text m) ≡ Ok m
 texts_come_back profile limit m i short =
@@ -251,26 +207,7 @@ record IsOfValue (profile : Profile) (k : Kind) (value : Value (kind_term_in pro
   in_profile : IsInProfile profile m
   form : message_der m ≡ der (kind_term_in profile k) value
 
--- the message whose DER the octets of a value are
-message-of-octets : (k : Kind) (value : Value (kind_term k)) → length (der (kind_term k) value) < 2 ^ 31 → message_of_der (der (kind_term k) value) ≡ message_of k value
-message-of-octets kind.AsReq value short = ap (message_of kind.AsReq) (value_of_der_is_value (kind_term kind.AsReq) value refl (omega (arith, short)))
-message-of-octets kind.AsRep value short = ap (message_of kind.AsRep) (value_of_der_is_value (kind_term kind.AsRep) value refl (omega (arith, short)))
-message-of-octets kind.TgsReq value short = ap (message_of kind.TgsReq) (value_of_der_is_value (kind_term kind.TgsReq) value refl (omega (arith, short)))
-message-of-octets kind.TgsRep value short = ap (message_of kind.TgsRep) (value_of_der_is_value (kind_term kind.TgsRep) value refl (omega (arith, short)))
-message-of-octets kind.ApReq value short = ap (message_of kind.ApReq) (value_of_der_is_value (kind_term kind.ApReq) value refl (omega (arith, short)))
-message-of-octets kind.ApRep value short = ap (message_of kind.ApRep) (value_of_der_is_value (kind_term kind.ApRep) value refl (omega (arith, short)))
-message-of-octets kind.KrbSafe value short = ap (message_of kind.KrbSafe) (value_of_der_is_value (kind_term kind.KrbSafe) value refl (omega (arith, short)))
-message-of-octets kind.KrbPriv value short = ap (message_of kind.KrbPriv) (value_of_der_is_value (kind_term kind.KrbPriv) value refl (omega (arith, short)))
-message-of-octets kind.KrbCred value short = ap (message_of kind.KrbCred) (value_of_der_is_value (kind_term kind.KrbCred) value refl (omega (arith, short)))
-message-of-octets kind.KrbError value short = ap (message_of kind.KrbError) (value_of_der_is_value (kind_term kind.KrbError) value refl (omega (arith, short)))
-
--- a value's DER is that of the value as one of the lenient profile's term
-wide-der : (profile : Profile) (k : Kind) (value : Value (kind_term_in profile k)) → der (kind_term k) (widened profile (kind_term k) value) ≡ der (kind_term_in profile k) value
-wide-der profiles.Lenient k value = refl
-wide-der profiles.Strict k value =
-    sym (der_narrowed false (kind_term k) (widened_value false (kind_term k) value)) ∙ ap (der (narrowed false (kind_term k))) (narrowed_widened false (kind_term k) value)
-
-value-message : (profile : Profile) (k : Kind) (value : Value (kind_term_in profile k)) → Fits (kind_term_in profile k) value → length (der (kind_term_in profile k) value) < 2 ^ 31 → IsOfValue profile k value (message_of k (widened profile (kind_term k) value))
+value-message : (profile : Profile) (k : Kind) (value : Value (kind_term_in profile k)) → Fits (kind_term_in profile k) value → length (der (kind_term_in profile k) value) < 2 ^ 31 → IsOfValue profile k value (message_of_der (der (kind_term_in profile k) value))
 value-message profile k value fits short = of (whole_is_message profile (length octets) octets short are (omega arith) whole)
   where
     octets : List ℕ
@@ -282,15 +219,9 @@ value-message profile k value fits short = of (whole_is_message profile (length 
     whole : judgement profile (length (der (kind_term_in profile k) value)) (der (kind_term_in profile k) value) ≡ verdict.Whole
     whole = one_of_is_whole (messages profile) (messages_are_grammar profile) (kind_term_in profile k) (kind_is_one_of profile k) value fits short
 
-    wide : der (kind_term k) (widened profile (kind_term k) value) ≡ der (kind_term_in profile k) value
-    wide = wide-der profile k value
-
-    of : AreMessage profile (length (der (kind_term_in profile k) value)) (der (kind_term_in profile k) value) → IsOfValue profile k value (message_of k (widened profile (kind_term k) value))
+    of : AreMessage profile (length (der (kind_term_in profile k) value)) (der (kind_term_in profile k) value) → IsOfValue profile k value (message_of_der (der (kind_term_in profile k) value))
     of found =
-        let same : found.message ≡ message_of k (widened profile (kind_term k) value) =
-            sym (message_of_der_is_message profile found.message found.in_profile)
-            ∙ ap message_of_der (found.form ∙ sym wide)
-            ∙ message-of-octets k (widened profile (kind_term k) value) (omega (arith, ap length wide, short)) in
+        let same : found.message ≡ message_of_der (der (kind_term_in profile k) value) = sym (message_of_der_is_message profile found.message found.in_profile) ∙ ap message_of_der found.form in
         subst (IsOfValue profile k value) same record { in_profile = found.in_profile; form = found.form }
 
 kind-spells : (profile : Profile) (limit : ℕ) (k : Kind) (j : Json) (m : Message) → limit < 2147483648 → message_spelled profile limit k j ≡ Ok m → IsSpelled profile limit m
@@ -299,8 +230,8 @@ kind-spells profile limit k j m small e =
     let p = passed (nat_lt limit (length (der (kind_term_in profile k) s.value))) (kind_name k) _ _ m s.then in
     let fits : Fits (kind_term_in profile k) s.value = term-fits (kind_term_in profile k) (names_of_kind k) (named profile k) (kind_name k) j s.value s.is in
     let short : length (der (kind_term_in profile k) s.value) ≤ limit = ltb-false limit (length (der (kind_term_in profile k) s.value)) p.0 in
-    let v : IsOfValue profile k s.value (message_of k (widened profile (kind_term k) s.value)) = value-message profile k s.value fits (omega (arith, small, short)) in
-    subst (IsSpelled profile limit) (same_ok (message_of k (widened profile (kind_term k) s.value)) m p.1) record { in_profile = v.in_profile; short = omega (arith, ap length v.form, short) }
+    let v : IsOfValue profile k s.value (message_of_der (der (kind_term_in profile k) s.value)) = value-message profile k s.value fits (omega (arith, small, short)) in
+    subst (IsSpelled profile limit) (same_ok (message_of_der (der (kind_term_in profile k) s.value)) m p.1) record { in_profile = v.in_profile; short = omega (arith, ap length v.form, short) }
 
 in-line-ok : (r : Result Message Fault) (m : Message) → in_line r ≡ Ok m → r ≡ Ok m
 in-line-ok (Ok n) m e = ap Ok (ap (or_message n) e)

@@ -1,5 +1,5 @@
 -- The line of a message, and the message that a line spells, or its first fault.
-use Rattle.std.specs.Prelude.{ℕ, nat_lt, false, if◌then◌else◌, List, [], ◌∷◌, ◌++◌, length, codes, find, Option, Some, None, Result, Ok, Err}
+use Rattle.std.specs.Prelude.{ℕ, nat_lt, if◌then◌else◌, List, [], ◌∷◌, ◌++◌, length, codes, find, Option, Some, None, Result, Ok, Err}
 use Rattle.std.specs.Option.{option_and_then}
 use Rattle.std.specs.Str.{bytes_eq, is_utf8}
 use Rattle.json.specs.Json.{Json, Members, no_members, member, document}
@@ -7,11 +7,9 @@ use Rattle.json.specs.Find.{as_object}
 use Rattle.json.specs.Print.{print}
 use Rattle.json.specs.Tree.{json_tokens}
 use Rattle.krb_der.specs.declared.profile.Profile.{Profile}
-use Rattle.krb_der.specs.declared.profile.Profile.TheVariants as profile
-use Rattle.krb_msg.specs.Term.{Term, Value, der}
-use Rattle.krb_msg.specs.Profiles.{profile_term}
-use Rattle.krb_msg.proofs.Profiles.{widened_value}
-use Rattle.krb_msg.specs.Views.{kind_name, kind_term, kind_term_in, message_of}
+use Rattle.krb_msg.specs.Term.{der}
+use Rattle.krb_msg.specs.ValueOfDer.{message_of_der}
+use Rattle.krb_msg.specs.Views.{kind_name, kind_term_in}
 use Rattle.krb_msg.specs.declared.message.Kind.{Kind}
 use Rattle.krb_msg.specs.declared.message.Kind.TheVariants as kind
 use Rattle.krb_msg.specs.declared.message.Message.{Message}
@@ -57,17 +55,14 @@ kinds = kind.AsReq ∷ kind.AsRep ∷ kind.TgsReq ∷ kind.TgsRep ∷ kind.ApReq
 abbrev pub kind_named : List ℕ → Option Kind
 kind_named name = find (λ kind. bytes_eq (kind_name kind) name) kinds
 
--- a value of a profile's term as one of the lenient profile's
-abbrev pub widened : (profile : Profile) → (term : Term) → Value (profile_term profile false term) → Value term
-widened profile.Lenient term value = value
-widened profile.Strict term value = widened_value false term value
+-- the message whose DER octets are, if they are no more than a limit
+abbrev pub within : (limit : ℕ) → Kind → List ℕ → Result Message Fault
+within limit kind octets = unless (nat_lt limit (length octets)) (kind_name kind) (Longer limit) (Ok (message_of_der octets))
 
--- the message of a kind and of a profile that a value spells, if its DER has no more octets than a limit
+-- the message of a kind and of a profile that a value spells
 abbrev pub message_spelled : Profile → (limit : ℕ) → Kind → Json → Result Message Fault
 message_spelled profile limit kind j =
-    spelled (kind_term_in profile kind) (names_of_kind kind) (kind_name kind) j >>= λ value.
-    unless (nat_lt limit (length (der (kind_term_in profile kind) value))) (kind_name kind) (Longer limit)
-    (Ok (message_of kind (widened profile (kind_term kind) value)))
+    spelled (kind_term_in profile kind) (names_of_kind kind) (kind_name kind) j >>= λ value. within limit kind (der (kind_term_in profile kind) value)
 
 abbrev pub in_line : {A : Type 0} → Result A Fault → Result A LineFault
 in_line (Ok value) = Ok value

@@ -2,7 +2,6 @@
 #![tactic(auto)]
 
 pub mod law;
-mod item;
 mod writing;
 mod wrong;
 

@@ -18,10 +18,9 @@ ghost use Rattle.krb_json.specs.Objects.{bits_json};
 ghost use Rattle.krb_json.specs.Spelling.{is_shown_itself, shown, shown_octet};
 ghost use Rattle.krb_json.specs.inner.Writing.{Puts, PutsBits, PutsFields, PutsItems, PutsMessage, slot_node};
 
-use crate::item::first_item;
 use json::Writer;
 use krb_der::{Memory, Profile, integer_value};
-use krb_judge::Names;
+use krb_judge::{Names, first_item};
 use krb_msg::Kind;
 use krb_msg::grammar::{Form, LENIENT, Slot, form_of, tag_of};
 use std::alloc::{AllocError, Global};
@@ -45,12 +44,7 @@ pub fn put_text(alloc: Global, line: Vec<u8>, octets: &[u8]) -> Result<Vec<u8>, 
 }
 
 /// Appends the JSON of a message of a kind.
-fn put_message(
-    alloc: Global,
-    out: &mut Writer,
-    kind: Kind,
-    octets: &[u8],
-) -> Result<(), AllocError>
+fn put_message(alloc: Global, out: &mut Writer, kind: Kind, octets: &[u8]) -> Result<(), AllocError>
     requires { length octets.now < 2 ^ 31 }
     ensures before { out.new.before ≡ out.old.before }
     ensures written { OnOk result (PutsMessage kind octets.now out.old.tokens out.new.tokens) }

@@ -4,6 +4,7 @@ use Prim.Native.String.{String}
 use Rattle.krb_msg.specs.Term.{Term, Fields, Sequence, SequenceOf, Tagged, Application, End, Required, Optional}
 use Rattle.krb_msg.specs.declared.message.Kind.{Kind}
 use Rattle.krb_msg.specs.declared.message.Kind.TheVariants as kind
+use Rattle.krb_judge.specs.declared.locating.names.Field.{Field}
 use Rattle.krb_judge.specs.declared.locating.names.Names.{Names}
 use Rattle.krb_judge.specs.declared.locating.names.Names.TheVariants.{Basic, PrincipalName, HostAddress, PaData, EncryptedData, Checksum, Ticket, KdcReqBody, KdcReq, KdcRep, ApReq, ApRep, KrbSafeBody, KrbSafe, KrbPriv, KrbCred, KrbError}
 
@@ -11,6 +12,10 @@ use Rattle.krb_judge.specs.declared.locating.names.Names.TheVariants.{Basic, Pri
 pub record Named : Type 0 where
   pub name : List ℕ
   pub inside : Names
+
+-- a field of the code as one of these
+abbrev pub named : Field → Named
+named it = record { name = it.name.now; inside = it.inside }
 
 abbrev pub field : String → Names → Named
 field name inside = record { name = codes name; inside = inside }

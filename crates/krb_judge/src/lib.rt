@@ -20,12 +20,13 @@
 //! octets.
 #![tactic(auto)]
 
+mod item;
 mod judging;
 pub mod law;
 mod locating;
 mod parsing;
 
-pub use judging::head::{Head, read_head};
+pub use item::first_item;
 pub use judging::{judge, judge_in};
 pub use krb_der::{Profile, Refusal, Verdict, Why};
 pub use locating::names::{Field, Names};

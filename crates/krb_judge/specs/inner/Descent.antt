@@ -19,10 +19,6 @@ use Rattle.krb_judge.specs.declared.locating.Fault.{Fault}
 use Rattle.krb_judge.specs.declared.locating.Fault.TheVariants as fault
 use Rattle.krb_judge.specs.declared.locating.Element.{Element}
 
--- a field of the code as one of the definitions
-abbrev pub named : Field → Named
-named it = record { name = it.name.now; inside = it.inside }
-
 -- the index of a kind, in the order of the messages of a profile
 abbrev pub kind_index : Kind → ℕ
 kind_index kind.AsReq = 0

@@ -8,7 +8,7 @@ use krb_der::{Why, number_of};
 
 /// What an item's first octets say.
 #[derive(Clone, Copy)]
-pub enum Head {
+pub(crate) enum Head {
     /// More octets are needed.
     Partial,
     /// The octet at an offset is refused.
@@ -18,7 +18,7 @@ pub enum Head {
 }
 
 /// Returns the head of an item in a room: its identifier and length octets.
-pub fn read_head(room: u32, octets: &[u8]) -> Head
+pub(crate) fn read_head(room: u32, octets: &[u8]) -> Head
     ensures { head_of result ≡ head_from room octets.now }
 {
     match octets {

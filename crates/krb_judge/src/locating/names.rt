@@ -1,8 +1,7 @@
 //! The names of fields (RFC 4120, appendix A).
 
 ghost use Rattle.std.specs.Prelude.{◌≡◌, map};
-ghost use Rattle.krb_judge.specs.FieldNames.{fields_of, field_at, names_of_kind};
-ghost use Rattle.krb_judge.specs.inner.Descent.{named};
+ghost use Rattle.krb_judge.specs.FieldNames.{fields_of, field_at, named, names_of_kind};
 
 use krb_msg::Kind;
 

@@ -15,7 +15,7 @@ item-from-head tag header size octets front after own rest same are got parts fr
         let whole : heads ++ h.rest ≡ front ++ after = sym h.parts ∙ parts in
         let long : length heads ≡ length front = omega (arith, h.counted, fronted) in
         let tail : h.rest ≡ after =
-            sym (drop-append_seam heads h.rest) ∙ ap₂ (λ n l. drop n l) long whole ∙ drop-append_seam front after in
+        sym (drop-append_seam heads h.rest) ∙ ap₂ (λ n l. drop n l) long whole ∙ drop-append_seam front after in
         let tags : h.tag ≡ tag = ap (λ l. get_or l 0 0) (sym h.parts) ∙ same in
         h.parts ∙ ap₂ (λ t r. t ∷ (length_octets size ++ r)) tags (tail ∙ split) ∙ ap (λ n. tag ∷ (length_octets n ++ (own ++ rest))) (sym owned) ∙ ap (λ l. tag ∷ l) (sym (append_assoc (length_octets (length own)) own rest))
 

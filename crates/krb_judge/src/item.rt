@@ -4,10 +4,10 @@ ghost use Rattle.std.specs.Prelude.{◌≡◌, ◌^◌, ◌<◌, ◌++◌, lengt
 ghost use Rattle.krb_der.specs.Octets.{item};
 ghost use Rattle.krb_msg.specs.Viewed.{HasNoItem};
 
-use krb_judge::{Head, read_head};
+use crate::judging::head::{Head, read_head};
 
 /// Returns the contents of the item with which octets begin, if it has a tag, and what follows it.
-pub(crate) fn first_item(tag: u8, octets: &[u8]) -> Option<(&[u8], &[u8])>
+pub fn first_item(tag: u8, octets: &[u8]) -> Option<(&[u8], &[u8])>
     requires { length octets.now < 2 ^ 31 }
     ensures { MatchOption result (HasNoItem tag octets.now) (λ (contents, rest). octets.now ≡ item tag contents.now ++ rest.now) }
 {

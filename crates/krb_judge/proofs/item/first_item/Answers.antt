@@ -1,8 +1,8 @@
 use Rattle.std.proofs.Common.{refl, sym, ap, ◌∙◌}
 use Rattle.krb_der.specs.inner.Numbers.{AreOctets-slice}
 use Rattle.krb_judge.specs.inner.Outcomes.{head_of}
-use Rattle.krb_json.proofs.Items.{item-from-head, head-of-item}
-use Rattle.krb_json.proofs.item.first_item.Goals as goal
+use Rattle.krb_judge.proofs.FirstItems.{item-from-head, head-of-item}
+use Rattle.krb_judge.proofs.item.first_item.Goals as goal
 
 pub returns-in-Got : goal.returns-in-Got
 returns-in-Got c =
