@@ -1,12 +1,12 @@
 -- Each value is spelled by its JSON.
-use Rattle.std.proofs.Common.{◌≡◌, ℕ, zero, suc, ◌+◌, ◌^◌, ◌<◌, ◌≤◌, true, false, ◌&&◌, ◌||◌, not, Bool, cond, List, [], ◌∷◌, ◌++◌, length, length-append, map, Option, Some, None, option_map, Result, Ok, Err, refl, sym, ◌∙◌, ap, ap₂, arith}
-use Rattle.std.specs.Prelude.{int_le, nat_le, nat_lt, pos, negsuc, ◌≤ℤ◌, ℤ}
+use Rattle.std.proofs.Common.{◌≡◌, ℕ, ◌+◌, ◌^◌, ◌<◌, ◌≤◌, true, false, ◌&&◌, ◌||◌, not, Bool, cond, List, [], ◌∷◌, ◌++◌, length, length-append, map, Option, Some, None, option_map, Ok, refl, sym, ◌∙◌, ap, arith}
+use Rattle.std.specs.Prelude.{int_le, nat_lt, pos, negsuc, ◌≤ℤ◌, ℤ}
 use Rattle.std.proofs.lemmas.Bool.{and_parts}
 use Rattle.std.proofs.lemmas.Int.{ints}
 use Rattle.std.specs.Str.{bytes_eq}
-use Rattle.std.specs.List.{AllByRecursion, list_any, flat_map}
+use Rattle.std.specs.List.{AllByRecursion, flat_map}
 use lib.Signed.{mag}
-use Rattle.json.specs.Json.{Json, number, string, array, object, Members, no_members, member}
+use Rattle.json.specs.Json.{Json, Members, no_members, member}
 use Rattle.json.specs.Find.{get_member, later_or}
 use Rattle.json.specs.Value.{items_of}
 use Rattle.krb_der.specs.Octets.{item, length_octets, octets_of_option}
@@ -15,9 +15,8 @@ use Rattle.krb_msg.specs.Term.{Term, Fields, Integer, Text, Octets, Time, Bits, 
 use Rattle.krb_judge.specs.FieldNames.{field_at}
 use Rattle.krb_judge.specs.Paths.{field_path, element_path}
 use Rattle.krb_judge.specs.declared.locating.names.Names.{Names}
-use Rattle.krb_json.specs.Faults.{Fault, ◌>>=◌}
 use Rattle.krb_json.specs.Objects.{json, members_of, member_if}
-use Rattle.krb_json.specs.Spelled.{spelled, fields_spelled, members_spelled, checked_members, is_field, is_among, items_spelled, required, optional, is_empty}
+use Rattle.krb_json.specs.Spelled.{spelled, fields_spelled, checked_members, is_field, is_among, items_spelled, is_empty}
 use Rattle.krb_json.specs.Laws.{is_named, are_named, has_own_name}
 use Rattle.krb_json.proofs.Names.{name, IsNew, is-new, same_name}
 use Rattle.krb_json.proofs.Leaves.{number-back, text-back, octets-back, time-back, bits-back}

@@ -1,5 +1,5 @@
 -- What a JSON value spells is a value of the term.
-use Rattle.std.proofs.Common.{◌≡◌, ℕ, ℤ, pos, negsuc, zero, suc, ◌+◌, ◌-◌, ◌*◌, ◌/◌, ◌%◌, ◌^◌, ◌<◌, ◌≤◌, true, false, ◌&&◌, ◌||◌, ◌==◌, not, Bool, List, [], ◌∷◌, length, Option, Some, None, Result, Ok, Err, codes, refl, sym, ◌∙◌, ap, subst, arith}
+use Rattle.std.proofs.Common.{◌≡◌, ℕ, ℤ, pos, negsuc, zero, suc, ◌+◌, ◌-◌, ◌*◌, ◌%◌, ◌^◌, ◌≤◌, true, false, ◌&&◌, ◌||◌, ◌==◌, not, Bool, List, [], ◌∷◌, length, Option, Some, None, Result, Ok, Err, codes, refl, ap, subst, arith}
 use Rattle.std.specs.Prelude.{◌≤ℤ◌, int_le, nat_le, nat_lt}
 use Rattle.std.proofs.lemmas.Bool.{leb-true, and_parts, eqb-true, ltb-false, lt-ltb}
 use Rattle.std.proofs.lemmas.Int.{ints}

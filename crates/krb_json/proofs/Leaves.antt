@@ -1,27 +1,24 @@
 -- Each scalar is spelled by its JSON.
-use Rattle.std.proofs.Common.{◌≡◌, ℕ, ℤ, pos, negsuc, zero, suc, ◌+◌, ◌-◌, ◌*◌, ◌/◌, ◌%◌, ◌^◌, ◌<◌, ◌≤◌, true, false, ◌&&◌, ◌||◌, ◌==◌, not, Bool, if◌then◌else◌, List, [], ◌∷◌, ◌++◌, length, take, get_or, slice_index, Option, Some, None, option_map, option_and_then, Result, Ok, Err, codes, decimal, refl, sym, ◌∙◌, ap, ap₂, arith}
-use Rattle.std.specs.Prelude.{◌≤ℤ◌, int_le, nat_le, nat_lt}
-use Rattle.std.proofs.lemmas.Bool.{true≢false, le-leb, leb-true, and_parts, and_from, ne_eqb, eqb-true, le-ltb}
+use Rattle.std.proofs.Common.{◌≡◌, ℕ, ℤ, pos, negsuc, zero, suc, ◌+◌, ◌-◌, ◌*◌, ◌/◌, ◌%◌, ◌^◌, ◌<◌, ◌≤◌, true, false, ◌&&◌, ◌||◌, ◌==◌, not, Bool, if◌then◌else◌, List, [], ◌∷◌, ◌++◌, length, slice_index, Some, option_map, Ok, codes, decimal, refl, sym, ◌∙◌, ap, arith}
+use Rattle.std.specs.Prelude.{◌≤ℤ◌, nat_le, nat_lt}
+use Rattle.std.proofs.lemmas.Bool.{true≢false, le-leb, and_parts, ne_eqb, le-ltb}
 use Rattle.std.proofs.lemmas.Int.{ints}
-use Rattle.std.specs.List.{list_any, AllByRecursion, flat_map}
+use Rattle.std.specs.List.{list_any, AllByRecursion}
 use Rattle.std.specs.Fmt.{signed_decimal}
-use Rattle.std.specs.Str.{bytes_eq}
 use Rattle.std.specs.Str.Parse.{AllDigits, digits_value, signed_digits_value}
 use Rattle.std.proofs.lemmas.Fmt.{decimal_is_IsNumeral}
 use Rattle.std.proofs.lemmas.Str.Parse.{digit_from_value}
 use lib.Signed.{mag}
-use Rattle.hex.specs.Hex.{encode_lower, encode_with, lower_digits, hex_digit_value, decode_of, IsBytes}
+use Rattle.hex.specs.Hex.{encode_lower, encode_with, lower_digits, IsBytes}
 use Rattle.hex.proofs.HexLemmas.{decode_of-encode_lower, IsDigits-lower_digits}
-use Rattle.json.specs.Json.{Json, number, string, object, member, no_members}
-use Rattle.krb_der.specs.Octets.{AreOctets, AreBits, last_or_zero, when}
+use Rattle.json.specs.Json.{number, string}
+use Rattle.krb_der.specs.Octets.{AreOctets, AreBits}
 use Rattle.krb_der.specs.Scalars.{IsTimeFrom}
 use Rattle.krb_msg.proofs.Integers.{int_le-from}
 use Rattle.krb_judge.specs.Paths.{field_path}
-use Rattle.krb_json.specs.declared.wrong.Wrong.TheVariants.{Outside, NotAnInteger}
-use Rattle.krb_json.specs.Faults.{Fault, fault, ◌>>=◌}
-use Rattle.krb_json.specs.Spelling.{shown_octet, shown, octet_of, unshown, unshown_after_backslash, is_time_from, is_integer, bit_count}
+use Rattle.krb_json.specs.Spelling.{shown, octet_of, unshown, is_time_from, is_integer, bit_count}
 use Rattle.krb_json.specs.Objects.{bits_json}
-use Rattle.krb_json.specs.Spelled.{number_spelled, integer_spelled, text_spelled, octets_spelled, time_spelled, bits_spelled, bits_from, decoded, unless}
+use Rattle.krb_json.specs.Spelled.{number_spelled, integer_spelled, text_spelled, octets_spelled, time_spelled, bits_spelled, bits_from, decoded}
 
 -- ---- numbers
 is_mark : ℕ → Bool

@@ -1,17 +1,15 @@
 -- The laws of the texts and of the lines of messages.
-use Rattle.std.proofs.Common.{◌≡◌, ℕ, suc, ◌+◌, ◌^◌, ◌<◌, ◌≤◌, max, true, false, Bool, List, [], ◌∷◌, length, map, Option, Some, None, option_map, Result, Ok, Err, refl, sym, ◌∙◌, ap, ap₂, subst, arith}
+use Rattle.std.proofs.Common.{◌≡◌, ℕ, ◌+◌, ◌^◌, ◌<◌, ◌≤◌, max, true, false, Bool, List, [], ◌∷◌, length, map, Option, Some, None, option_map, Result, Ok, Err, refl, sym, ◌∙◌, ap, ap₂, subst, arith}
 use Rattle.std.specs.Prelude.{nat_lt, nat_le}
 use Rattle.std.specs.Option.{option_and_then}
 use Rattle.std.specs.Result.{result_unwrap_or}
 use Rattle.std.specs.Str.{is_utf8}
-use Rattle.std.specs.List.{flat_map, AllByRecursion}
 use Rattle.std.proofs.lemmas.Bool.{le-ltb, ltb-false, leb-true}
 use Rattle.std.proofs.lemmas.Str.{is_utf8-from_IsUtf8, IsUtf8-from_ascii}
 use Rattle.json.specs.Json.{Json, object, no_members, member, document, max_depth}
 use Rattle.json.specs.Find.{as_object}
 use Rattle.json.specs.Value.{items_of}
-use Rattle.json.specs.Strict.{HasUniqueKeys}
-use Rattle.json.specs.Tree.{json_tokens, depth, HasNumbers}
+use Rattle.json.specs.Tree.{json_tokens}
 use Rattle.json.proofs.Printed.Trees.{document-print}
 use Rattle.krb_der.specs.Octets.{AreOctets}
 use Rattle.krb_der.specs.declared.profile.Profile.{Profile}
@@ -21,10 +19,10 @@ use Rattle.krb_msg.specs.Shape as shape
 use Rattle.krb_msg.specs.Laws.{AreMessage}
 use Rattle.krb_msg.specs.Grammar.{messages}
 use Rattle.krb_msg.specs.Judgement.{judgement}
-use Rattle.krb_msg.specs.Profiles.{narrowed, narrowed_fields, narrowed_value, narrowed_values, profile_term}
+use Rattle.krb_msg.specs.Profiles.{narrowed, narrowed_fields, narrowed_value, narrowed_values}
 use Rattle.krb_msg.specs.ValueOfDer.{message_of_der}
 use Rattle.krb_msg.specs.Term.{Term, Fields, Integer, Text, Octets, Time, Bits, Sequence, SequenceOf, Tagged, Application, End, Required, Optional, Value, Values, Fits, der}
-use Rattle.krb_msg.specs.Views.{kind_of, kind_name, kind_term, kind_term_in, message_value, message_value_in, message_of, message_der, IsInProfile}
+use Rattle.krb_msg.specs.Views.{kind_of, kind_name, kind_term, kind_term_in, message_value, message_value_in, message_der, IsInProfile}
 use Rattle.krb_msg.specs.declared.message.Kind.{Kind}
 use Rattle.krb_msg.specs.declared.message.Kind.TheVariants as kind
 use Rattle.krb_msg.specs.declared.message.Message.{Message}
@@ -33,11 +31,11 @@ use Rattle.krb_msg.proofs.Grammars.{one_of_is_whole, one_of_is_octets}
 use Rattle.krb_msg.proofs.MessageOfDer.{message_of_der_is_message}
 use Rattle.krb_judge.specs.FieldNames.{field_at, names_of_kind}
 use Rattle.krb_judge.specs.declared.locating.names.Names.{Names}
-use Rattle.krb_json.specs.Faults.{Fault, ◌>>=◌}
+use Rattle.krb_json.specs.Faults.{Fault}
 use Rattle.krb_json.specs.Objects.{json, members_of, member_if, message_json}
-use Rattle.krb_json.specs.Spelled.{spelled, unless}
+use Rattle.krb_json.specs.Spelled.{spelled}
 use Rattle.krb_json.specs.Lines.{message_text, line_spells, value_of_line, value_spells, member_spells, named_spells, message_spelled, in_line, kind_named, sole_member, LineFault}
-use Rattle.krb_json.specs.Laws.{is_named, are_named, IsText, IsSpelled}
+use Rattle.krb_json.specs.Laws.{is_named, IsText, IsSpelled}
 use Rattle.krb_json.proofs.Back.{term-back}
 use Rattle.krb_json.proofs.Fit.{term-fits, steps, passed, same_ok}
 use Rattle.krb_json.proofs.Printable.{IsPrintable, printable-ascii, printable-kind, printable-print}

@@ -1,13 +1,12 @@
 -- The JSON of a value can be written and read back: its numbers are numbers, it nests no deeper than its term, its names are unique, and it is printable.
-use Rattle.std.proofs.Common.{◌≡◌, ℕ, ℤ, pos, negsuc, zero, suc, ◌+◌, ◌*◌, ◌-◌, ◌^◌, ◌<◌, ◌≤◌, max, true, false, ◌&&◌, Bool, List, [], ◌∷◌, ◌++◌, length, length-append, get_or, map, Option, Some, None, option_map, codes, decimal, refl, sym, ◌∙◌, ap, arith}
-use Rattle.std.specs.Prelude.{◌≢◌, AllPairs}
+use Rattle.std.proofs.Common.{◌≡◌, ℕ, zero, suc, ◌+◌, ◌^◌, ◌<◌, ◌≤◌, max, true, false, List, [], ◌∷◌, ◌++◌, length, length-append, get_or, map, Option, Some, None, option_map, codes, decimal, sym, ◌∙◌, ap, arith}
+use Rattle.std.specs.Prelude.{◌≢◌}
 use Rattle.std.proofs.lemmas.Bool.{true≢false}
 use Rattle.std.proofs.lemmas.Slice.Eq.{bytes_eq-Decides}
 use Rattle.std.specs.Str.{bytes_eq}
 use Rattle.std.specs.List.{AllByRecursion, flat_map}
 use Rattle.hex.specs.Hex.{encode_lower}
-use Rattle.json.specs.Token.{Token}
-use Rattle.json.specs.Json.{Json, string, number as number_json, array, object, Items, no_items, item, Members, no_members, member}
+use Rattle.json.specs.Json.{Json, string, number as number_json, array, object, Items, Members, no_members, member}
 use Rattle.json.specs.Value.{items_of}
 use Rattle.json.specs.Tree.{json_tokens, items_tokens, members_tokens, depth, items_depth, members_depth, HasNumbers, ItemsHaveNumbers, MembersHaveNumbers}
 use Rattle.json.specs.Strict.{keys, AreDistinct, HasUniqueKeys, ItemsHaveUniqueKeys, MembersHaveUniqueKeys}
@@ -20,7 +19,7 @@ use Rattle.krb_judge.specs.declared.locating.names.Names.{Names}
 use Rattle.krb_json.specs.Spelling.{bit_count}
 use Rattle.krb_json.specs.Objects.{json, members_of, member_if, bits_json}
 use Rattle.krb_json.specs.Laws.{is_named, are_named}
-use Rattle.krb_json.proofs.Names.{name, IsNew}
+use Rattle.krb_json.proofs.Names.{name}
 use Rattle.krb_json.proofs.Back.{First, first, IsShort, item-longer, magnitude}
 use Rattle.krb_json.proofs.Printable.{IsPrintable, ShowsPrintable, printable-decimal, printable-signed, printable-hex, printable-shown, printable-time, printable-name}
 

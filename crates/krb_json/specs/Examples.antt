@@ -1,5 +1,5 @@
 -- Worked examples, computed: the octets of a message in hexadecimal, and its text; lines, and what they spell or what is wrong with them.
-use Rattle.std.specs.Prelude.{ℕ, ◌≡◌, List, ◌++◌, Option, Some, None, Result, Ok, Err, codes, refl}
+use Rattle.std.specs.Prelude.{ℕ, ◌≡◌, List, ◌++◌, Some, None, Result, Ok, Err, codes, refl}
 use Rattle.std.specs.Fmt.{digits}
 use Rattle.hex.specs.Hex.{encode_with, decode_pairs}
 use Rattle.json.specs.Json.{Json, null, number, string, array, object, no_items, item, no_members, member}

@@ -1,5 +1,5 @@
 -- The value of the grammar that a JSON value spells, or its first fault. Ranges, greatest octets, least numbers of bits and empty lists are those of the term.
-use Rattle.std.specs.Prelude.{ℕ, ℤ, pos, negsuc, zero, suc, ◌+◌, ◌-◌, ◌*◌, ◌%◌, ◌^◌, ◌==◌, ◌&&◌, ◌||◌, not, nat_lt, int_le, if◌then◌else◌, Bool, true, false, List, [], ◌∷◌, length, Option, Some, None, Result, Ok, Err, codes}
+use Rattle.std.specs.Prelude.{ℕ, ℤ, pos, negsuc, ◌+◌, ◌-◌, ◌*◌, ◌%◌, ◌^◌, ◌==◌, ◌&&◌, ◌||◌, not, nat_lt, int_le, Bool, true, false, List, [], ◌∷◌, length, Option, Some, None, Result, Ok, Err, codes}
 use Rattle.std.specs.List.{list_any}
 use Rattle.std.specs.Str.{bytes_eq}
 use Rattle.std.specs.Str.Parse.{signed_digits_value}
@@ -9,7 +9,7 @@ use Rattle.json.specs.Json.{Json, Items, no_items, item, Members, no_members, me
 use Rattle.json.specs.Find.{get_member, as_str, as_number, as_array, as_object}
 use Rattle.krb_der.specs.Octets.{last_or_zero}
 use Rattle.krb_msg.specs.Term.{Term, Fields, Integer, Text, Octets, Time, Bits, Sequence, SequenceOf, Tagged, Application, End, Required, Optional, Value, Values}
-use Rattle.krb_judge.specs.FieldNames.{Named, fields_of, field_at}
+use Rattle.krb_judge.specs.FieldNames.{fields_of, field_at}
 use Rattle.krb_judge.specs.Paths.{field_path, element_path}
 use Rattle.krb_judge.specs.declared.locating.names.Names.{Names}
 use Rattle.krb_json.specs.declared.wrong.Wrong.{Wrong}

@@ -1,8 +1,8 @@
 -- The first item of octets, by its head.
-use Rattle.std.proofs.Common.{◌≡◌, ℕ, ◌+◌, ◌^◌, ◌<◌, ◌≤◌, List, [], ◌∷◌, ◌++◌, length, length-append, get_or, drop, append_assoc, refl, sym, ◌∙◌, ap, ap₂, arith}
+use Rattle.std.proofs.Common.{◌≡◌, ℕ, ◌+◌, ◌^◌, ◌<◌, List, ◌∷◌, ◌++◌, length, length-append, get_or, drop, append_assoc, sym, ◌∙◌, ap, ap₂, arith}
 use Rattle.std.proofs.Math.Seq.{drop-append_seam}
 use Rattle.krb_der.specs.Octets.{AreOctets, item, length_octets}
-use Rattle.krb_msg.specs.Judgement.{Head, Got, head}
+use Rattle.krb_msg.specs.Judgement.{Got, head}
 use Rattle.krb_msg.proofs.Heads.{IsHead, IsHead-head, head-length_octets}
 
 -- octets of which the head has a size are an item and what follows it

@@ -1,5 +1,5 @@
 -- What is appended for octets that are contents of a value, items, or fields: the tokens of its JSON.
-use Rattle.std.specs.Prelude.{ℕ, ◌≡◌, List, [], ◌∷◌, ◌++◌, map}
+use Rattle.std.specs.Prelude.{ℕ, ◌≡◌, List, ◌∷◌, ◌++◌, map}
 use Rattle.std.specs.List.{AllByRecursion, flat_map}
 use Rattle.json.specs.Token.{Token}
 use Rattle.json.specs.Tree.{json_tokens, items_tokens, members_tokens}

@@ -9,7 +9,6 @@ use Rattle.krb_msg.specs.declared.message.Kind.{Kind}
 use Rattle.krb_msg.specs.declared.message.Kind.TheVariants as kind
 use Rattle.krb_judge.specs.FieldNames.{Named, field_at}
 use Rattle.krb_judge.specs.Paths.{within, first_item, item_path, contents_path, fields_path, field_path, element_path}
-use Rattle.krb_judge.specs.declared.locating.names.Field.{Field}
 use Rattle.krb_judge.specs.declared.locating.names.Names.{Names}
 use Rattle.krb_judge.specs.declared.locating.Item.{Item}
 use Rattle.krb_judge.specs.declared.locating.Rest.{Rest}

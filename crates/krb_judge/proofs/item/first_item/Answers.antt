@@ -1,4 +1,4 @@
-use Rattle.std.proofs.Common.{refl, sym, ap, ◌∙◌}
+use Rattle.std.proofs.Common.{sym, ap, ◌∙◌}
 use Rattle.krb_der.specs.inner.Numbers.{AreOctets-slice}
 use Rattle.krb_judge.specs.inner.Outcomes.{head_of}
 use Rattle.krb_judge.proofs.FirstItems.{item-from-head, head-of-item}
