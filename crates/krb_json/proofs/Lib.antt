@@ -6,3 +6,4 @@ mod Printable
 mod Texts
 mod Messages
 mod Walks
+mod Searches

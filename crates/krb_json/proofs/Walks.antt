@@ -48,7 +48,7 @@ on-ok-if (Ok done) f p = f p
 on-ok-if (Err error) f p = tt
 
 -- ---- scalars
-own-contents : (term : Term) (octets : List ℕ) (value : Value term) → AreContents term octets value → octets ≡ contents term value
+pub own-contents : (term : Term) (octets : List ℕ) (value : Value term) → AreContents term octets value → octets ≡ contents term value
 own-contents term octets value a = same_contents (tag_of term) octets (contents term value) (a.form ∙ der_is term value)
 
 module _ (names : Names) (octets : List ℕ) (old new : List Token) where
@@ -96,7 +96,7 @@ module _ (names : Names) (octets : List ℕ) (old new : List Token) where
   puts-sequence slots term begun f begins put values a = absurd f
 
   -- the item in a tag
-  inside : (inner : Term) (own rest : List ℕ) (value : Value inner) → octets ≡ item (tag_of inner) own ++ rest → Fits inner value → octets ≡ der inner value → AreContents inner own value
+  pub inside : (inner : Term) (own rest : List ℕ) (value : Value inner) → octets ≡ item (tag_of inner) own ++ rest → Fits inner value → octets ≡ der inner value → AreContents inner own value
   inside inner own rest value e fits is =
       let p = same_from_item (tag_of inner) (tag_of inner) own (contents inner value) rest [] (sym e ∙ is ∙ der_is inner value ∙ sym (append-nil (item (tag_of inner) (contents inner value)))) in
       record { fits = fits; form = ap (item (tag_of inner)) p.1 ∙ sym (der_is inner value) }
@@ -123,12 +123,12 @@ module _ (names : Names) (octets : List ℕ) (old new : List Token) where
 
 -- ---- fields
 -- an item with which octets begin, as the DER of a value
-own-item : (term : Term) (octets own rest more : List ℕ) (value : Value term) → octets ≡ item (tag_of term) own ++ rest → Fits term value → octets ≡ der term value ++ more → AreContents term own value × (rest ≡ more)
+pub own-item : (term : Term) (octets own rest more : List ℕ) (value : Value term) → octets ≡ item (tag_of term) own ++ rest → Fits term value → octets ≡ der term value ++ more → AreContents term own value × (rest ≡ more)
 own-item term octets own rest more value e fits is =
     let p = same_from_item (tag_of term) (tag_of term) own (contents term value) rest more (sym e ∙ is ∙ ap (λ l. l ++ more) (der_is term value)) in
     (record { fits = fits; form = ap (item (tag_of term)) p.1 ∙ sym (der_is term value) }, p.2)
 
-none-begins : (term : Term) (octets more : List ℕ) (value : Value term) → HasNoItem (tag_of term) octets → octets ≡ der term value ++ more → ⊥
+pub none-begins : (term : Term) (octets more : List ℕ) (value : Value term) → HasNoItem (tag_of term) octets → octets ≡ der term value ++ more → ⊥
 none-begins term octets more value none is = none (contents term value) more (is ∙ ap (λ l. l ++ more) (der_is term value))
 
 -- a key, a value and what follows
@@ -176,7 +176,7 @@ module _ (node : ℕ) (slots : List Slot) (names : Names) (index : ℕ) (octets 
       by (Some value) values a = absurd (none-begins (term_at node) octets (der_of_fields (fields_from nodes slots) values) value none a.form)
 
 -- by either slot
-apart-of : (node : ℕ) (fields : Fields) → are_unambiguous (Optional (term_at node) fields) ≡ true → not (may_begin (tag_of (term_at node)) fields) ≡ true
+pub apart-of : (node : ℕ) (fields : Fields) → are_unambiguous (Optional (term_at node) fields) ≡ true → not (may_begin (tag_of (term_at node)) fields) ≡ true
 apart-of node fields unambiguous = (and_parts (not (may_begin (tag_of (term_at node)) fields)) _ unambiguous).0
 
 pub puts-member : (field : Slot) (slots : List Slot) (names : Names) (index : ℕ) (octets own rest : List ℕ) (t0 t1 t2 t3 : List Token) → are_unambiguous (with_slot nodes field (fields_from nodes slots)) ≡ true → Member (slot_node field) slots names index octets own rest t0 t1 t2 t3 → PutsFields (with_slot nodes field (fields_from nodes slots)) names index octets t0 t3
@@ -255,7 +255,7 @@ bits-of octets first others old new e put unused bits is =
     put ∙ ap₂ (λ n l. old ++ json_tokens (bits_json (n, l))) p.0 p.1
 
 -- ---- a field of slots
-slots-split : (slots : List Slot) (none : Slot) → 1 ≤ length slots → slots ≡ get_or slots 0 none ∷ take (length slots - 1) (drop 1 slots)
+pub slots-split : (slots : List Slot) (none : Slot) → 1 ≤ length slots → slots ≡ get_or slots 0 none ∷ take (length slots - 1) (drop 1 slots)
 slots-split [] none some = absurd (omega arith)
 slots-split (first ∷ others) none some = ap (λ l. first ∷ l) (sym (take_all (length (first ∷ others) - 1) others (omega arith)))
 

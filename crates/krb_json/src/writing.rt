@@ -60,7 +60,7 @@ fn put_message(alloc: Global, out: &mut Writer, kind: Kind, octets: &[u8]) -> Re
 }
 
 /// Returns the node of the messages of a kind.
-fn node_of_kind(kind: Kind) -> u16
+pub(crate) fn node_of_kind(kind: Kind) -> u16
     ensures known { IsNode result }
     ensures term { term_at result ≡ kind_term kind }
 {
@@ -280,7 +280,7 @@ fn put_fields(
 }
 
 /// Returns the node of a field.
-fn node_of(slot: Slot) -> u16
+pub(crate) fn node_of(slot: Slot) -> u16
     requires { IsSlot slot }
     ensures known { IsNode result }
     ensures node { result ≡ slot_node slot }
