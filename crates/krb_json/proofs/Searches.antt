@@ -1,29 +1,28 @@
 -- What is found in octets is the path of what is not sealed in their value.
-use Rattle.std.proofs.Common.{◌≡◌, ℕ, ℤ, pos, negsuc, zero, suc, ◌+◌, ◌-◌, ◌^◌, ◌<◌, ◌≤◌, true, false, ◌&&◌, ◌==◌, not, Bool, if◌then◌else◌, List, [], ◌∷◌, ◌++◌, length, take, drop, get_or, append_assoc, append-nil, map, Option, Some, None, option_map, option_and_then, Result, Ok, Err, codes, decimal, refl, sym, ◌∙◌, ap, ap₂, subst, arith}
+use Rattle.std.proofs.Common.{◌≡◌, ℕ, ℤ, pos, negsuc, zero, suc, ◌+◌, ◌-◌, ◌≤◌, true, false, ◌&&◌, ◌==◌, not, Bool, if◌then◌else◌, List, [], ◌∷◌, ◌++◌, length, take, drop, get_or, append_assoc, append-nil, Option, Some, None, Result, Ok, Err, codes, decimal, refl, sym, ◌∙◌, ap, ap₂, subst, arith}
 use Rattle.std.specs.Prelude.{IfOk}
-use Rattle.std.proofs.lemmas.Bool.{and_parts, true≢false, not-true, eqb-true, ne_eqb}
+use Rattle.std.proofs.lemmas.Bool.{true≢false, not-true, eqb-true, ne_eqb}
 use Rattle.std.specs.Borrow.{Bor}
 use Rattle.std.specs.List.{AllByRecursion, flat_map}
 use Rattle.krb_der.specs.Octets.{item, integer_octets, integer_value}
 use Rattle.krb_der.specs.inner.Numbers.{integer_value-integer_octets}
-use Rattle.krb_msg.specs.Shape.{is_unambiguous, are_unambiguous, may_begin}
+use Rattle.krb_msg.specs.Shape.{are_unambiguous, may_begin}
 use Rattle.krb_msg.specs.Nodes.{nodes, term_at}
 use Rattle.krb_msg.specs.Table.{IsFormOf, fields_from, with_slot}
 use Rattle.krb_msg.specs.declared.grammar.Form.TheVariants as form
 use Rattle.krb_msg.specs.declared.grammar.Slot.{Slot}
 use Rattle.krb_msg.specs.declared.grammar.Slot.TheVariants as slot
-use Rattle.krb_msg.specs.Term.{Term, Fields, Integer, Text, Octets, Time, Bits, Sequence, SequenceOf, Tagged, Application, End, Required, Optional, Value, Values, Fits, AllFit, tag_of, der, der_of_fields}
-use Rattle.krb_msg.specs.Viewed.{AreContents, AreFields, HasNoItem}
+use Rattle.krb_msg.specs.Term.{Term, Integer, Text, Octets, Time, Bits, Sequence, SequenceOf, Tagged, Application, Required, Optional, Value, Values, Fits, AllFit, tag_of, der, der_of_fields}
+use Rattle.krb_msg.specs.Viewed.{AreFields, HasNoItem}
 use Rattle.krb_judge.specs.FieldNames.{Named, field_at, names_of_kind}
 use Rattle.krb_judge.specs.Paths.{field_path, element_path}
 use Rattle.krb_judge.specs.declared.locating.names.Names.{Names}
-use Rattle.krb_json.specs.Unsealed.{unsealed, unsealed_fields, unsealed_items, unsealed_in, is_zero, is_zero_number, begin_with_zero, is_encrypted_data, first_of}
+use Rattle.krb_json.specs.Unsealed.{unsealed, unsealed_fields, unsealed_items, unsealed_in, is_zero_number, begin_with_zero, is_encrypted_data, first_of}
 use Rattle.krb_json.specs.inner.Writing.{slot_node}
 use Rattle.krb_json.specs.inner.Searching.{after_path, Finds, FindsInFields, FindsInItems, FindsInMessage, IsZero, BeginWithZero, is_single_zero}
 use Rattle.krb_msg.specs.inner.Values.{may_begin_from_der}
 use Rattle.krb_msg.specs.Views.{kind_of, kind_name, kind_term, message_value, message_der}
 use Rattle.krb_msg.specs.declared.message.Kind.{Kind}
-use Rattle.krb_msg.specs.declared.message.Message.{Message}
 use Rattle.krb_json.proofs.Walks.{own-contents, own-item, none-begins, inside, slots-split, apart-of}
 
 -- ---- the number 0

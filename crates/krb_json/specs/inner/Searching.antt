@@ -1,5 +1,5 @@
 -- What is found of what is not sealed, in octets that are contents of a value, fields, or items: a path, after that of the value.
-use Rattle.std.specs.Prelude.{ℕ, ◌≡◌, ◌==◌, if◌then◌else◌, Bool, false, length, slice_index, List, ◌++◌, Option, Some, None, string_bytes}
+use Rattle.std.specs.Prelude.{ℕ, ◌≡◌, ◌==◌, if◌then◌else◌, Bool, false, length, slice_index, List, ◌++◌, Option}
 use Rattle.std.specs.Option.{option_map}
 use Rattle.std.specs.List.{AllByRecursion, flat_map}
 use Rattle.krb_der.specs.declared.profile.Profile.TheVariants.{Lenient}

@@ -1,7 +1,7 @@
-use Rattle.std.proofs.Common.{ℕ, List, ◌++◌, [], Some, None, option_map, false, refl, sym, ap, subst, ◌∙◌, arith}
+use Rattle.std.proofs.Common.{◌++◌, Some, None, option_map, sym, ap, subst, ◌∙◌, arith}
 use Rattle.std.specs.Prelude.{string_bytes}
 use Rattle.krb_der.specs.Octets.{item}
-use Rattle.krb_msg.specs.Nodes.{nodes, term_at}
+use Rattle.krb_msg.specs.Nodes.{term_at}
 use Rattle.krb_msg.specs.Viewed.{HasNoItem}
 use Rattle.krb_json.specs.inner.Searching.{Finds}
 use Rattle.krb_json.proofs.Searches.{if-ok, finds-here, finds-inside, finds-list, finds-tagged, finds-no_item, no-first, found-first, none-first, one-searched, one-found, none-left}

@@ -1,7 +1,6 @@
-use Rattle.std.proofs.Common.{ℕ, List, ◌++◌, [], Some, None, option_map, false, refl, sym, ap, subst, ◌∙◌, arith}
-use Rattle.std.specs.Prelude.{string_bytes}
+use Rattle.std.proofs.Common.{◌++◌, false, ap, subst, ◌∙◌}
 use Rattle.krb_der.specs.Octets.{item}
-use Rattle.krb_msg.specs.Nodes.{nodes, term_at}
+use Rattle.krb_msg.specs.Nodes.{term_at}
 use Rattle.krb_msg.specs.Viewed.{HasNoItem}
 use Rattle.krb_judge.specs.declared.locating.names.Names.TheVariants.{Basic}
 use Rattle.krb_json.proofs.Searches.{zero-integer, zero-tagged, zero-no_item}

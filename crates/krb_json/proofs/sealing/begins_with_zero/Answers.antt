@@ -1,7 +1,5 @@
-use Rattle.std.proofs.Common.{ℕ, List, ◌++◌, [], Some, None, option_map, false, refl, sym, ap, subst, ◌∙◌, arith}
-use Rattle.std.specs.Prelude.{string_bytes}
+use Rattle.std.proofs.Common.{◌++◌, false, ap, subst, ◌∙◌}
 use Rattle.krb_der.specs.Octets.{item}
-use Rattle.krb_msg.specs.Nodes.{nodes, term_at}
 use Rattle.krb_msg.specs.Viewed.{HasNoItem}
 use Rattle.krb_json.proofs.Searches.{zero-first, zero-none_first, optional-first}
 use Rattle.krb_json.proofs.sealing.begins_with_zero.Goals as goal
