@@ -10,7 +10,9 @@
 //! - [`judge`] returns what the first octets of a message decide: nothing yet, that it is whole, or
 //!   a refusal.
 //! - [`path`] returns the name of the field in which octets were refused, such as
-//!   `AS-REQ.req-body.nonce`.
+//!   `AS-REQ.req-body.nonce`. [`Names`] has the names of the fields of each type.
+//! - [`first_item`] returns the contents of an item with which octets begin, for a walk of octets
+//!   that were judged whole.
 //!
 //! Each call looks at its octets from the first one on: `krb_scan` judges octets as they come, and
 //! `krb_frame` the frames of a stream. No cipher is decrypted, and what a field means is not
