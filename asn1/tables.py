@@ -142,3 +142,14 @@ def field_names(module):
         line = f"fields_of {it.rust} = {' ∷ '.join(rows)} ∷ []"
         lines += (line if len(line) <= 140 else f"fields_of {it.rust} =\n{filled(rows)}") + "\n"
     return fill("FieldTables.antt", messages_of(module), Types=", ".join(it.rust for it in reached(module)), lines=lines)
+
+
+def all_kinds(module):
+    """krb_json/specs/AllKinds"""
+    return fill("AllKinds.antt", list=filled([f"kind.{message.rust}" for message in module.messages]))
+
+
+def kind_texts(module):
+    """krb_json/proofs/KindTexts"""
+    names = "\n".join(f"all-names names.{name} = refl" for name in ["Basic"] + [it.rust for it in reached(module)])
+    return fill("KindTexts.antt", messages_of(module), names=names)

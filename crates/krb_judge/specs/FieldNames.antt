@@ -3,7 +3,7 @@ use Rattle.std.specs.Prelude.{ℕ, ◌+◌, Bool, ◌&&◌, ◌==◌, [], length
 use Rattle.krb_msg.specs.Term.{Term, Fields, Sequence, SequenceOf, Tagged, Application, End, Required, Optional}
 use Rattle.krb_judge.specs.declared.locating.names.Names.{Names}
 use Rattle.krb_judge.specs.declared.locating.names.Names.TheVariants.{Basic}
-pub use Rattle.krb_judge.specs.Named.{Named}
+pub use Rattle.krb_judge.specs.Named.{Named, named}
 pub use Rattle.krb_judge.specs.FieldTables.{fields_of, names_of_kind}
 
 -- the field at an index, or one without a name

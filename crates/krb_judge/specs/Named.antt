@@ -1,6 +1,7 @@
 -- A field with its name.
 use Rattle.std.specs.Prelude.{ℕ, List, codes}
 use Prim.Native.String.{String}
+use Rattle.krb_judge.specs.declared.locating.field.Field.{Field}
 use Rattle.krb_judge.specs.declared.locating.names.Names.{Names}
 use Rattle.krb_judge.specs.declared.locating.names.Names.TheVariants.{Basic}
 
@@ -8,6 +9,10 @@ use Rattle.krb_judge.specs.declared.locating.names.Names.TheVariants.{Basic}
 pub record Named : Type 0 where
   pub name : List ℕ
   pub inside : Names
+
+-- a field of the code as one of these
+abbrev pub named : Field → Named
+named it = record { name = it.name.now; inside = it.inside }
 
 abbrev pub field : String → Names → Named
 field name inside = record { name = codes name; inside = inside }

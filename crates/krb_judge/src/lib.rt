@@ -10,7 +10,8 @@
 //! - [`judge`] returns what the first octets of a message decide: nothing yet, that it is whole, or
 //!   a refusal.
 //! - [`path`] returns the name of the field in which octets were refused, such as
-//!   `AS-REQ.req-body.nonce`.
+//!   `AS-REQ.req-body.nonce`. [`Names`] has the names of the fields of each type, and
+//!   [`message_node`] the row of the grammar's table that is a message's.
 //!
 //! Each call looks at its octets from the first one on: `krb_scan` judges octets as they come, and
 //! `krb_frame` the frames of a stream. No cipher is decrypted, and what a field means is not
@@ -27,7 +28,9 @@ mod parsing;
 
 pub use judging::{judge, judge_in};
 pub use krb_der::{Profile, Refusal, Verdict, Why};
-pub use locating::path;
+pub use locating::field::Field;
+pub use locating::names::Names;
+pub use locating::{message_node, path};
 pub use parsing::{
     ParseFault, parse, parse_in, parse_method_data, parse_ticket, parse_ticket_in, read_message,
     read_ticket,

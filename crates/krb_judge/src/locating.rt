@@ -3,9 +3,9 @@
 //! Each item that is whole is passed over, and then the first that is not is entered; so an octet
 //! is judged once for each SEQUENCE and SEQUENCE OF round it.
 
-mod field;
+pub(crate) mod field;
 mod kind_index;
-mod names;
+pub(crate) mod names;
 
 ghost use Rattle.std.specs.Prelude.{◌≡◌, ◌^◌, ◌<◌, ◌≤◌, ℕ, List, length, IfOk, IfSome, OnOk, string_bytes};
 ghost use Rattle.std.specs.List.{AllByRecursion};
@@ -117,7 +117,7 @@ pub fn path(alloc: Global, profile: Profile, n: u32, front: &[u8]) -> Result<Opt
 }
 
 /// Returns the node of the messages of a kind in a profile.
-fn message_node(profile: Profile, kind: Kind) -> u16
+pub fn message_node(profile: Profile, kind: Kind) -> u16
     ensures known { IsNode result }
     ensures term { term_at result ≡ kind_term_in profile kind }
 {

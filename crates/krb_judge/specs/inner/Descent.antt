@@ -7,7 +7,6 @@ use Rattle.krb_msg.specs.Term.{Term, Fields}
 use Rattle.krb_msg.specs.declared.grammar.Slot.{Slot}
 use Rattle.krb_judge.specs.FieldNames.{Named, field_at}
 use Rattle.krb_judge.specs.Paths.{within, first_item, item_path, contents_path, fields_path, field_path, element_path}
-use Rattle.krb_judge.specs.declared.locating.field.Field.{Field}
 use Rattle.krb_judge.specs.declared.locating.names.Names.{Names}
 use Rattle.krb_judge.specs.declared.locating.Item.{Item}
 use Rattle.krb_judge.specs.declared.locating.Rest.{Rest}
@@ -16,10 +15,6 @@ use Rattle.krb_judge.specs.declared.locating.Presence.TheVariants as presence
 use Rattle.krb_judge.specs.declared.locating.Fault.{Fault}
 use Rattle.krb_judge.specs.declared.locating.Fault.TheVariants as fault
 use Rattle.krb_judge.specs.declared.locating.Element.{Element}
-
--- a field of the code as one of the definitions
-abbrev pub named : Field → Named
-named it = record { name = it.name.now; inside = it.inside }
 
 pub record IsItem (item : Item) : Type 0 where
   pub known : IsNode item.node

@@ -1,8 +1,7 @@
 //! The names of fields (RFC 4120, appendix A). `asn1/generate` wrote this from `asn1/krb5.asn1`.
 
 ghost use Rattle.std.specs.Prelude.{◌≡◌, map};
-ghost use Rattle.krb_judge.specs.FieldNames.{fields_of, names_of_kind};
-ghost use Rattle.krb_judge.specs.inner.Descent.{named};
+ghost use Rattle.krb_judge.specs.FieldNames.{fields_of, named, names_of_kind};
 
 use crate::locating::field::Field;
 use krb_msg::Kind;
@@ -10,7 +9,7 @@ use krb_msg::Kind;
 /// The type of an item, by which the fields in it have their names. A tag has that of what is in
 /// it, and a SEQUENCE OF that of its items.
 #[derive(Clone, Copy)]
-pub(crate) enum Names {
+pub enum Names {
     /// A type that has no fields.
     Basic,
     PrincipalName,
@@ -123,7 +122,7 @@ static KRB_ERROR: [Field; 13] = fields![
 
 impl Names {
     /// Returns those of a message of a kind.
-    pub(crate) fn of_kind(kind: Kind) -> Names
+    pub fn of_kind(kind: Kind) -> Names
         ensures { result ≡ names_of_kind kind }
     {
         match kind {
@@ -139,7 +138,7 @@ impl Names {
     }
 
     /// Returns the fields of the type, in order.
-    pub(crate) fn fields(self) -> &'static [Field]
+    pub fn fields(self) -> &'static [Field]
         ensures { map named result.now ≡ fields_of self }
     {
         match self {

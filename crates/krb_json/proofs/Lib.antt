@@ -1,0 +1,10 @@
+mod Names
+mod Leaves
+mod Back
+mod Fit
+mod KindTexts
+mod Printable
+mod Texts
+mod Messages
+mod Walks
+mod Searches

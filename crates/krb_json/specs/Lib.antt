@@ -1,0 +1,10 @@
+pub mod Spelling
+pub mod Objects
+pub mod Faults
+pub mod Spelled
+pub mod Unsealed
+pub mod AllKinds
+pub mod Lines
+pub mod Laws
+pub mod Examples
+pub mod inner

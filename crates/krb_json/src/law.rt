@@ -1,0 +1,38 @@
+//! The laws of the JSON of messages, each the contract of a function that does nothing.
+
+ghost use Rattle.krb_json.specs.Laws.{LinesSpellMessages, MessagesAreNamed, SpelledFits, TextsAreJson, TextsComeBack, TextsDiffer, ValuesComeBack};
+
+/// Each field of each message has a name of its own.
+pub fn messages_are_named()
+    ensures { MessagesAreNamed }
+{}
+
+/// Each value is spelled by its JSON.
+pub fn values_come_back()
+    ensures { ValuesComeBack }
+{}
+
+/// What a JSON value spells is a value of the grammar.
+pub fn spelled_fits()
+    ensures { SpelledFits }
+{}
+
+/// The text of a message is its JSON, of printable ASCII alone, and no object has a name twice.
+pub fn texts_are_json()
+    ensures { TextsAreJson }
+{}
+
+/// Each message is spelled by its text.
+pub fn texts_come_back()
+    ensures { TextsComeBack }
+{}
+
+/// Different messages have different texts.
+pub fn texts_differ()
+    ensures { TextsDiffer }
+{}
+
+/// What a line spells is a message of the profile, of no more octets than the limit.
+pub fn lines_spell_messages()
+    ensures { LinesSpellMessages }
+{}

@@ -1,0 +1,21 @@
+//! Kerberos V5 messages (RFC 4120) as JSON (RFC 8259), in the manner of ITU-T X.697: an object of
+//! one member for each message, whose members have the names of RFC 4120, appendix A.
+//!
+//! - [`put_text`] appends the JSON of a message to octets, from its DER. The text determines the
+//!   message wholly, and so has its sealed octets, too.
+//! - [`unsealed_path`] returns where a message has an EncryptedData of encryption type 0, which
+//!   seals nothing. Look there before you show a text: a KRB-CRED may have session keys in it.
+//!
+//! No cipher is opened, and nothing that is octets for RFC 4120 is looked into. `specs/Objects` has
+//! the JSON of a value, `specs/Spelled` the value that a JSON value spells, or what is wrong with
+//! it ([`Wrong`]), and [`law`] that these belong together; no call reads JSON yet.
+#![tactic(auto)]
+
+pub mod law;
+mod sealing;
+mod writing;
+mod wrong;
+
+pub use sealing::unsealed_path;
+pub use writing::put_text;
+pub use wrong::Wrong;
