@@ -1,12 +1,12 @@
 -- The laws of the texts and of the lines of messages.
 use Rattle.std.proofs.Common.{◌≡◌, ℕ, ◌+◌, ◌^◌, ◌<◌, ◌≤◌, max, true, false, Bool, List, [], ◌∷◌, length, map, Option, Some, None, option_map, Result, Ok, Err, refl, sym, ◌∙◌, ap, ap₂, subst, arith}
-use Rattle.std.specs.Prelude.{nat_lt, nat_le}
+use Rattle.std.specs.Prelude.{nat_lt}
 use Rattle.std.specs.Option.{option_and_then}
 use Rattle.std.specs.Result.{result_unwrap_or}
 use Rattle.std.specs.Str.{is_utf8}
 use Rattle.std.proofs.lemmas.Bool.{le-ltb, ltb-false, leb-true}
 use Rattle.std.proofs.lemmas.Str.{is_utf8-from_IsUtf8, IsUtf8-from_ascii}
-use Rattle.json.specs.Json.{Json, object, no_members, member, document, max_depth}
+use Rattle.json.specs.Json.{Json, object, no_members, member, document}
 use Rattle.json.specs.Find.{as_object}
 use Rattle.json.specs.Value.{items_of}
 use Rattle.json.specs.Tree.{json_tokens}
@@ -36,7 +36,7 @@ use Rattle.krb_json.specs.Faults.{Fault}
 use Rattle.krb_json.specs.Objects.{json, members_of, member_if, message_json}
 use Rattle.krb_json.specs.Spelled.{spelled}
 use Rattle.krb_json.specs.Lines.{message_text, line_spells, value_of_line, value_spells, member_spells, named_spells, message_spelled, in_line, kind_named, sole_member, LineFault}
-use Rattle.krb_json.specs.Laws.{is_named, IsText, IsSpelled}
+use Rattle.krb_json.specs.Laws.{IsText, IsSpelled}
 use Rattle.krb_json.proofs.Back.{term-back}
 use Rattle.krb_json.proofs.KindTexts.{named, kind-back, shallow, depth-in}
 use Rattle.krb_json.proofs.Fit.{term-fits, steps, passed, same_ok}

@@ -10,7 +10,8 @@
 //! ([`view_message_in`] by a profile): a [`MessageView`] has the same fields as plain numbers,
 //! borrowed octets and lists ([`ItemsView`], walked by [`next_item`]). [`MessageView::to_message`]
 //! copies it out as a `Message`. [`view_whole`] views an item of any type alone (the trait
-//! [`View`]), such as a [`Ticket`], and [`FromView`] copies it.
+//! [`View`]), such as a [`Ticket`], and [`FromView`] copies it. [`first_item`] finds an item in
+//! octets that were judged.
 //!
 //! [`notes_of`], and [`notes_of_view`] of a view, return what is unusual in a message, and
 //! [`is_strict`] whether it is in the strict profile, too. [`grammar`] is the table by which octets

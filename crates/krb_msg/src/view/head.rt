@@ -68,7 +68,7 @@ fn any_item(tag: u8, octets: &[u8]) -> Option<(&[u8], &[u8])>
 /// Returns the contents of the item in a field with which octets begin, if both have their tags,
 /// and what follows the field.
 #[inline(always)]
-pub fn first_field(outer: u8, tag: u8, octets: &[u8]) -> Option<(&[u8], &[u8])>
+pub(crate) fn first_field(outer: u8, tag: u8, octets: &[u8]) -> Option<(&[u8], &[u8])>
     requires { length octets.now < 2 ^ 31 }
     ensures { MatchOption result (HasNoField outer tag octets.now) (λ (contents, rest). octets.now ≡ item outer (item tag contents.now) ++ rest.now) }
 {
@@ -187,7 +187,7 @@ fn find_length(first: u8, octets: &[u8]) -> Option<(usize, &[u8])>
 
 /// Returns the contents of the item that octets are, if it has a tag.
 #[inline(always)]
-pub fn only_item(tag: u8, octets: &[u8]) -> Option<&[u8]>
+pub(crate) fn only_item(tag: u8, octets: &[u8]) -> Option<&[u8]>
     requires { length octets.now < 2 ^ 31 }
     ensures { MatchOption result (IsNoItem tag octets.now) (λ contents. octets.now ≡ item tag contents.now) }
 {
