@@ -8,7 +8,7 @@ use Rattle.krb_msg.specs.Grammar.{messages}
 use Rattle.krb_msg.specs.Term.{Term, Integer, Text, Octets, Time, Bits, Sequence, SequenceOf, Tagged, Application}
 use Rattle.krb_msg.specs.Judgement.{Head, Partial, Refused, Got, Open as OpenOutcome, head, has_size, bits_contents}
 use Rattle.krb_scan.specs.Scan as scan
-use Rattle.krb_scan.specs.Scan.{Container, Mark as Marked, State, Tip, Between, InHead, InLeaf, Answer, Ongoing, limit, leaf_outcome}
+use Rattle.krb_scan.specs.Scan.{Container, Mark as Marked, Tip, Between, InHead, InLeaf, Ongoing, limit, leaf_outcome}
 use Rattle.krb_scan.specs.inner.Machine.{step, step_at, go_on}
 use Rattle.krb_scan.specs.inner.Outcomes.{HeadIs, HeadEnds, IsShort, LeafReads}
 use Rattle.krb_msg.specs.Nodes.{term_at}

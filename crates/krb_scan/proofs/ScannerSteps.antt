@@ -11,9 +11,9 @@ use Rattle.krb_der.specs.declared.why.Why.{Why}
 use Rattle.krb_msg.specs.Grammar.{messages}
 use Rattle.krb_msg.specs.Judgement.{judgement, verdict_of}
 use Rattle.krb_scan.specs.Scan as scan
-use Rattle.krb_scan.specs.Scan.{Mark as Marked, State, Tip, Answer, Ongoing, Refusing, Whole, OneOf, mark_of, marks_of, container_of, open_lengths, lengths_at, marks_at, scanned, scanned_at as taken_at_tip}
+use Rattle.krb_scan.specs.Scan.{State, Tip, Answer, Ongoing, Refusing, Whole, OneOf, container_of, open_lengths, lengths_at, scanned}
 use Rattle.krb_scan.specs.inner.Machine.{step, outcome_of, go_on, initial}
-use Rattle.krb_scan.specs.State.{AreMarks, AreOpen, AreContainers, TipIs, open_lengths_of}
+use Rattle.krb_scan.specs.State.{AreOpen, AreContainers, TipIs, open_lengths_of}
 use Rattle.krb_scan.specs.Expectations.{IsKnown, expected_of}
 use Rattle.krb_scan.specs.inner.Paths.{IsPathOf, HasState, IsUnchanged, IsStep, IsReached, Becomes}
 use Rattle.krb_scan.specs.State as kept
