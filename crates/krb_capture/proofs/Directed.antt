@@ -2,7 +2,7 @@
 use Rattle.std.proofs.Common.{◌≡◌, ℕ, ◌^◌, ◌<◌, ◌≤◌, ◌⊎◌, inl, inr, Bool, true, false, List, [], ◌∷◌, ◌++◌, length, drop, Option, Some, None, refl, sym, ◌∙◌, ap, ap₂, append_assoc, append-nil}
 use Rattle.std.proofs.Math.ListN.{drop_of_length-le}
 use Rattle.krb_packet.specs.declared.contents.Segment.{Segment}
-use Rattle.krb_flow.specs.Arrivals.{AllCaptured, NoneEnds, AreSegmentsOf}
+use Rattle.krb_flow.specs.Arrivals.{AllCaptured, AreSegmentsOf}
 use Rattle.krb_flow.specs.Directions.{Outcome, ending, first_number, step}
 use Rattle.krb_flow.specs.Laws.{Piece, IsCaptured, segments_of}
 use Rattle.krb_flow.specs.Progress.{Progress}
@@ -12,7 +12,8 @@ use Rattle.krb_flow.specs.declared.direction.State.{State}
 use Rattle.krb_flow.specs.declared.direction.State.TheVariants.{Fresh, Open, Ended}
 use Rattle.krb_flow.specs.declared.stream.End.{End}
 use Rattle.krb_flow.specs.declared.stream.End.TheVariants.{Complete}
-use Rattle.krb_flow.proofs.Arriving.{Holds, Comes, Goes, Ends, outcome, all_taken, is_complete, comes_next, comes_first, passes_over}
+use Rattle.krb_flow.specs.declared.had.Had.{Had}
+use Rattle.krb_flow.proofs.Arriving.{Holds, HadAll, Comes, Goes, Ends, outcome, all_taken, is_complete, comes_next, comes_first, passes_over, still_all}
 use Rattle.krb_capture.specs.Found.{Found}
 use Rattle.krb_capture.specs.Laws.{RecordsAreOfTheStream, direction_found}
 use Rattle.krb_capture.specs.Sending.{Sent, after_segment, beginning_found, end_if, nothing_sent, outcome_found, segment_found, stream_at}
@@ -52,16 +53,11 @@ module _ (limit : ℕ) (flow : Flow) (service : Service) where
     found_after segments = ap₂ (λ (found : List Found) (sent : Sent). found ++ direction_found limit sent segments) with_segment sent_after
 
   -- after the end
-  plain : (b : Bool) → (b ≡ true → ⊥) → b ≡ false
-  plain true never = absurd (never refl)
-  plain false never = refl
-
-  none_after : (stream : List ℕ) (first : ℕ) (before pieces : List Piece) (held : List ℕ) → AreSegmentsOf stream first before pieces → (NoneEnds before → ⊥) → direction_found limit (sent_at Ended held) (segments_of pieces) ≡ []
-  none_after stream first before [] held of ended = refl
-  none_after stream first before (piece ∷ pieces) held of ended =
-      let no_syn : piece.1.syn ≡ false = plain piece.1.syn (λ syn. ended (of.0.syn syn).1) in
-      found_after Ended Ended held held [] None None piece.1 (passes_over piece.1 no_syn) refl refl (segments_of pieces)
-      ∙ ap₂ (λ (found rest : List Found). (found ++ []) ++ rest) (found_with-none service limit held) (none_after stream first (piece ∷ before) pieces (held ++ []) of.1 (λ none. ended none.2))
+  none_after : (stream : List ℕ) (first : ℕ) (before pieces : List Piece) (had : Had) (held : List ℕ) → HadAll stream first before had → AreSegmentsOf stream first before pieces → direction_found limit (sent_at (Ended had) held) (segments_of pieces) ≡ []
+  none_after stream first before [] had held all of = refl
+  none_after stream first before (piece ∷ pieces) had held all of =
+      found_after (Ended had) (Ended had) held held [] None None piece.1 (passes_over stream first before had all piece of.0) refl refl (segments_of pieces)
+      ∙ ap₂ (λ (found rest : List Found). (found ++ []) ++ rest) (found_with-none service limit held) (none_after stream first (piece ∷ before) pieces had (held ++ []) (still_all stream first before had all piece of.0) of.1)
 
   -- ---- of a stream
   module _ (stream : List ℕ) (short : length stream < 2 ^ 61) (first : ℕ) where
@@ -105,9 +101,9 @@ module _ (limit : ℕ) (flow : Flow) (service : Service) where
             found_after state (Open next) held taken octets how None piece.1 (is ∙ e) none at (segments_of pieces)
             ∙ goes taken (drop due stream) octets parts (drop next.expected stream) (direction_found limit (sent_at (Open next) (taken ++ octets)) (segments_of pieces)) prefix
             (later next (taken ++ octets) more (parts_after taken (drop due stream) octets (drop next.expected stream) parts prefix))
-        by went is (Ends octets e prefix ended) =
-            found_after state Ended held taken octets how (Some Complete) piece.1 (is ∙ e) none at (segments_of pieces)
-            ∙ stops taken (drop due stream) octets parts (direction_found limit (sent_at Ended (taken ++ octets)) (segments_of pieces)) prefix (none_after stream first (piece ∷ before) pieces (taken ++ octets) of ended)
+        by went is (Ends octets had e prefix all) =
+            found_after state (Ended had) held taken octets how (Some Complete) piece.1 (is ∙ e) none at (segments_of pieces)
+            ∙ stops taken (drop due stream) octets parts (direction_found limit (sent_at (Ended had) (taken ++ octets)) (segments_of pieces)) prefix (none_after stream first (piece ∷ before) pieces had (taken ++ octets) all of)
 
     open_found : (pieces before : List Piece) (progress : Progress) (taken : List ℕ) → Holds stream first before progress → taken ++ drop progress.expected stream ≡ stream → AreSegmentsOf stream first before pieces → ((place : ℕ) → place < length stream → IsCaptured place before ⊎ IsCaptured place pieces) → direction_found limit (sent_at (Open progress) taken) (segments_of pieces) ≡ found_with service limit taken (drop progress.expected stream) ++ end
     open_found [] before progress taken h parts of all = at_end before progress taken h parts (λ place within. captured_none place before (all place within))

@@ -6,8 +6,8 @@ ghost use Rattle.krb_capture.specs.Laws.{RecordsAreOfTheStream};
 /// the records of the direction are those of the stream, without their packets and times. Its SYN
 /// comes first, each octet is captured at least once, and copies agree. No segment ends more than
 /// 1048576 octets after one that was not captured before, and none is more than 2^31 octets late. A
-/// FIN is at the end of the stream, a RST comes once all of it was captured, copies of the SYN come
-/// before both, and the stream has fewer than 2^61 octets.
+/// FIN is at the end of the stream, a RST comes once all of it was captured, copies of all come
+/// also after both, and the stream has fewer than 2^61 octets.
 pub fn records_are_of_the_stream()
     ensures { RecordsAreOfTheStream }
 {}

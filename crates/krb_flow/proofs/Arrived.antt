@@ -35,7 +35,7 @@ module _ (from to : Endpoint) where
           not_late = λ place old. absurd old;
           fin = λ is. absurd cc;
           rst = λ is. absurd cc;
-          syn = λ is. (refl, tt);
+          syn = λ is. refl;
         },
         (
           record {

@@ -7,11 +7,6 @@ use Rattle.krb_flow.specs.Laws.{Piece, HasAt, IsCaptured}
 abbrev pub AllCaptured : List ℕ → List Piece → Type 0
 AllCaptured stream pieces = (place : ℕ) → place < length stream → IsCaptured place pieces
 
--- none of them has a FIN or a RST
-abbrev pub NoneEnds : List Piece → Type 0
-NoneEnds [] = Unit {0}
-NoneEnds (piece ∷ pieces) = (piece.1.fin ≡ false) × (piece.1.rst ≡ false) × NoneEnds pieces
-
 -- A segment of a stream whose first octet has the number `first`. It comes after others, and has the place of its own first octet.
 pub record IsSegmentOf (stream : List ℕ) (first : ℕ) (before : List Piece) (piece : Piece) : Type 0 where
   -- it has the stream's octets from its place on, as all copies do, and no others; the last of them may not be captured
@@ -22,10 +17,10 @@ pub record IsSegmentOf (stream : List ℕ) (first : ℕ) (before : List Piece) (
   -- it is at most 1048576 octets early, and, as numbers are counted modulo 2^32, at most 2^31 late
   pub not_early : (place : ℕ) → place + 1048576 < piece.0 + piece.1.payload.size → IsCaptured place before
   pub not_late : (place : ℕ) → IsCaptured place before → place < piece.0 + 2 ^ 31
-  -- a FIN is at the end of the stream, a RST comes after all of it, and a copy of the SYN before both
+  -- a FIN is at the end of the stream, a RST comes after all of it, and a copy of the SYN at any time
   pub fin : piece.1.fin ≡ true → piece.0 + piece.1.payload.size ≡ length stream
   pub rst : piece.1.rst ≡ true → AllCaptured stream before
-  pub syn : piece.1.syn ≡ true → (piece.0 ≡ 0) × NoneEnds before
+  pub syn : piece.1.syn ≡ true → piece.0 ≡ 0
 
 abbrev pub AreSegmentsOf : List ℕ → ℕ → List Piece → List Piece → Type 0
 AreSegmentsOf stream first before [] = Unit {0}
