@@ -25,9 +25,9 @@ use Rattle.krb_flow.specs.Waiting.{Waiting, keep_one, keep, ready, early}
 use Rattle.krb_flow.specs.Progress.{Progress, begun}
 use Rattle.krb_flow.specs.Directions.{Outcome, first_number, distance_to, start, end_place, kept, delivered, later, earlier, advanced, is_skipped, deliver, had, is_among, is_copy_of, is_reached, is_over, first_place, if_later, or_seen, missing, ending, end_of, ended, Begun, begins, unless_over, goes_on, joined, step}
 use Rattle.krb_flow.specs.Laws.{at_first, HasAt, Piece, IsPiece, IsFair, IsCaptured}
-use Rattle.krb_flow.specs.Arrivals.{AllCaptured, IsSegmentOf}
+use Rattle.krb_flow.specs.Arrivals.{AllCaptured, BeginsWith, IsSegmentOf}
 use Rattle.krb_flow.specs.declared.had.Had.{Had}
-use Rattle.krb_flow.proofs.Pieces.{Agree, GoesTo, taking_goes, deliver_near, on_copy, at_syn, number_of, same_number, ahead_by, behind_by}
+use Rattle.krb_flow.proofs.Pieces.{Agree, GoesTo, taking_goes, deliver_near, on_copy, at_syn, at_joined, number_of, same_number, ahead_by, behind_by}
 use Rattle.krb_flow.proofs.Captured.{Waits, Sorted, Was, Clear, AtEnd, onward_clear, onward_was, onward_captures, not_waiting, end_is, fin_at_end, reached, by_fin, got}
 
 -- ---- which octets wait, or are taken: none that was not captured
@@ -420,12 +420,16 @@ holds_first stream piece = record {
   near_all = refl;
 }
 
-pub comes_first : (stream : List ℕ) → length stream < 2 ^ 61 → (piece : Piece) → piece.1.syn ≡ true → piece.1.rst ≡ false → IsSegmentOf stream (first_number piece.1) [] piece → Comes stream (first_number piece.1) (piece ∷ []) 0 (Some Syn) (step Fresh piece.1)
-comes_first stream short piece syn no_reset s =
-    let same : step Fresh piece.1 ≡ joined (None, Some Syn, Open (at_first piece.1)) (unless_over (deliver (at_first piece.1) piece.1)) =
-    ap (by_rst Fresh piece.1) no_reset ∙ ap (by_begun piece.1) (at_syn piece.1 syn) in
-    subst (Comes stream (first_number piece.1) (piece ∷ []) 0 (Some Syn)) (sym same)
-    (comes_with stream short (first_number piece.1) [] (at_first piece.1) (holds_first stream piece) piece s no_reset (Some Syn))
+begins_as : (how : Beginning) (piece : Piece) → BeginsWith how piece → begins Fresh piece.1 ≡ (None, Some how, Open (at_first piece.1))
+begins_as Syn piece with_syn = at_syn piece.1 with_syn
+begins_as Joined piece with_data = at_joined piece.1 with_data.0 (lt-ltb 0 piece.1.payload.size with_data.2)
+
+pub comes_first : (stream : List ℕ) → length stream < 2 ^ 61 → (how : Beginning) (piece : Piece) → BeginsWith how piece → piece.1.rst ≡ false → IsSegmentOf stream (first_number piece.1) [] piece → Comes stream (first_number piece.1) (piece ∷ []) 0 (Some how) (step Fresh piece.1)
+comes_first stream short how piece begins_with no_reset s =
+    let same : step Fresh piece.1 ≡ joined (None, Some how, Open (at_first piece.1)) (unless_over (deliver (at_first piece.1) piece.1)) =
+    ap (by_rst Fresh piece.1) no_reset ∙ ap (by_begun piece.1) (begins_as how piece begins_with) in
+    subst (Comes stream (first_number piece.1) (piece ∷ []) 0 (Some how)) (sym same)
+    (comes_with stream short (first_number piece.1) [] (at_first piece.1) (holds_first stream piece) piece s no_reset (Some how))
 
 -- ---- after the end
 

@@ -172,6 +172,11 @@ on_plain progress segment e = on_copy progress segment (ap (λ (b : Bool). b && 
 pub at_syn : (segment : Segment) → segment.syn ≡ true → begins Fresh segment ≡ (None, Some Syn, Open (at_first segment))
 at_syn segment e = ap (λ (b : Bool). when (b && true) (λ _. (None, Some Syn, Open (begun (first_number segment)))) (λ _. at_data Fresh segment)) e
 
+pub at_joined : (segment : Segment) → segment.syn ≡ false → nat_lt 0 segment.payload.size ≡ true → begins Fresh segment ≡ (None, Some Joined, Open (at_first segment))
+at_joined segment plain some =
+    ap (λ (b : Bool). when (b && true) (λ _. (None, Some Syn, Open (begun (first_number segment)))) (λ _. at_data Fresh segment)) plain
+    ∙ ap (λ (b : Bool). when b (λ _. (None, Some Joined, Open (begun (first_number segment)))) (λ _. (None, None, Fresh))) some
+
 abbrev begun_by : Had → Segment → Bool → Bool → Begun
 begun_by had segment anew joins = when anew (λ _. (None, Some Syn, Open (begun (first_number segment)))) (λ _. when joins (λ _. (None, Some Joined, Open (begun (first_number segment)))) (λ _. (None, None, Ended had)))
 
