@@ -45,7 +45,7 @@ segment ends packet = do
   sequence ← number32 4 packet
   offset ← number8 12 packet
   flags ← number8 13 packet
-  header ← field 20 0 packet
+  options ← after 20 packet
   rest ← beyond (offset / 16 * 4) packet
   if_valid (nat_le 5 (offset / 16)) (contents.Segment (record { source = ends.source; target = ends.target; sequence = sequence; fin = is_set 1 flags; syn = is_set 2 flags; rst = is_set 4 flags; payload = rest }))
 

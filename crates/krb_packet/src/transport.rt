@@ -21,8 +21,8 @@ const RST: u8 = 4;
 /// wrong.
 #[tactic(auto, unfolding(crate::specs::Contents::datagram))]
 #[inline(always)]
-fn datagram<'a>(ends: Ends, packet: &Payload<'a>) -> Option<Contents<'a>>
-    ensures { result ≡ datagram ends packet.now }
+fn datagram<'a>(ends: &Ends, packet: &Payload<'a>) -> Option<Contents<'a>>
+    ensures { result ≡ datagram ends.now packet.now }
 {
     // With these octets all fields were captured.
     let rest = packet.after(8)?;
@@ -41,11 +41,11 @@ fn datagram<'a>(ends: Ends, packet: &Payload<'a>) -> Option<Contents<'a>>
 /// before its options, or wrong.
 #[tactic(auto, unfolding(crate::specs::Contents::segment))]
 #[inline(always)]
-fn segment<'a>(ends: Ends, packet: &Payload<'a>) -> Option<Contents<'a>>
-    ensures { result ≡ segment ends packet.now }
+fn segment<'a>(ends: &Ends, packet: &Payload<'a>) -> Option<Contents<'a>>
+    ensures { result ≡ segment ends.now packet.now }
 {
     // The fields before the options were captured.
-    packet.field::<20>(0)?;
+    packet.after(20)?;
     let sequence = packet.number32(4)?;
     let words = packet.number8(12)? / 16;
     let flags = packet.number8(13)?;
@@ -87,12 +87,12 @@ fn ends(source: IpAddr, target: IpAddr, packet: &Payload<'_>) -> Option<Ends>
 
 /// Returns what was read, or that it could not be.
 #[inline(always)]
-fn or_unread_between<'a>(ends: Ends, read: Option<Contents<'a>>) -> Contents<'a>
-    ensures { result ≡ or_unread_between ends read.entry }
+fn or_unread_between<'a>(ends: &Ends, read: Option<Contents<'a>>) -> Contents<'a>
+    ensures { result ≡ or_unread_between ends.now read.entry }
 {
     match read {
         Some(contents) => contents,
-        None => Contents::UnreadBetween(ends),
+        None => Contents::UnreadBetween(*ends),
     }
 }
 
@@ -110,11 +110,11 @@ pub(crate) fn transport<'a>(
     match protocol {
         17 => {
             let ends = ends(source, target, packet)?;
-            Some(or_unread_between(ends, datagram(ends, packet)))
+            Some(or_unread_between(&ends, datagram(&ends, packet)))
         }
         6 => {
             let ends = ends(source, target, packet)?;
-            Some(or_unread_between(ends, segment(ends, packet)))
+            Some(or_unread_between(&ends, segment(&ends, packet)))
         }
         _ => Some(Contents::Other),
     }
