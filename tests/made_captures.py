@@ -223,8 +223,10 @@ class ConnectionMaker:
         return sent
 
     def direction(self, ends, stream):
-        """The packets of a direction, in which segments are lost or others come now and then."""
+        """The packets of a direction, in which the SYN is late, or segments are lost or others come now and then."""
         pieces = self.pieces(stream)
+        if self.maybe(0.1):
+            pieces.insert(self.dice.randrange(len(pieces)), pieces.pop(0))
         for _ in range(self.dice.choice([0, 0, 1, 2])):
             pieces = self.disturbed(pieces)
         return self.numbered(ends, pieces)
@@ -236,7 +238,10 @@ class ConnectionMaker:
         return self.packets.segments((ends, first + piece.place, piece) for piece in pieces)
 
     def pieces(self, stream):
-        """Segments of which a stream comes: of any size and in any order after the SYN, with copies of some."""
+        """Segments of which a stream comes: of any size and in any order after the SYN, with copies of some.
+
+        All may come again, as of a second interface.
+        """
         few = [1] * (len(stream) < 200) + [7] * (len(stream) < 1000)
         step = self.dice.choice([*few, 37, 100, 536, 1448, 1448])
         places = range(0, len(stream), step)
@@ -246,7 +251,8 @@ class ConnectionMaker:
             pieces.append(Piece(len(stream), FIN | ACK, b""))
         pieces = self.ordered(pieces)
         with_syn = stream[: self.dice.choice([0, 0, 0, 10])]
-        return [Piece(-1, SYN, with_syn)] * self.dice.choice([1, 1, 1, 2]) + pieces
+        pieces = [Piece(-1, SYN, with_syn)] * self.dice.choice([1, 1, 1, 2]) + pieces
+        return pieces + pieces if self.maybe(0.1) else pieces
 
     def copy(self, stream):
         """A segment of any octets of a stream."""
@@ -266,7 +272,7 @@ class ConnectionMaker:
         """Segments of which one is lost, changed, or added."""
         place = self.dice.randrange(len(pieces))
         before, one, after = pieces[:place], pieces[place], pieces[place + 1 :]
-        ahead = MOST_AHEAD + self.dice.choice([-1, 0, 1, 2])
+        ahead = MOST_AHEAD + self.dice.choice([-1, 0, 1, 2, MOST_AHEAD])
         others = [
             [],
             [],
@@ -274,7 +280,7 @@ class ConnectionMaker:
             [one._replace(octets=self.dice.randbytes(len(one.octets))), one],
             [one, one._replace(octets=self.dice.randbytes(len(one.octets) + 3))],
             [one, Piece(one.place + len(one.octets) - 1, ACK, b"\xff")],
-            [one, Piece(one.place + ahead, ACK, b"early")],
+            [one, Piece(one.place + ahead, self.dice.choice([ACK, ACK, FIN]), self.dice.choice([b"early", b""]))],
             [one, Piece(one.place - self.dice.randrange(1, 2**31), ACK, b"late")],
             [one, Piece(self.dice.randrange(2**32), self.dice.choice([ACK, FIN]), b"any")],
             [one, Piece(one.place, RST | self.dice.choice([0, ACK, SYN]), self.dice.choice([b"", b"gone"]))],

@@ -44,8 +44,8 @@ class Capture:
         self.counts["packets"] += 1
         try:
             found = self.whole(internet(packet))
-        except Unread:
-            self.counts["unread"] += 1
+        except Unread as unread:
+            self.counts["unread"] += unread.flow is None or self.reading(unread.flow) is not None
             return
         if found is None or self.reading(found.flow) is None:
             return
@@ -82,7 +82,7 @@ class Capture:
             yield record._replace(before=before)
 
     def end(self):
-        """The records of the end of the file."""
+        """The records of the end of the file, or of its fault."""
         yield from self.records(self.directions.end_all())
 
     def totals(self):
@@ -102,6 +102,7 @@ def capture(octets, limit=LIMIT, port=PORT):
         for packet in packets(octets):
             records.extend(followed.take(packet))
     except Refused as refusal:
+        records.extend(followed.end())
         return [*records, refused(refusal, shown(followed.totals()), FILE_REASONS)], 1
     records.extend(followed.end())
     totals = followed.totals()

@@ -25,13 +25,19 @@ LOOPBACK_FAMILIES = {2: EtherType.IPV4, 24: EtherType.IPV6, 28: EtherType.IPV6, 
 
 PASSED = (Protocol.HOP_BY_HOP, Protocol.ROUTING, Protocol.FRAGMENT, Protocol.DESTINATION)
 
+FOLLOWED = (Protocol.UDP, Protocol.TCP)
+
 # The most octets of a datagram, and how many datagrams are put together at once.
 MOST_OCTETS = 65535
 MOST_DATAGRAMS = 1024
 
 
 class Unread(Exception):
-    """A header that is cut or wrong, or an unknown link type."""
+    """A header that is cut or wrong, or an unknown link type; with the flow, if the ports were read."""
+
+    def __init__(self, flow=None):
+        super().__init__()
+        self.flow = flow
 
 
 class Held(NamedTuple):
@@ -102,6 +108,10 @@ class Segment(NamedTuple):
     fin: bool
     rst: bool
 
+    def first(self):
+        """The sequence number of its first octet; that of a SYN is the one before."""
+        return (self.sequence_number + self.syn) % 2**32
+
 
 def number(octets, place, size):
     return int.from_bytes(octets[place : place + size], "big")
@@ -167,6 +177,8 @@ def ipv4(held):
     place, more = 8 * (flags & 0x1FFF), flags & 0x2000 != 0
     key = (source, target, identification, protocol)
     fragment = Fragment(key, place, not more) if place or more else None
+    if fragment is not None and protocol not in FOLLOWED:
+        return None
     return Internet(source, target, protocol, held.front(total).after(size), fragment)
 
 
@@ -183,7 +195,7 @@ def ipv6(held):
 def after_headers(datagram):
     """RFC 8200, 4: an IPv6 datagram without the headers that are passed, or one of its fragments.
 
-    A fragment that is all of its datagram is none (RFC 6946).
+    A fragment that is all of its datagram is none (RFC 6946), and one of another protocol is passed over.
     """
     source, target, protocol, held, _ = datagram
     while protocol in PASSED:
@@ -192,6 +204,8 @@ def after_headers(datagram):
         held.header(size)
         held = held.after(size)
         if protocol == Protocol.FRAGMENT and number(header, 2, 2) & 0xFFF9 != 0:
+            if header[0] not in FOLLOWED + PASSED:
+                return None
             place, is_last = number(header, 2, 2) & 0xFFF8, header[3] & 1 == 0
             key = (source, target, number(header, 4, 4))
             return Internet(source, target, header[0], held, Fragment(key, place, is_last))
@@ -221,43 +235,44 @@ def internet(packet):
 
 
 def transport(datagram):
-    """The datagram of UDP or the segment of TCP in an IP datagram that is whole; None for other protocols."""
-    match datagram.protocol:
-        case Protocol.UDP:
-            return udp(datagram)
-        case Protocol.TCP:
-            return tcp(datagram)
-    return None
+    """The datagram of UDP or the segment of TCP in an IP datagram that is whole; None for other protocols.
 
-
-def flow(over, datagram, header):
-    return Flow(
-        over,
-        Endpoint(datagram.source, number(header, 0, 2)),
-        Endpoint(datagram.target, number(header, 2, 2)),
+    The ports come first, so that what is wrong after them is known to be of Kerberos or not.
+    """
+    read = {Protocol.UDP: udp, Protocol.TCP: tcp}.get(datagram.protocol)
+    if read is None:
+        return None
+    ports = datagram.held.header(4)
+    flow = Flow(
+        "udp" if read is udp else "tcp",
+        Endpoint(datagram.source, number(ports, 0, 2)),
+        Endpoint(datagram.target, number(ports, 2, 2)),
     )
+    try:
+        return read(flow, datagram.held)
+    except Unread as unread:
+        raise Unread(flow) from unread
 
 
-def udp(datagram):
+def udp(flow, held):
     """RFC 768."""
-    header = datagram.held.header(8)
+    header = held.header(8)
     size = number(header, 4, 2)
     if size < 8:
         raise Unread
-    return Datagram(flow("udp", datagram, header), datagram.held.front(size).after(8))
+    return Datagram(flow, held.front(size).after(8))
 
 
-def tcp(datagram):
-    """RFC 9293, 3.1."""
-    header = datagram.held.header(20)
+def tcp(flow, held):
+    """RFC 9293, 3.1. Options need not be captured."""
+    header = held.header(20)
     size = 4 * (header[12] >> 4)
-    if size < 20:
+    if size < 20 or size > held.size:
         raise Unread
-    datagram.held.header(size)
     control = header[13]
     return Segment(
-        flow=flow("tcp", datagram, header),
-        held=datagram.held.after(size),
+        flow=flow,
+        held=held.after(size),
         sequence_number=number(header, 4, 4),
         syn=control & 0x02 != 0,
         fin=control & 0x01 != 0,
@@ -330,7 +345,7 @@ class Fragments:
         whole = Internet(datagram.source, datagram.target, protocol, Held(octets, len(octets)))
         if whole.is_ipv6():
             whole = after_headers(whole)
-        if whole.fragment is not None:
+        if whole is not None and whole.fragment is not None:
             raise Unread
         return whole
 

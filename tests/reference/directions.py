@@ -19,10 +19,9 @@ def lost(place, octets, where):
 class Direction:
     """What one end of a connection sends."""
 
-    def __init__(self, first, syn, frames):
-        # The sequence number of octet 0, and that of the SYN before it, if there was one.
+    def __init__(self, first, frames):
+        # The sequence number of octet 0.
         self.first = first
-        self.syn = syn
         self.frames = frames
         # The place of the next octet expected: all before it are delivered.
         self.due = 0
@@ -30,36 +29,45 @@ class Direction:
         self.waiting = {}
         # The place after the last octet, captured or not.
         self.seen = 0
+        # The place of the first octet that was captured of the segments that began too far ahead.
+        self.far = None
         # The place of the FIN.
         self.fin = None
         self.has_ended = False
 
-    def place(self, sequence_number):
-        """The place of an octet: that within 2^31 of the next one expected (RFC 9293, 3.4)."""
-        ahead = (sequence_number - self.first - self.due) % 2**32
+    def place(self, segment):
+        """The place of a segment's first octet: that within 2^31 of the next one expected (RFC 9293, 3.4)."""
+        ahead = (segment.first() - self.first - self.due) % 2**32
         return self.due + (ahead if ahead < 2**31 else ahead - 2**32)
 
     def take(self, segment):
         """What is found with one more segment."""
-        place = self.place(segment.sequence_number + segment.syn)
+        place = self.place(segment)
+        end = place + segment.held.size
+        if segment.held.size > 0 or segment.fin:
+            self.seen = max(self.seen, end)
         if place > self.due + MOST_AHEAD:
+            if segment.held.octets:
+                self.far = place if self.far is None else min(self.far, place)
             return
         self.keep(place, segment)
+        if segment.fin and end >= 0:
+            self.fin = end if self.fin is None else min(self.fin, end)
         yield from self.frames.take(self.taken())
         is_whole = self.fin is not None and self.fin <= self.due
         if is_whole or len(self.waiting) > MOST_AHEAD:
             yield from self.end()
 
     def keep(self, place, segment):
-        """Lets the octets of a segment wait, except copies of those that came before, and its FIN."""
-        end = place + segment.held.size
+        """Lets the octets of a segment wait, except copies of those that came before."""
         for octet_place, octet in enumerate(segment.held.octets, place):
             if octet_place >= self.due:
                 self.waiting.setdefault(octet_place, octet)
-        if segment.held.size > 0 or segment.fin:
-            self.seen = max(self.seen, end)
-        if segment.fin and end >= 0:
-            self.fin = end if self.fin is None else min(self.fin, end)
+
+    def is_copy(self, segment):
+        """Whether the direction had all octets of a segment; a keep-alive has one where its FIN was due."""
+        place = self.place(segment)
+        return 0 <= place and place + segment.held.size <= self.due + (self.fin == self.due)
 
     def taken(self):
         """The octets that are no longer early."""
@@ -74,9 +82,12 @@ class Direction:
         self.has_ended = True
         if self.frames.is_over():
             return []
-        next_seen = min(self.waiting, default=self.seen)
-        if next_seen > self.due:
-            return [lost(self.due, next_seen - self.due, self.frames.path)]
+        captured = list(self.waiting)
+        if self.far is not None and self.far > self.due:
+            captured.append(self.far)
+        end = min(captured, default=self.seen)
+        if end > self.due:
+            return [lost(self.due, end - self.due, self.frames.path)]
         return self.frames.cut()
 
 
@@ -95,19 +106,19 @@ class Directions:
             yield from self.end(flow)
             return
         direction = self.kept.get(flow)
-        if segment.syn:
-            if direction is None or direction.has_ended or direction.syn != segment.sequence_number:
-                yield from self.begin(flow, segment.sequence_number + 1, segment.sequence_number)
-        elif direction is None and segment.held.size > 0:
-            yield from self.begin(flow, segment.sequence_number, None)
+        if segment.syn and (direction is None or direction.first != segment.first()):
+            yield from self.begin(segment)
+        elif segment.held.size > 0 and (direction is None or direction.has_ended and not direction.is_copy(segment)):
+            yield from self.begin(segment)
             yield flow, Record("joined", {})
         direction = self.kept.get(flow)
         if direction is not None and not direction.has_ended:
             for found in direction.take(segment):
                 yield flow, found
 
-    def begin(self, flow, first, syn):
-        """Begins a direction, again or in place of another one if there are too many."""
+    def begin(self, segment):
+        """Begins a direction with a segment, again or in place of another one if there are too many."""
+        flow = segment.flow
         yield from self.end(flow)
         if flow not in self.kept and len(self.kept) == MOST_DIRECTIONS:
             ended = (other for other, direction in self.kept.items() if direction.has_ended)
@@ -115,7 +126,7 @@ class Directions:
             yield from self.end(gone)
             del self.kept[gone]
         self.kept.pop(flow, None)
-        self.kept[flow] = Direction(first, syn, self.frames(flow))
+        self.kept[flow] = Direction(segment.first(), self.frames(flow))
 
     def end(self, flow):
         """Ends the direction of a flow, if it is open."""

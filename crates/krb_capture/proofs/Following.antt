@@ -1,13 +1,15 @@
 -- What a capture keeps after what is found is listed.
-use Rattle.std.proofs.Common.{◌≡◌, List, ◌++◌, Some, sym, ◌∙◌, ap, subst, append_assoc}
+use Rattle.std.proofs.Common.{◌≡◌, ℕ, List, ◌++◌, Option, Some, sym, ◌∙◌, ap, subst, append_assoc}
 use Rattle.krb_packet.specs.Fragments.{unread}
 use Rattle.krb_packet.specs.declared.contents.Datagram.{Datagram}
 use Rattle.krb_packet.specs.declared.contents.Segment.{Segment}
-use Rattle.krb_text.specs.Captures.{capture_end_line}
+use Rattle.krb_file.specs.declared.fault.FileWhy.{FileWhy}
+use Rattle.krb_text.specs.Captures.{capture_end_line, capture_refused_line}
 use Rattle.krb_text.specs.declared.capture.CaptureCounts.{CaptureCounts}
+use Rattle.krb_text.specs.declared.form.Form.{Form}
 use Rattle.krb_text.specs.declared.origin.Origin.{Origin}
 use Rattle.krb_text.specs.declared.origin.Transport.TheVariants as transports
-use Rattle.krb_capture.specs.Captures.{Finding, HasFollowed, Progress, Settings, and_counted, counted_each, datagram_taken, end_text, lines_of, over_tcp, over_udp, segment_taken, with_each}
+use Rattle.krb_capture.specs.Captures.{Finding, HasFollowed, Progress, Settings, all_counts, and_counted, counted_each, datagram_taken, end_taken, end_text, refusal_text, lines_of, over_tcp, over_udp, segment_taken, with_each}
 use Rattle.krb_capture.specs.Datagrams.{datagram_found}
 use Rattle.krb_capture.specs.Directions.{HoldsTable, Table, followed, last_of}
 use Rattle.krb_capture.specs.Flows.{origin_of, service_of}
@@ -57,14 +59,34 @@ end-counts old settings progress written shown h l t =
     let last = last_of settings.limit progress.table.active in
     t ∙ ap (λ x. totals (unread x) written.counts) h.fragments ∙ ap (λ x. totals (unread progress.fragments) x) (ap (λ w. w.counts) l ∙ counts-each (over_tcp old.last last) old.listing ∙ ap (λ x. counted_each (over_tcp x last) old.listing.counts) h.last ∙ ap (λ x. counted_each (over_tcp progress.last last) x) h.counts)
 
+-- what is listed before the last record, and in which form that is
+pub record EndsWith (old : Capture) (settings : Settings) (progress : Progress) (written : Written) : Type 0 where
+  pub form : written.form ≡ settings.form
+  pub text : written.text ≡ old.listing.text ++ lines_of settings.form (end_taken settings progress).found
+
+pub ends-with : (old : Capture) (settings : Settings) (progress : Progress) (written : Written) → HasFollowed old settings progress → written ≡ with_each (over_tcp old.last (last_of settings.limit progress.table.active)) old.listing → EndsWith old settings progress written
+ends-with old settings progress written h l =
+    let last = last_of settings.limit progress.table.active in
+    record {
+      form = ap (λ w. w.form) l ∙ form-each (over_tcp old.last last) old.listing ∙ h.form;
+      text = ap (λ w. w.text) l ∙ text-each (over_tcp old.last last) old.listing ∙ ap (λ x. old.listing.text ++ lines_of x (over_tcp old.last last)) h.form ∙ ap (λ x. old.listing.text ++ lines_of settings.form (over_tcp x last)) h.last;
+    }
+
+-- the last record, by the form and the totals
+pub last-listed : (old : Capture) (settings : Settings) (progress : Progress) (written ended : Written) (shown : CaptureCounts) (line : Form → CaptureCounts → List ℕ) → HasFollowed old settings progress → written ≡ with_each (over_tcp old.last (last_of settings.limit progress.table.active)) old.listing → shown ≡ totals (unread old.fragments) written.counts → ended ≡ record written { text = written.text ++ line written.form shown } → ended.text ≡ old.listing.text ++ (lines_of settings.form (end_taken settings progress).found ++ line settings.form (all_counts (end_taken settings progress).progress))
+last-listed old settings progress written ended shown line h l t e =
+    let ends = ends-with old settings progress written h l in
+    let found = (end_taken settings progress).found in
+    ap (λ w. w.text) e
+    ∙ ap (λ x. x ++ line written.form shown) ends.text
+    ∙ ap (λ x. (old.listing.text ++ lines_of settings.form found) ++ line x shown) ends.form
+    ∙ ap (λ x. (old.listing.text ++ lines_of settings.form found) ++ line settings.form x) (end-counts old settings progress written shown h l t)
+    ∙ append_assoc old.listing.text (lines_of settings.form found) (line settings.form (all_counts (end_taken settings progress).progress))
+
 pub end-listed : (old : Capture) (settings : Settings) (progress : Progress) (written ended : Written) (shown : CaptureCounts) → HasFollowed old settings progress → written ≡ with_each (over_tcp old.last (last_of settings.limit progress.table.active)) old.listing → shown ≡ totals (unread old.fragments) written.counts → ended ≡ record written { text = written.text ++ capture_end_line written.form shown } → ended.text ≡ old.listing.text ++ end_text settings progress
 unfolding end_text
-end-listed old settings progress written ended shown h l t e =
-    let last = last_of settings.limit progress.table.active in
-    let form = ap (λ w. w.form) l ∙ form-each (over_tcp old.last last) old.listing ∙ h.form in
-    let text = ap (λ w. w.text) l ∙ text-each (over_tcp old.last last) old.listing ∙ ap (λ x. old.listing.text ++ lines_of x (over_tcp old.last last)) h.form ∙ ap (λ x. old.listing.text ++ lines_of settings.form (over_tcp x last)) h.last in
-    ap (λ w. w.text) e
-    ∙ ap (λ x. x ++ capture_end_line written.form shown) text
-    ∙ ap (λ x. (old.listing.text ++ lines_of settings.form (over_tcp progress.last last)) ++ capture_end_line x shown) form
-    ∙ ap (λ x. (old.listing.text ++ lines_of settings.form (over_tcp progress.last last)) ++ capture_end_line settings.form x) (end-counts old settings progress written shown h l t)
-    ∙ append_assoc old.listing.text (lines_of settings.form (over_tcp progress.last last)) (capture_end_line settings.form (totals (unread progress.fragments) (counted_each (over_tcp progress.last last) progress.counts)))
+end-listed old settings progress written ended shown h l t e = last-listed old settings progress written ended shown capture_end_line h l t e
+
+pub refusal-listed : (old : Capture) (settings : Settings) (progress : Progress) (written ended : Written) (shown : CaptureCounts) (place : ℕ) (why : FileWhy) (path : Option (List ℕ)) → HasFollowed old settings progress → written ≡ with_each (over_tcp old.last (last_of settings.limit progress.table.active)) old.listing → shown ≡ totals (unread old.fragments) written.counts → ended ≡ record written { text = written.text ++ capture_refused_line written.form shown place why path } → ended.text ≡ old.listing.text ++ refusal_text settings progress place why path
+unfolding refusal_text
+refusal-listed old settings progress written ended shown place why path h l t e = last-listed old settings progress written ended shown (λ form counts. capture_refused_line form counts place why path) h l t e

@@ -10,9 +10,11 @@ use Rattle.std.proofs.lemmas.Cmp.{nat_cmp_total, tied_itself}
 use Rattle.krb_capture.specs.contracts.flow.FlowOrd.TheImpl.Laws as flow_laws
 use Rattle.std.specs.Map.{lookup, remove_entry}
 use Rattle.std.specs.BTreeMap.{insert_entry, is_at}
-use Rattle.krb_capture.specs.Directions.{AllRepresented, HoldsMaps, HoldsTable, HoldsWith, IsAmong, IsKnown, Table, after_found, begins, begun, by_number, flow_cmp, flow_of, followed, forgotten, gone_on, in_flow, kept, last_of, nothing_found, of_known, with_room, without}
-use Rattle.krb_capture.specs.Sending.{Sent, Represents, last_found, nothing_sent, step_of}
+use Rattle.krb_capture.specs.Directions.{AllRepresented, HoldsMaps, HoldsTable, HoldsWith, IsAmong, IsKnown, Table, after_found, begins, begun, by_number, flow_cmp, flow_of, followed, forgotten, active_with, ended_with, gone_on, in_flow, kept, last_of, nothing_found, of_ended, of_known, with_room, without, Followed}
+use Rattle.krb_capture.specs.Sending.{Sent, Represents, last_found, sent_from, step_of}
+use Rattle.krb_flow.specs.declared.direction.State.{State}
 use Rattle.krb_flow.specs.declared.direction.State.TheVariants as states
+use Rattle.krb_flow.specs.declared.had.Had.{Had}
 use Rattle.krb_packet.specs.declared.contents.Segment.{Segment}
 use Rattle.krb_text.specs.declared.origin.Transport.TheVariants as transports
 use Rattle.krb_capture.specs.Captures.{over_tcp, with_each}
@@ -21,6 +23,7 @@ use Rattle.krb_capture.specs.Found.{Written, with_all}
 use Rattle.krb_capture.specs.declared.flow.Due.{Due}
 use Rattle.krb_capture.proofs.Written.{flow-found, over_tcp-append, with_each-append}
 use Rattle.krb_capture.specs.declared.directions.Directions.{Directions}
+use Rattle.krb_capture.specs.declared.directions.Gone.{Gone}
 use Rattle.krb_capture.specs.declared.directions.Last.{Last}
 use Rattle.krb_capture.specs.declared.flow.Flow.{Flow}
 use Rattle.krb_capture.specs.declared.flow.Service.{Service}
@@ -74,18 +77,22 @@ represented-insert limit number (k ∷ ks) (s ∷ ss) kept sent one a =
     by Equal rest = (a.0, one, a.2)
     by Greater rest = (a.0, a.1, rest)
 
--- a direction is kept by its number, or that it ended
-pub HoldsMaps-kept : (old new : Directions) (limit number : ℕ) (flow : Flow) (step : Step) (table : Table) (one : Kept) (sent : Sent) → HoldsMaps old limit table → Represents one.value limit sent → new.limit ≡ old.limit → new.numbers.entries ≡ (if step.began then insert_entry flow_cmp old.numbers.entries flow number else old.numbers.entries) → new.active.entries ≡ (if step.ended then old.active.entries else insert_entry nat_cmp old.active.entries number one) → new.ended.entries ≡ (if step.ended then insert_entry nat_cmp old.ended.entries number flow else old.ended.entries) → HoldsMaps new limit (kept flow number step sent table)
+-- a direction is kept by its number, or what it had if it ended
+abbrev pub kept_with : Option Had → ℕ → Kept → List (ℕ × Kept) → List (ℕ × Kept)
+kept_with None number one active = insert_entry nat_cmp active number one
+kept_with (Some had) number one active = active
+
+pub HoldsMaps-kept : (old new : Directions) (limit number : ℕ) (flow : Flow) (step : Step) (table : Table) (one : Kept) (sent : Sent) → HoldsMaps old limit table → Represents one.value limit sent → new.limit ≡ old.limit → new.numbers.entries ≡ (if step.began then insert_entry flow_cmp old.numbers.entries flow number else old.numbers.entries) → new.active.entries ≡ kept_with step.ended number one old.active.entries → new.ended.entries ≡ ended_with step.ended number flow old.ended.entries → HoldsMaps new limit (kept flow number step sent table)
 HoldsMaps-kept old new limit number flow step table one sent h s l n a d = record {
   limit_is = l ∙ h.limit_is;
   numbers = n ∙ ap (λ es. if step.began then insert_entry flow_cmp es flow number else es) h.numbers;
-  active = subst (λ es. AllRepresented limit es (if step.ended then table.active else insert_entry nat_cmp table.active number sent)) (sym a) (by step.ended);
-  ended = d ∙ ap (λ es. if step.ended then insert_entry nat_cmp es number flow else es) h.ended;
+  active = subst (λ es. AllRepresented limit es (active_with step.ended number sent table.active)) (sym a) (by step.ended);
+  ended = d ∙ ap (λ es. ended_with step.ended number flow es) h.ended;
 }
   where
-    by : (b : Bool) → AllRepresented limit (if b then old.active.entries else insert_entry nat_cmp old.active.entries number one) (if b then table.active else insert_entry nat_cmp table.active number sent)
-    by true = h.active
-    by false = represented-insert limit number old.active.entries table.active one sent s h.active
+    by : (o : Option Had) → AllRepresented limit (kept_with o number one old.active.entries) (active_with o number sent table.active)
+    by (Some had) = h.active
+    by None = represented-insert limit number old.active.entries table.active one sent s h.active
 
 -- ---- the last direction
 
@@ -108,7 +115,7 @@ maps-back old new limit table last h l n a d = record {
 }
 
 -- it is kept
-pub among-kept : (old new : Directions) (limit : ℕ) (flow : Flow) (last : Last) (step : Step) (table : Table) (sent : Sent) → HoldsMaps old limit table → IsKnown step.began flow last old.numbers.entries → Represents last.sending.value limit sent → step.ended ≡ false → new.last ≡ Some last → new.limit ≡ old.limit → new.numbers.entries ≡ (if step.began then insert_entry flow_cmp old.numbers.entries flow last.number else old.numbers.entries) → (step.began ≡ true → lookup (is_at (flow_cmp flow)) new.numbers.entries ≡ Some last.number) → new.active.entries ≡ old.active.entries → lookup (is_at (nat_cmp last.number)) old.active.entries ≡ None → new.ended.entries ≡ old.ended.entries → HoldsTable new limit (kept flow last.number step sent table)
+pub among-kept : (old new : Directions) (limit : ℕ) (flow : Flow) (last : Last) (step : Step) (table : Table) (sent : Sent) → HoldsMaps old limit table → IsKnown step.began flow last old.numbers.entries → Represents last.sending.value limit sent → step.ended ≡ None → new.last ≡ Some last → new.limit ≡ old.limit → new.numbers.entries ≡ (if step.began then insert_entry flow_cmp old.numbers.entries flow last.number else old.numbers.entries) → (step.began ≡ true → lookup (is_at (flow_cmp flow)) new.numbers.entries ≡ Some last.number) → new.active.entries ≡ old.active.entries → lookup (is_at (nat_cmp last.number)) old.active.entries ≡ None → new.ended.entries ≡ old.ended.entries → HoldsTable new limit (kept flow last.number step sent table)
 among-kept old new limit flow last step table sent h k s stays is l n inserted a alone d = subst (λ o. HoldsWith o new limit (kept flow last.number step sent table)) (sym is) (record {
   sent = sent;
   others = table.active;
@@ -116,12 +123,12 @@ among-kept old new limit flow last step table sent h k s stays is l n inserted a
     limit_is = l ∙ h.limit_is;
     numbers = n ∙ ap (λ es. if step.began then insert_entry flow_cmp es flow last.number else es) h.numbers;
     active = subst (λ es. AllRepresented limit es table.active) (sym a) h.active;
-    ended = d ∙ h.ended ∙ sym (ap (λ b. if b then insert_entry nat_cmp table.ended last.number flow else table.ended) stays);
+    ended = d ∙ h.ended ∙ sym (ap (λ o. ended_with o last.number flow table.ended) stays);
   };
   represents = s;
   known = by step.began refl k;
   alone = ap (λ es. lookup (is_at (nat_cmp last.number)) es) a ∙ alone;
-  active = ap (λ b. if b then table.active else insert_entry nat_cmp table.active last.number sent) stays;
+  active = ap (λ o. active_with o last.number sent table.active) stays;
 })
   where
     by : (b : Bool) → step.began ≡ b → IsKnown b flow last old.numbers.entries → lookup (is_at (flow_cmp last.flow)) new.numbers.entries ≡ Some last.number
@@ -181,14 +188,6 @@ kept-same d limit flow flow' number number' step step' sent table f n e h =
 pub known-begun : (began : Bool) (flow : Flow) (last : Last) (numbers : List (Flow × ℕ)) → began ≡ true → last.flow ≡ flow → IsKnown began flow last numbers
 known-begun began flow last numbers b f = subst (λ b. IsKnown b flow last numbers) (sym b) f
 
-pub syn-begins : (segment : Segment) → (segment.syn && not segment.rst) ≡ true → begins segment ≡ true
-syn-begins segment = by segment.syn segment.rst
-  where
-    by : (s r : Bool) → (s && not r) ≡ true → (not r && (s || nat_lt 0 segment.payload.size)) ≡ true
-    by true true b = absurd (no-true b)
-    by true false b = refl
-    by false r b = absurd (no-true b)
-
 pub began-first : (segment : Segment) → begins segment ≡ true → (step_of states.Fresh segment).began ≡ true
 began-first segment = by segment.rst segment.syn (nat_lt 0 segment.payload.size) refl refl refl
   where
@@ -198,9 +197,9 @@ began-first segment = by segment.rst segment.syn (nat_lt 0 segment.payload.size)
     by false false true er es en b = rw (er, es, en) refl
     by false false false er es en b = absurd (no-true b)
 
-pub represents-begun : (one : Sending) (limit limit' : ℕ) (flow flow' : Flow) (service : Service) → Represents one limit (nothing_sent flow service) → limit ≡ limit' → flow ≡ flow' → Represents one limit' (nothing_sent flow' service)
-represents-begun one limit limit' flow flow' service s l f =
-    subst (λ x. Represents one limit' (nothing_sent x service)) f (subst (λ x. Represents one x (nothing_sent flow service)) l s)
+pub represents-begun : (one : Sending) (limit limit' : ℕ) (flow flow' : Flow) (service : Service) (state : State) → Represents one limit (sent_from flow service state) → limit ≡ limit' → flow ≡ flow' → Represents one limit' (sent_from flow' service state)
+represents-begun one limit limit' flow flow' service state s l f =
+    subst (λ x. Represents one limit' (sent_from x service state)) f (subst (λ x. Represents one x (sent_from flow service state)) l s)
 
 -- ---- room for one more
 pub record HasFirst (limit : ℕ) (table : Table) (first : ℕ × Kept) (others : List (ℕ × Kept)) : Type 0 where
@@ -232,23 +231,20 @@ module _ (limit packet : ℕ) (service : Service) (segment : Segment) (table : T
   unfolding followed
   followed-known number e = ap (λ o. by_number limit packet o service segment table) e
 
-  pub followed-begins : lookup (is_at (flow_cmp (flow_of segment))) table.numbers ≡ None → begins segment ≡ true → followed limit packet service segment table ≡ after_found (with_room limit table).found (begun limit packet service segment (with_room limit table).table)
+  pub followed-begins : lookup (is_at (flow_cmp (flow_of segment))) table.numbers ≡ None → begins segment ≡ true → followed limit packet service segment table ≡ after_found (with_room limit table).found (begun limit packet service states.Fresh segment (with_room limit table).table)
   unfolding followed
-  followed-begins e b = ap (λ o. by_number limit packet o service segment table) e ∙ ap (λ x. if x then after_found (with_room limit table).found (begun limit packet service segment (with_room limit table).table) else nothing_found table) b
+  followed-begins e b = ap (λ o. by_number limit packet o service segment table) e ∙ ap (λ x. if x then after_found (with_room limit table).found (begun limit packet service states.Fresh segment (with_room limit table).table) else nothing_found table) b
 
   pub followed-passed : lookup (is_at (flow_cmp (flow_of segment))) table.numbers ≡ None → begins segment ≡ false → followed limit packet service segment table ≡ nothing_found table
   unfolding followed
-  followed-passed e b = ap (λ o. by_number limit packet o service segment table) e ∙ ap (λ x. if x then after_found (with_room limit table).found (begun limit packet service segment (with_room limit table).table) else nothing_found table) b
+  followed-passed e b = ap (λ o. by_number limit packet o service segment table) e ∙ ap (λ x. if x then after_found (with_room limit table).found (begun limit packet service states.Fresh segment (with_room limit table).table) else nothing_found table) b
 
-  pub known-ended : (number : ℕ) (m : Option Sent) → m ≡ None → (segment.syn && not segment.rst) ≡ true → of_known limit packet number m service segment table ≡ begun limit packet service segment (record table { ended = remove_entry (is_at (nat_cmp number)) table.ended })
-  known-ended number m e b =
-      ap (λ o. of_known limit packet number o service segment table) e
-      ∙ ap (λ x. if x then begun limit packet service segment (record table { ended = remove_entry (is_at (nat_cmp number)) table.ended }) else nothing_found table) b
+  abbrev begun_again : ℕ → Had → Followed
+  begun_again number had = begun limit packet service (states.Ended had) segment (record table { ended = remove_entry (is_at (nat_cmp number)) table.ended })
 
-  pub known-passed : (number : ℕ) (m : Option Sent) → m ≡ None → (segment.syn && not segment.rst) ≡ false → of_known limit packet number m service segment table ≡ nothing_found table
-  known-passed number m e b =
-      ap (λ o. of_known limit packet number o service segment table) e
-      ∙ ap (λ x. if x then begun limit packet service segment (record table { ended = remove_entry (is_at (nat_cmp number)) table.ended }) else nothing_found table) b
+  -- one that ended, by what is kept of it
+  pub ended-begins : (number : ℕ) (gone : Gone) → (step_of (states.Ended gone.had) segment).began ≡ true → of_ended limit packet number (Some gone) service segment table ≡ begun_again number gone.had
+  ended-begins number gone b = ap (λ x. if x then begun_again number gone.had else nothing_found table) b
 
 -- ---- the last direction, by its flow
 pub same-lookup : (f g : Flow) (es : List (Flow × ℕ)) → eq_by_cmp flow_cmp f g ≡ true → lookup (is_at (flow_cmp f)) es ≡ lookup (is_at (flow_cmp g)) es

@@ -10,7 +10,8 @@ use Rattle.krb_packet.specs.Fragments.{contents_of_whole, no_fragments, step, un
 use Rattle.krb_packet.specs.Table.{Table as Fragments}
 use Rattle.krb_packet.specs.declared.contents.Segment.{Segment}
 use Rattle.krb_packet.specs.declared.packet.Packet.{Packet}
-use Rattle.krb_text.specs.Captures.{capture_end_line}
+use Rattle.krb_file.specs.declared.fault.FileWhy.{FileWhy}
+use Rattle.krb_text.specs.Captures.{capture_end_line, capture_refused_line}
 use Rattle.krb_text.specs.declared.capture.CaptureCounts.{CaptureCounts}
 use Rattle.krb_text.specs.declared.form.Form.{Form}
 use Rattle.krb_text.specs.declared.origin.Origin.{Origin}
@@ -89,12 +90,18 @@ segment_taken limit (Some service) segment progress = with_followed (followed li
 abbrev pub with_unread : Progress → Progress
 with_unread progress = record progress { counts = record progress.counts { unread = and_more progress.counts.unread 1 } }
 
+-- one whose header of UDP or TCP is cut or wrong after its ports, if these are of Kerberos
+abbrev pub unread_taken : Option Service → Progress → Taken
+unread_taken None progress = nothing_in progress
+unread_taken (Some service) progress = nothing_in (with_unread progress)
+
 -- what is all there
 abbrev pub whole_taken : Settings → Contents → Progress → Taken
 whole_taken settings (contents.Datagram datagram) progress = datagram_taken (service_of settings.port datagram.source datagram.target) datagram progress
 whole_taken settings (contents.Segment segment) progress = segment_taken settings.limit (service_of settings.port segment.source segment.target) segment progress
 whole_taken settings (contents.Fragment fragment) progress = nothing_in progress
 whole_taken settings contents.Other progress = nothing_in progress
+whole_taken settings (contents.UnreadBetween ends) progress = unread_taken (service_of settings.port ends.source ends.target) progress
 whole_taken settings contents.Unread progress = nothing_in (with_unread progress)
 
 abbrev pub completed : Settings → Option Reassembled → Progress → Taken
@@ -111,6 +118,7 @@ contents_taken settings (contents.Datagram datagram) progress = whole_taken sett
 contents_taken settings (contents.Segment segment) progress = whole_taken settings (contents.Segment segment) progress
 contents_taken settings (contents.Fragment fragment) progress = fragment_taken settings fragment progress
 contents_taken settings contents.Other progress = whole_taken settings contents.Other progress
+contents_taken settings (contents.UnreadBetween ends) progress = whole_taken settings (contents.UnreadBetween ends) progress
 contents_taken settings contents.Unread progress = whole_taken settings contents.Unread progress
 
 -- a packet came, which is the last one from then on
@@ -135,6 +143,11 @@ all_counts progress = totals (unread progress.fragments) progress.counts
 unfoldable pub end_text : Settings → Progress → List ℕ
 end_text settings progress =
     let taken = end_taken settings progress in lines_of settings.form taken.found ++ capture_end_line settings.form (all_counts taken.progress)
+
+-- the same of a file that is itself at fault: the directions end, too
+unfoldable pub refusal_text : Settings → Progress → ℕ → FileWhy → Option (List ℕ) → List ℕ
+refusal_text settings progress place why path =
+    let taken = end_taken settings progress in lines_of settings.form taken.found ++ capture_refused_line settings.form (all_counts taken.progress) place why path
 
 abbrev pub is_clean : CaptureCounts → Bool
 is_clean counts = (counts.refused == 0 && counts.lost == 0) && counts.unread == 0

@@ -6,11 +6,15 @@ use Rattle.std.specs.BTreeMap.{insert_entry, is_at}
 use Rattle.std.specs.declared.alloc.Global.{Global}
 use Rattle.std.specs.declared.cmp.Ordering.{Ordering}
 use Rattle.krb_packet.specs.declared.contents.Segment.{Segment}
+use Rattle.krb_flow.specs.declared.direction.State.{State}
+use Rattle.krb_flow.specs.declared.direction.State.TheVariants as states
+use Rattle.krb_flow.specs.declared.had.Had.{Had}
 use Rattle.krb_capture.specs.contracts.flow.FlowOrd.TheImpl as flow_order
 use Rattle.krb_capture.specs.Flows.{flow_between}
 use Rattle.krb_capture.specs.Found.{Found}
-use Rattle.krb_capture.specs.Sending.{Sent, Represents, after_segment, last_found, nothing_sent, segment_found, step_of}
+use Rattle.krb_capture.specs.Sending.{Sent, Represents, after_segment, last_found, segment_found, sent_from, step_of}
 use Rattle.krb_capture.specs.declared.directions.Directions.{Directions}
+use Rattle.krb_capture.specs.declared.directions.Gone.{Gone}
 use Rattle.krb_capture.specs.declared.directions.Last.{Last}
 use Rattle.krb_capture.specs.declared.flow.Flow.{Flow}
 use Rattle.krb_capture.specs.declared.flow.Service.{Service}
@@ -21,11 +25,11 @@ use Rattle.krb_capture.specs.declared.sending.Step.{Step}
 abbrev pub flow_cmp : Flow → Flow → Ordering
 flow_cmp = flow_order.ghosts.cmp
 
--- the number of the direction of each flow; the directions that have not ended; and the flows of those that have
+-- the number of the direction of each flow; the directions that have not ended; and of those that have the flows, and what they had
 pub record Table : Type 0 where
   pub numbers : List (Flow × ℕ)
   pub active : List (ℕ × Sent)
-  pub ended : List (ℕ × Flow)
+  pub ended : List (ℕ × Gone)
 
 abbrev pub no_directions : Table
 no_directions = record { numbers = []; active = []; ended = [] }
@@ -44,18 +48,26 @@ in_flow flow found = map (λ one. (flow, one)) found
 abbrev pub flow_of : Segment → Flow
 flow_of segment = flow_between segment.source segment.target
 
--- ---- a direction is kept by its number, or that it ended
+-- ---- a direction is kept by its number, or what it had if it ended
+abbrev pub active_with : Option Had → ℕ → Sent → List (ℕ × Sent) → List (ℕ × Sent)
+active_with None number sent active = insert_entry nat_cmp active number sent
+active_with (Some had) number sent active = active
+
+abbrev pub ended_with : Option Had → ℕ → Flow → List (ℕ × Gone) → List (ℕ × Gone)
+ended_with None number flow ended = ended
+ended_with (Some had) number flow ended = insert_entry nat_cmp ended number (record { flow = flow; had = had })
+
 abbrev pub kept : Flow → ℕ → Step → Sent → Table → Table
 kept flow number step sent table = record {
   numbers = if step.began then insert_entry flow_cmp table.numbers flow number else table.numbers;
-  active = if step.ended then table.active else insert_entry nat_cmp table.active number sent;
-  ended = if step.ended then insert_entry nat_cmp table.ended number flow else table.ended;
+  active = active_with step.ended number sent table.active;
+  ended = ended_with step.ended number flow table.ended;
 }
 
--- one of which nothing came, with the packet
-abbrev pub begun : ℕ → ℕ → Service → Segment → Table → Followed
-begun limit packet service segment table =
-    let sent = nothing_sent (flow_of segment) service in
+-- one that came to a state and begins, with the packet
+abbrev pub begun : ℕ → ℕ → Service → State → Segment → Table → Followed
+begun limit packet service state segment table =
+    let sent = sent_from (flow_of segment) service state in
     record {
       found = in_flow (flow_of segment) (segment_found limit sent segment);
       table = kept (flow_of segment) packet (step_of sent.state segment) (after_segment sent segment) table;
@@ -77,8 +89,8 @@ gone_on limit packet number sent segment table =
 abbrev pub forgotten : Flow → Table → Table
 forgotten flow table = record table { numbers = remove_entry (is_at (flow_cmp flow)) table.numbers }
 
-abbrev pub with_one_less : ℕ → List (ℕ × Flow) → List (ℕ × Sent) → Table → Followed
-with_one_less limit (first ∷ others) active table = nothing_found (forgotten first.1 (record table { ended = others }))
+abbrev pub with_one_less : ℕ → List (ℕ × Gone) → List (ℕ × Sent) → Table → Followed
+with_one_less limit (first ∷ others) active table = nothing_found (forgotten first.1.flow (record table { ended = others }))
 with_one_less limit [] (first ∷ others) table = record { found = in_flow first.1.flow (last_found limit first.1); table = forgotten first.1.flow (record table { active = others }) }
 with_one_less limit [] [] table = nothing_found table
 
@@ -97,19 +109,20 @@ after_found found followed = record followed { found = found ++ followed.found }
 abbrev pub of_new : ℕ → ℕ → Service → Segment → Table → Followed
 of_new limit packet service segment table =
     if begins segment
-    then (let room = with_room limit table in after_found room.found (begun limit packet service segment room.table))
+    then (let room = with_room limit table in after_found room.found (begun limit packet service states.Fresh segment room.table))
     else nothing_found table
 
--- of one whose direction ended: a SYN begins it anew
-abbrev pub of_ended : ℕ → ℕ → ℕ → Service → Segment → Table → Followed
-of_ended limit packet number service segment table =
-    if segment.syn && not segment.rst
-    then begun limit packet service segment (record table { ended = remove_entry (is_at (nat_cmp number)) table.ended })
+-- of one whose direction ended: a SYN begins it anew, and so do data, unless they are copies
+abbrev pub of_ended : ℕ → ℕ → ℕ → Option Gone → Service → Segment → Table → Followed
+of_ended limit packet number None service segment table = nothing_found table
+of_ended limit packet number (Some gone) service segment table =
+    if (step_of (states.Ended gone.had) segment).began
+    then begun limit packet service (states.Ended gone.had) segment (record table { ended = remove_entry (is_at (nat_cmp number)) table.ended })
     else nothing_found table
 
 abbrev pub of_known : ℕ → ℕ → ℕ → Option Sent → Service → Segment → Table → Followed
 of_known limit packet number (Some sent) service segment table = gone_on limit packet number sent segment table
-of_known limit packet number None service segment table = of_ended limit packet number service segment table
+of_known limit packet number None service segment table = of_ended limit packet number (lookup (is_at (nat_cmp number)) table.ended) service segment table
 
 abbrev pub by_number : ℕ → ℕ → Option ℕ → Service → Segment → Table → Followed
 by_number limit packet (Some number) service segment table = of_known limit packet number (lookup (is_at (nat_cmp number)) table.active) service segment table

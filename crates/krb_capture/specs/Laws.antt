@@ -1,14 +1,15 @@
 -- The law of the directions of TCP.
-use Rattle.std.specs.Prelude.{◌≡◌, ℕ, List, [], ◌∷◌, ◌++◌, map}
+use Rattle.std.specs.Prelude.{◌≡◌, ℕ, List, [], ◌∷◌, ◌++◌, map, Some}
 use Rattle.krb_der.specs.declared.profile.Profile.TheVariants.{Lenient}
 use Rattle.krb_packet.specs.declared.contents.Segment.{Segment}
 use Rattle.krb_msg.specs.Grammar.{messages}
 use Rattle.krb_frame.specs.GoingOn.{entries}
 use Rattle.krb_flow.specs.Arrivals.{AreAllOf}
 use Rattle.krb_flow.specs.Laws.{Piece, segments_of}
+use Rattle.krb_flow.specs.declared.direction.Beginning.{Beginning}
 use Rattle.krb_flow.specs.declared.stream.End.TheVariants as ends
 use Rattle.krb_capture.specs.Found.{Found}
-use Rattle.krb_capture.specs.Sending.{Sent, after_segment, last_found, nothing_sent, segment_found}
+use Rattle.krb_capture.specs.Sending.{Sent, after_segment, beginning_found, last_found, nothing_sent, segment_found}
 use Rattle.krb_capture.specs.Streams.{end_found, entry_found, framed}
 use Rattle.krb_capture.specs.declared.flow.Flow.{Flow}
 use Rattle.krb_capture.specs.declared.flow.Service.{Service}
@@ -24,6 +25,6 @@ abbrev pub stream_found : Service → ℕ → List ℕ → List Found
 stream_found services.Kerberos limit stream = map entry_found (entries (messages Lenient) limit stream)
 stream_found services.Passwords limit stream = (framed services.Passwords limit stream).found ++ end_found services.Passwords limit stream ends.Complete
 
--- Whatever way a stream is cut into segments, in whatever order and how often these are captured: what is found in the direction is what is found in the stream.
+-- Whatever way a stream is cut into segments, in whatever order and how often these are captured: what is found in the direction is what is found in the stream, after `Joined` if its SYN does not come first.
 abbrev pub RecordsAreOfTheStream : Type 0
-RecordsAreOfTheStream = (limit : ℕ) (flow : Flow) (service : Service) (stream : List ℕ) (pieces : List Piece) → AreAllOf stream pieces → direction_found limit (nothing_sent flow service) (segments_of pieces) ≡ stream_found service limit stream
+RecordsAreOfTheStream = (limit : ℕ) (flow : Flow) (service : Service) (stream : List ℕ) (how : Beginning) (pieces : List Piece) → AreAllOf stream how pieces → direction_found limit (nothing_sent flow service) (segments_of pieces) ≡ beginning_found (Some how) ++ stream_found service limit stream

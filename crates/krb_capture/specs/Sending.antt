@@ -1,7 +1,7 @@
 -- What is found with the segments of one direction of a TCP connection, and what is kept of it.
 use Rattle.std.specs.Prelude.{ℕ, ◌≡◌, List, [], ◌∷◌, ◌++◌, Option, Some, None, is_some}
 use Rattle.krb_packet.specs.declared.contents.Segment.{Segment}
-use Rattle.krb_flow.specs.Directions.{Outcome, end_of, step}
+use Rattle.krb_flow.specs.Directions.{Outcome, end_of, had_of, step}
 use Rattle.krb_flow.specs.declared.direction.Beginning.{Beginning}
 use Rattle.krb_flow.specs.declared.direction.Beginning.TheVariants as beginnings
 use Rattle.krb_flow.specs.declared.direction.State.{State}
@@ -22,15 +22,19 @@ pub record Sent : Type 0 where
   pub state : State
   pub stream : List ℕ
 
+-- one that came to a state, of which nothing was taken since
+abbrev pub sent_from : Flow → Service → State → Sent
+sent_from flow service state = record { flow = flow; service = service; state = state; stream = [] }
+
 abbrev pub nothing_sent : Flow → Service → Sent
-nothing_sent flow service = record { flow = flow; service = service; state = states.Fresh; stream = [] }
+nothing_sent flow service = sent_from flow service states.Fresh
 
 -- at an end, if it is one
 abbrev pub end_if : Service → ℕ → List ℕ → Option End → List Found
 end_if service limit stream None = []
 end_if service limit stream (Some end) = end_found service limit stream end
 
--- data that no SYN comes before
+-- data that no SYN comes before, or that come after the end
 abbrev pub beginning_found : Option Beginning → List Found
 beginning_found None = []
 beginning_found (Some beginnings.Syn) = []
@@ -57,11 +61,11 @@ after_segment sent segment =
     let stepped = step sent.state segment in
     record sent { state = stepped.1; stream = stream_at stepped.0.begins sent.stream ++ stepped.0.octets }
 
--- what became of it
+-- what became of it: whether it began, and what it had if it ended
 abbrev pub step_of : State → Segment → Step
 step_of state segment =
-    let outcome = (step state segment).0 in
-    record { began = is_some outcome.begins; ended = is_some outcome.end }
+    let stepped = step state segment in
+    record { began = is_some stepped.0.begins; ended = had_of stepped.1 }
 
 -- at the end of the file, or of its place in the table
 abbrev pub last_found : ℕ → Sent → List Found

@@ -2,9 +2,8 @@
 
 ghost use Rattle.std.specs.Prelude.{◌≡◌, ℕ, ◌++◌, true, IfOk, IsErr, OnErr, OnOk};
 ghost use Rattle.std.specs.Option.{option_copied};
-ghost use Rattle.krb_text.specs.Captures.{capture_refused_line};
 ghost use Rattle.krb_packet.specs.Fragments.{unread};
-ghost use Rattle.krb_capture.specs.Captures.{HasFollowed, Progress, Settings, all_counts, and_counted, at_first, contents_taken, datagram_taken, end_taken, end_text, fragment_taken, is_clean, lines_of, packet_taken, segment_taken, whole_taken};
+ghost use Rattle.krb_capture.specs.Captures.{HasFollowed, Progress, Settings, all_counts, and_counted, at_first, contents_taken, datagram_taken, end_taken, end_text, fragment_taken, is_clean, lines_of, packet_taken, refusal_text, segment_taken, unread_taken, whole_taken};
 ghost use Rattle.krb_capture.specs.Flows.{service_of};
 ghost use Rattle.krb_capture.specs.Found.{totals};
 
@@ -15,7 +14,7 @@ use crate::listing::Listing;
 use krb_der::Memory;
 use krb_file::FileWhy;
 use krb_frame::Limit;
-use krb_packet::{Contents, Datagram, Fragment, Fragments, Packet, Segment, contents_of};
+use krb_packet::{Contents, Datagram, Ends, Fragment, Fragments, Packet, Segment, contents_of};
 use krb_text::{CaptureCounts, Form, TextBuffer};
 use std::alloc::Global;
 
@@ -114,10 +113,24 @@ impl Capture {
             Contents::Datagram(datagram) => self.take_datagram(datagram),
             Contents::Segment(segment) => self.take_segment(segment),
             Contents::Fragment(_) | Contents::Other => Ok(()),
+            Contents::UnreadBetween(ends) => {
+                self.take_unread(*ends);
+                Ok(())
+            }
             Contents::Unread => {
                 self.listing.count_unread();
                 Ok(())
             }
+        }
+    }
+
+    /// Counts a packet whose header is cut or wrong after its ports, if it is of Kerberos.
+    fn take_unread(&mut self, ends: Ends)
+        ensures followed { (settings : Settings) (progress : Progress) → HasFollowed self.old settings progress → HasFollowed self.new settings (and_counted (unread_taken (service_of settings.port ends.source ends.target) progress)).progress }
+        ensures listed { (settings : Settings) (progress : Progress) → HasFollowed self.old settings progress → self.new.listing.text ≡ self.old.listing.text ++ lines_of settings.form (unread_taken (service_of settings.port ends.source ends.target) progress).found }
+    {
+        if Service::between(self.port, ends.source, ends.target).is_some() {
+            self.listing.count_unread();
         }
     }
 
@@ -191,9 +204,9 @@ impl Capture {
         Ok((totals.refused == 0) & (totals.lost == 0) & (totals.unread == 0))
     }
 
-    /// Appends the last record of a file that is itself at fault to a text: why and at which place
-    /// it is refused, and the path of the field at fault. Out of memory, the text may have a part
-    /// of it.
+    /// Appends the records that are due at the fault of a file to a text, as at its end, and the
+    /// last one: why and at which place it is refused, and the path of the field at fault. Out of
+    /// memory, the text may have a part of them.
     pub fn refuse(
         &mut self,
         place: u64,
@@ -201,7 +214,7 @@ impl Capture {
         path: Option<&str>,
         text: &mut TextBuffer,
     ) -> Result<(), Memory>
-        ensures listed { OnOk result ((settings : Settings) (progress : Progress) → HasFollowed self.old settings progress → text.new ≡ text.old ++ capture_refused_line settings.form (all_counts progress) place why (option_copied path.entry)) }
+        ensures listed { OnOk result ((settings : Settings) (progress : Progress) → HasFollowed self.old settings progress → text.new ≡ text.old ++ refusal_text settings progress place why (option_copied path.entry)) }
         ensures failed { OnErr result (self.new.has_failed ≡ true) }
         ensures again { self.old.has_failed ≡ true → IsErr result × (self.new ≡ self.old) × (text.new ≡ text.old) }
     {
@@ -213,7 +226,7 @@ impl Capture {
         refused
     }
 
-    /// Appends the record of a file that is itself at fault to a text.
+    /// Appends the records that are due at the fault of a file to a text.
     fn list_refusal(
         &mut self,
         place: u64,
@@ -221,12 +234,21 @@ impl Capture {
         path: Option<&str>,
         text: &mut TextBuffer,
     ) -> Result<(), Memory>
-        ensures { OnOk result ((settings : Settings) (progress : Progress) → HasFollowed self.old settings progress → text.new ≡ text.old ++ capture_refused_line settings.form (all_counts progress) place why (option_copied path.entry)) }
+        ensures { OnOk result ((settings : Settings) (progress : Progress) → HasFollowed self.old settings progress → text.new ≡ text.old ++ refusal_text settings progress place why (option_copied path.entry)) }
     {
-        let totals = self.totals();
         self.listing.swap_text(text);
-        let refused = self.listing.put_file_refusal(&totals, place, why, path);
+        let refused = self.put_refusal(place, why, path);
         self.listing.swap_text(text);
         refused
+    }
+
+    /// Lists the fault of the file.
+    fn put_refusal(&mut self, place: u64, why: FileWhy, path: Option<&str>) -> Result<(), Memory>
+        ensures { OnOk result ((settings : Settings) (progress : Progress) → HasFollowed self.old settings progress → self.new.listing.text ≡ self.old.listing.text ++ refusal_text settings progress place why (option_copied path.entry)) }
+    {
+        let last = self.last;
+        self.directions.finish(last, &mut self.listing)?;
+        let totals = self.totals();
+        self.listing.put_file_refusal(&totals, place, why, path)
     }
 }

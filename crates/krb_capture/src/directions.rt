@@ -6,12 +6,13 @@ ghost use Rattle.std.specs.Map.{lookup};
 ghost use Rattle.std.specs.Ordering.{eq_by_cmp, nat_cmp};
 ghost use Rattle.krb_capture.specs.Captures.{over_tcp, with_each};
 ghost use Rattle.krb_capture.specs.Directions.{HoldsMaps, HoldsTable, IsKnown, Table, begins, begun, flow_cmp, flow_of, followed, gone_on, kept, last_of, no_directions, of_ended, of_known, with_room, without};
-ghost use Rattle.krb_capture.specs.Sending.{Sent, Represents};
+ghost use Rattle.krb_capture.specs.Sending.{Sent, Represents, step_of};
 
 use crate::flow::{Due, Flow, Service};
 use crate::listing::Listing;
 use crate::sending::{Sending, Step};
 use krb_der::Memory;
+use krb_flow::{Direction, Had};
 use krb_frame::Limit;
 use krb_packet::Segment;
 use std::alloc::Global;
@@ -31,6 +32,15 @@ pub(crate) struct Last {
     sending: Box<Sending>,
 }
 
+/// A direction that ended.
+#[derive(Clone, Copy)]
+pub(crate) struct Gone {
+    /// The flow whose direction it was.
+    flow: Flow,
+    /// What it had.
+    had: Had,
+}
+
 /// The directions that are kept. Each has the number of the packet that began it, so that they are
 /// in the order in which they began.
 #[derive(Drop)]
@@ -44,8 +54,8 @@ pub(crate) struct Directions {
     /// The direction of the last segment, if it has not ended, since the next one is mostly of
     /// that, too. It is not among `active` meanwhile.
     last: Option<Last>,
-    /// The flows of those that ended.
-    ended: BTreeMap<u64, Flow>,
+    /// Those that ended.
+    ended: BTreeMap<u64, Gone>,
     /// Octets that waited.
     waited: Vec<u8>,
 }
@@ -149,7 +159,7 @@ impl Directions {
             Some(number) => self.take_known(flow, number, segment, service, due, listing),
             None if begins(segment) => {
                 self.make_room(due, listing)?;
-                self.begin(flow, segment, service, due, listing)
+                self.begin(flow, Direction::new(), segment, service, due, listing)
             }
             None => Ok(()),
         }
@@ -198,15 +208,18 @@ impl Directions {
     ) -> Result<(), Memory>
         requires of_segment { flow ≡ flow_of segment.now }
         requires none { self.old.last ≡ None }
-        ensures table { OnOk result ((limit : ℕ) (table : Table) → HoldsMaps self.old limit table → HoldsTable self.new limit (of_ended limit due.packet number service segment.now table).table) }
-        ensures found { OnOk result ((limit : ℕ) (table : Table) → HoldsMaps self.old limit table → listing.new ≡ with_each (over_tcp due (of_ended limit due.packet number service segment.now table).found) listing.old) }
+        ensures table { OnOk result ((limit : ℕ) (table : Table) → HoldsMaps self.old limit table → HoldsTable self.new limit (of_ended limit due.packet number (lookup (is_at (nat_cmp number)) table.ended) service segment.now table).table) }
+        ensures found { OnOk result ((limit : ℕ) (table : Table) → HoldsMaps self.old limit table → listing.new ≡ with_each (over_tcp due (of_ended limit due.packet number (lookup (is_at (nat_cmp number)) table.ended) service segment.now table).found) listing.old) }
     {
-        if segment.syn & !segment.rst {
-            self.ended.remove(&number);
-            self.begin(flow, segment, service, due, listing)
-        } else {
-            Ok(())
+        let Some(gone) = self.ended.get(&number).copied() else {
+            return Ok(());
+        };
+        if !gone.had.is_followed_by(segment) {
+            return Ok(());
         }
+        self.ended.remove(&number);
+        let direction = Direction::ended(gone.had);
+        self.begin(flow, direction, segment, service, due, listing)
     }
 
     /// Takes a segment of a direction that has not ended, which is not in the table meanwhile.
@@ -232,22 +245,23 @@ impl Directions {
         self.keep(flow, kept, step)
     }
 
-    /// Begins the direction of a flow that has none.
+    /// Begins a direction of a flow that has none in the table.
     fn begin(
         &mut self,
         flow: Flow,
+        direction: Direction,
         segment: &Segment<'_>,
         service: Service,
         due: Due,
         listing: &mut Listing,
     ) -> Result<(), Memory>
         requires of_segment { flow ≡ flow_of segment.now }
-        requires begins { begins segment.now ≡ true }
+        requires begins { (step_of direction.state segment.now).began ≡ true }
         requires none { self.old.last ≡ None }
-        ensures table { OnOk result ((limit : ℕ) (table : Table) → HoldsMaps self.old limit table → HoldsTable self.new limit (begun limit due.packet service segment.now table).table) }
-        ensures found { OnOk result ((limit : ℕ) (table : Table) → HoldsMaps self.old limit table → listing.new ≡ with_each (over_tcp due (begun limit due.packet service segment.now table).found) listing.old) }
+        ensures table { OnOk result ((limit : ℕ) (table : Table) → HoldsMaps self.old limit table → HoldsTable self.new limit (begun limit due.packet service direction.state segment.now table).table) }
+        ensures found { OnOk result ((limit : ℕ) (table : Table) → HoldsMaps self.old limit table → listing.new ≡ with_each (over_tcp due (begun limit due.packet service direction.state segment.now table).found) listing.old) }
     {
-        let mut sending = Sending::new(self.alloc, self.limit, flow, service);
+        let mut sending = Sending::new(self.alloc, self.limit, flow, service, direction);
         let step = sending.take(segment, due, &mut self.waited, listing)?;
         let kept = Last {
             flow,
@@ -257,14 +271,14 @@ impl Directions {
         self.keep(flow, kept, step)
     }
 
-    /// Keeps a direction of a flow by its number, or that it ended.
+    /// Keeps a direction of a flow by its number, or what it had if it ended.
     fn keep(&mut self, flow: Flow, last: Last, step: Step) -> Result<(), Memory>
         requires { self.old.last ≡ None }
         ensures { OnOk result ((limit : ℕ) (table : Table) (sent : Sent) → HoldsMaps self.old limit table → IsKnown step.began flow last self.old.numbers.entries → Represents last.sending.value limit sent → HoldsTable self.new limit (kept flow last.number step sent table)) }
     {
         self.keep_number(flow, last.number, step.began)?;
-        if step.ended {
-            self.ended.insert(last.number, flow)?;
+        if let Some(had) = step.ended {
+            self.ended.insert(last.number, Gone { flow, had })?;
         } else if self.active.contains_key(&last.number) {
             self.active.insert(last.number, last.sending)?;
         } else {
@@ -295,8 +309,8 @@ impl Directions {
         if self.numbers.len() < MOST_DIRECTIONS {
             return Ok(());
         }
-        if let Some((_, flow)) = self.ended.pop_first() {
-            self.numbers.remove(&flow);
+        if let Some((_, gone)) = self.ended.pop_first() {
+            self.numbers.remove(&gone.flow);
         } else if let Some((_, mut sending)) = self.active.pop_first() {
             sending.finish(due, listing)?;
             self.numbers.remove(&sending.flow());

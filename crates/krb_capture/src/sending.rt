@@ -4,14 +4,14 @@ ghost use Rattle.std.specs.Prelude.{◌≡◌, ℕ, List, IfOk, OnOk};
 ghost use Rattle.krb_text.specs.declared.origin.Transport.TheVariants as transports;
 ghost use Rattle.krb_capture.specs.Flows.{origin_of};
 ghost use Rattle.krb_capture.specs.Found.{with_all};
-ghost use Rattle.krb_capture.specs.Sending.{Sent, Represents, after_segment, beginning_found, end_if, last_found, nothing_sent, segment_found, step_of, stream_at};
+ghost use Rattle.krb_capture.specs.Sending.{Sent, Represents, after_segment, beginning_found, end_if, last_found, segment_found, sent_from, step_of, stream_at};
 ghost use Rattle.krb_capture.specs.Taken.{Took, service_of};
 
 use crate::flow::{Due, Flow, Service};
 use crate::frames::Frames;
 use crate::listing::Listing;
 use krb_der::Memory;
-use krb_flow::{Beginning, Direction, End};
+use krb_flow::{Beginning, Direction, End, Had};
 use krb_frame::Limit;
 use krb_packet::Segment;
 use krb_text::Origin;
@@ -22,8 +22,8 @@ use std::alloc::Global;
 pub(crate) struct Step {
     /// It began with the segment, for the first time or anew.
     pub(crate) began: bool,
-    /// It ended.
-    pub(crate) ended: bool,
+    /// What it had, if it ended.
+    pub(crate) ended: Option<Had>,
 }
 
 /// A direction of a TCP connection, with its frames.
@@ -38,17 +38,23 @@ pub(crate) struct Sending {
 }
 
 impl Sending {
-    /// Creates a direction of which nothing came.
+    /// Creates a direction of which no octet was taken.
     #[inline(always)]
-    pub(crate) fn new(alloc: Global, limit: Limit, flow: Flow, service: Service) -> Sending
-        ensures { Represents result limit (nothing_sent flow service) }
+    pub(crate) fn new(
+        alloc: Global,
+        limit: Limit,
+        flow: Flow,
+        service: Service,
+        direction: Direction,
+    ) -> Sending
+        ensures { Represents result limit (sent_from flow service direction.state) }
     {
         Sending {
             alloc,
             limit,
             flow,
             service,
-            direction: Direction::new(),
+            direction,
             frames: Frames::new(alloc, limit, service),
         }
     }
@@ -82,7 +88,7 @@ impl Sending {
         self.list_end(taken.end, &origin, listing)?;
         Ok(Step {
             began: taken.begins.is_some(),
-            ended: taken.end.is_some(),
+            ended: self.direction.had(),
         })
     }
 

@@ -2,6 +2,7 @@
 use Rattle.std.proofs.Common.{ℕ, ◌<◌, inl, inr, Bool, true, false, List, [], ◌∷◌, length, refl, arith}
 use Rattle.std.proofs.lemmas.Bool.{cases_lt}
 use Rattle.krb_packet.specs.declared.contents.Endpoint.{Endpoint}
+use Rattle.krb_flow.specs.declared.direction.Beginning.TheVariants.{Syn}
 use Rattle.krb_flow.specs.Arrivals.{AreAllOf}
 use Rattle.krb_flow.specs.Laws.{Piece, IsCaptured}
 
@@ -19,7 +20,7 @@ module _ (from to : Endpoint) where
     | inr later ↦ inr (inl (omega arith, omega arith))
   ]
 
-  are_all : AreAllOf (10 ∷ 20 ∷ 30 ∷ 40 ∷ []) pieces
+  are_all : AreAllOf (10 ∷ 20 ∷ 30 ∷ 40 ∷ []) Syn pieces
   are_all = record {
     short = omega arith;
     segments = (
@@ -35,7 +36,7 @@ module _ (from to : Endpoint) where
           not_late = λ place old. absurd old;
           fin = λ is. absurd cc;
           rst = λ is. absurd cc;
-          syn = λ is. (refl, tt);
+          syn = λ is. refl;
         },
         (
           record {

@@ -1,13 +1,13 @@
 -- Segments of a stream as they were captured: what is taken with one is what is next in the stream, and the direction ends once all of it is.
 use Rattle.std.proofs.Common.{◌≡◌, ℕ, suc, ◌+◌, ◌-◌, ◌%◌, ◌^◌, ◌<◌, ◌≤◌, ◌==◌, ◌⊎◌, inl, inr, Bool, true, false, not, ◌&&◌, ◌||◌, is_some, Option, Some, None, List, [], ◌∷◌, ◌++◌, length, drop, refl, sym, ap, ap₂, subst, ◌∙◌, arith, add-zero, append-nil, eq-eqb, eqb-true}
-use Rattle.std.specs.Prelude.{nat_lt}
+use Rattle.std.specs.Prelude.{nat_lt, nat_le}
 use Rattle.std.specs.Int.{from_bool}
 use Rattle.std.specs.Ordering.{nat_cmp, match_ordering}
 use Rattle.std.specs.declared.cmp.Ordering.{Ordering}
 use Rattle.std.specs.declared.cmp.Ordering.TheVariants.{Less, Equal, Greater}
 use Rattle.std.specs.Map.{lookup}
 use Rattle.std.specs.BTreeMap.{insert_entry, is_at}
-use Rattle.std.proofs.lemmas.Bool.{cases_lt, true≢false, lt-ltb, le-ltb, lt-leb}
+use Rattle.std.proofs.lemmas.Bool.{cases_lt, true≢false, lt-ltb, le-ltb, le-leb, lt-leb}
 use Rattle.std.proofs.lemmas.Option.{slice_get_within}
 use Rattle.std.proofs.Math.ListN.{drop_of_length-le, length-drop}
 use Rattle.krb_der.specs.Octets.{when}
@@ -16,17 +16,18 @@ use Rattle.krb_flow.specs.declared.serial.Distance.{Distance}
 use Rattle.krb_flow.specs.declared.stream.End.{End}
 use Rattle.krb_flow.specs.declared.stream.End.TheVariants.{Complete, Lost}
 use Rattle.krb_flow.specs.declared.direction.Beginning.{Beginning}
-use Rattle.krb_flow.specs.declared.direction.Beginning.TheVariants.{Syn}
+use Rattle.krb_flow.specs.declared.direction.Beginning.TheVariants.{Syn, Joined}
 use Rattle.krb_flow.specs.declared.direction.State.{State}
 use Rattle.krb_flow.specs.declared.direction.State.TheVariants.{Fresh, Open, Ended}
 use Rattle.krb_flow.specs.declared.stream.TheConstants.{MOST_AHEAD, MOST_OCTETS, MOST_WAITING}
 use Rattle.krb_flow.specs.Serial.{ahead, behind, distance}
 use Rattle.krb_flow.specs.Waiting.{Waiting, keep_one, keep, ready, early}
 use Rattle.krb_flow.specs.Progress.{Progress, begun}
-use Rattle.krb_flow.specs.Directions.{Outcome, first_number, distance_to, start, end_place, kept, delivered, later, earlier, advanced, is_skipped, deliver, is_reached, is_over, first_place, missing, ending, end_of, ended, is_copy, Begun, at_syn, at_data, begins, unless_over, goes_on, joined, step}
+use Rattle.krb_flow.specs.Directions.{Outcome, first_number, distance_to, start, end_place, kept, delivered, later, earlier, advanced, is_skipped, deliver, had, is_among, is_copy_of, is_reached, is_over, first_place, if_later, or_seen, missing, ending, end_of, ended, Begun, begins, unless_over, goes_on, joined, step}
 use Rattle.krb_flow.specs.Laws.{at_first, HasAt, Piece, IsPiece, IsFair, IsCaptured}
-use Rattle.krb_flow.specs.Arrivals.{AllCaptured, NoneEnds, IsSegmentOf}
-use Rattle.krb_flow.proofs.Pieces.{Agree, GoesTo, taking_goes, number_of, same_number, ahead_by, behind_by}
+use Rattle.krb_flow.specs.Arrivals.{AllCaptured, BeginsWith, IsSegmentOf}
+use Rattle.krb_flow.specs.declared.had.Had.{Had}
+use Rattle.krb_flow.proofs.Pieces.{Agree, GoesTo, taking_goes, deliver_near, on_copy, at_syn, at_joined, number_of, same_number, ahead_by, behind_by}
 use Rattle.krb_flow.proofs.Captured.{Waits, Sorted, Was, Clear, AtEnd, onward_clear, onward_was, onward_captures, not_waiting, end_is, fin_at_end, reached, by_fin, got}
 
 -- ---- which octets wait, or are taken: none that was not captured
@@ -165,9 +166,9 @@ none_waits stream expected (entry ∷ entries) agree sorted full =
     let low : suc expected ≤ entry.0 = sorted.0 in
     absurd (omega arith)
 
-none_missing : (progress : Progress) → progress.waiting ≡ [] → progress.seen ≤ progress.expected → ending progress ≡ Complete
-none_missing progress none le =
-    ap (λ (waiting : Waiting). missing progress.expected (first_place waiting progress.seen)) none
+none_missing : (progress : Progress) → progress.waiting ≡ [] → progress.far ≡ None → progress.seen ≤ progress.expected → ending progress ≡ Complete
+none_missing progress none near le =
+    ap₂ (λ (waiting : Waiting) (far : Option ℕ). missing progress.expected (or_seen progress.seen (earlier (first_place waiting) (if_later progress.expected far)))) none near
     ∙ ap (λ (b : Bool). when b (λ _. Lost (record { place = progress.expected; octets = progress.seen - progress.expected })) (λ _. Complete)) (le-ltb progress.expected progress.seen le)
 
 later_few : (size at seen : ℕ) (end : Option ℕ) → AtEnd at end → at ≤ size → seen ≤ size → later end seen ≤ size
@@ -216,11 +217,8 @@ ahead_few first expected place after before =
 abbrev by_rst : State → Segment → Bool → Outcome × State
 by_rst state segment rst = when rst (λ _. (record { before = None; begins = None; octets = []; end = end_of state }, ended state)) (λ _. let at = begins state segment in joined at (goes_on at.2 segment))
 
-abbrev by_syn : State → Segment → Bool → Outcome × State
-by_syn state segment syn = let at : Begun = when syn (λ _. at_syn state ((segment.sequence + 1) % 2 ^ 32)) (λ _. at_data state segment) in joined at (goes_on at.2 segment)
-
-abbrev by_copy : State → Segment → Bool → Outcome × State
-by_copy state segment copy = let at : Begun = when copy (λ _. (None, None, state)) (λ _. (end_of state, Some Syn, Open (begun ((segment.sequence + 1) % 2 ^ 32) false))) in joined at (goes_on at.2 segment)
+abbrev by_begun : Segment → Begun → Outcome × State
+by_begun segment at = joined at (goes_on at.2 segment)
 
 -- ---- an open direction
 
@@ -228,7 +226,6 @@ by_copy state segment copy = let at : Begun = when copy (λ _. (None, None, stat
 pub record Holds (stream : List ℕ) (first : ℕ) (before : List Piece) (progress : Progress) : Type 0 where
   pub first_is : progress.first ≡ first
   pub small : first < 2 ^ 32
-  pub with_syn : progress.joined ≡ false
   pub within : progress.expected ≤ length stream
   pub agree : Agree stream progress.waiting
   pub clear : Clear progress
@@ -237,17 +234,24 @@ pub record Holds (stream : List ℕ) (first : ℕ) (before : List Piece) (progre
   pub only : (place : ℕ) → Was place progress → IsCaptured place before
   pub near : (place : ℕ) → IsCaptured place before → place < progress.expected + 1048576
   pub seen : progress.seen ≤ length stream
+  pub near_all : progress.far ≡ None
   pub fin : AtEnd (length stream) progress.fin
-  pub no_fin : NoneEnds before → progress.fin ≡ None
 
 -- what comes of a segment before which nothing ends
 abbrev pub outcome : Option Beginning → List ℕ → Option End → State → Outcome × State
 outcome how octets end state = (record { before = None; begins = how; octets = octets; end = end }, state)
 
+-- What a direction had that ended: all of a stream.
+pub record HadAll (stream : List ℕ) (first : ℕ) (before : List Piece) (had : Had) : Type 0 where
+  pub first_is : had.first ≡ first
+  pub small : first < 2 ^ 32
+  pub all : had.expected ≡ length stream
+  pub captured : AllCaptured stream before
+
 -- All octets before a place were taken. With a segment the next ones are, and the direction is open still; or all others are, and it ends.
 pub data Comes (stream : List ℕ) (first : ℕ) (before : List Piece) (expected : ℕ) (how : Option Beginning) (went : Outcome × State) : Type 0 where
   Goes : (octets : List ℕ) (next : Progress) → went ≡ outcome how octets None (Open next) → drop expected stream ≡ octets ++ drop next.expected stream → Holds stream first before next → Comes stream first before expected how went
-  Ends : (octets : List ℕ) → went ≡ outcome how octets (Some Complete) Ended → drop expected stream ≡ octets → (NoneEnds before → ⊥) → Comes stream first before expected how went
+  Ends : (octets : List ℕ) (had : Had) → went ≡ outcome how octets (Some Complete) (Ended had) → drop expected stream ≡ octets → HadAll stream first before had → Comes stream first before expected how went
 
 pub all_taken : (stream : List ℕ) (first : ℕ) (before : List Piece) (progress : Progress) → Holds stream first before progress → AllCaptured stream before → length stream ≤ progress.expected
 all_taken stream first before progress h all =
@@ -257,7 +261,16 @@ all_taken stream first before progress h all =
     ]
 
 pub is_complete : (stream : List ℕ) (first : ℕ) (before : List Piece) (progress : Progress) → Holds stream first before progress → length stream ≤ progress.expected → ending progress ≡ Complete
-is_complete stream first before progress h full = none_missing progress (none_waits stream progress.expected progress.waiting h.agree h.clear full) (omega (arith, h.seen, full))
+is_complete stream first before progress h full = none_missing progress (none_waits stream progress.expected progress.waiting h.agree h.clear full) h.near_all (omega (arith, h.seen, full))
+
+-- all of the stream was taken when it ended
+pub had_all : (stream : List ℕ) (first : ℕ) (before : List Piece) (progress : Progress) → Holds stream first before progress → length stream ≤ progress.expected → HadAll stream first before (had progress)
+had_all stream first before progress h full = record {
+  first_is = h.first_is;
+  small = h.small;
+  all = omega (arith, h.within, full);
+  captured = λ place within. h.only place (inl (omega arith));
+}
 
 module _ (stream : List ℕ) (short : length stream < 2 ^ 61) (first : ℕ) (before : List Piece) (progress : Progress) (h : Holds stream first before progress) (piece : Piece) (s : IsSegmentOf stream first before piece) where
   early_by : piece.0 + piece.1.payload.size ≤ progress.expected + 1048576
@@ -304,8 +317,8 @@ module _ (stream : List ℕ) (short : length stream < 2 ^ 61) (first : ℕ) (bef
 
   went_to : GoesTo stream progress.expected (delivered progress piece.1) (advanced progress piece.1)
   went_to =
-      let ByPassed : Bool → Type 0 = λ passed. let went : List ℕ × Progress = when passed (λ _. ([], progress)) (λ _. (delivered progress piece.1, advanced progress piece.1)) in GoesTo stream progress.expected went.0 went.1 in
-      subst ByPassed not_passed (taking_goes stream progress piece h.agree is_piece)
+      let ByWent : List ℕ × Progress → Type 0 = λ went. GoesTo stream progress.expected went.0 went.1 in
+      subst ByWent (deliver_near progress piece.1 not_passed) (taking_goes stream progress piece h.agree is_piece)
 
   near_next : (place : ℕ) → IsCaptured place (piece ∷ before) → place < next.expected + 1048576
   near_next place (inl here) = omega (arith, here.1, early_by, s.captured)
@@ -327,15 +340,10 @@ module _ (stream : List ℕ) (short : length stream < 2 ^ 61) (first : ℕ) (bef
   fair : piece.1.rst ≡ false → IsFair stream progress piece
   fair no_reset = record { near = not_passed; no_reset = no_reset; fin = s.fin; few_wait = few_next }
 
-  no_fin_next : NoneEnds (piece ∷ before) → next.fin ≡ None
-  no_fin_next none =
-      subst (λ (f : Bool). when f (λ _. earlier (end_place progress.expected (distance_to progress piece.1) piece.1.payload.size) progress.fin) (λ _. progress.fin) ≡ None) (sym none.0) (h.no_fin none.2)
-
   holds_next : piece.1.rst ≡ false → Holds stream first (piece ∷ before) next
   holds_next no_reset = record {
     first_is = h.first_is;
     small = h.small;
-    with_syn = h.with_syn;
     within = stands_within stream progress.expected octets went_to.has_octets h.within;
     agree = went_to.agree;
     clear = onward_clear progress piece.1 h.clear;
@@ -344,7 +352,7 @@ module _ (stream : List ℕ) (short : length stream < 2 ^ 61) (first : ℕ) (bef
     near = near_next;
     seen = seen_few stream progress piece is_piece h.seen s.within s.fin;
     fin = fin_at_end stream progress piece is_piece (fair no_reset) h.fin;
-    no_fin = no_fin_next;
+    near_all = h.near_all;
   }
 
   prefix : drop progress.expected stream ≡ octets ++ drop next.expected stream
@@ -353,55 +361,54 @@ module _ (stream : List ℕ) (short : length stream < 2 ^ 61) (first : ℕ) (bef
   -- a segment that is no RST
   comes_with : piece.1.rst ≡ false → (how : Option Beginning) → Comes stream first (piece ∷ before) progress.expected how (joined (None, how, Open progress) (unless_over (deliver progress piece.1)))
   comes_with no_reset how =
-      let ByPassed : Bool → Type 0 = λ passed. Comes stream first (piece ∷ before) progress.expected how (joined (None, how, Open progress) (unless_over (when passed (λ _. ([], progress)) (λ _. (octets, next))))) in
-      subst ByPassed (sym not_passed)
-      (elim (is_over next) as (λ (over : Bool). is_over next ≡ over → Comes stream first (piece ∷ before) progress.expected how (joined (None, how, Open progress) (when over (λ _. (octets, Some (ending next), Ended)) (λ _. (octets, None, Open next))))) [
+      let ByWent : List ℕ × Progress → Type 0 = λ went. Comes stream first (piece ∷ before) progress.expected how (joined (None, how, Open progress) (unless_over went)) in
+      subst ByWent (sym (deliver_near progress piece.1 not_passed))
+      (elim (is_over next) as (λ (over : Bool). is_over next ≡ over → Comes stream first (piece ∷ before) progress.expected how (joined (None, how, Open progress) (when over (λ _. (octets, Some (ending next), Ended (had next))) (λ _. (octets, None, Open next))))) [
         | true ↦ λ over.
             let end : is_reached next.fin next.expected ≡ true = by_fin (is_reached next.fin next.expected) (nat_lt MOST_WAITING (length next.waiting)) over few_next in
             let full : length stream ≤ next.expected = reached (length stream) next.fin next.expected (holds_next no_reset).fin end in
-            Ends octets
-            (ap (λ (e : End). outcome how octets (Some e) Ended) (is_complete stream first (piece ∷ before) next (holds_next no_reset) full))
+            Ends octets (had next)
+            (ap (λ (e : End). outcome how octets (Some e) (Ended (had next))) (is_complete stream first (piece ∷ before) next (holds_next no_reset) full))
             (prefix ∙ ap (λ (l : List ℕ). octets ++ l) (drop_of_length-le stream full) ∙ append-nil octets)
-            (λ none. true≢false (sym end ∙ ap (λ (f : Option ℕ). is_reached f next.expected) (no_fin_next none)))
+            (had_all stream first (piece ∷ before) next (holds_next no_reset) full)
         | false ↦ λ over. Goes octets next refl prefix (holds_next no_reset)
       ] refl)
 
   -- the SYN that the direction began with, captured again
-  copy : piece.1.syn ≡ true → is_copy (Open progress) ((piece.1.sequence + 1) % 2 ^ 32) ≡ true
-  copy syn =
-      let zeroth : piece.0 ≡ 0 = (s.syn syn).0 in
-      let number : (piece.1.sequence + 1) % 2 ^ 32 ≡ (first + piece.0) % 2 ^ 32 = ap (λ (b : Bool). (piece.1.sequence + from_bool b) % 2 ^ 32) (sym syn) ∙ s.number in
-      let same : progress.first ≡ (piece.1.sequence + 1) % 2 ^ 32 = omega (arith, h.first_is, h.small) in
-      ap₂ (λ (j e : Bool). not j && e) h.with_syn (eq-eqb progress.first ((piece.1.sequence + 1) % 2 ^ 32) same)
+  copy : (piece.1.syn && not (progress.first == first_number piece.1)) ≡ false
+  copy =
+      elim piece.1.syn as (λ (syn : Bool). piece.1.syn ≡ syn → (syn && not (progress.first == first_number piece.1)) ≡ false) [
+        | true ↦ λ syn.
+            let zeroth : piece.0 ≡ 0 = s.syn syn in
+            let number : first_number piece.1 ≡ (first + piece.0) % 2 ^ 32 = s.number in
+            let same : progress.first ≡ first_number piece.1 = omega (arith, h.first_is, h.small) in
+            ap not (eq-eqb progress.first (first_number piece.1) same)
+        | false ↦ λ plain. refl
+      ] refl
 
   goes_with : piece.1.rst ≡ false → step (Open progress) piece.1 ≡ joined (None, None, Open progress) (unless_over (deliver progress piece.1))
-  goes_with no_reset =
-      ap (by_rst (Open progress) piece.1) no_reset
-      ∙ (elim piece.1.syn as (λ (syn : Bool). piece.1.syn ≡ syn → by_syn (Open progress) piece.1 syn ≡ joined (None, None, Open progress) (unless_over (deliver progress piece.1))) [
-        | true ↦ λ is. ap (by_copy (Open progress) piece.1) (copy is)
-        | false ↦ λ is. refl
-      ] refl)
+  goes_with no_reset = ap (by_rst (Open progress) piece.1) no_reset ∙ ap (by_begun piece.1) (on_copy progress piece.1 copy)
 
   pub comes_next : Comes stream first (piece ∷ before) progress.expected None (step (Open progress) piece.1)
   comes_next =
       elim piece.1.rst as (λ (rst : Bool). piece.1.rst ≡ rst → Comes stream first (piece ∷ before) progress.expected None (step (Open progress) piece.1)) [
         | true ↦ λ reset.
             let full : length stream ≤ progress.expected = all_taken stream first before progress h (s.rst reset) in
-            Ends []
-            (ap (by_rst (Open progress) piece.1) reset ∙ ap (λ (e : End). outcome None [] (Some e) Ended) (is_complete stream first before progress h full))
+            let all : HadAll stream first before (had progress) = had_all stream first before progress h full in
+            Ends [] (had progress)
+            (ap (by_rst (Open progress) piece.1) reset ∙ ap (λ (e : End). outcome None [] (Some e) (Ended (had progress))) (is_complete stream first before progress h full))
             (drop_of_length-le stream full)
-            (λ none. true≢false (sym reset ∙ none.1))
+            (record { first_is = all.first_is; small = all.small; all = all.all; captured = λ place within. inr (all.captured place within) })
         | false ↦ λ no_reset. subst (Comes stream first (piece ∷ before) progress.expected None) (sym (goes_with no_reset)) (comes_with no_reset None)
       ] refl
 
 -- ---- from the SYN on
 
-holds_first : (stream : List ℕ) (piece : Piece) → piece.1.syn ≡ true → Holds stream (first_number piece.1) [] (at_first piece.1)
+holds_first : (stream : List ℕ) (piece : Piece) → Holds stream (first_number piece.1) [] (at_first piece.1)
 unfolding Agree Sorted AtEnd Waits
-holds_first stream piece syn = record {
-  first_is = ap (λ (b : Bool). (piece.1.sequence + from_bool b) % 2 ^ 32) (sym syn);
+holds_first stream piece = record {
+  first_is = refl;
   small = omega arith;
-  with_syn = refl;
   within = omega arith;
   agree = tt;
   clear = tt;
@@ -410,21 +417,81 @@ holds_first stream piece syn = record {
   near = λ place captured. absurd captured;
   seen = omega arith;
   fin = tt;
-  no_fin = λ none. refl;
+  near_all = refl;
 }
 
-pub comes_first : (stream : List ℕ) → length stream < 2 ^ 61 → (piece : Piece) → piece.1.syn ≡ true → piece.1.rst ≡ false → IsSegmentOf stream (first_number piece.1) [] piece → Comes stream (first_number piece.1) (piece ∷ []) 0 (Some Syn) (step Fresh piece.1)
-comes_first stream short piece syn no_reset s =
-    let same : step Fresh piece.1 ≡ joined (None, Some Syn, Open (at_first piece.1)) (unless_over (deliver (at_first piece.1) piece.1)) =
-    ap (by_rst Fresh piece.1) no_reset ∙ ap (by_syn Fresh piece.1) syn in
-    subst (Comes stream (first_number piece.1) (piece ∷ []) 0 (Some Syn)) (sym same)
-    (comes_with stream short (first_number piece.1) [] (at_first piece.1) (holds_first stream piece syn) piece s no_reset (Some Syn))
+begins_as : (how : Beginning) (piece : Piece) → BeginsWith how piece → begins Fresh piece.1 ≡ (None, Some how, Open (at_first piece.1))
+begins_as Syn piece with_syn = at_syn piece.1 with_syn
+begins_as Joined piece with_data = at_joined piece.1 with_data.0 (lt-ltb 0 piece.1.payload.size with_data.2)
+
+pub comes_first : (stream : List ℕ) → length stream < 2 ^ 61 → (how : Beginning) (piece : Piece) → BeginsWith how piece → piece.1.rst ≡ false → IsSegmentOf stream (first_number piece.1) [] piece → Comes stream (first_number piece.1) (piece ∷ []) 0 (Some how) (step Fresh piece.1)
+comes_first stream short how piece begins_with no_reset s =
+    let same : step Fresh piece.1 ≡ joined (None, Some how, Open (at_first piece.1)) (unless_over (deliver (at_first piece.1) piece.1)) =
+    ap (by_rst Fresh piece.1) no_reset ∙ ap (by_begun piece.1) (begins_as how piece begins_with) in
+    subst (Comes stream (first_number piece.1) (piece ∷ []) 0 (Some how)) (sym same)
+    (comes_with stream short (first_number piece.1) [] (at_first piece.1) (holds_first stream piece) piece s no_reset (Some how))
 
 -- ---- after the end
 
-pub passes_over : (segment : Segment) → segment.syn ≡ false → step Ended segment ≡ outcome None [] None Ended
-passes_over segment plain =
-    elim segment.rst as (λ (rst : Bool). by_rst Ended segment rst ≡ outcome None [] None Ended) [
-      | true ↦ refl
-      | false ↦ ap (by_syn Ended segment) plain
-    ]
+and-false : (b : Bool) → (b && false) ≡ false
+and-false true = refl
+and-false false = refl
+
+ended_still : (had : Had) (segment : Segment) → (segment.syn && not (had.first == first_number segment)) ≡ false → (not (is_copy_of had segment) && nat_lt 0 segment.payload.size) ≡ false → begins (Ended had) segment ≡ (None, None, Ended had)
+ended_still had segment anew joins =
+    ap₂ (λ (a b : Bool). when a (λ _. (None, Some Syn, Open (begun (first_number segment)))) (λ _. when b (λ _. (None, Some Joined, Open (begun (first_number segment)))) (λ _. (None, None, Ended had)))) anew joins
+
+abbrev IsAmongBy : ℕ → Bool → ℕ → Distance → Type 0
+IsAmongBy expected fin count by = (nat_le (behind by) expected && nat_le (ahead by + count) (behind by + from_bool fin)) ≡ true
+
+-- octets of the stream that come again are among those that were had
+copy_again : (size first expected place count : ℕ) (fin : Bool) → expected ≡ size → expected ≤ place + 2 ^ 31 → 0 < count → place + count ≤ size → IsAmongBy expected fin count (distance (number_of first expected) (number_of first place))
+copy_again size first expected place count fin all after some within =
+    let sooner : place < expected = omega arith in
+    subst (IsAmongBy expected fin count) (behind_by first expected place sooner after)
+    (ap₂ (λ (a b : Bool). a && b) (le-leb (expected - place) expected (omega arith)) (le-leb (0 + count) (expected - place + from_bool fin) (omega arith)))
+
+module _ (stream : List ℕ) (first : ℕ) (before : List Piece) (had : Had) (h : HadAll stream first before had) (piece : Piece) (s : IsSegmentOf stream first before piece) where
+  late_after : had.expected ≤ piece.0 + 2 ^ 31
+  late_after =
+      elim (cases_lt 0 had.expected) [
+        | inl some ↦ let last : had.expected - 1 < piece.0 + 2 ^ 31 = s.not_late (had.expected - 1) (h.captured (had.expected - 1) (omega (arith, h.all))) in omega arith
+        | inr none ↦ omega arith
+      ]
+
+  number_after : number_of had.first piece.0 ≡ first_number piece.1
+  number_after = sym (same_number had.first piece.0) ∙ ap (λ (n : ℕ). (n + piece.0) % 2 ^ 32) h.first_is ∙ sym s.number
+
+  data_again : 0 < piece.1.payload.size → is_copy_of had piece.1 ≡ true
+  data_again some =
+      subst (λ (n : ℕ). is_among had (distance (number_of had.first had.expected) n) piece.1.payload.size ≡ true) number_after
+      (copy_again (length stream) had.first had.expected piece.0 piece.1.payload.size had.at_fin h.all late_after some (s.within some))
+
+  syn_again : (piece.1.syn && not (had.first == first_number piece.1)) ≡ false
+  syn_again =
+      elim piece.1.syn as (λ (syn : Bool). piece.1.syn ≡ syn → (syn && not (had.first == first_number piece.1)) ≡ false) [
+        | true ↦ λ syn.
+            let zeroth : piece.0 ≡ 0 = s.syn syn in
+            let number : first_number piece.1 ≡ (first + piece.0) % 2 ^ 32 = s.number in
+            let same : had.first ≡ first_number piece.1 = omega (arith, h.first_is, h.small) in
+            ap not (eq-eqb had.first (first_number piece.1) same)
+        | false ↦ λ plain. refl
+      ] refl
+
+  join_again : (not (is_copy_of had piece.1) && nat_lt 0 piece.1.payload.size) ≡ false
+  join_again =
+      elim (cases_lt 0 piece.1.payload.size) [
+        | inl some ↦ ap (λ (b : Bool). not b && nat_lt 0 piece.1.payload.size) (data_again some)
+        | inr none ↦ ap (λ (b : Bool). not (is_copy_of had piece.1) && b) (le-ltb 0 piece.1.payload.size none) ∙ and-false (not (is_copy_of had piece.1))
+      ]
+
+  -- it is passed over, and more was captured
+  pub passes_over : step (Ended had) piece.1 ≡ outcome None [] None (Ended had)
+  passes_over =
+      elim piece.1.rst as (λ (rst : Bool). by_rst (Ended had) piece.1 rst ≡ outcome None [] None (Ended had)) [
+        | true ↦ refl
+        | false ↦ ap (by_begun piece.1) (ended_still had piece.1 syn_again join_again)
+      ]
+
+  pub still_all : HadAll stream first (piece ∷ before) had
+  still_all = record { first_is = h.first_is; small = h.small; all = h.all; captured = λ place within. inr (h.captured place within) }

@@ -21,10 +21,10 @@ use Rattle.krb_flow.specs.declared.direction.State.TheVariants.{Fresh, Open, End
 use Rattle.krb_flow.specs.Serial.{behind, distance}
 use Rattle.krb_flow.specs.Waiting.{Waiting, keep_one, keep, ready, early}
 use Rattle.krb_flow.specs.Progress.{Progress}
-use Rattle.krb_flow.specs.Directions.{deliver, Outcome, first_number, distance_to, start, end_place, kept, delivered, earlier, advanced, is_skipped, is_reached, is_over, ending, at_syn, at_data, begins, unless_over, goes_on, joined, step}
+use Rattle.krb_flow.specs.Directions.{deliver, Outcome, first_number, distance_to, start, end_place, kept, delivered, earlier, advanced, is_skipped, had, is_reached, is_over, ending, Begun, begins, unless_over, goes_on, joined, step}
 use Rattle.krb_flow.specs.declared.stream.TheConstants.{MOST_WAITING}
 use Rattle.krb_flow.specs.Laws.{at_first, IsFirst, HasAt, Piece, IsPiece, PiecesOf, delivered_of, IsFair, AllFair, IsCaptured, DeliversAll}
-use Rattle.krb_flow.proofs.Pieces.{delivers_the_stream, when_both, number_of, same_number, ahead_by, behind_by}
+use Rattle.krb_flow.proofs.Pieces.{delivers_the_stream, when_both, number_of, same_number, ahead_by, behind_by, deliver_near, on_plain, at_syn}
 
 -- ---- which places wait
 
@@ -259,11 +259,11 @@ by_fin false many over few = cc
 
 -- after a segment is delivered the direction is still open, or it is over
 abbrev GoesOn : Progress → List ℕ → Outcome × State → Type 0
-GoesOn next octets went = (went.0.octets ≡ octets) × ((went.1 ≡ Open next) ⊎ ((went.1 ≡ Ended) × (is_over next ≡ true)))
+GoesOn next octets went = (went.0.octets ≡ octets) × ((went.1 ≡ Open next) ⊎ ((went.1 ≡ Ended (had next)) × (is_over next ≡ true)))
 
 gone_on : (before : Option End) (how : Option Beginning) (progress next : Progress) (octets : List ℕ) → GoesOn next octets (joined (before, how, Open progress) (unless_over (octets, next)))
 gone_on before how progress next octets =
-    elim (is_over next) as (λ (over : Bool). is_over next ≡ over → GoesOn next octets (joined (before, how, Open progress) (when over (λ _. (octets, Some (ending next), Ended)) (λ _. (octets, None, Open next))))) [
+    elim (is_over next) as (λ (over : Bool). is_over next ≡ over → GoesOn next octets (joined (before, how, Open progress) (when over (λ _. (octets, Some (ending next), Ended (had next))) (λ _. (octets, None, Open next))))) [
       | true ↦ λ over. (refl, inr (refl, over))
       | false ↦ λ over. (refl, inl refl)
     ] refl
@@ -272,24 +272,24 @@ passed_not : (before : Option End) (how : Option Beginning) (progress : Progress
 passed_not before how progress segment near =
     let next = advanced progress segment in
     let octets = delivered progress segment in
-    let ByPassed : Bool → Type 0 = λ passed. GoesOn next octets (joined (before, how, Open progress) (unless_over (when passed (λ _. ([], progress)) (λ _. (octets, next))))) in
-    subst ByPassed (sym near) (gone_on before how progress next octets)
+    let ByWent : List ℕ × Progress → Type 0 = λ went. GoesOn next octets (joined (before, how, Open progress) (unless_over went)) in
+    subst ByWent (sym (deliver_near progress segment near)) (gone_on before how progress next octets)
 
 step_goes : (progress : Progress) (segment : Segment) → segment.syn ≡ false → segment.rst ≡ false → is_skipped progress segment ≡ false → GoesOn (advanced progress segment) (delivered progress segment) (step (Open progress) segment)
 step_goes progress segment plain no_reset near =
     let next = advanced progress segment in
     let octets = delivered progress segment in
-    let ByRst : Bool → Type 0 = λ rst. GoesOn next octets (when rst (λ _. (record { before = None; begins = None; octets = []; end = Some (ending progress) }, Ended)) (λ _. joined (begins (Open progress) segment) (goes_on (begins (Open progress) segment).2 segment))) in
-    let BySyn : Bool → Type 0 = λ syn. let begun = when syn (λ _. at_syn (Open progress) ((segment.sequence + 1) % 2 ^ 32)) (λ _. at_data (Open progress) segment) in GoesOn next octets (joined begun (goes_on begun.2 segment)) in
-    subst ByRst (sym no_reset) (subst BySyn (sym plain) (passed_not None None progress segment near))
+    let ByRst : Bool → Type 0 = λ rst. GoesOn next octets (when rst (λ _. (record { before = None; begins = None; octets = []; end = Some (ending progress) }, Ended (had progress))) (λ _. joined (begins (Open progress) segment) (goes_on (begins (Open progress) segment).2 segment))) in
+    let ByBegun : Begun → Type 0 = λ begun. GoesOn next octets (joined begun (goes_on begun.2 segment)) in
+    subst ByRst (sym no_reset) (subst ByBegun (sym (on_plain progress segment plain)) (passed_not None None progress segment near))
 
 first_goes : (segment : Segment) → segment.syn ≡ true → segment.rst ≡ false → is_skipped (at_first segment) segment ≡ false → GoesOn (advanced (at_first segment) segment) (delivered (at_first segment) segment) (step Fresh segment)
 first_goes segment is_syn no_reset near =
     let next = advanced (at_first segment) segment in
     let octets = delivered (at_first segment) segment in
     let ByRst : Bool → Type 0 = λ rst. GoesOn next octets (when rst (λ _. (record { before = None; begins = None; octets = []; end = None }, Fresh)) (λ _. joined (begins Fresh segment) (goes_on (begins Fresh segment).2 segment))) in
-    let BySyn : Bool → Type 0 = λ syn. let begun = when syn (λ _. at_syn Fresh ((segment.sequence + 1) % 2 ^ 32)) (λ _. at_data Fresh segment) in GoesOn next octets (joined begun (goes_on begun.2 segment)) in
-    subst ByRst (sym no_reset) (subst BySyn (sym is_syn) (passed_not None (Some Syn) (at_first segment) segment near))
+    let ByBegun : Begun → Type 0 = λ begun. GoesOn next octets (joined begun (goes_on begun.2 segment)) in
+    subst ByRst (sym no_reset) (subst ByBegun (sym (at_syn segment is_syn)) (passed_not None (Some Syn) (at_first segment) segment near))
 
 still_was : (stream : List ℕ) (place : ℕ) (progress : Progress) (piece : Piece) (pieces : List Piece) → IsPiece stream progress piece → Was place progress ⊎ IsCaptured place (piece ∷ pieces) → Was place (advanced progress piece.1) ⊎ IsCaptured place pieces
 still_was stream place progress piece pieces is (inl was) = inl (onward_was place progress piece.1 was)
@@ -364,7 +364,7 @@ reach stream (Open progress) pieces first of fair captured =
     (subst (λ (p : Progress). AtEnd (length stream) p.fin) (sym first) tt)
     (λ place below. inr (captured place below)) of fair in
     omega arith
-reach stream Ended pieces first of fair captured = absurd first
+reach stream (Ended had) pieces first of fair captured = absurd first
 
 -- ---- octets that fill the stream
 

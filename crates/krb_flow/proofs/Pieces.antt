@@ -1,26 +1,27 @@
 -- Pieces of a stream: what is delivered of them is the stream.
-use Rattle.std.proofs.Common.{◌≡◌, ℕ, zero, suc, ◌+◌, ◌-◌, ◌%◌, ◌^◌, ◌<◌, ◌≤◌, ◌==◌, inl, inr, Bool, true, false, is_some, Option, Some, None, List, [], ◌∷◌, ◌++◌, length, drop, refl, sym, subst, ◌∙◌, arith, add-zero}
-use Rattle.std.specs.Prelude.{slice_get}
+use Rattle.std.proofs.Common.{◌≡◌, ℕ, zero, suc, ◌+◌, ◌-◌, ◌%◌, ◌^◌, ◌<◌, ◌≤◌, ◌==◌, inl, inr, Bool, true, false, not, ◌&&◌, ◌||◌, is_some, Option, Some, None, List, [], ◌∷◌, ◌++◌, length, drop, refl, sym, ap, subst, ◌∙◌, arith, add-zero}
+use Rattle.std.specs.Prelude.{slice_get, nat_lt}
 use Rattle.std.specs.Ordering.{nat_cmp, match_ordering}
 use Rattle.std.specs.FinMap.{nat_cmp-IsAntisymmetric}
 use Rattle.std.specs.declared.cmp.Ordering.{Ordering}
 use Rattle.std.specs.declared.cmp.Ordering.TheVariants.{Less, Equal, Greater}
 use Rattle.std.specs.Map.{lookup}
 use Rattle.std.specs.BTreeMap.{insert_entry, is_at}
-use Rattle.std.proofs.lemmas.Bool.{eqb-true, cases_lt}
+use Rattle.std.proofs.lemmas.Bool.{eqb-true, cases_lt, true≢false}
 use Rattle.krb_der.specs.Octets.{when}
 use Rattle.krb_packet.specs.declared.contents.Segment.{Segment}
 use Rattle.krb_flow.specs.declared.serial.Distance.{Distance}
 use Rattle.krb_flow.specs.declared.serial.Distance.TheVariants.{Ahead, Behind}
 use Rattle.krb_flow.specs.declared.stream.End.{End}
 use Rattle.krb_flow.specs.declared.direction.Beginning.{Beginning}
-use Rattle.krb_flow.specs.declared.direction.Beginning.TheVariants.{Syn}
+use Rattle.krb_flow.specs.declared.direction.Beginning.TheVariants.{Syn, Joined}
 use Rattle.krb_flow.specs.declared.direction.State.{State}
 use Rattle.krb_flow.specs.declared.direction.State.TheVariants.{Fresh, Open, Ended}
 use Rattle.krb_flow.specs.Serial.{behind, distance}
 use Rattle.krb_flow.specs.Waiting.{Waiting, keep_one, keep, ready, early}
-use Rattle.krb_flow.specs.Progress.{Progress}
-use Rattle.krb_flow.specs.Directions.{Outcome, first_number, distance_to, start, kept, delivered, advanced, is_skipped, deliver, is_over, ending, at_syn, at_data, begins, Delivery, unless_over, goes_on, joined, step, after}
+use Rattle.krb_flow.specs.Progress.{Progress, begun}
+use Rattle.krb_flow.specs.declared.had.Had.{Had}
+use Rattle.krb_flow.specs.Directions.{Outcome, first_number, distance_to, start, kept, delivered, advanced, is_far, passes_all, is_skipped, glimpsed, deliver, had, is_over, ending, is_first, may_join, at_data, Begun, begins, Delivery, unless_over, goes_on, joined, step, after}
 use Rattle.krb_flow.specs.Laws.{at_first, IsFirst, HasAt, Piece, IsPiece, PieceOf, PiecesOf, delivered_of, DeliversTheStream}
 use Rattle.krb_flow.proofs.Distances.{only_one}
 
@@ -138,22 +139,67 @@ pub taking_goes : (stream : List ℕ) (progress : Progress) (piece : Piece) → 
 taking_goes stream progress piece agree is =
     let segment = piece.1 in
     let all = kept_agree stream _ _ progress.waiting (has_piece stream progress piece is) agree in
-    when_both (λ (went : List ℕ × Progress). GoesTo stream progress.expected went.0 went.1) (is_skipped progress segment) (λ _. ([], progress)) (λ _. (delivered progress segment, advanced progress segment))
+    let Goes : List ℕ × Progress → Type 0 = λ went. GoesTo stream progress.expected went.0 went.1 in
+    when_both Goes (passes_all progress segment) (λ _. ([], progress)) (λ _. when (is_far progress segment) (λ _. ([], glimpsed progress segment)) (λ _. (delivered progress segment, advanced progress segment)))
     (record { has_octets = tt; agree = agree; next = add-zero progress.expected })
-    (record { has_octets = has_ready stream progress.expected (kept progress segment) all; agree = early_agree stream progress.expected (kept progress segment) all; next = refl })
+    (when_both Goes (is_far progress segment) (λ _. ([], glimpsed progress segment)) (λ _. (delivered progress segment, advanced progress segment))
+    (record { has_octets = tt; agree = agree; next = add-zero progress.expected })
+    (record { has_octets = has_ready stream progress.expected (kept progress segment) all; agree = early_agree stream progress.expected (kept progress segment) all; next = refl }))
+
+-- one that is not skipped
+abbrev near_by : Progress → Segment → List ℕ × Progress
+near_by progress segment = (delivered progress segment, advanced progress segment)
+
+abbrev deliver_by : Progress → Segment → Bool → Bool → List ℕ × Progress
+deliver_by progress segment far all = when all (λ _. ([], progress)) (λ _. when far (λ _. ([], glimpsed progress segment)) (λ _. near_by progress segment))
+
+pub deliver_near : (progress : Progress) (segment : Segment) → is_skipped progress segment ≡ false → deliver progress segment ≡ near_by progress segment
+deliver_near progress segment = by (is_far progress segment) (passes_all progress segment)
+  where
+    by : (far all : Bool) → (far || all) ≡ false → deliver_by progress segment far all ≡ near_by progress segment
+    by true all e = absurd (true≢false e)
+    by false true e = absurd (true≢false e)
+    by false false e = refl
+
+-- ---- how a direction begins
+
+pub on_copy : (progress : Progress) (segment : Segment) → (segment.syn && not (progress.first == first_number segment)) ≡ false → begins (Open progress) segment ≡ (None, None, Open progress)
+on_copy progress segment e = ap (λ (b : Bool). when b (λ _. (Some (ending progress), Some Syn, Open (begun (first_number segment)))) (λ _. (None, None, Open progress))) e
+
+pub on_plain : (progress : Progress) (segment : Segment) → segment.syn ≡ false → begins (Open progress) segment ≡ (None, None, Open progress)
+on_plain progress segment e = on_copy progress segment (ap (λ (b : Bool). b && not (progress.first == first_number segment)) e)
+
+pub at_syn : (segment : Segment) → segment.syn ≡ true → begins Fresh segment ≡ (None, Some Syn, Open (at_first segment))
+at_syn segment e = ap (λ (b : Bool). when (b && true) (λ _. (None, Some Syn, Open (begun (first_number segment)))) (λ _. at_data Fresh segment)) e
+
+pub at_joined : (segment : Segment) → segment.syn ≡ false → nat_lt 0 segment.payload.size ≡ true → begins Fresh segment ≡ (None, Some Joined, Open (at_first segment))
+at_joined segment plain some =
+    ap (λ (b : Bool). when (b && true) (λ _. (None, Some Syn, Open (begun (first_number segment)))) (λ _. at_data Fresh segment)) plain
+    ∙ ap (λ (b : Bool). when b (λ _. (None, Some Joined, Open (begun (first_number segment)))) (λ _. (None, None, Fresh))) some
+
+abbrev begun_by : Had → Segment → Bool → Bool → Begun
+begun_by had segment anew joins = when anew (λ _. (None, Some Syn, Open (begun (first_number segment)))) (λ _. when joins (λ _. (None, Some Joined, Open (begun (first_number segment)))) (λ _. (None, None, Ended had)))
+
+pub still_ended : (had : Had) (segment : Segment) → (begins (Ended had) segment).1 ≡ None → begins (Ended had) segment ≡ (None, None, Ended had)
+still_ended had segment = by (segment.syn && not (had.first == first_number segment)) (may_join (Ended had) segment && nat_lt 0 segment.payload.size)
+  where
+    by : (a b : Bool) → (begun_by had segment a b).1 ≡ None → begun_by had segment a b ≡ (None, None, Ended had)
+    by true b e = cc
+    by false true e = cc
+    by false false e = refl
 
 -- a state in which the octets before a place were delivered
 abbrev Sound : List ℕ → ℕ → State → Type 0
 Sound stream expected Fresh = expected ≡ 0
 Sound stream expected (Open progress) = Agree stream progress.waiting × (expected ≡ progress.expected)
-Sound stream expected Ended = Unit {0}
+Sound stream expected (Ended had) = Unit {0}
 
 abbrev Good : List ℕ → ℕ → Outcome × State → Type 0
 Good stream expected went = HasAt stream expected went.0.octets × Sound stream (expected + length went.0.octets) went.1
 
 went_goes : (stream : List ℕ) (before : Option End) (how : Option Beginning) (progress : Progress) (went : List ℕ × Progress) → GoesTo stream progress.expected went.0 went.1 → Good stream progress.expected (joined (before, how, Open progress) (unless_over went))
 went_goes stream before how progress went goes =
-    when_both (λ (gone : Delivery). Good stream progress.expected (joined (before, how, Open progress) gone)) (is_over went.1) (λ _. (went.0, Some (ending went.1), Ended)) (λ _. (went.0, None, Open went.1))
+    when_both (λ (gone : Delivery). Good stream progress.expected (joined (before, how, Open progress) gone)) (is_over went.1) (λ _. (went.0, Some (ending went.1), Ended (had went.1))) (λ _. (went.0, None, Open went.1))
     (goes.has_octets, tt)
     (goes.has_octets, (goes.agree, goes.next))
 
@@ -163,30 +209,30 @@ fresh_goes stream expected piece is of =
     let segment = piece.1 in
     let progress = at_first segment in
     let ByRst : Bool → Type 0 = λ rst. Good stream 0 (when rst (λ _. (record { before = None; begins = None; octets = []; end = None }, Fresh)) (λ _. joined (begins Fresh segment) (goes_on (begins Fresh segment).2 segment))) in
-    let BySyn : Bool → Type 0 = λ syn. let begun = when syn (λ _. at_syn Fresh ((segment.sequence + 1) % 2 ^ 32)) (λ _. at_data Fresh segment) in Good stream 0 (joined begun (goes_on begun.2 segment)) in
+    let ByBegun : Begun → Type 0 = λ begun. Good stream 0 (joined begun (goes_on begun.2 segment)) in
     subst (λ (n : ℕ). Good stream n (step Fresh segment)) (sym is)
-    (subst ByRst (sym of.1) (subst BySyn (sym of.0) (went_goes stream None (Some Syn) progress (deliver progress segment) (taking_goes stream progress piece tt of.2))))
+    (subst ByRst (sym of.1) (subst ByBegun (sym (at_syn segment of.0)) (went_goes stream None (Some Syn) progress (deliver progress segment) (taking_goes stream progress piece tt of.2))))
 
 open_goes : (stream : List ℕ) (expected : ℕ) (progress : Progress) (piece : Piece) → Agree stream progress.waiting → expected ≡ progress.expected → PieceOf stream (Open progress) piece → Good stream expected (step (Open progress) piece.1)
 open_goes stream expected progress piece agree is of =
     let segment = piece.1 in
-    let GoesOn : Bool → Type 0 = λ syn. let begun = when syn (λ _. at_syn (Open progress) ((segment.sequence + 1) % 2 ^ 32)) (λ _. at_data (Open progress) segment) in Good stream progress.expected (joined begun (goes_on begun.2 segment)) in
+    let GoesOn : Begun → Type 0 = λ begun. Good stream progress.expected (joined begun (goes_on begun.2 segment)) in
     subst (λ (n : ℕ). Good stream n (step (Open progress) segment)) (sym is)
-    (when_both (Good stream progress.expected) segment.rst (λ _. (record { before = None; begins = None; octets = []; end = Some (ending progress) }, Ended)) (λ _. joined (begins (Open progress) segment) (goes_on (begins (Open progress) segment).2 segment))
+    (when_both (Good stream progress.expected) segment.rst (λ _. (record { before = None; begins = None; octets = []; end = Some (ending progress) }, Ended (had progress))) (λ _. joined (begins (Open progress) segment) (goes_on (begins (Open progress) segment).2 segment))
     (tt, tt)
-    (subst GoesOn (sym of.0) (went_goes stream None None progress (deliver progress segment) (taking_goes stream progress piece agree of.1))))
+    (subst GoesOn (sym (on_plain progress segment of.0)) (went_goes stream None None progress (deliver progress segment) (taking_goes stream progress piece agree of.1))))
 
-ended_goes : (stream : List ℕ) (expected : ℕ) (segment : Segment) → segment.syn ≡ false → Good stream expected (step Ended segment)
-ended_goes stream expected segment plain =
-    let GoesOn : Bool → Type 0 = λ syn. let begun = when syn (λ _. at_syn Ended ((segment.sequence + 1) % 2 ^ 32)) (λ _. at_data Ended segment) in Good stream expected (joined begun (goes_on begun.2 segment)) in
-    when_both (Good stream expected) segment.rst (λ _. (record { before = None; begins = None; octets = []; end = None }, Ended)) (λ _. joined (begins Ended segment) (goes_on (begins Ended segment).2 segment))
+ended_goes : (stream : List ℕ) (expected : ℕ) (had : Had) (segment : Segment) → (begins (Ended had) segment).1 ≡ None → Good stream expected (step (Ended had) segment)
+ended_goes stream expected had segment none =
+    let GoesOn : Begun → Type 0 = λ begun. Good stream expected (joined begun (goes_on begun.2 segment)) in
+    when_both (Good stream expected) segment.rst (λ _. (record { before = None; begins = None; octets = []; end = None }, Ended had)) (λ _. joined (begins (Ended had) segment) (goes_on (begins (Ended had) segment).2 segment))
     (tt, tt)
-    (subst GoesOn (sym plain) (tt, tt))
+    (subst GoesOn (sym (still_ended had segment none)) (tt, tt))
 
 state_goes : (stream : List ℕ) (expected : ℕ) (state : State) (piece : Piece) → Sound stream expected state → PieceOf stream state piece → Good stream expected (step state piece.1)
 state_goes stream expected Fresh piece sound of = fresh_goes stream expected piece sound of
 state_goes stream expected (Open progress) piece sound of = open_goes stream expected progress piece sound.0 sound.1 of
-state_goes stream expected Ended piece sound of = ended_goes stream expected piece.1 of
+state_goes stream expected (Ended had) piece sound of = ended_goes stream expected had piece.1 of
 
 all_stand : (stream : List ℕ) (expected : ℕ) (state : State) (pieces : List Piece) → Sound stream expected state → PiecesOf stream state pieces → HasAt stream expected (delivered_of state pieces)
 all_stand stream expected state [] sound of = tt
@@ -200,7 +246,7 @@ sound_at_first : (stream : List ℕ) (state : State) → IsFirst state → Sound
 unfolding Agree
 sound_at_first stream Fresh first = refl
 sound_at_first stream (Open progress) first = subst (λ (p : Progress). Agree stream p.waiting × (0 ≡ p.expected)) (sym first) (tt, refl)
-sound_at_first stream Ended first = tt
+sound_at_first stream (Ended had) first = tt
 
 pub delivers_the_stream : DeliversTheStream
 delivers_the_stream stream state pieces first of = all_stand stream 0 state pieces (sound_at_first stream state first) of

@@ -13,6 +13,7 @@ use Rattle.krb_flow.specs.declared.stream.End.TheVariants as ends
 use Rattle.krb_flow.specs.declared.direction.Beginning.{Beginning}
 use Rattle.krb_flow.specs.declared.direction.Beginning.TheVariants as beginnings
 use Rattle.krb_flow.specs.declared.direction.Taken.{Taken}
+use Rattle.krb_flow.specs.declared.had.Had.{Had}
 use Rattle.krb_flow.specs.declared.direction.State.{State}
 use Rattle.krb_flow.specs.declared.direction.State.TheVariants.{Fresh, Open, Ended}
 
@@ -36,9 +37,17 @@ end_place expected distance size = when (nat_lt (start expected distance + size)
 
 -- ---- a segment is delivered
 
--- whether a segment is skipped: it begins too far ahead, or would pass the greatest place
+-- whether a segment would pass the greatest place
+abbrev pub passes_all : Progress → Segment → Bool
+passes_all progress segment = nat_le MOST_OCTETS (progress.expected + segment.payload.size)
+
+-- whether it begins too far ahead
+abbrev pub is_far : Progress → Segment → Bool
+is_far progress segment = nat_lt MOST_AHEAD (ahead (distance_to progress segment))
+
+-- either is skipped
 abbrev pub is_skipped : Progress → Segment → Bool
-is_skipped progress segment = nat_lt MOST_AHEAD (ahead (distance_to progress segment)) || nat_le MOST_OCTETS (progress.expected + segment.payload.size)
+is_skipped progress segment = is_far progress segment || passes_all progress segment
 
 -- the octets that wait, with those of the segment; its octets before the one expected are copies of delivered ones
 abbrev pub kept : Progress → Segment → Waiting
@@ -76,9 +85,20 @@ advanced progress segment = record progress {
   fin = fin_with progress segment;
 }
 
+-- what is known of a segment that begins too far ahead: where its octets end, and the place of the first one if that was captured
+abbrev pub far_with : Progress → Segment → Option ℕ
+far_with progress segment =
+    when (nat_lt 0 (length segment.payload.octets)) (λ _. earlier (Some (start progress.expected (distance_to progress segment))) progress.far) (λ _. progress.far)
+
+abbrev pub glimpsed : Progress → Segment → Progress
+glimpsed progress segment = record progress { seen = seen_with progress segment; far = far_with progress segment }
+
 -- the octets that are delivered with a segment, and the progress then
 abbrev pub deliver : Progress → Segment → List ℕ × Progress
-deliver progress segment = when (is_skipped progress segment) (λ _. ([], progress)) (λ _. (delivered progress segment, advanced progress segment))
+deliver progress segment =
+    when (passes_all progress segment) (λ _. ([], progress)) (λ _.
+    when (is_far progress segment) (λ _. ([], glimpsed progress segment)) (λ _.
+    (delivered progress segment, advanced progress segment)))
 
 -- ---- the end
 
@@ -90,66 +110,99 @@ is_reached (Some fin) expected = nat_le fin expected
 abbrev pub is_over : Progress → Bool
 is_over progress = is_reached progress.fin progress.expected || nat_lt MOST_WAITING (length progress.waiting)
 
--- The octets that are known to be missing are those before the first one that waits, or else up to the last one that was seen.
-abbrev pub first_place : Waiting → ℕ → ℕ
-first_place [] seen = seen
-first_place (entry ∷ entries) seen = entry.0
+-- The octets that are known to be missing are those before the next one that was captured: the first one that waits, or that began too far ahead. If there is none, they are those up to the last one that was seen.
+abbrev pub first_place : Waiting → Option ℕ
+first_place [] = None
+first_place (entry ∷ entries) = Some entry.0
+
+abbrev pub if_later : ℕ → Option ℕ → Option ℕ
+if_later expected None = None
+if_later expected (Some place) = when (nat_lt expected place) (λ _. Some place) (λ _. None)
+
+abbrev pub or_seen : ℕ → Option ℕ → ℕ
+or_seen seen None = seen
+or_seen seen (Some place) = place
+
+abbrev pub next_place : Progress → ℕ
+next_place progress = or_seen progress.seen (earlier (first_place progress.waiting) (if_later progress.expected progress.far))
 
 abbrev pub missing : ℕ → ℕ → End
 missing expected place = when (nat_lt expected place) (λ _. ends.Lost (record { place = expected; octets = place - expected })) (λ _. ends.Complete)
 
 abbrev pub ending : Progress → End
-ending progress = missing progress.expected (first_place progress.waiting progress.seen)
+ending progress = missing progress.expected (next_place progress)
+
+-- ---- a direction that ended
+
+-- whether a FIN is at a place
+abbrev pub is_fin_at : ℕ → Option ℕ → Bool
+is_fin_at place None = false
+is_fin_at place (Some fin) = fin == place
+
+-- what it had: the number of its octet 0, the place of the octet that was due then, and whether its FIN was due there
+abbrev pub had : Progress → Had
+had progress = record { first = progress.first; expected = progress.expected; at_fin = is_fin_at progress.expected progress.fin }
+
+-- whether octets are all among those that a direction had, or at the place of its FIN. Keep-alives have one octet there.
+abbrev pub is_among : Had → Distance → ℕ → Bool
+is_among had distance size = nat_le (behind distance) had.expected && nat_le (ahead distance + size) (behind distance + from_bool had.at_fin)
+
+abbrev pub is_copy_of : Had → Segment → Bool
+is_copy_of had segment = is_among had (distance ((had.first + had.expected % 2 ^ 32) % 2 ^ 32) (first_number segment)) segment.payload.size
 
 -- ---- a direction, which may begin again
 
 abbrev pub end_of : State → Option End
 end_of (Open progress) = Some (ending progress)
 end_of Fresh = None
-end_of Ended = None
+end_of (Ended had) = None
 
 abbrev pub ended : State → State
 ended Fresh = Fresh
-ended (Open progress) = Ended
-ended Ended = Ended
+ended (Open progress) = Ended (had progress)
+ended (Ended had) = Ended had
 
--- whether a SYN is a copy of the one that the direction began with
-abbrev pub is_copy : State → ℕ → Bool
-is_copy Fresh first = false
-is_copy (Open progress) first = not progress.joined && (progress.first == first)
-is_copy Ended first = false
+-- what a direction had that ended
+abbrev pub had_of : State → Option Had
+had_of Fresh = None
+had_of (Open progress) = None
+had_of (Ended had) = Some had
 
-abbrev pub is_fresh : State → Bool
-is_fresh Fresh = true
-is_fresh (Open progress) = false
-is_fresh Ended = false
+-- whether an octet is octet 0 of the direction, by its number; a SYN before that is a copy
+abbrev pub is_first : State → ℕ → Bool
+is_first Fresh number = false
+is_first (Open progress) number = progress.first == number
+is_first (Ended had) number = had.first == number
+
+-- whether data begin the direction: if nothing came, or if it ended and these are no copies
+abbrev pub may_join : State → Segment → Bool
+may_join Fresh segment = true
+may_join (Open progress) segment = false
+may_join (Ended had) segment = not (is_copy_of had segment)
 
 -- how the direction before ended, how this one began, and the state then
 abbrev pub Begun : Type 0
 Begun = Option End × Option Beginning × State
 
--- any other SYN begins the direction again; octet 0 has the sequence number after that of the SYN
-abbrev pub at_syn : State → ℕ → Begun
-at_syn state first = when (is_copy state first) (λ _. (None, None, state)) (λ _. (end_of state, Some beginnings.Syn, Open (begun first false)))
-
--- data before any SYN begin the direction at their first octet
+-- data begin the direction at their first octet
 abbrev pub at_data : State → Segment → Begun
-at_data state segment = when (is_fresh state && nat_lt 0 segment.payload.size) (λ _. (None, Some beginnings.Joined, Open (begun segment.sequence true))) (λ _. (None, None, state))
+at_data state segment = when (may_join state segment && nat_lt 0 segment.payload.size) (λ _. (None, Some beginnings.Joined, Open (begun (first_number segment)))) (λ _. (None, None, state))
 
+-- a SYN that is no copy begins the direction again; octet 0 has the sequence number after that of the SYN
 abbrev pub begins : State → Segment → Begun
-begins state segment = when segment.syn (λ _. at_syn state ((segment.sequence + 1) % 2 ^ 32)) (λ _. at_data state segment)
+begins state segment = when (segment.syn && not (is_first state (first_number segment))) (λ _. (end_of state, Some beginnings.Syn, Open (begun (first_number segment)))) (λ _. at_data state segment)
 
 -- the octets that are delivered, how the direction ended with them, and the state then
 abbrev pub Delivery : Type 0
 Delivery = List ℕ × Option End × State
 
 abbrev pub unless_over : List ℕ × Progress → Delivery
-unless_over went = when (is_over went.1) (λ _. (went.0, Some (ending went.1), Ended)) (λ _. (went.0, None, Open went.1))
+unless_over went = when (is_over went.1) (λ _. (went.0, Some (ending went.1), Ended (had went.1))) (λ _. (went.0, None, Open went.1))
 
 abbrev pub goes_on : State → Segment → Delivery
 goes_on Fresh segment = ([], None, Fresh)
 goes_on (Open progress) segment = unless_over (deliver progress segment)
-goes_on Ended segment = ([], None, Ended)
+goes_on (Ended had) segment = ([], None, Ended had)
 
 -- The outcome of a segment: how the direction before a SYN ended, how this one began, the octets that are delivered, and how it ended.
 pub record Outcome : Type 0 where

@@ -1,5 +1,5 @@
 -- Laws of sequence numbers and of directions.
-use Rattle.std.specs.Prelude.{◌≡◌, ℕ, ◌+◌, ◌%◌, ◌<◌, ◌≤◌, ◌^◌, ◌⊎◌, true, false, nat_lt, Some, List, [], ◌∷◌, ◌++◌, length, slice_get}
+use Rattle.std.specs.Prelude.{◌≡◌, ℕ, ◌+◌, ◌%◌, ◌<◌, ◌≤◌, ◌^◌, ◌⊎◌, true, false, nat_lt, Some, None, List, [], ◌∷◌, ◌++◌, length, slice_get}
 use Rattle.krb_packet.specs.declared.contents.Segment.{Segment}
 use Rattle.krb_flow.specs.declared.serial.Distance.{Distance}
 use Rattle.krb_flow.specs.declared.direction.State.{State}
@@ -7,7 +7,7 @@ use Rattle.krb_flow.specs.declared.direction.State.TheVariants.{Fresh, Open, End
 use Rattle.krb_flow.specs.declared.stream.TheConstants.{MOST_WAITING}
 use Rattle.krb_flow.specs.Serial.{Separates, distance}
 use Rattle.krb_flow.specs.Progress.{Progress, begun}
-use Rattle.krb_flow.specs.Directions.{Outcome, first_number, is_skipped, advanced, step, outcomes}
+use Rattle.krb_flow.specs.Directions.{Outcome, first_number, is_skipped, advanced, begins, step, outcomes}
 
 -- The distance of two numbers separates them, and no other distance does.
 abbrev pub DistanceIsTheOne : Type 0
@@ -36,13 +36,13 @@ segments_of (piece ∷ pieces) = piece.1 ∷ segments_of pieces
 
 -- the progress of a direction after its SYN
 abbrev pub at_first : Segment → Progress
-at_first segment = begun ((segment.sequence + 1) % 2 ^ 32) false
+at_first segment = begun (first_number segment)
 
--- Pieces of the stream come in any order and any number of times, until the direction ends. The first one has the SYN, and may have octets, too.
+-- Pieces of the stream come in any order and any number of times, until the direction ends, and after that copies. The first one has the SYN, and may have octets, too.
 abbrev pub PieceOf : List ℕ → State → Piece → Type 0
 PieceOf stream Fresh piece = (piece.1.syn ≡ true) × (piece.1.rst ≡ false) × IsPiece stream (at_first piece.1) piece
 PieceOf stream (Open progress) piece = (piece.1.syn ≡ false) × IsPiece stream progress piece
-PieceOf stream Ended piece = piece.1.syn ≡ false
+PieceOf stream (Ended had) piece = (begins (Ended had) piece.1).1 ≡ None
 
 abbrev pub PiecesOf : List ℕ → State → List Piece → Type 0
 PiecesOf stream state [] = Unit {0}
@@ -59,8 +59,8 @@ delivered_of state pieces = octets_of (outcomes state (segments_of pieces))
 -- nothing came, or only what begins the direction
 abbrev pub IsFirst : State → Type 0
 IsFirst Fresh = Unit {0}
-IsFirst (Open progress) = progress ≡ begun progress.first progress.joined
-IsFirst Ended = ⊥
+IsFirst (Open progress) = progress ≡ begun progress.first
+IsFirst (Ended had) = ⊥
 
 -- Whatever pieces come, the octets that are delivered are those of the stream from its first octet on: none is missing, none comes twice, and none is at the place of another.
 abbrev pub DeliversTheStream : Type 0
@@ -76,7 +76,7 @@ pub record IsFair (stream : List ℕ) (progress : Progress) (piece : Piece) : Ty
 abbrev pub FairOf : List ℕ → State → Piece → Type 0
 FairOf stream Fresh piece = IsFair stream (at_first piece.1) piece
 FairOf stream (Open progress) piece = IsFair stream progress piece
-FairOf stream Ended piece = Unit {0}
+FairOf stream (Ended had) piece = Unit {0}
 
 abbrev pub AllFair : List ℕ → State → List Piece → Type 0
 AllFair stream state [] = Unit {0}

@@ -1,9 +1,10 @@
 //! A direction of a TCP connection: what one end sends to the other, from SYN to SYN.
 
-ghost use Rattle.std.specs.Prelude.{◌≡◌, ◌++◌, IfOk, OnOk, OnErr};
-ghost use Rattle.krb_flow.specs.Directions.{at_syn, begins, end_of, ended, goes_on, is_copy, is_fresh, outcome_of, step};
+ghost use Rattle.std.specs.Prelude.{◌≡◌, ◌++◌, true, is_some, IfOk, OnOk, OnErr};
+ghost use Rattle.krb_flow.specs.Directions.{begins, end_of, ended, goes_on, had_of, is_first, may_join, outcome_of, step};
 ghost use Rattle.krb_flow.specs.declared.direction.State.TheVariants as states;
 
+use crate::had::{Had, first_number};
 use crate::stream::{End, Stream};
 use krb_der::Memory;
 use krb_packet::Segment;
@@ -14,7 +15,7 @@ use std::alloc::Global;
 pub enum Beginning {
     /// With a SYN.
     Syn,
-    /// With data that no SYN came before.
+    /// With data that no SYN came before, or that come after the end and are no copies.
     Joined,
 }
 
@@ -25,8 +26,8 @@ pub enum State {
     Fresh,
     /// It began.
     Open(Stream),
-    /// It ended, and passes over all up to a SYN.
-    Ended,
+    /// It ended, and passes over copies of what it had.
+    Ended(Had),
 }
 
 /// What comes of a segment, in the order of the fields.
@@ -40,6 +41,18 @@ pub struct Taken<'a> {
     pub octets: &'a [u8],
     /// How the direction ended, if it did, after these octets and those that waited.
     pub end: Option<End>,
+}
+
+impl Had {
+    /// Returns whether a segment begins the direction anew: with a SYN, or with data that it did
+    /// not have.
+    pub fn is_followed_by(self, segment: &Segment<'_>) -> bool
+        ensures { result ≡ is_some (step (states.Ended self) segment.now).0.begins }
+    {
+        let anew = segment.syn & (self.first != first_number(segment));
+        let joined = !self.is_copy(segment) & (segment.payload.size() > 0);
+        !segment.rst & (anew | joined)
+    }
 }
 
 /// A direction of a TCP connection. It allocates for the octets that wait alone, at most two octets
@@ -59,6 +72,25 @@ impl Direction {
         }
     }
 
+    /// Creates a direction that ended, and had this.
+    pub fn ended(had: Had) -> Direction
+        ensures { result.state ≡ states.Ended had }
+    {
+        Direction {
+            state: State::Ended(had),
+        }
+    }
+
+    /// Returns what it had, if it ended.
+    pub fn had(&self) -> Option<Had>
+        ensures { result ≡ had_of self.now.state }
+    {
+        match &self.state {
+            State::Ended(had) => Some(*had),
+            State::Fresh | State::Open(_) => None,
+        }
+    }
+
     /// Takes a segment of the direction. The octets that are taken are those of the result, and
     /// then those that `waited` has, whatever it had before. Out of memory, the direction has
     /// ended.
@@ -70,7 +102,7 @@ impl Direction {
     ) -> Result<Taken<'a>, Memory>
         ensures outcome { IfOk result (λ delivered. outcome_of delivered waited.new.items ≡ (step self.old.state segment.now).0) }
         ensures state { OnOk result (self.new.state ≡ (step self.old.state segment.now).1) }
-        ensures memory { OnErr result (self.new.state ≡ states.Ended) }
+        ensures memory { OnErr result (is_some (had_of self.new.state) ≡ true) }
     {
         if segment.rst {
             waited.clear();
@@ -100,28 +132,33 @@ impl Direction {
         match &self.state {
             State::Open(stream) => {
                 let end = stream.end();
-                self.state = State::Ended;
+                self.state = State::Ended(stream.had());
                 Some(end)
             }
-            State::Fresh | State::Ended => None,
+            State::Fresh | State::Ended(_) => None,
         }
     }
 
-    /// Returns whether a SYN before an octet 0 of this number is a copy of the one it began with.
-    fn is_copy(&self, first: u32) -> bool
-        ensures { result ≡ is_copy self.now.state first }
+    /// Returns whether its octet 0 has a number.
+    fn is_first(&self, number: u32) -> bool
+        ensures { result ≡ is_first self.now.state number }
     {
         match &self.state {
-            State::Open(stream) => stream.began_with(first),
-            State::Fresh | State::Ended => false,
+            State::Fresh => false,
+            State::Open(stream) => stream.begins_at(number),
+            State::Ended(had) => had.first == number,
         }
     }
 
-    /// Returns whether nothing came.
-    fn is_fresh(&self) -> bool
-        ensures { result ≡ is_fresh self.now.state }
+    /// Returns whether the data of a segment begin it.
+    fn may_join(&self, segment: &Segment<'_>) -> bool
+        ensures { result ≡ may_join self.now.state segment.now }
     {
-        matches!(&self.state, State::Fresh)
+        match &self.state {
+            State::Fresh => true,
+            State::Open(_) => false,
+            State::Ended(had) => !had.is_copy(segment),
+        }
     }
 
     /// Begins the direction, if a segment does that. Returns how what was there ended, and how it
@@ -131,28 +168,17 @@ impl Direction {
         ensures begins { result.1 ≡ (begins self.old.state segment.now).1 }
         ensures state { self.new.state ≡ (begins self.old.state segment.now).2 }
     {
-        if segment.syn {
-            self.begin_at_syn(alloc, segment.sequence.wrapping_add(1))
-        } else if self.is_fresh() & (segment.payload.size() > 0) {
-            self.state = State::Open(Stream::new(alloc, segment.sequence, true));
+        let first = first_number(segment);
+        if segment.syn & !self.is_first(first) {
+            let before = self.end();
+            self.state = State::Open(Stream::new(alloc, first));
+            (before, Some(Beginning::Syn))
+        } else if self.may_join(segment) & (segment.payload.size() > 0) {
+            self.state = State::Open(Stream::new(alloc, first));
             (None, Some(Beginning::Joined))
         } else {
             (None, None)
         }
-    }
-
-    /// Begins the direction at a SYN, unless that is a copy.
-    fn begin_at_syn(&mut self, alloc: Global, first: u32) -> (Option<End>, Option<Beginning>)
-        ensures before { result.0 ≡ (at_syn self.old.state first).0 }
-        ensures begins { result.1 ≡ (at_syn self.old.state first).1 }
-        ensures state { self.new.state ≡ (at_syn self.old.state first).2 }
-    {
-        if self.is_copy(first) {
-            return (None, None);
-        }
-        let before = self.end();
-        self.state = State::Open(Stream::new(alloc, first, false));
-        (before, Some(Beginning::Syn))
     }
 
     /// Takes the octets of a segment, if the direction is open.
@@ -164,19 +190,19 @@ impl Direction {
         ensures octets { IfOk result (λ gone. gone.0.now ++ waited.new.items ≡ (goes_on self.old.state segment.now).0) }
         ensures end { IfOk result (λ gone. gone.1 ≡ (goes_on self.old.state segment.now).1) }
         ensures state { OnOk result (self.new.state ≡ (goes_on self.old.state segment.now).2) }
-        ensures memory { OnErr result (self.new.state ≡ states.Ended) }
+        ensures memory { OnErr result (is_some (had_of self.new.state) ≡ true) }
     {
         let State::Open(stream) = &mut self.state else {
             waited.clear();
             return Ok((&[], None));
         };
         let Ok(octets) = stream.take(segment, waited) else {
-            self.state = State::Ended;
+            self.state = State::Ended(stream.had());
             return Err(Memory);
         };
         if stream.is_over() {
             let end = stream.end();
-            self.state = State::Ended;
+            self.state = State::Ended(stream.had());
             Ok((octets, Some(end)))
         } else {
             Ok((octets, None))

@@ -16,11 +16,13 @@
 #![tactic(auto)]
 
 mod direction;
+mod had;
 pub mod law;
 mod serial;
 mod stream;
 mod waiting;
 
 pub use direction::{Beginning, Direction, State, Taken};
+pub use had::Had;
 pub use serial::Distance;
 pub use stream::{End, Lost, Stream};

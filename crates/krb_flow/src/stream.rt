@@ -1,5 +1,6 @@
 //! What one end of a connection sends, after it began.
 
+use crate::had::{Had, first_number, number_at};
 use crate::serial::Distance;
 use crate::waiting::Runs;
 use krb_der::Memory;
@@ -38,10 +39,10 @@ pub enum End {
 #[derive(Drop)]
 pub struct Stream {
     first: u32,
-    joined: bool,
     expected: u64,
     waiting: Runs,
     seen: u64,
+    far: Option<u64>,
     fin: Option<u64>,
 }
 
@@ -50,13 +51,13 @@ impl Model for Stream {
 
     ghost Value = { Progress };
 
-    ghost view = { λ stream. record { first = stream.first; joined = stream.joined; expected = stream.expected; waiting = stream.waiting; seen = stream.seen; fin = stream.fin } };
+    ghost view = { λ stream. record { first = stream.first; expected = stream.expected; waiting = stream.waiting; seen = stream.seen; far = stream.far; fin = stream.fin } };
 }
 
-ghost use Rattle.std.specs.Prelude.{◌≡◌, ℕ, ◌+◌, ◌++◌, ◌<◌, ◌≤◌, ◌^◌, ◌||◌, ◌&&◌, ◌==◌, not, nat_lt, nat_le, length, IfOk, OnOk};
+ghost use Rattle.std.specs.Prelude.{◌≡◌, ℕ, ◌+◌, ◌++◌, ◌<◌, ◌≤◌, ◌^◌, ◌||◌, ◌==◌, nat_lt, nat_le, length, IfOk, OnOk};
 ghost use Rattle.krb_der.specs.Octets.{when};
 ghost use Rattle.krb_flow.specs.Progress.{begun};
-ghost use Rattle.krb_flow.specs.Directions.{distance_to, earlier, end_place, ending, is_over, is_skipped, later, advanced, delivered, deliver};
+ghost use Rattle.krb_flow.specs.Directions.{distance_to, earlier, end_place, ending, glimpsed, had, if_later, is_over, later, next_place, passes_all, advanced, delivered, deliver};
 
 /// Returns the place after a segment of `size` octets, unless that is before octet 0.
 fn end_place(expected: u64, distance: Distance, size: u64) -> Option<u64>
@@ -85,58 +86,68 @@ fn seen_with(seen: u64, end: Option<u64>, counts: bool) -> u64
     }
 }
 
-/// Returns the earlier of two places, if the other one counts.
-fn fin_with(fin: Option<u64>, end: Option<u64>, counts: bool) -> Option<u64>
-    ensures { result ≡ when counts (λ _. earlier end fin) (λ _. fin) }
+/// Returns the earlier of two places, of which there may be one or none.
+fn earlier(one: Option<u64>, other: Option<u64>) -> Option<u64>
+    ensures { result ≡ earlier one other }
 {
-    if !counts {
-        return fin;
+    match (one, other) {
+        (Some(one), Some(other)) => Some(other.min(one)),
+        (Some(one), None) => Some(one),
+        (None, other) => other,
     }
-    match (end, fin) {
-        (Some(end), Some(fin)) => Some(fin.min(end)),
-        (Some(end), None) => Some(end),
-        (None, fin) => fin,
+}
+
+/// Returns the earlier of two places, if the other one counts.
+fn place_with(place: Option<u64>, other: Option<u64>, counts: bool) -> Option<u64>
+    ensures { result ≡ when counts (λ _. earlier other place) (λ _. place) }
+{
+    if counts { earlier(other, place) } else { place }
+}
+
+/// Returns a place, if it is after another one.
+fn if_later(expected: u64, place: Option<u64>) -> Option<u64>
+    ensures { result ≡ if_later expected place }
+{
+    match place {
+        Some(place) if expected < place => Some(place),
+        _ => None,
     }
 }
 
 impl Stream {
     /// Creates the stream whose octet 0 has a number.
-    pub(crate) fn new(alloc: Global, first: u32, joined: bool) -> Stream
-        ensures { result ≡ begun first joined }
+    pub(crate) fn new(alloc: Global, first: u32) -> Stream
+        ensures { result ≡ begun first }
     {
         Stream {
             first,
-            joined,
             expected: 0,
             waiting: Runs::new(alloc),
             seen: 0,
+            far: None,
             fin: None,
         }
     }
 
-    /// Returns whether it began with the SYN before an octet 0 of this number.
-    pub(crate) fn began_with(&self, first: u32) -> bool
-        ensures { result ≡ (not self.now.joined && (self.now.first == first)) }
+    /// Returns whether its octet 0 has a number.
+    pub(crate) fn begins_at(&self, number: u32) -> bool
+        ensures { result ≡ (self.now.first == number) }
     {
-        !self.joined & (self.first == first)
+        self.first == number
     }
 
     /// Returns how far the first octet of a segment is from the next one that is due.
     fn distance_to(&self, segment: &Segment<'_>) -> Distance
         ensures { result ≡ distance_to self.now segment.now }
     {
-        let number = segment.sequence.wrapping_add(u32::from(segment.syn));
-        let expected = self.first.wrapping_add((self.expected % (1 << 32)) as u32);
-        Distance::between(expected, number)
+        Distance::between(number_at(self.first, self.expected), first_number(segment))
     }
 
-    /// Returns whether a segment that is so far is passed over.
-    fn passes_over(&self, segment: &Segment<'_>, distance: Distance) -> bool
-        requires { distance ≡ distance_to self.now segment.now }
-        ensures { result ≡ is_skipped self.now segment.now }
+    /// Returns whether a segment would pass the greatest place.
+    fn passes_all(&self, segment: &Segment<'_>) -> bool
+        ensures { result ≡ passes_all self.now segment.now }
     {
-        (distance.ahead() > MOST_AHEAD)
-            | (self.expected.saturating_add(segment.payload.size()) >= MOST_OCTETS)
+        self.expected.saturating_add(segment.payload.size()) >= MOST_OCTETS
     }
 
     /// Takes a segment. Returns those of its octets that are taken at once, borrowed; those that
@@ -150,11 +161,29 @@ impl Stream {
         ensures state { OnOk result (self.new ≡ (deliver self.old segment.now).1) }
     {
         let distance = self.distance_to(segment);
-        if self.passes_over(segment, distance) {
+        if self.passes_all(segment) {
+            waited.clear();
+            return Ok(&[]);
+        }
+        if distance.ahead() > MOST_AHEAD {
+            self.glimpse(segment, distance);
             waited.clear();
             return Ok(&[]);
         }
         self.take_near(segment, distance, waited)
+    }
+
+    /// Keeps where the octets of a segment begin and end that is too far ahead.
+    fn glimpse(&mut self, segment: &Segment<'_>, distance: Distance)
+        requires distance { distance ≡ distance_to self.old segment.now }
+        requires near { self.old.expected + segment.now.payload.size < MOST_OCTETS }
+        ensures { self.new ≡ glimpsed self.old segment.now }
+    {
+        let size = segment.payload.size();
+        let end = end_place(self.expected, distance, size);
+        let place = self.expected + u64::from(distance.ahead());
+        self.seen = seen_with(self.seen, end, size > 0 || segment.fin);
+        self.far = place_with(self.far, Some(place), !segment.payload.octets().is_empty());
     }
 
     /// Takes a segment that is not passed over.
@@ -174,7 +203,7 @@ impl Stream {
         let size = segment.payload.size();
         let end = end_place(self.expected, distance, size);
         self.seen = seen_with(self.seen, end, size > 0 || segment.fin);
-        self.fin = fin_with(self.fin, end, segment.fin);
+        self.fin = place_with(self.fin, end, segment.fin);
         let prefix = self
             .waiting
             .pass(self.expected, distance.ahead(), octets, waited)?;
@@ -193,11 +222,20 @@ impl Stream {
         at_fin | (self.waiting.len() > MOST_WAITING)
     }
 
+    /// Returns the place of the next octet that was captured after those that were taken, or the
+    /// one up to which octets were seen.
+    fn next_place(&self) -> u64
+        ensures { result ≡ next_place self.now }
+    {
+        let far = if_later(self.expected, self.far);
+        earlier(self.waiting.first_place(), far).unwrap_or(self.seen)
+    }
+
     /// Returns what is known of its octets at the end.
     pub(crate) fn end(&self) -> End
         ensures { result ≡ ending self.now }
     {
-        let place = self.waiting.first_place().unwrap_or(self.seen);
+        let place = self.next_place();
         if self.expected < place {
             End::Lost(Lost {
                 place: self.expected,
@@ -205,6 +243,17 @@ impl Stream {
             })
         } else {
             End::Complete
+        }
+    }
+
+    /// Returns what it had, once it ended.
+    pub(crate) fn had(&self) -> Had
+        ensures { result ≡ had self.now }
+    {
+        Had {
+            first: self.first,
+            expected: self.expected,
+            at_fin: self.fin == Some(self.expected),
         }
     }
 }

@@ -105,7 +105,7 @@ Stops-content kinds.Other order count interfaces = Stops-succeed contents.Other
 abbrev pub whole : List ℕ → Slice
 whole body = record { place = 0; end = Some (length body); octets = body }
 
-value-err : {A : Type 0} (r : Result (A × Source) Fault) (f : Fault) → value_of r ≡ Err f → r ≡ Err f
+pub value-err : {A : Type 0} (r : Result (A × Source) Fault) (f : Fault) → value_of r ≡ Err f → r ≡ Err f
 value-err (Ok read) f e = absurd cc
 value-err {A} (Err fault) f e = let same : fault ≡ f = cc in ap (λ (x : Fault). let it : Result (A × Source) Fault = Err x in it) same
 

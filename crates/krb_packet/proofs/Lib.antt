@@ -7,6 +7,7 @@ pub mod Options
 pub mod Parsing
 pub mod Skipping
 pub mod Reaching
+pub mod InFile
 pub mod Steps
 pub mod Stepwise
 pub mod Streams

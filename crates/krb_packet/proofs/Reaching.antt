@@ -76,7 +76,7 @@ Passes-from_here n reader each = record { on = λ bounds s v t e. (each s.place)
 pub Passes-checked_at : {A : Type 0} (w : Width) (order : ByteOrder) (check : ℕ → Result A FileWhy) → Passes (byte_len w + 0) (checked_number w order check)
 Passes-checked_at w order check = Passes-from_here (byte_len w + 0) _ (λ place. Passes-then (byte_len w) 0 (number_in w order) _ (Passes-number w order) (λ number. Passes-check place (check number)))
 
-moved-ok : {A : Type 0} (place : ℕ) (r : Result A Fault) (v : A) → moved_to place r ≡ Ok v → r ≡ Ok v
+pub moved-ok : {A : Type 0} (place : ℕ) (r : Result A Fault) (v : A) → moved_to place r ≡ Ok v → r ≡ Ok v
 moved-ok place (Ok read) v e = e
 moved-ok place (Err fault) v e = absurd cc
 
@@ -127,7 +127,7 @@ Stops-octets size = record { passes = Passes-fewer size _ (Passes-octets size); 
 pub Stops-number : (w : Width) (order : ByteOrder) → Stops (number_in w order)
 Stops-number w order = Stops-then (next_octets_at None (byte_len w)) _ (Stops-piece (byte_len w)) (λ octets. Stops-succeed (in_order w order octets))
 
-checked_at-err : {A : Type 0} (place : ℕ) (check : Result A FileWhy) (bounds : Bounds) (s : Source) (f : Fault) → checked_at place check bounds s ≡ Err f → f.place ≡ place
+pub checked_at-err : {A : Type 0} (place : ℕ) (check : Result A FileWhy) (bounds : Bounds) (s : Source) (f : Fault) → checked_at place check bounds s ≡ Err f → f.place ≡ place
 checked_at-err place (Ok value) bounds s f e = absurd cc
 checked_at-err {A} place (Err why) bounds s f e = ap (λ (x : Fault). x.place) (err_is (A × Source) f (record { place = place; why = why; field = None }) cc)
 
@@ -147,7 +147,7 @@ Stops-checked_at w order check = record {
       ];
 }
 
-moved-err : {A : Type 0} (place : ℕ) (r : Result A Fault) (f : Fault) → moved_to place r ≡ Err f → f.place ≡ place
+pub moved-err : {A : Type 0} (place : ℕ) (r : Result A Fault) (f : Fault) → moved_to place r ≡ Err f → f.place ≡ place
 moved-err place (Ok read) f e = absurd cc
 moved-err {A} place (Err fault) f e = let moved : Fault = record fault { place = place } in ap (λ (x : Fault). x.place) (err_is A f moved cc)
 

@@ -34,7 +34,7 @@ use Rattle.krb_packet.proofs.Reaching.{Passes, Passes-then, Passes-fewer, Passes
 use Rattle.krb_packet.proofs.Parsing.{Onward, Onward-fields, Onward-succeed, Onward-then, Onward-from_here, parsed_is, parsed-ok, naming-ok}
 
 -- ---- a pcap
-Passes-header : (form : Form) → Passes 0 (header_at form)
+pub Passes-header : (form : Form) → Passes 0 (header_at form)
 Passes-header form =
     Passes-then 0 0 (checked_number w32 form.order (version form.order)) _ (Passes-fewer 4 _ (Passes-checked_at w32 form.order (version form.order))) (λ _.
     Passes-then 0 0 _ _ (Passes-fewer 4 _ (Passes-number_at w32)) (λ thiszone.
@@ -53,7 +53,7 @@ Passes-packet header count =
     ) (λ head. Passes-fewer head.captured _ (Passes-made head.captured (octets_at head.captured) _ (Passes-octets head.captured)))
 
 -- the next packet, if there is one
-next_passes : (header : Header) (count : ℕ) (bounds : Bounds) (place : ℕ) (octets : List ℕ) (packet : Packet) (t : Source) → next_at header count bounds (at place octets) ≡ Ok (Some packet, t)
+pub next_passes : (header : Header) (count : ℕ) (bounds : Bounds) (place : ℕ) (octets : List ℕ) (packet : Packet) (t : Source) → next_at header count bounds (at place octets) ≡ Ok (Some packet, t)
     → (place + 16 ≤ t.place) × (t.place + length t.octets ≡ place + length octets)
 next_passes header count bounds place [] packet t e =
     let same : ◌≡◌ {A = Option Packet} None (Some packet) = ap (λ (p : Option Packet × Source). p.0) (ok_is (None, at place []) (Some packet, t) e) in
@@ -67,7 +67,7 @@ next_passes header count bounds place (octet ∷ octets) packet t e =
     (passed.on bounds s a.0.0 a.0.1 a.1, passed.same bounds s a.0.0 a.0.1 a.1)
 
 -- ---- a block
-next_kind_passes : (order : ByteOrder) (bounds : Bounds) (place : ℕ) (octets : List ℕ) (kind : BlockKind) (t : Source) → next_kind_at order bounds (at place octets) ≡ Ok (Some kind, t)
+pub next_kind_passes : (order : ByteOrder) (bounds : Bounds) (place : ℕ) (octets : List ℕ) (kind : BlockKind) (t : Source) → next_kind_at order bounds (at place octets) ≡ Ok (Some kind, t)
     → (place + 4 ≤ t.place) × (t.place + length t.octets ≡ place + length octets)
 next_kind_passes order bounds place [] kind t e =
     let same : ◌≡◌ {A = Option BlockKind} None (Some kind) = ap (λ (p : Option BlockKind × Source). p.0) (ok_is (None, at place []) (Some kind, t) e) in
@@ -91,7 +91,7 @@ Passes-section_head =
     Passes-then 0 0 (checked_at place (body_size (in_order w32 order octets))) _ (Passes-check place (body_size (in_order w32 order octets))) (λ size.
     Passes-made 0 (checked_at (place + 4) (after_byte_order size)) _ (Passes-check (place + 4) (after_byte_order size))))))
 
-Passes-head : (kind : BlockKind) (order : ByteOrder) → Passes 0 (head_at kind order)
+pub Passes-head : (kind : BlockKind) (order : ByteOrder) → Passes 0 (head_at kind order)
 Passes-head kinds.Section order = Passes-section_head
 Passes-head kinds.Interface order = Passes-block_head order
 Passes-head kinds.OldPacket order = Passes-block_head order
@@ -103,13 +103,13 @@ Onward-checked : (section : Section) (kind : BlockKind) (begin : ℕ) (r : Resul
 Onward-checked section kind begin (Ok content) = Onward-succeed content
 Onward-checked section kind begin (Err fault) = record { on = λ bounds s v t e. absurd cc; same = λ bounds s v t e. absurd cc }
 
-Onward-read : (kind : BlockKind) (section : Section) (count place : ℕ) (head : Head) → Onward 0 (read_body kind section count place head)
+pub Onward-read : (kind : BlockKind) (section : Section) (count place : ℕ) (head : Head) → Onward 0 (read_body kind section count place head)
 Onward-read kind section count place head =
     Onward-from_here 0 _ (λ begin.
     Onward-then 0 0 _ _ (Onward-fields 0 _ _ (Passes-refused 0 place (octets_at head.left) (Passes-fewer head.left _ (Passes-octets head.left)))) (λ octets.
     Onward-checked section kind begin (in_body (content_at kind head.order count section.interfaces) octets)))
 
-Onward-body : (kind : BlockKind) (section : Section) (count place : ℕ) (head : Head) → Onward 0 (body_in kind section count place head)
+pub Onward-body : (kind : BlockKind) (section : Section) (count place : ℕ) (head : Head) → Onward 0 (body_in kind section count place head)
 Onward-body kinds.Section section count place head = Onward-read kinds.Section section count place head
 Onward-body kinds.Interface section count place head = Onward-read kinds.Interface section count place head
 Onward-body kinds.OldPacket section count place head = Onward-read kinds.OldPacket section count place head
@@ -118,7 +118,7 @@ Onward-body kinds.EnhancedPacket section count place head = Onward-read kinds.En
 Onward-body kinds.Other section count place head =
     Onward-then 0 0 _ _ (Onward-fields 0 _ _ (Passes-fewer head.left _ (Passes-skipped head.left))) (λ zeros. Onward-succeed contents.Other)
 
-Onward-block : (kind : BlockKind) (section : Section) (count : ℕ) → Onward 0 (block_in kind section count)
+pub Onward-block : (kind : BlockKind) (section : Section) (count : ℕ) → Onward 0 (block_in kind section count)
 Onward-block kind section count =
     Onward-from_here 0 _ (λ start.
     Onward-then 0 0 (head_in kind section) _ (Onward-from_here 0 _ (λ begin. Onward-fields 0 _ _ (Passes-head kind section.order))) (λ head.

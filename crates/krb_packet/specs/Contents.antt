@@ -5,8 +5,9 @@ use Rattle.std.specs.Net.Addr.{segments_of}
 use Rattle.std.specs.declared.net.ip_addr.IpAddr.{IpAddr}
 use Rattle.std.specs.declared.net.ip_addr.IpAddr.TheVariants as ip
 use Rattle.krb_der.specs.Octets.{when}
-use Rattle.krb_packet.specs.Payloads.{Captured, ◌>>=◌, field, number8, number16, number32, after, within}
+use Rattle.krb_packet.specs.Payloads.{Captured, ◌>>=◌, field, number8, number16, number32, after, beyond, within}
 use Rattle.krb_packet.specs.declared.contents.Endpoint.{Endpoint}
+use Rattle.krb_packet.specs.declared.contents.Ends.{Ends}
 use Rattle.krb_packet.specs.declared.contents.Original.{Original}
 use Rattle.krb_packet.specs.declared.contents.Contents.{Contents}
 use Rattle.krb_packet.specs.declared.contents.Contents.TheVariants as contents
@@ -28,34 +29,43 @@ endpoint address port = record { address = address; port = port }
 
 -- ---- UDP (RFC 768): the length counts the header of eight octets, too
 
-unfoldable pub datagram : IpAddr → IpAddr → Captured → Option Contents
-datagram from to packet = do
-  source ← number16 0 packet
-  target ← number16 2 packet
+unfoldable pub datagram : Ends → Captured → Option Contents
+datagram ends packet = do
   length ← number16 4 packet
   rest ← after 8 packet
-  if_valid (nat_le 8 length) (contents.Datagram (record { source = endpoint from source; target = endpoint to target; payload = within (length - 8) rest }))
+  if_valid (nat_le 8 length) (contents.Datagram (record { source = ends.source; target = ends.target; payload = within (length - 8) rest }))
 
--- ---- TCP (RFC 9293, 3.1): the data offset counts words of four octets
+-- ---- TCP (RFC 9293, 3.1): the data offset counts words of four octets. The twenty octets before the options have to be captured, and the options have to be on the wire.
 
 abbrev pub is_set : ℕ → ℕ → Bool
 is_set flag flags = not (bit_and flags flag == 0)
 
-unfoldable pub segment : IpAddr → IpAddr → Captured → Option Contents
-segment from to packet = do
-  source ← number16 0 packet
-  target ← number16 2 packet
+unfoldable pub segment : Ends → Captured → Option Contents
+segment ends packet = do
   sequence ← number32 4 packet
   offset ← number8 12 packet
   flags ← number8 13 packet
-  rest ← after (offset / 16 * 4) packet
-  if_valid (nat_le 5 (offset / 16)) (contents.Segment (record { source = endpoint from source; target = endpoint to target; sequence = sequence; fin = is_set 1 flags; syn = is_set 2 flags; rst = is_set 4 flags; payload = rest }))
+  options ← after 20 packet
+  rest ← beyond (offset / 16 * 4) packet
+  if_valid (nat_le 5 (offset / 16)) (contents.Segment (record { source = ends.source; target = ends.target; sequence = sequence; fin = is_set 1 flags; syn = is_set 2 flags; rst = is_set 4 flags; payload = rest }))
+
+-- ---- The ports come first in both. Between others than one looks for, the rest of the header is of no interest.
+
+unfoldable pub ends : IpAddr → IpAddr → Captured → Option Ends
+ends from to packet = do
+  source ← number16 0 packet
+  target ← number16 2 packet
+  Some (record { source = endpoint from source; target = endpoint to target })
+
+abbrev pub or_unread_between : Ends → Option Contents → Contents
+or_unread_between between None = contents.UnreadBetween between
+or_unread_between between (Some read) = read
 
 -- by the protocol number
 unfoldable pub transport : IpAddr → IpAddr → ℕ → Captured → Option Contents
 transport from to protocol packet =
-    when (protocol == 17) (λ _. datagram from to packet) (λ _.
-    when (protocol == 6) (λ _. segment from to packet) (λ _.
+    when (protocol == 17) (λ _. ends from to packet >>= λ between. Some (or_unread_between between (datagram between packet))) (λ _.
+    when (protocol == 6) (λ _. ends from to packet >>= λ between. Some (or_unread_between between (segment between packet))) (λ _.
     Some contents.Other))
 
 -- ---- IP. Octets after the length in the header are padding; a length of 0, as segmentation offload leaves it, means all octets.
@@ -66,6 +76,14 @@ announced size packet = when (size == 0) (λ _. packet) (λ _. within size packe
 -- a fragment of an IP datagram: what it has in common with the others, the protocol of what it begins with, its offset, and its octets
 abbrev pub fragment_of : Original → ℕ → ℕ → Bool → Captured → Contents
 fragment_of original protocol offset is_last payload = contents.Fragment (record { original = original; protocol = protocol; offset = offset; is_last = is_last; payload = payload })
+
+-- UDP or TCP
+abbrev pub is_transport : ℕ → Bool
+is_transport protocol = protocol == 17 || protocol == 6
+
+-- a fragment of another protocol is of no interest
+abbrev pub fragment_or_other : Bool → Contents → Contents
+fragment_or_other may_be fragment = when may_be (λ _. fragment) (λ _. contents.Other)
 
 abbrev pub original4 : List ℕ → List ℕ → ℕ → ℕ → Original
 original4 from to identification protocol = record { source = ip.V4 (record { octets = from }); target = ip.V4 (record { octets = to }); identification = identification; protocol = Some protocol }
@@ -84,7 +102,7 @@ ipv4 packet = do
   valid ← if_valid (first / 16 == 4 && nat_le 5 (first % 16)) rest
   when (flags % 2 ^ 14 == 0)
       (λ _. transport (ip.V4 (record { octets = source })) (ip.V4 (record { octets = target })) protocol valid)
-      (λ _. Some (fragment_of (original4 source target identification protocol) protocol (flags % 2 ^ 13 * 8) (flags / 2 ^ 13 % 2 == 0) valid))
+      (λ _. Some (fragment_or_other (is_transport protocol) (fragment_of (original4 source target identification protocol) protocol (flags % 2 ^ 13 * 8) (flags / 2 ^ 13 % 2 == 0) valid)))
 
 -- IPv6 (RFC 8200, 4.3, 4.4, 4.6): the length of an extension header counts groups of eight octets after the first
 unfoldable pub options : Captured → Option (ℕ × Captured)
@@ -114,6 +132,10 @@ extension kind packet = when (kind == 44) (λ _. fragment_header packet) (λ _. 
 abbrev pub extensions : ℕ → ℕ → Captured → Option (ℕ × Captured)
 extensions = skip_headers is_skipped extension
 
+-- UDP or TCP, or a header that may come before one of them
+abbrev pub may_lead_to_transport : ℕ → Bool
+may_lead_to_transport kind = is_transport kind || (kind == 0 || (kind == 43 || (kind == 44 || kind == 60)))
+
 -- any other fragment: the offset counts groups of eight octets, and three bits follow it, of which the last one says that more fragments follow
 unfoldable pub fragment : IpAddr → IpAddr → Captured → Option Contents
 fragment from to packet = do
@@ -121,7 +143,7 @@ fragment from to packet = do
   offset ← number16 2 packet
   identification ← number32 4 packet
   rest ← after 8 packet
-  Some (fragment_of (record { source = from; target = to; identification = identification; protocol = None }) next (offset / 8 * 8) (offset % 2 == 0) rest)
+  Some (fragment_or_other (may_lead_to_transport next) (fragment_of (record { source = from; target = to; identification = identification; protocol = None }) next (offset / 8 * 8) (offset % 2 == 0) rest))
 
 -- what follows the extension headers, the first of which is of this kind
 unfoldable pub after_headers : IpAddr → IpAddr → ℕ → Captured → Option Contents

@@ -1,5 +1,5 @@
 -- Worked examples, computed by the definitions: octets in hexadecimal, and what they are.
-use Rattle.std.specs.Prelude.{ℕ, ◌+◌, ◌≡◌, true, false, Some, None, List, [], ◌∷◌, ◌++◌, codes, length, take, drop, refl}
+use Rattle.std.specs.Prelude.{ℕ, ◌+◌, ◌-◌, ◌≡◌, true, false, Some, None, List, [], ◌∷◌, ◌++◌, codes, length, take, drop, refl}
 use Rattle.std.specs.Net.Addr.{segments_of}
 use Rattle.std.specs.declared.net.ip_addr.IpAddr.{IpAddr}
 use Rattle.std.specs.declared.net.ip_addr.IpAddr.TheVariants as ip
@@ -13,8 +13,8 @@ use Rattle.krb_packet.specs.declared.field.BlockField.TheVariants as block_field
 use Rattle.krb_packet.specs.declared.contents.Contents.TheVariants as contents
 use Rattle.krb_packet.specs.declared.contents.Original.{Original}
 use Rattle.krb_packet.specs.declared.contents.Fragment.{Fragment}
-use Rattle.krb_packet.specs.Payloads.{Captured, field, number8, number16, number32, after, within}
-use Rattle.krb_packet.specs.Contents.{datagram, segment, transport, announced, ipv4, options, extension, after_headers, ipv6, network, tag, ethernet, raw_ip, frame, contents_of}
+use Rattle.krb_packet.specs.Payloads.{Captured, field, number8, number16, number32, after, beyond, within}
+use Rattle.krb_packet.specs.Contents.{datagram, ends, segment, transport, announced, ipv4, options, extension, after_headers, ipv6, network, tag, ethernet, raw_ip, frame, contents_of}
 use Rattle.krb_packet.specs.Table.{Table}
 use Rattle.krb_packet.specs.Fragments.{no_fragments, step, unread}
 use Rattle.krb_packet.specs.Parsers.{Refusal}
@@ -99,13 +99,24 @@ abbrev local : IpAddr
 local = ip.V4 (record { octets = 127 ∷ 0 ∷ 0 ∷ 1 ∷ [] })
 
 segment_is_carried : contents_of links.Ethernet (whole syn) ≡ contents.Segment (record { source = record { address = local; port = 42700 }; target = record { address = local; port = 88 }; sequence = 4106491343; fin = false; syn = true; rst = false; payload = record { octets = []; size = 0 } })
-unfolding frame ethernet number16 number8 number32 field after within network ipv4 announced transport segment
+unfolding frame ethernet number16 number8 number32 field after beyond within network ipv4 announced transport ends segment
 segment_is_carried = refl
 
--- of which the last option is cut
-cut_header_is_unread : contents_of links.Ethernet (record { octets = take 73 syn; size = 74 }) ≡ contents.Unread
-unfolding frame ethernet number16 number8 number32 field after within network ipv4 announced transport segment
+-- of which the last option is cut, or the last octet before the options, or all but the source's port
+abbrev without_octets : ℕ → Captured
+without_octets missing = record { octets = take (74 - missing) syn; size = 74 }
+
+cut_options_are_passed : contents_of links.Ethernet (without_octets 1) ≡ contents_of links.Ethernet (whole syn)
+unfolding frame ethernet number16 number8 number32 field after beyond within network ipv4 announced transport ends segment
+cut_options_are_passed = refl
+
+cut_header_is_unread : contents_of links.Ethernet (without_octets 21) ≡ contents.UnreadBetween (record { source = record { address = local; port = 42700 }; target = record { address = local; port = 88 } })
+unfolding frame ethernet number16 number8 number32 field after beyond within network ipv4 announced transport ends segment
 cut_header_is_unread = refl
+
+cut_ports_are_unread : contents_of links.Ethernet (without_octets 38) ≡ contents.Unread
+unfolding frame ethernet number16 number8 number32 field after beyond within network ipv4 announced transport ends segment
+cut_ports_are_unread = refl
 
 -- a datagram in IPv6 after hop-by-hop options and two VLAN tags, of which two octets are padding and two were not captured
 abbrev loopback : IpAddr
@@ -115,7 +126,7 @@ abbrev tagged : List ℕ
 tagged = hex (codes "000000000000 000000000000 88A8 0005 8100 002A 86DD 60000000 0015 00 40 00000000000000000000000000000001 00000000000000000000000000000001 11 00 010400000000 0058 C000 000D 0000 6B6573")
 
 datagram_is_carried : contents_of links.Ethernet (record { octets = tagged; size = length tagged + 4 }) ≡ contents.Datagram (record { source = record { address = loopback; port = 88 }; target = record { address = loopback; port = 49152 }; payload = record { octets = hex (codes "6B6573"); size = 5 } })
-unfolding frame ethernet tag number16 number8 field after within network ipv6 after_headers extension options announced transport datagram
+unfolding frame ethernet tag number16 number8 field after within network ipv6 after_headers extension options announced transport ends datagram
 datagram_is_carried = refl
 
 -- ---- fragments: the segment above in two, of 16 octets and of 24
@@ -144,6 +155,11 @@ first_is_carried = refl
 second_is_carried : contents_of links.RawIp (whole (hex (codes "4500002C A4680002 40060000 7F000001 7F000001") ++ second_octets)) ≡ contents.Fragment second
 unfolding frame raw_ip number16 number8 field after within ipv4 announced
 second_is_carried = refl
+
+-- a fragment of ICMP is passed over
+other_is_passed : contents_of links.RawIp (whole (hex (codes "45000024 A4682000 40010000 7F000001 7F000001") ++ first_octets)) ≡ contents.Other
+unfolding frame raw_ip number16 number8 field after within ipv4 announced
+other_is_passed = refl
 
 -- one after another, and what comes of the last one
 abbrev after_all : Table → List Fragment → Table

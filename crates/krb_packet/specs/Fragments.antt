@@ -119,6 +119,7 @@ or_unread (Some (contents.Fragment fragment)) = contents.Unread
 or_unread (Some (contents.Datagram datagram)) = contents.Datagram datagram
 or_unread (Some (contents.Segment segment)) = contents.Segment segment
 or_unread (Some contents.Other) = contents.Other
+or_unread (Some (contents.UnreadBetween ends)) = contents.UnreadBetween ends
 or_unread (Some contents.Unread) = contents.Unread
 
 -- in IPv4 each fragment has the protocol; in IPv6 other headers may come before it

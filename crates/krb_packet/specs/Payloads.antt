@@ -36,6 +36,10 @@ number32 = number w32
 unfoldable pub after : ℕ → Captured → Option Captured
 after size payload = when (nat_lt (length payload.octets) size) (λ _. None) (λ _. Some (record { octets = drop size payload.octets; size = payload.size - size }))
 
+-- what follows the first n octets on the wire, which need not be captured
+unfoldable pub beyond : ℕ → Captured → Option Captured
+beyond size payload = when (nat_lt payload.size size) (λ _. None) (λ _. Some (record { octets = drop size payload.octets; size = payload.size - size }))
+
 -- its first n octets
 unfoldable pub within : ℕ → Captured → Captured
 within size payload = record { octets = take size payload.octets; size = size }

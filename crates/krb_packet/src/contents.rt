@@ -12,6 +12,15 @@ pub struct Endpoint {
     pub port: u16,
 }
 
+/// The two ends between which octets are sent.
+#[derive(Clone, Copy, PartialEq, Eq, Debug)]
+pub struct Ends {
+    /// Where they come from.
+    pub source: Endpoint,
+    /// Where they go to.
+    pub target: Endpoint,
+}
+
 /// A UDP datagram (RFC 768).
 #[derive(Drop)]
 pub struct Datagram<'a> {
@@ -78,10 +87,12 @@ pub enum Contents<'a> {
     Datagram(Datagram<'a>),
     /// A TCP segment.
     Segment(Segment<'a>),
-    /// A fragment, unless it is all of its datagram.
+    /// A fragment of a datagram that may be of UDP or TCP, unless it is all of its datagram.
     Fragment(Fragment<'a>),
-    /// Another protocol.
+    /// Another protocol, or a fragment of one.
     Other,
-    /// A header is cut or wrong, or the type of its link is not known.
+    /// A header of UDP or TCP that is cut or wrong after its ports.
+    UnreadBetween(Ends),
+    /// A header that is cut or wrong up to there, or a type of link that is not known.
     Unread,
 }

@@ -2,12 +2,18 @@
 
 ghost use Rattle.std.specs.Prelude.{◌≡◌};
 ghost use Rattle.std.specs.Option.{option_map};
-ghost use Rattle.krb_packet.specs.Contents.{announced, ipv4, options, fragment_header, is_whole, is_skipped, extension, extensions, fragment, after_headers, ipv6};
+ghost use Rattle.krb_packet.specs.declared.contents.Contents.TheVariants as kinds;
+ghost use Rattle.krb_packet.specs.Contents.{announced, ipv4, options, fragment_header, is_whole, is_skipped, extension, extensions, fragment, fragment_or_other, is_transport, may_lead_to_transport, after_headers, ipv6};
 
 use crate::contents::{Contents, Fragment, Original};
 use crate::payload::Payload;
 use crate::transport::transport;
 use std::net::{IpAddr, Ipv4Addr, Ipv6Addr};
+
+/// The protocols.
+const TCP: u8 = 6;
+
+const UDP: u8 = 17;
 
 /// How many octets the header of IPv6 has.
 const IPV6_HEADER: usize = 40;
@@ -20,6 +26,35 @@ const ROUTING: u8 = 43;
 const FRAGMENT: u8 = 44;
 
 const DESTINATION_OPTIONS: u8 = 60;
+
+/// Returns whether a protocol is UDP or TCP.
+fn is_transport(protocol: u8) -> bool
+    ensures { result ≡ is_transport protocol }
+{
+    (protocol == UDP) | (protocol == TCP)
+}
+
+/// Returns whether a header is that of UDP or TCP, or one that may come before these in IPv6.
+fn may_lead_to_transport(kind: u8) -> bool
+    ensures { result ≡ may_lead_to_transport kind }
+{
+    is_transport(kind)
+        | matches!(
+            kind,
+            HOP_BY_HOP_OPTIONS | ROUTING | FRAGMENT | DESTINATION_OPTIONS
+        )
+}
+
+/// Returns a fragment, if it may be of UDP or TCP.
+fn fragment_or_other<'a>(may_be: bool, fragment: Fragment<'a>) -> Contents<'a>
+    ensures { result ≡ fragment_or_other may_be (kinds.Fragment fragment.entry) }
+{
+    if may_be {
+        Contents::Fragment(fragment)
+    } else {
+        Contents::Other
+    }
+}
 
 /// Returns as much of a packet as its header announces, or all of it if it announces 0.
 #[tactic(auto, unfolding(crate::specs::Contents::announced))]
@@ -56,7 +91,7 @@ pub(crate) fn ipv4<'a>(packet: Payload<'a>) -> Option<Contents<'a>>
     if flags % (1 << 14) == 0 {
         return transport(source, target, protocol, &payload);
     }
-    Some(Contents::Fragment(Fragment {
+    let fragment = Fragment {
         original: Original {
             source,
             target,
@@ -67,7 +102,8 @@ pub(crate) fn ipv4<'a>(packet: Payload<'a>) -> Option<Contents<'a>>
         offset: flags % (1 << 13) * 8,
         is_last: flags / (1 << 13) % 2 == 0,
         payload,
-    }))
+    };
+    Some(fragment_or_other(is_transport(protocol), fragment))
 }
 
 /// Returns the kind of the header after one of options, and what it begins.
@@ -151,7 +187,7 @@ fn fragment<'a>(source: IpAddr, target: IpAddr, packet: &Payload<'a>) -> Option<
     let offset = packet.number16(2)?;
     let identification = packet.number32(4)?;
     let payload = packet.after(8)?;
-    Some(Contents::Fragment(Fragment {
+    let fragment = Fragment {
         original: Original {
             source,
             target,
@@ -162,7 +198,8 @@ fn fragment<'a>(source: IpAddr, target: IpAddr, packet: &Payload<'a>) -> Option<
         offset: offset / 8 * 8,
         is_last: offset % 2 == 0,
         payload,
-    }))
+    };
+    Some(fragment_or_other(may_lead_to_transport(next), fragment))
 }
 
 /// Returns what a packet of IPv6 carries from a header of this kind on.

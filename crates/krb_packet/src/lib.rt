@@ -33,7 +33,7 @@ mod pcap;
 mod transport;
 
 pub use block::Section;
-pub use contents::{Contents, Datagram, Endpoint, Fragment, Original, Segment};
+pub use contents::{Contents, Datagram, Endpoint, Ends, Fragment, Original, Segment};
 pub use fault::CaptureFault;
 pub use field::{BlockField, CaptureField, PacketField};
 pub use format::Format;

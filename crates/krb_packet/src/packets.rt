@@ -44,6 +44,7 @@ impl<R: Read> Model for Packets<R> {
 
 ghost use Rattle.std.specs.Prelude.{◌≡◌, ◌≤◌, ℕ, List, [], Some, None, Ok, Err, IfErr, IfSome, OnOk};
 ghost use Rattle.krb_file.specs.FieldReaders.{Stays};
+ghost use Rattle.krb_file.specs.Fields.{IsStreamFaultIn};
 ghost use Rattle.krb_packet.specs.declared.packets.State.TheVariants as states;
 ghost use Rattle.krb_packet.specs.declared.format.Format.TheVariants as formats;
 ghost use Rattle.krb_packet.specs.declared.fault.CaptureFault.{CaptureFault as CaptureFaultValue};
@@ -71,6 +72,8 @@ impl<R: Read> Packets<R> {
     pub fn next_packet(&mut self, alloc: Global) -> Result<Option<Packet>, CaptureFault>
         // The packets of the file that is read, one after another, and then the end or the fault.
         ensures next { (file : List ℕ) (given : ℕ) → Reads self.old file given → ReturnsNext file given result self.new }
+        // A refusal is at a place of the file or at its end.
+        ensures refused { (file : List ℕ) (given : ℕ) → Reads self.old file given → IfErr result (λ error. IsStreamFaultIn file error.fault) }
         // No octet after what is returned was read, if none was read ahead before.
         ensures fetched { OnOk result (self.old.cursor.ahead ≡ [] → self.new.cursor.ahead ≡ []) }
         ensures ends { result ≡ Ok None → self.new.state ≡ states.Done }

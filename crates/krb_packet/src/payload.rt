@@ -22,7 +22,7 @@ impl<'a> Model for Payload<'a> {
 }
 
 ghost use Rattle.std.specs.Prelude.{◌≡◌, ◌≤◌, length, max};
-ghost use Rattle.krb_packet.specs.Payloads.{field, number8, number16, number32, after, within};
+ghost use Rattle.krb_packet.specs.Payloads.{field, number8, number16, number32, after, beyond, within};
 
 impl<'a> Payload<'a> {
     /// Creates a payload of captured octets, and a size on the wire. It is no smaller than that of
@@ -80,6 +80,17 @@ impl<'a> Payload<'a> {
         ensures { result ≡ number32 at self.now }
     {
         Some(u32::from_be_bytes(self.field::<4>(at)?))
+    }
+
+    /// Returns what follows the first `size` octets on the wire, whether these were captured or
+    /// not, if there are so many.
+    #[tactic(auto, unfolding(crate::specs::Payloads::beyond))]
+    pub(crate) fn beyond(&self, size: usize) -> Option<Payload<'a>>
+        ensures { result ≡ beyond size self.now }
+    {
+        let left = self.size.checked_sub(size as u64)?;
+        let octets = &self.octets[self.octets.len().min(size)..];
+        Some(Payload { octets, size: left })
     }
 
     /// Returns what follows a header of `size` octets, if that was captured.

@@ -1,9 +1,9 @@
 //! The headers of UDP (RFC 768) and TCP (RFC 9293, 3.1).
 
 ghost use Rattle.std.specs.Prelude.{◌≡◌};
-ghost use Rattle.krb_packet.specs.Contents.{datagram, segment, transport};
+ghost use Rattle.krb_packet.specs.Contents.{datagram, ends, or_unread_between, segment, transport};
 
-use crate::contents::{Contents, Datagram, Endpoint, Segment};
+use crate::contents::{Contents, Datagram, Endpoint, Ends, Segment};
 use crate::payload::Payload;
 use std::net::IpAddr;
 
@@ -17,64 +17,83 @@ const SYN: u8 = 2;
 
 const RST: u8 = 4;
 
-/// Returns the datagram that a packet carries, or `None` if a header is cut or wrong.
+/// Returns the datagram between two ends that a packet carries, or `None` if the header is cut or
+/// wrong.
 #[tactic(auto, unfolding(crate::specs::Contents::datagram))]
 #[inline(always)]
-fn datagram<'a>(source: IpAddr, target: IpAddr, packet: &Payload<'a>) -> Option<Contents<'a>>
-    ensures { result ≡ datagram source target packet.now }
+fn datagram<'a>(ends: &Ends, packet: &Payload<'a>) -> Option<Contents<'a>>
+    ensures { result ≡ datagram ends.now packet.now }
 {
     // With these octets all fields were captured.
     let rest = packet.after(8)?;
-    let source_port = packet.number16(0)?;
-    let target_port = packet.number16(2)?;
     let length = packet.number16(4)?;
     if length < UDP_HEADER {
         return None;
     }
     Some(Contents::Datagram(Datagram {
-        source: Endpoint {
-            address: source,
-            port: source_port,
-        },
-        target: Endpoint {
-            address: target,
-            port: target_port,
-        },
+        source: ends.source,
+        target: ends.target,
         payload: rest.within(u64::from(length - UDP_HEADER)),
     }))
 }
 
-/// Returns the segment that a packet carries, or `None` if a header is cut or wrong.
+/// Returns the segment between two ends that a packet carries, or `None` if the header is cut
+/// before its options, or wrong.
 #[tactic(auto, unfolding(crate::specs::Contents::segment))]
 #[inline(always)]
-fn segment<'a>(source: IpAddr, target: IpAddr, packet: &Payload<'a>) -> Option<Contents<'a>>
-    ensures { result ≡ segment source target packet.now }
+fn segment<'a>(ends: &Ends, packet: &Payload<'a>) -> Option<Contents<'a>>
+    ensures { result ≡ segment ends.now packet.now }
 {
-    // With this field all others were captured, too.
-    let flags = packet.number8(13)?;
-    let source_port = packet.number16(0)?;
-    let target_port = packet.number16(2)?;
+    // The fields before the options were captured.
+    packet.after(20)?;
     let sequence = packet.number32(4)?;
     let words = packet.number8(12)? / 16;
-    let payload = packet.after(usize::from(words) * 4)?;
+    let flags = packet.number8(13)?;
+    let payload = packet.beyond(usize::from(words) * 4)?;
     if words < 5 {
         return None;
     }
     Some(Contents::Segment(Segment {
-        source: Endpoint {
-            address: source,
-            port: source_port,
-        },
-        target: Endpoint {
-            address: target,
-            port: target_port,
-        },
+        source: ends.source,
+        target: ends.target,
         sequence,
         fin: flags & FIN != 0,
         syn: flags & SYN != 0,
         rst: flags & RST != 0,
         payload,
     }))
+}
+
+/// Returns the ends by the ports with which the headers of UDP and TCP begin.
+#[tactic(auto, unfolding(crate::specs::Contents::ends))]
+#[inline(always)]
+fn ends(source: IpAddr, target: IpAddr, packet: &Payload<'_>) -> Option<Ends>
+    ensures { result ≡ ends source target packet.now }
+{
+    // With this field the other one was captured, too.
+    let target_port = packet.number16(2)?;
+    let source_port = packet.number16(0)?;
+    Some(Ends {
+        source: Endpoint {
+            address: source,
+            port: source_port,
+        },
+        target: Endpoint {
+            address: target,
+            port: target_port,
+        },
+    })
+}
+
+/// Returns what was read, or that it could not be.
+#[inline(always)]
+fn or_unread_between<'a>(ends: &Ends, read: Option<Contents<'a>>) -> Contents<'a>
+    ensures { result ≡ or_unread_between ends.now read.entry }
+{
+    match read {
+        Some(contents) => contents,
+        None => Contents::UnreadBetween(*ends),
+    }
 }
 
 /// Returns what a packet carries, by the number of its protocol.
@@ -89,8 +108,14 @@ pub(crate) fn transport<'a>(
     ensures { result ≡ transport source target protocol packet.now }
 {
     match protocol {
-        17 => datagram(source, target, packet),
-        6 => segment(source, target, packet),
+        17 => {
+            let ends = ends(source, target, packet)?;
+            Some(or_unread_between(&ends, datagram(&ends, packet)))
+        }
+        6 => {
+            let ends = ends(source, target, packet)?;
+            Some(or_unread_between(&ends, segment(&ends, packet)))
+        }
         _ => Some(Contents::Other),
     }
 }

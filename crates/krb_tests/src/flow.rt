@@ -110,20 +110,24 @@ fn missing_octets_are_reported(rt: HostRuntime) {
         ),
         (Sent(54, Flag::None, "d", 1), Wanted(None, None, "", None)),
         (Sent(0, Flag::Rst, "", 0), Wanted(None, None, "", gap)),
-        (Sent(51, Flag::None, "a", 1), Wanted(None, None, "", None)),
         (
-            Sent(50, Flag::Syn, "", 0),
-            Wanted(None, Some(Beginning::Syn), "", None),
+            Sent(51, Flag::None, "a", 1),
+            Wanted(None, Some(Beginning::Joined), "a", None),
         ),
+        (Sent(50, Flag::Syn, "", 0), Wanted(None, None, "", None)),
         (
-            Sent(51 + 1048577, Flag::None, "a", 1),
+            Sent(52 + 1048577, Flag::None, "a", 1),
             Wanted(None, None, "", None),
         ),
-        (Sent(51, Flag::None, "a", 1), Wanted(None, None, "a", None)),
+        (Sent(52, Flag::None, "b", 1), Wanted(None, None, "b", None)),
     ];
     let mut direction = Direction::new();
     for (sent, wanted) in &rows {
         assert!(rt; comes_to(rt.alloc(), &mut direction, sent, wanted));
     }
-    assert!(rt; direction.end() == Some(End::Complete));
+    let far = End::Lost(Lost {
+        place: 2,
+        octets: 1048576,
+    });
+    assert!(rt; direction.end() == Some(far));
 }

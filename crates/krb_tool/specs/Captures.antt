@@ -4,8 +4,7 @@ use Rattle.krb_packet.specs.Captures.{packets}
 use Rattle.krb_packet.specs.FieldNames.{capture_field_text}
 use Rattle.krb_packet.specs.Parsers.{Refusal}
 use Rattle.krb_packet.specs.declared.packet.Packet.{Packet}
-use Rattle.krb_text.specs.Captures.{capture_refused_line}
-use Rattle.krb_capture.specs.Captures.{Progress, Settings, all_counts, at_first, end_taken, end_text, is_clean, lines_of, packet_taken}
+use Rattle.krb_capture.specs.Captures.{Progress, Settings, all_counts, at_first, end_taken, end_text, is_clean, lines_of, packet_taken, refusal_text}
 use Rattle.krb_tool.specs.Files.{RecordListing}
 use Rattle.krb_tool.specs.declared.run.RunEnd.{RunEnd}
 use Rattle.krb_tool.specs.declared.run.RunEnd.TheVariants as run
@@ -21,10 +20,10 @@ abbrev pub after_packets : Settings → List Packet → Progress → Progress
 after_packets settings [] progress = progress
 after_packets settings (first ∷ others) progress = after_packets settings others (packet_taken settings first progress).progress
 
--- the records of the end, or that of the refusal of the file
+-- the records of the end, or those of the refusal of the file
 abbrev pub last_records : Settings → Option Refusal → Progress → List ℕ
 last_records settings None progress = end_text settings progress
-last_records settings (Some refusal) progress = capture_refused_line settings.form (all_counts progress) refusal.fault.place refusal.fault.why (Some (capture_field_text refusal.field))
+last_records settings (Some refusal) progress = refusal_text settings progress refusal.fault.place refusal.fault.why (Some (capture_field_text refusal.field))
 
 abbrev pub run_end : Bool → RunEnd
 run_end true = run.Clean

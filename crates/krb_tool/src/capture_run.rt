@@ -52,8 +52,9 @@ fn put_end(capture: &mut Capture, text: &mut TextBuffer) -> Result<Option<RunEnd
 }
 
 impl<R: Read> CaptureLines<'_, R> {
-    /// Appends the record of a fault of the file, which ends the run. Faults of the reader have
+    /// Appends the records of a fault of the file, which ends the run. Faults of the reader have
     /// none.
+    #[tactic(auto, unfolding(krb_capture::specs::Captures::refusal_text))]
     fn put_fault(
         &mut self,
         alloc: Global,

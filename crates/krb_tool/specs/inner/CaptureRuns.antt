@@ -6,9 +6,8 @@ use Rattle.krb_packet.specs.Captures.{packets}
 use Rattle.krb_packet.specs.FieldNames.{capture_field_text}
 use Rattle.krb_packet.specs.Streaming.{PacketsModel, Reads}
 use Rattle.krb_packet.specs.declared.field.CaptureField.{CaptureField}
-use Rattle.krb_text.specs.Captures.{capture_refused_line}
 use Rattle.krb_text.specs.declared.form.Form.{Form}
-use Rattle.krb_capture.specs.Captures.{HasFollowed, Progress, Settings, all_counts, end_text}
+use Rattle.krb_capture.specs.Captures.{HasFollowed, Progress, Settings, end_text, refusal_text}
 use Rattle.krb_capture.specs.declared.capture.Capture.{Capture}
 use Rattle.krb_tool.specs.Captures.{capture_run_end, listing_from}
 use Rattle.krb_tool.specs.Files.{RecordListing}
@@ -34,6 +33,6 @@ AddsCaptureEnd capture old new ended =
 -- the record of a refused file was added; other faults have none
 abbrev pub AddsFileRefusal : FileFault → CaptureField → Capture → Form → List ℕ → List ℕ → Option RunEnd → Type 0
 AddsFileRefusal (faults.Refused place why unnamed) field capture form old new ended =
-    (settings : Settings) (progress : Progress) → HasFollowed capture settings progress → form ≡ settings.form → (ended ≡ Some run.Refused) × (new ≡ old ++ capture_refused_line settings.form (all_counts progress) place why (Some (capture_field_text field)))
+    (settings : Settings) (progress : Progress) → HasFollowed capture settings progress → form ≡ settings.form → (ended ≡ Some run.Refused) × (new ≡ old ++ refusal_text settings progress place why (Some (capture_field_text field)))
 AddsFileRefusal faults.Read field capture form old new ended = ⊥
 AddsFileRefusal faults.Memory field capture form old new ended = ⊥

@@ -8,5 +8,5 @@ returns-in_ok-insert-2 c = λ limit table sent h k s.
     (HoldsMaps-kept c.args.self.now _ limit c.args.last.number c.args.flow c.args.step table c.args.last.sending sent h s
     (ap (λ d. d.limit) c.in_ok-keep_number.ensures.same)
     c.in_ok-keep_number.ensures.numbers
-    (c.in_ok-insert-2.ensures.entries ∙ rw (c.if-step.false, c.in_ok-keep_number.ensures.same) refl)
-    (ap (λ d. d.ended.entries) c.in_ok-keep_number.ensures.same ∙ rw c.if-step.false refl))
+    (c.in_ok-insert-2.ensures.entries ∙ rw (c.in_default.is, c.in_ok-keep_number.ensures.same) refl)
+    (ap (λ d. d.ended.entries) c.in_ok-keep_number.ensures.same ∙ rw c.in_default.is refl))
