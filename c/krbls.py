@@ -79,7 +79,7 @@ def _load():
     try:
         library = ctypes.CDLL(name or "libkrbls.so.1")
     except OSError as error:
-        raise ImportError(_NOT_FOUND if name is None else f"{name}: {error}") from None
+        raise ImportError(f"{name}: {error}" if name else _NOT_FOUND) from None
     number, size, octets = ctypes.c_uint32, ctypes.c_size_t, ctypes.c_char_p
     given, made, place = [octets, size], [octets, size, ctypes.POINTER(size)], ctypes.POINTER(number)
     arguments = {
