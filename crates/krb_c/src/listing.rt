@@ -29,7 +29,7 @@ fn message_listing(
 }
 
 /// Returns the listing of a stream up to its end or its first refusal.
-fn stream_listing(
+fn stream_listing_to_refusal(
     alloc: Global,
     form: Form,
     profile: Profile,
@@ -58,6 +58,24 @@ fn stream_listing_going_on(
     let mut text = Vec::new(alloc);
     let end = run_stream_going_on(alloc, form, profile, &mut reader, &mut text, limit)?;
     Ok(Listing { text, end })
+}
+
+/// Returns the listing of a stream, which may go on after refusals.
+fn stream_listing(
+    alloc: Global,
+    goes_on: bool,
+    form: Form,
+    profile: Profile,
+    limit: Limit,
+    octets: &[u8],
+) -> Result<Listing, RunFault>
+    ensures { IfOk result (λ made. IsStreamListing goes_on form profile limit octets.now made.text.items made.end) }
+{
+    if goes_on {
+        stream_listing_going_on(alloc, form, profile, limit, octets)
+    } else {
+        stream_listing_to_refusal(alloc, form, profile, limit, octets)
+    }
 }
 
 /// Returns the listing of a keytab.
@@ -133,14 +151,14 @@ pub extern "C" fn krbls_stream(
 ) -> u32
     ensures { IsListed (IsStreamListing (goes_on going_on) (form_of form) (profile_of profile) (limit_of limit) octets.now) text.old text.new size.old size.new result }
 {
-    let form = form_of(form);
-    let profile = profile_of(profile);
-    let limit = limit_of(limit);
-    let listing = if goes_on(going_on) {
-        stream_listing_going_on(alloc, form, profile, limit, octets)
-    } else {
-        stream_listing(alloc, form, profile, limit, octets)
-    };
+    let listing = stream_listing(
+        alloc,
+        goes_on(going_on),
+        form_of(form),
+        profile_of(profile),
+        limit_of(limit),
+        octets,
+    );
     answer(listing, text, size)
 }
 

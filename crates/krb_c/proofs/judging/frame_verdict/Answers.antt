@@ -1,7 +1,7 @@
 use Rattle.std.proofs.Common.{sym, ◌∙◌, ap, arith, take}
 use Rattle.krb_msg.specs.Judgement.{judgement}
 use Rattle.krb_c.specs.inner.Frames.{after_length}
-use Rattle.krb_c.proofs.Frames.{Begins, begins, first-short, first-high, first-long, first-empty, first-contents}
+use Rattle.krb_c.proofs.Frames.{begins, first-short, first-high, first-long, first-empty, first-contents}
 use Rattle.krb_c.proofs.judging.frame_verdict.Goals as goal
 
 pub returns-in_default : goal.returns-in_default
@@ -12,10 +12,10 @@ returns-then-size-ge-HIGH_BIT c =
     let b = begins c.args.stream.now c.in-Some.length.now c.in-Some.contents.now c.from_be_bytes-size.result c.in-Some.ensures.cases c.from_be_bytes-size.ensures in
     c.refused.ensures ∙ sym (first-high c.args.profile c.args.limit c.args.stream.now c.from_be_bytes-size.result b (omega arith))
 
-pub returns-then-size-limit : goal.returns-then-size-limit
-returns-then-size-limit c =
+pub returns-then-size-get : goal.returns-then-size-get
+returns-then-size-get c =
     let b = begins c.args.stream.now c.in-Some.length.now c.in-Some.contents.now c.from_be_bytes-size.result c.in-Some.ensures.cases c.from_be_bytes-size.ensures in
-    c.refused-then-size-limit.ensures ∙ sym (first-long c.args.profile c.args.limit c.args.stream.now c.from_be_bytes-size.result b (omega arith) (omega arith))
+    c.refused-then-size-get.ensures ∙ sym (first-long c.args.profile c.args.limit c.args.stream.now c.from_be_bytes-size.result b (omega arith) (omega (arith, c.get.ensures.value)))
 
 pub returns-then-size-eq0 : goal.returns-then-size-eq0
 returns-then-size-eq0 c =
@@ -28,4 +28,4 @@ returns-else-size-eq0 c =
     let n = c.from_be_bytes-size.result in
     c.contents_verdict.ensures
     ∙ ap (λ contents. after_length (judgement c.args.profile n (take n contents))) c.in-Some.ensures.cases.1
-    ∙ sym (first-contents c.args.profile c.args.limit c.args.stream.now n b (record { some = omega arith; short = omega arith; within = omega arith }))
+    ∙ sym (first-contents c.args.profile c.args.limit c.args.stream.now n b (record { some = omega arith; short = omega arith; within = omega (arith, c.get.ensures.value) }))
