@@ -2,7 +2,6 @@
 use Rattle.std.specs.Prelude.{ℕ, ◌≡◌, Bool, true, false, List, [], Option, Some}
 use Rattle.krb_der.specs.declared.profile.Profile.{Profile}
 use Rattle.krb_text.specs.declared.form.Form.{Form}
-use Rattle.krb_capture.specs.Captures.{Settings}
 use Rattle.krb_tool.specs.Captures.{capture_listing}
 use Rattle.krb_tool.specs.Files.{FileListing, RecordListing, ccache_listing, keytab_listing, text_of}
 use Rattle.krb_tool.specs.GoingOn.{ListsAll}
