@@ -1,11 +1,11 @@
 # krbls: build, run, test and measure. Needs the Rattle toolchain's `rt`; `make test` and `make bench` also need python3.
-.PHONY: run build changed install uninstall gate test edits fuzz bench clean
+.PHONY: run build changed library install install-library uninstall gate test edits fuzz bench clean
 
 # Where `make install` puts the program.
 PREFIX := /usr/local
 DESTDIR :=
 
-# The crates of crates.txt, and those of them that one uses.
+# The crates of crates.txt but the static library, and those of them that one uses.
 CRATES := $(shell sed -n 's/^\([a-z_0-9]*\):.*/\1/p' crates.txt)
 uses = $(filter $(CRATES),$(shell sed -n 's/^$(1):\(.*\)/\1/p' crates.txt))
 
@@ -31,8 +31,17 @@ library-$(1): $(addprefix library-,$(call uses,$(1)))
 endef
 $(foreach crate,$(CRATES),$(eval $(call LIBRARY,$(crate))))
 
-# Puts the program that `make build` left, its manual page and the completions of three shells under $(DESTDIR)$(PREFIX).
+# Builds the C library at bin/libkrbls.a and bin/libkrbls.so, of what `make build` proved.
+library:
+	@test -x bin/krbls || $(MAKE) --no-print-directory build
+	c/build
+
+# Puts the program that `make build` left, its manual page and the completions of three shells under $(DESTDIR)$(PREFIX), and
+# the C library if `make library` left it, with its header, its module for Python and what pkg-config reads.
 share := $(DESTDIR)$(PREFIX)/share
+lib := $(DESTDIR)$(PREFIX)/lib
+version = $(shell sed -n 's/^.define KRBLS_VERSION "\(.*\)"/\1/p' c/krbls.h)
+major = $(firstword $(subst ., ,$(version)))
 install:
 	@test -x bin/krbls || { echo 'make build first' >&2; exit 1; }
 	install -D -m 755 bin/krbls $(DESTDIR)$(PREFIX)/bin/krbls
@@ -40,11 +49,24 @@ install:
 	install -D -m 644 completions/krbls.bash $(share)/bash-completion/completions/krbls
 	install -D -m 644 completions/_krbls $(share)/zsh/site-functions/_krbls
 	install -D -m 644 completions/krbls.fish $(share)/fish/vendor_completions.d/krbls.fish
+	@if [ -e bin/libkrbls.a ]; then $(MAKE) --no-print-directory install-library; fi
+
+install-library:
+	install -D -m 644 c/krbls.h $(DESTDIR)$(PREFIX)/include/krbls.h
+	install -D -m 644 bin/libkrbls.a $(lib)/libkrbls.a
+	install -D -m 755 bin/libkrbls.so $(lib)/libkrbls.so.$(version)
+	ln -sf libkrbls.so.$(version) $(lib)/libkrbls.so.$(major)
+	ln -sf libkrbls.so.$(major) $(lib)/libkrbls.so
+	install -d $(lib)/pkgconfig
+	sed 's|@PREFIX@|$(PREFIX)|; s|@VERSION@|$(version)|' c/krbls.pc.in > $(lib)/pkgconfig/krbls.pc
+	install -D -m 644 c/krbls.py $(share)/krbls/krbls.py
 
 # Takes the same away.
 uninstall:
 	rm -f $(DESTDIR)$(PREFIX)/bin/krbls $(share)/man/man1/krbls.1 $(share)/bash-completion/completions/krbls \
 		$(share)/zsh/site-functions/_krbls $(share)/fish/vendor_completions.d/krbls.fish
+	rm -f $(DESTDIR)$(PREFIX)/include/krbls.h $(lib)/libkrbls.a $(lib)/libkrbls.so $(lib)/libkrbls.so.* \
+		$(lib)/pkgconfig/krbls.pc $(share)/krbls/krbls.py
 
 # The merge gate alone, and the processor minutes of each of its parts.
 gate:

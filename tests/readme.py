@@ -1,5 +1,6 @@
 """Takes the examples of README.md and docs/: in each block `console`, a command after `$ ` and below it what it
-prints; and in each block `rust`, code, which has to be a part of the file of crates/ that the text before it links.
+prints; and in each block `rust`, `c` or `python`, code, which has to be a part of the file of crates/ or examples/ that the
+text before it links.
 
   python3 tests/readme.py FOLDER    writes PAGE-N.command and PAGE-N.want of the Nth example of a page, and
                                     PAGE-N.code and PAGE-N.source of its Nth block of code: the code, and the
@@ -13,8 +14,8 @@ import sys
 TOP = pathlib.Path(__file__).resolve().parent.parent
 CONSOLE = re.compile(r"^```console\n(.*?)^```\n", re.DOTALL | re.MULTILINE)
 EXAMPLE = re.compile(r"^\$ (.*)\n((?:(?!\$ ).*\n)*)", re.MULTILINE)
-CODE = re.compile(r"^```rust\n(.*?)^```\n", re.DOTALL | re.MULTILINE)
-LINK = re.compile(r"\]\((?:\.\./)?(crates/[^)]*\.rt)\)")
+CODE = re.compile(r"^```(?:rust|c|python)\n(.*?)^```\n", re.DOTALL | re.MULTILINE)
+LINK = re.compile(r"\]\((?:\.\./)?(crates/[^)]*\.rt|examples/[^)]*\.(?:c|py))\)")
 
 
 def take(page, folder):

@@ -14,6 +14,7 @@ use Rattle.krb_tool.specs.Lines.{record_line, keytab_end_line}
 use Rattle.krb_tool.specs.Lines.{cache_line, credential_line, cache_end_line}
 use Rattle.krb_tool.specs.Lines.{file_refused_line}
 use Rattle.krb_tool.specs.Paths.{keytab_path, credential_path, start_path}
+use Rattle.krb_tool.specs.declared.file_run.FileText.{FileText}
 use Rattle.krb_tool.specs.declared.run.RunEnd.{RunEnd}
 use Rattle.krb_tool.specs.declared.run.RunEnd.TheVariants as run
 use Rattle.krb_tool.specs.declared.run.RunFault.{RunFault}
@@ -28,6 +29,10 @@ pub record ReadsAll (had left : Option (List ℕ)) (file : List ℕ) : Type 0 wh
 pub record FileListing : Type 0 where
   pub text : List ℕ
   pub end : RunEnd
+
+-- what a function made of a file or of octets
+abbrev pub shown : FileText → FileListing
+shown made = record { text = made.text; end = made.end }
 
 -- ---- the listings of keytabs and of caches
 

@@ -2,8 +2,8 @@
 
 ghost use Rattle.std.specs.Prelude.{◌≡◌, ◌+◌, ◌^◌, ◌≤◌, ◌⊎◌, List, ℕ, Some, IfSome, IfErr, IfOk, OnErr, OnOk};
 ghost use Rattle.krb_tool.specs.declared.transfer.ReaderState.TheVariants as reader;
-ghost use Rattle.krb_tool.specs.Files.{ReadsSome, FileListing, ListsFile, FailsFile};
-ghost use Rattle.krb_tool.specs.inner.FileRuns.{ReadsPrefix, IsOfReading, IsDecidedByPrefix, MatchesReader, shown};
+ghost use Rattle.krb_tool.specs.Files.{ReadsSome, FileListing, ListsFile, FailsFile, shown};
+ghost use Rattle.krb_tool.specs.inner.FileRuns.{ReadsPrefix, IsOfReading, IsDecidedByPrefix, MatchesReader};
 
 use crate::run::{PIECE_OCTETS, RunEnd, RunFault};
 use crate::transfer::{Asked, write_all};
@@ -11,10 +11,12 @@ use krb_text::TextBuffer;
 use std::alloc::Global;
 use std::io::{Read, Write};
 
-/// What is written of a file, and how its run ends.
+/// What is written of a file or of a message, and how its run ends.
 #[derive(Drop)]
-pub(crate) struct FileText {
+pub struct FileText {
+    /// The lines, each with its line feed.
     pub text: TextBuffer,
+    /// Whether something was refused.
     pub end: RunEnd,
 }
 

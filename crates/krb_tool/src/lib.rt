@@ -7,6 +7,7 @@
 //!   [`run_keytab`] a keytab and [`run_ccache`] a credential cache. [`run_stream_in`] and its like
 //!   take the form of the records ([`Form`]) and the profile of messages ([`Profile`]);
 //!   [`run_stream_going_on`] goes on after refusals.
+//! - [`list_octets`] returns the line of a message that is in memory.
 //! - [`run_sources`] lists several sources one after another, each by what a [`ListSource`] does.
 //! - [`status`] returns the exit status for what a run returned.
 //!
@@ -29,11 +30,12 @@ mod stream_run;
 mod transfer;
 
 pub use capture_run::run_capture;
+pub use file_run::FileText;
 pub use going_on::run_stream_going_on;
 pub use krb_der::Profile;
 pub use krb_frame::Limit;
 pub use krb_text::Form;
-pub use message_run::{run_message, run_message_in};
+pub use message_run::{list_octets, run_message, run_message_in};
 pub use record_run::{run_ccache, run_ccache_in, run_keytab, run_keytab_in};
 pub use run::{RunEnd, RunFault, run_stream, run_stream_in, status};
 pub use sources::{ListSource, run_sources};

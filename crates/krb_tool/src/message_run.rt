@@ -3,8 +3,7 @@
 ghost use Rattle.std.specs.Prelude.{◌≡◌, IfErr, IfOk};
 ghost use Rattle.krb_tool.specs.Paths.{refused_path};
 ghost use Rattle.krb_tool.specs.Lines.{message_line, message_refused_line, input_refused_line};
-ghost use Rattle.krb_tool.specs.Files.{ListsFile, FailsFile};
-ghost use Rattle.krb_tool.specs.inner.FileRuns.{shown};
+ghost use Rattle.krb_tool.specs.Files.{ListsFile, FailsFile, shown};
 ghost use Rattle.krb_tool.specs.Messages.{is_blank, without_blanks, clean_with, refused_with, octets_listing, IsHexListing};
 
 use crate::fault_path::{put_refused_message, refused_path};
@@ -82,8 +81,10 @@ fn list_refusal(
     Ok(FileText { text, end })
 }
 
-/// Returns the line of the message of a profile that octets are, or the line of their refusal.
-fn list_octets(
+/// Returns the line, in a form, of the message of a profile that octets are, or the line of their
+/// refusal: what [`run_message_in`] writes of the same octets in hexadecimal. The one error is
+/// running out of memory.
+pub fn list_octets(
     alloc: Global,
     form: Form,
     profile: Profile,

@@ -2,7 +2,6 @@
 use Rattle.std.specs.Prelude.{ℕ, ◌≡◌, ◌≤◌, ◌⊎◌, List, [], ◌++◌, length, Option, Some, IfSome}
 use Rattle.krb_tool.specs.declared.run.RunFault.{RunFault}
 use Rattle.krb_tool.specs.declared.run.RunFault.TheVariants as fault
-use Rattle.krb_tool.specs.declared.file_run.FileText.{FileText}
 use Rattle.krb_tool.specs.declared.transfer.ReaderState.{ReaderState}
 use Rattle.krb_tool.specs.declared.transfer.ReaderState.TheVariants as reader
 use Rattle.krb_tool.specs.Faults.{IsRead}
@@ -22,10 +21,6 @@ pub record ReadsPrefix (had left : Option (List ℕ)) (most : Option ℕ) (kept 
 -- if there is a greatest number, a prefix of a file of that length decides its listing
 abbrev pub IsDecidedByPrefix : (List ℕ → FileListing → Type 0) → Option ℕ → Type 0
 IsDecidedByPrefix Lists most = (kept rest : List ℕ) (listing : FileListing) → most ≡ Some (length kept) → Lists kept listing → Lists (kept ++ rest) listing
-
--- the listing that a function made
-abbrev pub shown : FileText → FileListing
-shown made = record { text = made.text; end = made.end }
 
 -- the fault of a run that has not written: that of its reader if this failed, and else out of memory
 abbrev pub IsOfReading : ReaderState → RunFault → Type 0

@@ -1,0 +1,36 @@
+-- The listings that C is given: those of the commands.
+use Rattle.std.specs.Prelude.{ℕ, ◌≡◌, Bool, true, false, List, [], Option, Some}
+use Rattle.krb_der.specs.declared.profile.Profile.{Profile}
+use Rattle.krb_text.specs.declared.form.Form.{Form}
+use Rattle.krb_tool.specs.Captures.{capture_listing}
+use Rattle.krb_tool.specs.Files.{FileListing, RecordListing, ccache_listing, keytab_listing, text_of}
+use Rattle.krb_tool.specs.GoingOn.{ListsAll}
+use Rattle.krb_tool.specs.Listing.{Lists}
+use Rattle.krb_tool.specs.Messages.{octets_listing}
+use Rattle.krb_tool.specs.declared.run.RunEnd.{RunEnd}
+
+-- the line of a message, or of its refusal
+abbrev pub IsOf : FileListing → List ℕ → RunEnd → Type 0
+IsOf listing text end = (text ≡ listing.text) × (end ≡ listing.end)
+
+abbrev pub IsMessageListing : Form → Profile → List ℕ → List ℕ → RunEnd → Type 0
+IsMessageListing form profile octets = IsOf (octets_listing form profile octets)
+
+-- The listing of a stream. The run over it had all the octets, and wrote the text after nothing; those after a refusal that ends it may be left.
+abbrev pub IsStreamListing : (goes_on : Bool) → Form → Profile → (limit : ℕ) → List ℕ → List ℕ → RunEnd → Type 0
+IsStreamListing false form profile limit octets text end = (left : List ℕ) × Lists form profile limit (Some octets) (Some left) (Some []) (Some text) end
+IsStreamListing true form profile limit octets text end = (left : List ℕ) × ListsAll form profile limit (Some octets) (Some left) (Some []) (Some text) end
+
+-- a listing of records, and how it ends
+abbrev pub IsRecords : RecordListing → List ℕ → RunEnd → Type 0
+IsRecords listing text end = (text ≡ text_of listing) × (end ≡ listing.end)
+
+-- the listings of a keytab, of a cache and of a capture
+abbrev pub IsKeytabListing : Form → List ℕ → List ℕ → RunEnd → Type 0
+IsKeytabListing form octets = IsRecords (keytab_listing form octets)
+
+abbrev pub IsCcacheListing : Form → Option ℕ → List ℕ → List ℕ → RunEnd → Type 0
+IsCcacheListing form now octets = IsRecords (ccache_listing form now octets)
+
+abbrev pub IsCaptureListing : Form → (limit port : ℕ) → List ℕ → List ℕ → RunEnd → Type 0
+IsCaptureListing form limit port octets = IsRecords (capture_listing (record { form = form; limit = limit; port = port }) octets)

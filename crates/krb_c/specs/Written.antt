@@ -1,0 +1,39 @@
+-- What C is given of a text.
+use Rattle.std.specs.Prelude.{ℕ, ◌≡◌, ◌⊎◌, List, [], ◌++◌, length, take, drop, Option, Some, None}
+use Rattle.krb_tool.specs.declared.run.RunEnd.{RunEnd}
+use Rattle.krb_tool.specs.declared.run.RunEnd.TheVariants as run
+
+-- The memory of the caller has as much of the text as there is room for, and the size is that of all of it.
+pub record IsCopied (text before after : List ℕ) (size : ℕ) : Type 0 where
+  pub all : size ≡ length text
+  pub copied : after ≡ take (length before) text ++ drop (length text) before
+
+-- out of memory, and nothing was written
+pub record WroteNothing (before after : List ℕ) (size_before size_after answer : ℕ) : Type 0 where
+  pub memory : answer ≡ 3
+  pub kept : after ≡ before
+  pub size : size_after ≡ size_before
+
+-- the status of a listing, as of its command
+abbrev pub answer_of : RunEnd → ℕ
+answer_of run.Clean = 0
+answer_of run.Refused = 1
+
+-- a listing was made, and copied
+pub record Wrote (Makes : List ℕ → RunEnd → Type 0) (before after : List ℕ) (size_after answer : ℕ) : Type 0 where
+  pub text : List ℕ
+  pub end : RunEnd
+  pub made : Makes text end
+  pub copied : IsCopied text before after size_after
+  pub answered : answer ≡ answer_of end
+
+abbrev pub IsListed : (Makes : List ℕ → RunEnd → Type 0) → (before after : List ℕ) → (size_before size_after answer : ℕ) → Type 0
+IsListed Makes before after size_before size_after answer = WroteNothing before after size_before size_after answer ⊎ Wrote Makes before after size_after answer
+
+-- a text that there may be was copied: 0 if there is one, and else 1, and a text of no octets
+abbrev pub WroteOption : Option (List ℕ) → (before after : List ℕ) → (size_after answer : ℕ) → Type 0
+WroteOption (Some text) before after size_after answer = IsCopied text before after size_after × (answer ≡ 0)
+WroteOption None before after size_after answer = IsCopied [] before after size_after × (answer ≡ 1)
+
+abbrev pub IsGiven : Option (List ℕ) → (before after : List ℕ) → (size_before size_after answer : ℕ) → Type 0
+IsGiven text before after size_before size_after answer = WroteNothing before after size_before size_after answer ⊎ WroteOption text before after size_after answer

@@ -1,0 +1,211 @@
+//! Octets that are listed, as `krbls` lists them.
+
+ghost use Rattle.std.specs.Prelude.{◌≡◌, IfOk, true, false};
+ghost use Rattle.krb_c.specs.Numbers.{form_of, goes_on, limit_of, now_of, port_of, profile_of};
+ghost use Rattle.krb_c.specs.Listed.{IsCaptureListing, IsCcacheListing, IsKeytabListing, IsMessageListing, IsStreamListing};
+ghost use Rattle.krb_c.specs.Written.{IsListed};
+
+use crate::numbers::{form_of, goes_on, limit_of, now_of, port_of, profile_of};
+use crate::writing::{Listing, answer};
+use krb_tool::{
+    Form, Limit, Profile, RunFault, list_octets, run_capture, run_ccache_in, run_keytab_in,
+    run_stream_going_on, run_stream_in,
+};
+use std::alloc::Global;
+
+/// Returns the line of a message of a profile, or of its refusal.
+fn message_listing(
+    alloc: Global,
+    form: Form,
+    profile: Profile,
+    octets: &[u8],
+) -> Result<Listing, RunFault>
+    ensures { IfOk result (λ made. IsMessageListing form profile octets.now made.text.items made.end) }
+{
+    let listed = list_octets(alloc, form, profile, octets)?;
+    let text = listed.text.into_string().into_bytes();
+    let end = listed.end;
+    Ok(Listing { text, end })
+}
+
+/// Returns the listing of a stream up to its end or its first refusal.
+fn stream_listing_to_refusal(
+    alloc: Global,
+    form: Form,
+    profile: Profile,
+    limit: Limit,
+    octets: &[u8],
+) -> Result<Listing, RunFault>
+    ensures { IfOk result (λ made. IsStreamListing false form profile limit octets.now made.text.items made.end) }
+{
+    let mut reader = octets;
+    let mut text = Vec::new(alloc);
+    let end = run_stream_in(alloc, form, profile, &mut reader, &mut text, limit)?;
+    Ok(Listing { text, end })
+}
+
+/// Returns the listing of a stream that goes on after refusals.
+fn stream_listing_going_on(
+    alloc: Global,
+    form: Form,
+    profile: Profile,
+    limit: Limit,
+    octets: &[u8],
+) -> Result<Listing, RunFault>
+    ensures { IfOk result (λ made. IsStreamListing true form profile limit octets.now made.text.items made.end) }
+{
+    let mut reader = octets;
+    let mut text = Vec::new(alloc);
+    let end = run_stream_going_on(alloc, form, profile, &mut reader, &mut text, limit)?;
+    Ok(Listing { text, end })
+}
+
+/// Returns the listing of a stream, which may go on after refusals.
+fn stream_listing(
+    alloc: Global,
+    goes_on: bool,
+    form: Form,
+    profile: Profile,
+    limit: Limit,
+    octets: &[u8],
+) -> Result<Listing, RunFault>
+    ensures { IfOk result (λ made. IsStreamListing goes_on form profile limit octets.now made.text.items made.end) }
+{
+    if goes_on {
+        stream_listing_going_on(alloc, form, profile, limit, octets)
+    } else {
+        stream_listing_to_refusal(alloc, form, profile, limit, octets)
+    }
+}
+
+/// Returns the listing of a keytab.
+fn keytab_listing(alloc: Global, form: Form, octets: &[u8]) -> Result<Listing, RunFault>
+    ensures { IfOk result (λ made. IsKeytabListing form octets.now made.text.items made.end) }
+{
+    let mut reader = octets;
+    let mut text = Vec::new(alloc);
+    let end = run_keytab_in(alloc, form, &mut reader, &mut text)?;
+    Ok(Listing { text, end })
+}
+
+/// Returns the listing of a credential cache.
+fn ccache_listing(
+    alloc: Global,
+    form: Form,
+    now: Option<u32>,
+    octets: &[u8],
+) -> Result<Listing, RunFault>
+    ensures { IfOk result (λ made. IsCcacheListing form now octets.now made.text.items made.end) }
+{
+    let mut reader = octets;
+    let mut text = Vec::new(alloc);
+    let end = run_ccache_in(alloc, form, &mut reader, &mut text, now)?;
+    Ok(Listing { text, end })
+}
+
+/// Returns the listing of a capture.
+fn capture_listing(
+    alloc: Global,
+    form: Form,
+    limit: Limit,
+    port: u16,
+    octets: &[u8],
+) -> Result<Listing, RunFault>
+    ensures { IfOk result (λ made. IsCaptureListing form limit port octets.now made.text.items made.end) }
+{
+    let mut reader = octets;
+    let mut text = Vec::new(alloc);
+    let end = run_capture(alloc, form, &mut reader, &mut text, limit, port)?;
+    Ok(Listing { text, end })
+}
+
+/// Lists octets as one message of a profile: its line, or that of its refusal, as `krbls message`
+/// prints it of the same octets in hexadecimal.
+#[unsafe(no_mangle)]
+pub extern "C" fn krbls_message(
+    alloc: Global,
+    form: u32,
+    profile: u32,
+    octets: &[u8],
+    text: &mut [u8],
+    size: &mut usize,
+) -> u32
+    ensures { IsListed (IsMessageListing (form_of form) (profile_of profile) octets.now) text.old text.new size.old size.new result }
+{
+    let listing = message_listing(alloc, form_of(form), profile_of(profile), octets);
+    answer(listing, text, size)
+}
+
+/// Lists a stream of framed messages (RFC 4120, 7.2.2), as `krbls stream` does; or, unless
+/// `going_on` is 0, as `krbls stream --keep-going` does.
+#[unsafe(no_mangle)]
+pub extern "C" fn krbls_stream(
+    alloc: Global,
+    form: u32,
+    profile: u32,
+    limit: u32,
+    going_on: u32,
+    octets: &[u8],
+    text: &mut [u8],
+    size: &mut usize,
+) -> u32
+    ensures { IsListed (IsStreamListing (goes_on going_on) (form_of form) (profile_of profile) (limit_of limit) octets.now) text.old text.new size.old size.new result }
+{
+    let listing = stream_listing(
+        alloc,
+        goes_on(going_on),
+        form_of(form),
+        profile_of(profile),
+        limit_of(limit),
+        octets,
+    );
+    answer(listing, text, size)
+}
+
+/// Lists a keytab, as `krbls keytab` does.
+#[unsafe(no_mangle)]
+pub extern "C" fn krbls_keytab(
+    alloc: Global,
+    form: u32,
+    octets: &[u8],
+    text: &mut [u8],
+    size: &mut usize,
+) -> u32
+    ensures { IsListed (IsKeytabListing (form_of form) octets.now) text.old text.new size.old size.new result }
+{
+    let listing = keytab_listing(alloc, form_of(form), octets);
+    answer(listing, text, size)
+}
+
+/// Lists a credential cache, as `krbls ccache` does, with a time to compare with unless `now` is 0.
+#[unsafe(no_mangle)]
+pub extern "C" fn krbls_ccache(
+    alloc: Global,
+    form: u32,
+    now: u32,
+    octets: &[u8],
+    text: &mut [u8],
+    size: &mut usize,
+) -> u32
+    ensures { IsListed (IsCcacheListing (form_of form) (now_of now) octets.now) text.old text.new size.old size.new result }
+{
+    let listing = ccache_listing(alloc, form_of(form), now_of(now), octets);
+    answer(listing, text, size)
+}
+
+/// Lists a capture, as `krbls capture` does.
+#[unsafe(no_mangle)]
+pub extern "C" fn krbls_capture(
+    alloc: Global,
+    form: u32,
+    limit: u32,
+    port: u16,
+    octets: &[u8],
+    text: &mut [u8],
+    size: &mut usize,
+) -> u32
+    ensures { IsListed (IsCaptureListing (form_of form) (limit_of limit) (port_of port) octets.now) text.old text.new size.old size.new result }
+{
+    let listing = capture_listing(alloc, form_of(form), limit_of(limit), port_of(port), octets);
+    answer(listing, text, size)
+}
