@@ -1,8 +1,11 @@
 -- The fields and the nodes that are left, and the item that begins.
-use Rattle.std.proofs.Common.{◌≡◌, ℕ, zero, suc, ◌+◌, ◌<◌, ◌≤◌, List, [], ◌∷◌, ◌==◌, true, Some, None, length, drop, get_or, map, max, refl, sym, subst, ap, ◌∙◌, eq-eqb, ne_eqb, arith}
+use Rattle.std.proofs.Common.{◌≡◌, ℕ, zero, suc, ◌+◌, ◌<◌, ◌≤◌, List, [], ◌∷◌, ◌==◌, true, Some, None, length, drop, get_or, map, max, refl, sym, ap, ◌∙◌, eq-eqb, ne_eqb, arith}
+use Rattle.std.proofs.Math.Dec.{leb}
+use Rattle.std.proofs.lemmas.Bool.{leb-true}
 use Rattle.std.specs.List.{AllByRecursion}
 use Rattle.krb_der.specs.Octets.{when}
 use Rattle.krb_msg.specs.Term.{Term, Fields, End, Required, Optional, tag_of}
+use Rattle.krb_msg.specs.Basic.{int32}
 use Rattle.krb_msg.specs.Nodes.{nodes, term_in, term_at}
 use Rattle.krb_msg.specs.Table.{IsNode, IsSlot, fields_from, with_slot}
 use Rattle.krb_msg.specs.declared.grammar.Slot.{Slot}
@@ -43,13 +46,13 @@ at_most [] node absent none = omega (arith, none)
 at_most (term ∷ terms) zero absent none = omega arith
 at_most (term ∷ terms) (suc node) absent none = omega (arith, at_most terms node absent none)
 
-most_fields : most nodes ≡ 13
+most_fields : leb (most nodes) 255 ≡ true
 unfolding nodes
 most_fields = refl
 
-few_fields : (node : ℕ) → count (fields_in (term_at node)) ≤ 13
+few_fields : (node : ℕ) → count (fields_in (term_at node)) ≤ 255
 unfolding term_in
-few_fields node = subst (λ most. count (fields_in (term_at node)) ≤ most) most_fields (at_most nodes node _ refl)
+few_fields node = omega (arith, at_most nodes node int32 refl, leb-true (most nodes) 255 most_fields)
 
 -- there are few slots
 pub few_slots : (slots : List Slot) (node : ℕ) → fields_from nodes slots ≡ fields_in (term_at node) → length slots < 256
