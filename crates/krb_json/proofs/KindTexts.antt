@@ -1,13 +1,15 @@
 -- The kinds of messages and the types, one by one, for the laws about texts. asn1/generate wrote this from asn1/krb5.asn1
-use Rattle.std.proofs.Common.{◌≡◌, ℕ, true, ◌&&◌, Bool, List, Some, refl}
+use Rattle.std.proofs.Common.{◌≡◌, ℕ, true, ◌&&◌, Bool, List, get_or, Some, refl}
 use Rattle.std.specs.Prelude.{nat_le}
 use Rattle.std.specs.List.{list_all}
 use Rattle.krb_der.specs.declared.profile.Profile.{Profile}
 use Rattle.krb_der.specs.declared.profile.Profile.TheVariants as profiles
 use Rattle.krb_msg.specs.Shape as shape
-use Rattle.krb_msg.specs.Views.{kind_name, kind_term, kind_term_in}
+use Rattle.krb_msg.specs.Views.{kind_of, kind_name, kind_term, kind_term_in, kind_with_tag, message_der}
 use Rattle.krb_msg.specs.declared.message.Kind.{Kind}
 use Rattle.krb_msg.specs.declared.message.Kind.TheVariants as kind
+use Rattle.krb_msg.specs.declared.message.Message.{Message}
+use Rattle.krb_msg.specs.declared.message.Message.TheVariants as message
 use Rattle.krb_judge.specs.FieldNames.{fields_of, names_of_kind}
 use Rattle.krb_judge.specs.declared.locating.names.Names.{Names}
 use Rattle.krb_judge.specs.declared.locating.names.Names.TheVariants as names
@@ -48,6 +50,19 @@ kind-back kind.KrbSafe = refl
 kind-back kind.KrbPriv = refl
 kind-back kind.KrbCred = refl
 kind-back kind.KrbError = refl
+
+-- the first octet of a message says of which kind it is
+pub kind-of-first : (m : Message) → kind_with_tag (get_or (message_der m) 0 0) ≡ Some (kind_of m)
+kind-of-first (message.AsReq m) = refl
+kind-of-first (message.AsRep m) = refl
+kind-of-first (message.TgsReq m) = refl
+kind-of-first (message.TgsRep m) = refl
+kind-of-first (message.ApReq m) = refl
+kind-of-first (message.ApRep m) = refl
+kind-of-first (message.KrbSafe m) = refl
+kind-of-first (message.KrbPriv m) = refl
+kind-of-first (message.KrbCred m) = refl
+kind-of-first (message.KrbError m) = refl
 
 -- octets 20 to 7E
 abbrev pub is_printable : List ℕ → Bool

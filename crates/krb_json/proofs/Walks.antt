@@ -31,12 +31,12 @@ use Rattle.std.proofs.lemmas.List.{take_all}
 use Rattle.krb_msg.specs.Views.{kind_of, kind_name, kind_term, kind_with_tag, message_value, message_der}
 use Rattle.krb_msg.specs.declared.message.Kind.{Kind}
 use Rattle.krb_msg.specs.declared.message.Message.{Message}
-use Rattle.krb_msg.specs.declared.message.Message.TheVariants as message
 use Rattle.krb_judge.specs.FieldNames.{Named, field_at, names_of_kind}
 use Rattle.krb_judge.specs.declared.locating.names.Names.{Names}
 use Rattle.krb_json.specs.Spelling.{shown}
 use Rattle.krb_json.specs.Objects.{json, members_of, bits_json, message_json}
 use Rattle.krb_json.specs.inner.Writing.{Puts, PutsItems, PutsFields, PutsBits, PutsMessage, slot_node}
+use Rattle.krb_json.proofs.KindTexts.{kind-of-first}
 
 -- ---- results
 pub on-ok : {E P Q : Type 0} (r : Result (Unit {0}) E) → (P → Q) → OnOk r P → OnOk r Q
@@ -284,18 +284,6 @@ none-member slots names index octets t0 t3 node tag some slotted tagged none oth
     (puts-no_member first more names index octets t0 t3 (subst (λ n. HasNoItem n octets) (tagged ∙ ap (λ n. tag_of (term_at n)) slotted) none) others)
 
 -- ---- a message
-kind-of-first : (m : Message) → kind_with_tag (get_or (message_der m) 0 0) ≡ Some (kind_of m)
-kind-of-first (message.AsReq m) = refl
-kind-of-first (message.AsRep m) = refl
-kind-of-first (message.TgsReq m) = refl
-kind-of-first (message.TgsRep m) = refl
-kind-of-first (message.ApReq m) = refl
-kind-of-first (message.ApRep m) = refl
-kind-of-first (message.KrbSafe m) = refl
-kind-of-first (message.KrbPriv m) = refl
-kind-of-first (message.KrbCred m) = refl
-kind-of-first (message.KrbError m) = refl
-
 pub kind-found : (m : Message) (octets : List ℕ) → message_der m ≡ octets → kind_with_tag (get_or octets 0 0) ≡ Some (kind_of m)
 kind-found m octets form = ap (λ l. kind_with_tag (get_or l 0 0)) (sym form) ∙ kind-of-first m
 
