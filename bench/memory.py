@@ -1,5 +1,6 @@
 """Says how much memory bin/krbls has on what costs it most: captures of 65536 directions of connections that each
-have the first octets of a frame, and a stream of one frame of 16 MiB, of the smallest items, strings without octets."""
+have the first octets of a frame, a stream of one frame of 16 MiB, of the smallest items, strings without octets, and a
+capture of one packet of 16 MiB of frames without octets."""
 
 import struct
 import tempfile
@@ -11,6 +12,8 @@ DIRECTIONS = 65536
 PRESENT = (512, 1024, 2048)
 FRAME = 16 * MIB
 STRING = b"\x1b\0"
+# Where an Ethernet packet has the total length of IPv4.
+TOTAL_LENGTH = 16
 
 
 def opened(tag, size):
@@ -29,16 +32,29 @@ def names(size):
     return octets
 
 
-def open_frames(size):
-    """A capture of connections, which each begin and then have the first octets of a frame, in two segments."""
+def capture(packets):
+    """A capture of packets, part by part."""
     yield struct.pack("<IHHIIII", 0xA1B2C3D4, 2, 4, 0, 0, 262144, ETHERNET)
+    for packet in packets:
+        yield struct.pack("<IIII", 0, 0, len(packet), len(packet)) + packet
+
+
+def open_frames(size):
+    """The packets of connections, which each begin and then have the first octets of a frame, in two segments."""
     frame = names(60000)
     frame += STRING * ((size - len(frame)) // 2)
     half = size // 2
     for number in range(DIRECTIONS):
         for flags, sequence, octets in ((SYN, 999, b""), (ACK, 1000, frame[:half]), (ACK, 1000 + half, frame[half:])):
-            packet = segment(*ends(number), sequence, flags, octets)
-            yield struct.pack("<IIII", 0, 0, len(packet), len(packet)) + packet
+            yield segment(*ends(number), sequence, flags, octets)
+
+
+def empty_frames():
+    """The packets of a connection that sends frames without octets, all in one segment. No total length of IPv4 has so
+    many octets, so it is 0, as segmentation offload leaves it."""
+    yield segment(*ends(0), 999, SYN, b"")
+    packet = segment(*ends(0), 1000, ACK, b"")
+    yield packet[:TOTAL_LENGTH] + bytes(2) + packet[TOTAL_LENGTH + 2 :] + bytes(FRAME - len(packet))
 
 
 def whole_frame():
@@ -59,5 +75,7 @@ def print_memory(name, command, parts):
 
 
 for size in PRESENT:
-    print_memory(f"{DIRECTIONS} directions, each with {size} octets of a frame", CAPTURE, open_frames(size))
+    print_memory(f"{DIRECTIONS} directions, each with {size} octets of a frame", CAPTURE, capture(open_frames(size)))
 print_memory("a frame of strings without octets", STREAM, whole_frame())
+for form in ([], ["--json"]):
+    print_memory(" ".join(["a packet of frames without octets", *form]), [*CAPTURE, *form], capture(empty_frames()))
