@@ -1,5 +1,5 @@
 # krbls: build, run, test and measure. Needs the Rattle toolchain's `rt`; `make test` and `make bench` also need python3.
-.PHONY: run build changed library install install-library uninstall gate test edits fuzz bench clean
+.PHONY: run needs first try build changed library install install-library uninstall gate test edits fuzz bench clean
 
 # Where `make install` puts the program.
 PREFIX := /usr/local
@@ -9,9 +9,28 @@ DESTDIR :=
 CRATES := $(shell sed -n 's/^\([a-z_0-9]*\):.*/\1/p' crates.txt)
 uses = $(filter $(CRATES),$(shell sed -n 's/^$(1):\(.*\)/\1/p' crates.txt))
 
-# Lists a real stream.
-run: build
-	bin/krbls stream < examples/ap-rep.stream
+# Lists a real stream: if nothing is built yet first by what is not proved yet, which takes a minute, and then by bin/krbls.
+run: needs
+	@test -x bin/krbls || $(MAKE) --no-print-directory first
+	@$(MAKE) --no-print-directory build
+	bin/krbls stream < examples/morning.stream
+
+first:
+	@echo 'examples/morning.stream, listed by the program as it stands, before its proofs:'
+	@$(MAKE) --no-print-directory try FILE=examples/morning.stream
+	@echo 'That was run unproved. Now all of it is proved, compiled and put at bin/krbls.'
+
+# Says what is missing, before anything is proved.
+needs:
+	@command -v rt > /dev/null || { echo "krbls: no rt: it comes with Rattle's kit, in the folder bin of the kit" >&2; exit 1; }
+	@command -v python3 > /dev/null || { echo 'krbls: no python3: the tests need it' >&2; exit 1; }
+	@test -w . || { echo "krbls: cannot write in $$PWD: a build leaves its files here" >&2; exit 1; }
+
+# Lists a file of one's own without a proof, which takes a minute: make try FILE=a.pcap COMMAND=capture
+COMMAND := stream
+try:
+	@test -r "$(FILE)" || { echo 'krbls: make try FILE=.. COMMAND=stream (or message, keytab, ccache, capture)' >&2; exit 1; }
+	@file=$$(realpath "$(FILE)") && cd crates/krbls && rt try --data "input=$$file" -- $(COMMAND) input
 
 # Proves all that the program uses, compiles it, and leaves it at bin/krbls: in a fresh checkout the crates side by side, and
 # if something was built here before, only what has changed since.
@@ -44,29 +63,29 @@ version = $(shell sed -n 's/^.define KRBLS_VERSION "\(.*\)"/\1/p' c/krbls.h)
 major = $(firstword $(subst ., ,$(version)))
 install:
 	@test -x bin/krbls || { echo 'make build first' >&2; exit 1; }
-	install -D -m 755 bin/krbls $(DESTDIR)$(PREFIX)/bin/krbls
-	install -D -m 644 docs/krbls.1 $(share)/man/man1/krbls.1
-	install -D -m 644 completions/krbls.bash $(share)/bash-completion/completions/krbls
-	install -D -m 644 completions/_krbls $(share)/zsh/site-functions/_krbls
-	install -D -m 644 completions/krbls.fish $(share)/fish/vendor_completions.d/krbls.fish
+	install -D -m 755 bin/krbls "$(DESTDIR)$(PREFIX)/bin/krbls"
+	install -D -m 644 docs/krbls.1 "$(share)/man/man1/krbls.1"
+	install -D -m 644 completions/krbls.bash "$(share)/bash-completion/completions/krbls"
+	install -D -m 644 completions/_krbls "$(share)/zsh/site-functions/_krbls"
+	install -D -m 644 completions/krbls.fish "$(share)/fish/vendor_completions.d/krbls.fish"
 	@if [ -e bin/libkrbls.a ]; then $(MAKE) --no-print-directory install-library; fi
 
 install-library:
-	install -D -m 644 c/krbls.h $(DESTDIR)$(PREFIX)/include/krbls.h
-	install -D -m 644 bin/libkrbls.a $(lib)/libkrbls.a
-	install -D -m 755 bin/libkrbls.so $(lib)/libkrbls.so.$(version)
-	ln -sf libkrbls.so.$(version) $(lib)/libkrbls.so.$(major)
-	ln -sf libkrbls.so.$(major) $(lib)/libkrbls.so
-	install -d $(lib)/pkgconfig
-	sed 's|@PREFIX@|$(PREFIX)|; s|@VERSION@|$(version)|' c/krbls.pc.in > $(lib)/pkgconfig/krbls.pc
-	install -D -m 644 c/krbls.py $(share)/krbls/krbls.py
+	install -D -m 644 c/krbls.h "$(DESTDIR)$(PREFIX)/include/krbls.h"
+	install -D -m 644 bin/libkrbls.a "$(lib)/libkrbls.a"
+	install -D -m 755 bin/libkrbls.so "$(lib)/libkrbls.so.$(version)"
+	ln -sf libkrbls.so.$(version) "$(lib)/libkrbls.so.$(major)"
+	ln -sf libkrbls.so.$(major) "$(lib)/libkrbls.so"
+	install -d "$(lib)/pkgconfig"
+	sed 's|@PREFIX@|$(PREFIX)|; s|@VERSION@|$(version)|' c/krbls.pc.in > "$(lib)/pkgconfig/krbls.pc"
+	install -D -m 644 c/krbls.py "$(share)/krbls/krbls.py"
 
 # Takes the same away.
 uninstall:
-	rm -f $(DESTDIR)$(PREFIX)/bin/krbls $(share)/man/man1/krbls.1 $(share)/bash-completion/completions/krbls \
-		$(share)/zsh/site-functions/_krbls $(share)/fish/vendor_completions.d/krbls.fish
-	rm -f $(DESTDIR)$(PREFIX)/include/krbls.h $(lib)/libkrbls.a $(lib)/libkrbls.so $(lib)/libkrbls.so.* \
-		$(lib)/pkgconfig/krbls.pc $(share)/krbls/krbls.py
+	rm -f "$(DESTDIR)$(PREFIX)/bin/krbls" "$(share)/man/man1/krbls.1" "$(share)/bash-completion/completions/krbls" \
+		"$(share)/zsh/site-functions/_krbls" "$(share)/fish/vendor_completions.d/krbls.fish"
+	rm -f "$(DESTDIR)$(PREFIX)/include/krbls.h" "$(lib)/libkrbls.a" "$(lib)/libkrbls.so" "$(lib)/libkrbls.so."* \
+		"$(lib)/pkgconfig/krbls.pc" "$(share)/krbls/krbls.py"
 
 # The merge gate alone, and the processor minutes of each of its parts.
 gate:
@@ -75,7 +94,7 @@ gate:
 	cat bin/minutes
 
 # All that is tested: the merge gate, and the built program on tests/.
-test:
+test: needs
 	tests/all
 
 # The must-fail edits that the gate leaves out.
