@@ -105,7 +105,7 @@ begins segment = not segment.rst && (segment.syn || nat_lt 0 segment.payload.siz
 abbrev pub after_found : List (Flow × Found) → Followed → Followed
 after_found found followed = record followed { found = found ++ followed.found }
 
--- of a flow of which nothing came
+-- of a flow with no segments yet
 abbrev pub of_new : ℕ → ℕ → Service → Segment → Table → Followed
 of_new limit packet service segment table =
     if begins segment

@@ -46,7 +46,7 @@ abbrev pub with_all : Origin → List Found → Written → Written
 with_all origin [] written = written
 with_all origin (first ∷ others) written = with_all origin others (with_found origin first written)
 
--- of a capture of which no packet came
+-- of a capture with no packets yet
 abbrev pub nothing_written : Form → Written
 nothing_written form = record { form = form; text = []; counts = record { packets = 0; messages = 0; refused = 0; lost = 0; unread = 0 } }
 

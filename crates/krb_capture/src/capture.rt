@@ -35,7 +35,7 @@ pub struct Capture {
 }
 
 impl Capture {
-    /// Creates a capture of which no packet came. Its records are listed in a form, frames of more
+    /// Creates an empty capture. Its records are listed in a form, frames of more
     /// than `limit` octets are refused, and `port` is the one of KDCs.
     pub fn new(alloc: Global, form: Form, limit: Limit, port: u16) -> Capture
         ensures { let settings : Settings = record { form = form; limit = limit; port = port } in HasFollowed result settings at_first }

@@ -60,7 +60,7 @@ pub(crate) struct Directions {
     waited: Vec<u8>,
 }
 
-/// Returns whether a segment begins a direction of which nothing came.
+/// Returns whether a segment begins a direction with no segments yet.
 fn begins(segment: &Segment<'_>) -> bool
     ensures { result ≡ begins segment.now }
 {

@@ -25,7 +25,7 @@ pub(crate) enum Frames {
 }
 
 impl Frames {
-    /// Creates those of a direction of which nothing came.
+    /// Creates those of a direction with no octets yet.
     #[inline(always)]
     pub(crate) fn new(alloc: Global, limit: Limit, service: Service) -> Frames
         ensures took { Took result limit [] }

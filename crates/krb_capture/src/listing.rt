@@ -55,7 +55,7 @@ pub(crate) fn text_of(text: &Option<String>) -> Option<&str>
 }
 
 impl Listing {
-    /// Creates a listing of which nothing was found.
+    /// Creates an empty listing.
     pub(crate) fn new(alloc: Global, form: Form) -> Listing
         ensures { result ≡ nothing_written form }
     {

@@ -34,7 +34,7 @@ pub(crate) struct MessageFrames {
 }
 
 impl MessageFrames {
-    /// Creates those of a direction of which nothing came.
+    /// Creates those of a direction with no octets yet.
     #[inline(always)]
     pub(crate) fn new(alloc: Global, limit: Limit) -> MessageFrames
         ensures { TookMessages result limit [] }

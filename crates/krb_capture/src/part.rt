@@ -11,8 +11,7 @@ use std::marker::Model;
 /// How many octets a frame's length has.
 const LENGTH: usize = 4;
 
-/// The first octets of a frame that is not whole with them and not refused, those of its length
-/// with them.
+/// The start of an incomplete frame that is not refused, its length included.
 #[derive(Drop)]
 pub(crate) struct Part {
     limit: Limit,

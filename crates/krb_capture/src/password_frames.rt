@@ -32,7 +32,7 @@ pub(crate) struct PasswordFrames {
 }
 
 impl PasswordFrames {
-    /// Creates those of a direction of which nothing came.
+    /// Creates those of a direction with no octets yet.
     pub(crate) fn new(alloc: Global, limit: Limit) -> PasswordFrames
         ensures { TookPasswords result limit [] }
     {

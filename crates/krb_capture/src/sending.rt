@@ -38,7 +38,7 @@ pub(crate) struct Sending {
 }
 
 impl Sending {
-    /// Creates a direction of which no octet was taken.
+    /// Creates a direction with no octets yet.
     #[inline(always)]
     pub(crate) fn new(
         alloc: Global,

@@ -63,7 +63,7 @@ pub struct Direction {
 }
 
 impl Direction {
-    /// Creates a direction of which nothing came.
+    /// Creates a direction with no segments yet.
     pub fn new() -> Direction
         ensures { result.state ≡ states.Fresh }
     {

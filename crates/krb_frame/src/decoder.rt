@@ -60,7 +60,7 @@ pub struct Partial<'a> {
 
 /// Decodes a stream of framed messages (RFC 4120, 7.2.2) that comes in pieces: four octets of
 /// length, the highest first, and then a message of that length. It looks at each octet once, and
-/// what is refused is so with the octet that shows it.
+/// refuses a frame at the first octet that cannot be right.
 #[derive(Drop)]
 pub struct Decoder {
     alloc: Global,
@@ -100,7 +100,7 @@ ghost use Rattle.krb_frame.specs.inner.Phases.{end_after, phase_of, IsLengthJudg
 ghost use Rattle.krb_frame.specs.declared.decoder.Phase.TheVariants as phase;
 
 impl Decoder {
-    /// Creates a decoder of a stream of which nothing came yet, by the lenient profile. It
+    /// Creates a decoder of a stream with no octets yet, by the lenient profile. It
     /// allocates nothing.
     #[inline(always)]
     pub fn new(alloc: Global, limit: Limit) -> Decoder
@@ -110,7 +110,7 @@ impl Decoder {
         Decoder::with_profile(alloc, limit, Profile::Lenient)
     }
 
-    /// Creates a decoder of a stream of which nothing came yet, by a profile. It allocates nothing.
+    /// Creates a decoder of a stream with no octets yet, by a profile. It allocates nothing.
     #[inline(always)]
     pub fn with_profile(alloc: Global, limit: Limit, profile: Profile) -> Decoder
         ensures nothing { result ≡ record { profile = profile; limit = limit; octets = []; looks = result.looks; capacity = result.capacity } }
@@ -119,7 +119,7 @@ impl Decoder {
         Decoder::over(alloc, limit, profile, Vec::new(alloc))
     }
 
-    /// Creates a decoder of a stream of which nothing came yet, by the lenient profile, with memory
+    /// Creates a decoder of a stream with no octets yet, by the lenient profile, with memory
     /// for any frame that the limit allows. It keeps that, and `feed` never returns
     /// [`Status::Memory`].
     pub fn reserved(alloc: Global, limit: Limit) -> Result<Decoder, Memory>
@@ -145,7 +145,7 @@ impl Decoder {
         Ok(Decoder::over(alloc, limit, profile, contents))
     }
 
-    /// Creates a decoder of a stream of which nothing came yet, by a profile, with the memory of
+    /// Creates a decoder of a stream with no octets yet, by a profile, with the memory of
     /// contents.
     #[inline(always)]
     fn over(alloc: Global, limit: Limit, profile: Profile, contents: Vec<u8>) -> Decoder

@@ -42,7 +42,7 @@ impl<'a> Framed<'a> {
         Framed { octets }
     }
 
-    /// Returns the octets of the message, those of the frame's length not with them.
+    /// Returns the octets of the message, without the frame's length.
     pub fn octets(&self) -> &[u8]
         ensures { result.now ≡ self.now }
     {

@@ -50,7 +50,7 @@ fn enctype_of(credential: &Credential) -> Numbered
     }
 }
 
-/// Appends the fields of the session key, of which there is the number of octets.
+/// Appends the type and the length of the session key.
 fn put_key(text: &mut TextBuffer, form: Form, credential: &Credential) -> Result<(), AllocError>
     ensures { OnOk result (text.new ≡ text.old ++ fields_text form (key_fields credential.now)) }
 {
@@ -93,7 +93,7 @@ fn put_times(text: &mut TextBuffer, form: Form, credential: &Credential) -> Resu
     )
 }
 
-/// Returns whether a credential that ends then has ended now, if a now is given.
+/// Returns `live` or `expired`, by a credential's end time, if there is a time to compare with.
 fn state_of(now: Option<u32>, endtime: u32) -> Option<Plain<'static>>
     ensures { if_there Word result ≡ state now endtime }
 {

@@ -17,8 +17,7 @@ pub fn ccache_is_one_line_each()
     ensures end { CacheEndIsOneLine }
 {}
 
-/// What is printed of a keytab, in each form, and of each record, is as of the same with every
-/// octet of each key 00.
+/// A keytab, in each form, and each record print the same if every octet of each key is 00.
 pub fn keys_are_not_shown()
     ensures keytab { KeysAreNotShown }
     ensures record { RecordKeyIsNotShown }

@@ -138,7 +138,7 @@ fn overwrite(octets: &mut [u8], place: usize, new: &[u8])
 }
 
 impl Assembly {
-    /// Creates the assembly of a datagram of which nothing came.
+    /// Creates the assembly of a datagram with no fragments yet.
     pub(crate) fn new(alloc: Global) -> Assembly
         ensures { result ≡ no_parts }
     {

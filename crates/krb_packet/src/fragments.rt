@@ -75,7 +75,7 @@ impl Original {
 }
 
 impl Pending {
-    /// Returns a datagram of which no fragment came.
+    /// Returns a datagram with no fragments yet.
     fn new(alloc: Global, original: Original) -> Pending
         ensures { result ≡ no_fragments_of original }
     {

@@ -31,7 +31,7 @@ impl Machine {
     ghost use Rattle.krb_scan.specs.Runs.{string_left};
     ghost use Rattle.krb_scan.specs.Machine.{HasScanned, profile_of, verdict_of, ledger_of};
 
-    /// Creates a machine for a message of `n` octets, of which none is scanned, by a profile.
+    /// Creates a machine for a message of `n` octets, none of them scanned yet, by a profile.
     #[inline(always)]
     pub fn new(profile: Profile, n: u32) -> Machine
         requires some { 0 < n }

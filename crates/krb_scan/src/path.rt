@@ -477,7 +477,7 @@ impl Path {
         }
     }
 
-    /// As of a message of a profile of `size` octets of which none is scanned.
+    /// As of a message of a profile of `size` octets, none of them scanned yet.
     pub(crate) fn clear(&mut self, profile: Profile, size: u32)
         ensures kept { (self.new.size ≡ size) × (self.new.looked ≡ 0) × (self.new.tip ≡ Tip.Between) }
         ensures message { (self.new.inner.end ≡ size) × IsKnown self.new.inner.expected × (expected_of self.new.inner.expected ≡ OneOf (messages profile)) }
@@ -509,7 +509,7 @@ impl Path {
     }
 }
 
-/// Returns a message of a profile of `size` octets, of which none is scanned.
+/// Returns a message of a profile of `size` octets, none of them scanned yet.
 pub(crate) fn message(profile: Profile, size: u32) -> Open
     ensures end { result.end ≡ size }
     ensures known { IsKnown result.expected }

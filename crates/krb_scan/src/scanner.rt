@@ -29,7 +29,7 @@ impl Scanner {
     ghost use Rattle.krb_scan.specs.Runs.{string_left};
     ghost use Rattle.krb_scan.specs.Scanner.{HasScanned, profile_of, verdict_of, ledger_of, looked_of, marks_of, capacity_of};
 
-    /// Creates a scanner of a message of `n` octets, of which none is scanned, by the lenient
+    /// Creates a scanner of a message of `n` octets, none of them scanned yet, by the lenient
     /// profile.
     pub fn new(alloc: Global, n: u32) -> Scanner
         requires some { 0 < n }
@@ -40,7 +40,7 @@ impl Scanner {
         Scanner::with_profile(alloc, Profile::Lenient, n)
     }
 
-    /// Creates a scanner of a message of `n` octets, of which none is scanned, by a profile. It
+    /// Creates a scanner of a message of `n` octets, none of them scanned yet, by a profile. It
     /// allocates nothing.
     #[inline(always)]
     pub fn with_profile(alloc: Global, profile: Profile, n: u32) -> Scanner

@@ -1,4 +1,4 @@
-//! Numbers of registries, alone and with what is beside them.
+//! Registered numbers, alone and with what is beside them.
 
 ghost use Rattle.std.specs.Prelude.{◌≡◌, ◌++◌, OnOk, codes, decimal};
 ghost use Rattle.std.specs.Fmt.{signed_decimal};

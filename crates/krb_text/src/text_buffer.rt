@@ -207,7 +207,7 @@ impl TextBuffer {
         self.append(text.as_bytes())
     }
 
-    /// Appends octets of UTF-8 and then others, for both of which memory is looked for at once.
+    /// Appends octets of UTF-8 and then others, growing at most once.
     #[inline(always)]
     fn append_both(&mut self, first: &[u8], second: &[u8]) -> Result<(), AllocError>
         requires first { IsUtf8 first.now }

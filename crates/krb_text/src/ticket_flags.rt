@@ -36,7 +36,7 @@ bitflag_items! {
     }
 }
 
-/// The bits of which none has a name.
+/// The bits that have no name.
 const NAMELESS: u32 = 0x8003_FFFF;
 
 impl Flags for TicketFlags {

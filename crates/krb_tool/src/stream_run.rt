@@ -20,7 +20,7 @@ pub(crate) trait ListStream: Drop {
     /// What contracts see of it.
     ghost listing: { Self → Listing };
 
-    /// Returns the lister of a stream of which nothing came yet.
+    /// Returns the lister of a stream with no octets yet.
     fn new(alloc: Global, form: Form, profile: Profile, limit: Limit) -> Self
         ensures { let request : Request = record { form = form; profile = profile; limit = limit } in IsNew (rules request) request (listing result) };
 
@@ -70,7 +70,7 @@ fn feed_next<L: ListStream, R: Read>(
     lister.feed(&buffer[..count])
 }
 
-/// Lists a stream of which nothing was read yet. Its lines are written before its reader is asked
+/// Lists a stream from its first octet. Its lines are written before its reader is asked
 /// again.
 pub(crate) fn list_all<L: ListStream, R: Read, W: Write>(
     alloc: Global,
