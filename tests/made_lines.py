@@ -1,14 +1,14 @@
-"""Lines of JSON that are made up: messages as `krbls encode` reads them, right or nearly so.
+"""Sources of `krbls encode` and `krbls decode` that are made up: messages as lines of JSON, right or nearly so, and frames.
 
 What is made follows from the dice alone.
 """
 
 import json
 
-from made_up import FAULTS, NAMED, OFTEN, Maker, changed
+from made_up import FAULTS, NAMED, OFTEN, Maker, changed, stream
 from reference.documents import DEEPEST
 from reference.frames import LIMIT
-from reference.grammar import MESSAGES, OCTETS, Bits, Integer, ListOf, Sequence, String, Tagged, Time
+from reference.grammar import MESSAGES, OCTETS, STRICT_MESSAGES, Bits, Integer, ListOf, Sequence, String, Tagged, Time
 
 # Texts of values of each type, which another type does not have.
 OTHERS = ["null", "true", "false", "0", "-1", "1e2", '""', '"a"', "[]", "[0]", "{}", '{"value":"","length":0}']
@@ -217,6 +217,13 @@ def options(dice):
     """Options of decode and encode."""
     limit = f" --limit {dice.choice([31, 100, 200, 500, LIMIT])}" if dice.random() < 0.2 else ""
     return f"{dice.choice(['', '', ' --strict'])}{dice.choice(['', '', ' --unframed'])}{limit}"
+
+
+def source(dice, command, real):
+    """What a command of some options reads."""
+    if command.startswith("encode"):
+        return lines(dice, STRICT_MESSAGES if "--strict" in command else MESSAGES)
+    return message(dice, real) if "--unframed" in command else stream(dice, real)
 
 
 def message(dice, real):

@@ -242,8 +242,8 @@ A line that is at fault ends a file: the standard error has its number, the path
 of a field and what is wrong with that.
 
 Example:
-  echo '{\"AP-REP\":{\"pvno\":5,\"msg-type\":15,\"enc-part\":{\"etype\":18,\"cipher\":\"\"}}}' |
-    krbls encode | krbls stream",
+  printf '{\"AP-REP\":{\"pvno\":5,\"msg-type\":15,%s}}\\n' \\
+    '\"enc-part\":{\"etype\":18,\"cipher\":\"00\"}' | krbls encode | krbls stream",
 };
 
 /// Returns a command with its help and no options yet.
