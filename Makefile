@@ -110,14 +110,15 @@ fuzz: build
 	tests/marks
 	tests/fuzz 100000 1
 
-# Octets per second: of the listing of streams, of a keytab, of a cache and of captures, and of messages judged, scanned,
-# parsed and encoded; and memory, of what costs most of it.
+# Octets per second: of the listing of streams, of a keytab, of a cache and of captures, of messages as JSON and back, and of
+# messages judged, scanned, parsed and encoded; and memory, of what costs most of it.
 bench: build
 	cd crates/krb_roundtrip && rt run < stdin > /dev/null
 	bench/stream
 	bench/keytab
 	bench/ccache
 	bench/capture
+	bench/decode
 	bench/memory
 
 clean:

@@ -2,7 +2,7 @@
 _krbls() {
     local word=${COMP_WORDS[COMP_CWORD]} before=${COMP_WORDS[COMP_CWORD-1]} command=${COMP_WORDS[1]}
     if [ "$COMP_CWORD" -eq 1 ]; then
-        COMPREPLY=($(compgen -W "stream message keytab ccache capture --help --version" -- "$word"))
+        COMPREPLY=($(compgen -W "stream message keytab ccache capture decode encode --help --version" -- "$word"))
         return
     fi
     case $before in
@@ -14,12 +14,14 @@ _krbls() {
     esac
     case $word in
         -*)
-            local options="--names --json --file --help"
+            local options="--file --help" forms="--names --json"
             case $command in
-                stream) options="--limit --keep-going --strict $options" ;;
-                message) options="--strict $options" ;;
-                ccache) options="--now $options" ;;
-                capture) options="--limit --port $options" ;;
+                stream) options="--limit --keep-going --strict $forms $options" ;;
+                message) options="--strict $forms $options" ;;
+                keytab) options="$forms $options" ;;
+                ccache) options="--now $forms $options" ;;
+                capture) options="--limit --port $forms $options" ;;
+                decode|encode) options="--limit --strict --unframed $options" ;;
             esac
             COMPREPLY=($(compgen -W "$options" -- "$word")) ;;
         *)

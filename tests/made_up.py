@@ -3,6 +3,7 @@
 What is made follows the rules or nearly does, and all of it follows from the dice.
 """
 
+from reference.der import integer_octets, length_octets
 from reference.frames import LIMIT
 from reference.grammar import (
     MESSAGES,
@@ -35,17 +36,6 @@ NAMED = sorted(
 # How much more often than the tag or the length of an item other parts are wrong: else faults in them
 # would be few.
 OFTEN = 10
-
-
-def length_octets(size):
-    if size < 0x80:
-        return bytes([size])
-    octets = size.to_bytes((size.bit_length() + 7) // 8, "big")
-    return bytes([0x80 + len(octets)]) + octets
-
-
-def integer_octets(number):
-    return number.to_bytes((number + (number < 0)).bit_length() // 8 + 1, "big", signed=True)
 
 
 class Maker:

@@ -1,5 +1,5 @@
-"""Takes the examples of README.md and docs/: in each block `console`, a command after `$ ` and below it what it
-prints; and in each block `rust`, `c` or `python`, code, which has to be a part of the file of crates/ or examples/ that the
+"""Takes the examples of README.md and docs/: in each block `console`, a command after `$ `, which goes on in lines that begin
+with `> `, and below it what it prints; and in each block `rust`, `c` or `python`, code, which has to be a part of the file of crates/ or examples/ that the
 text before it links.
 
   python3 tests/readme.py FOLDER    writes PAGE-N.command and PAGE-N.want of the Nth example of a page, and
@@ -13,7 +13,7 @@ import sys
 
 TOP = pathlib.Path(__file__).resolve().parent.parent
 CONSOLE = re.compile(r"^```console\n(.*?)^```\n", re.DOTALL | re.MULTILINE)
-EXAMPLE = re.compile(r"^\$ (.*)\n((?:(?!\$ ).*\n)*)", re.MULTILINE)
+EXAMPLE = re.compile(r"^\$ (.*(?:\n> .*)*)\n((?:(?!\$ ).*\n)*)", re.MULTILINE)
 CODE = re.compile(r"^```(?:rust|c|python)\n(.*?)^```\n", re.DOTALL | re.MULTILINE)
 LINK = re.compile(r"\]\((?:\.\./)?(crates/[^)]*\.rt|examples/[^)]*\.(?:c|py))\)")
 
@@ -23,7 +23,7 @@ def take(page, folder):
     text = page.read_text()
     examples = (example for block in CONSOLE.findall(text) for example in EXAMPLE.findall(block))
     for number, (command, lines) in enumerate(examples, 1):
-        (folder / f"{page.stem}-{number}.command").write_text(f"{command}\n")
+        (folder / f"{page.stem}-{number}.command").write_text(command.replace("\n> ", "\n") + "\n")
         (folder / f"{page.stem}-{number}.want").write_text(lines)
     for number, block in enumerate(CODE.finditer(text), 1):
         *_, link = LINK.findall(text[: block.start()])

@@ -11,15 +11,19 @@ first rule that one breaks is the refusal, with the path of the field that it is
 UDP and TCP, `directions` the streams of TCP, and `kpasswd` the messages that change passwords.
 
 `listing` has the lines of a listing, and the status of the program.
+
+`codec` has what `krbls decode` and `krbls encode` write: `objects` has messages as JSON and back, `documents` reads
+JSON, and `der` has the octets of values. `converted` has that of a source, and what is said of one that is at fault.
 """
 
 import re
 from functools import partial
 
 from .captures import capture
+from .codec import written
 from .files import ccache, keytab
 from .frames import stream, stream_going_on
-from .grammar import STRICT_MESSAGES
+from .grammar import MESSAGES, STRICT_MESSAGES
 from .messages import message
 from .records import file, json_line, line, named_line
 
@@ -74,3 +78,10 @@ def listing(command, octets, now=None):
     which = " ".join(word for word in words if word not in ("--names", "--json"))
     records, status = RECORDS[which](octets, **numbers)
     return [as_printed(words[0], shown(record, words)) for record in records], status
+
+
+def converted(command, octets):
+    """What `decode` or `encode` writes of a source, as `encode --strict --limit 300` does, and what it says in the end, or None."""
+    words = command.split()
+    messages = STRICT_MESSAGES if "--strict" in words else MESSAGES
+    return written(words[0], octets, messages=messages, unframed="--unframed" in words, **taken_number(words, "limit"))

@@ -68,11 +68,16 @@ class Frames:
         return [Refused(len(self.front), "Truncated", self.path)] if self.front else []
 
 
-def found_in(octets, limit, messages):
-    """The records of the messages of a stream, and the refusals."""
-    frames = Frames(lambda octets, n: [record_or_refusal(octets, n, messages)], limit)
+def found_in_by(read, octets, limit):
+    """What is found in the frames of a stream, and the refusals."""
+    frames = Frames(read, limit)
     yield from frames.take(octets)
     yield from frames.cut()
+
+
+def found_in(octets, limit, messages):
+    """The records of the messages of a stream, and the refusals."""
+    return found_in_by(lambda octets, n: [record_or_refusal(octets, n, messages)], octets, limit)
 
 
 def stream(octets, limit=LIMIT, messages=MESSAGES):

@@ -2,6 +2,7 @@
 
 mod calls;
 mod captures;
+mod conversions;
 mod decoders;
 mod octets;
 mod readers;

@@ -12,6 +12,7 @@ use krb_ccache::{Ccache, Credentials, TicketStateView, read3, ticket_view_of, up
 use krb_der::{Int32, KString, Many, Memory, Octets, Profile, Refusal, Verdict};
 use krb_file::{Field, FieldLimit, FieldReader, FileFault, SliceReader, String16};
 use krb_frame::{Decoder, Limit, SkippingDecoder, Status, frame};
+use krb_json::{LineFault, put_text, read_line, unsealed_path};
 use krb_judge::{ParseFault, judge, parse, read_ticket};
 use krb_keytab::{Next, Record, Records};
 use krb_list::{Form, TextBuffer, message_line, principal_text};
@@ -19,10 +20,11 @@ use krb_msg::{ApRep, EncodeFault, EncryptedData, Kind, Message, PrincipalName, e
 use krb_packet::Packets;
 use krb_registry::{Registry, name_of};
 use krb_scan::Scanner;
-use krb_tool::{run_keytab, status};
+use krb_tool::{DecodeEnd, EncodeEnd, run_decode, run_encode, run_keytab, status};
 use krb_words::{Job, WordsFault, read_words};
 use std::alloc::{AllocError, Global};
 use std::io::Read;
+use std::str;
 
 /// Returns the name of a user.
 fn user(alloc: Global, name: &str) -> Result<PrincipalName, AllocError> {
@@ -64,6 +66,20 @@ fn may_go_on(present: &[u8]) -> bool {
 fn ticket_etype(octets: &[u8]) -> Result<i64, Refusal> {
     let ticket = read_ticket(octets)?;
     Ok(ticket.enc_part.etype)
+}
+
+/// Returns the JSON of a message, and nothing if some of it is not encrypted.
+fn json_of(alloc: Global, octets: &[u8]) -> Result<Vec<u8>, Memory> {
+    let text = Vec::new(alloc);
+    if octets.len() > 65536 || unsealed_path(alloc, octets)?.is_some() {
+        return Ok(text);
+    }
+    put_text(alloc, text, octets)
+}
+
+/// Returns the octets of the message that a line of JSON spells, at most 65536.
+fn spelled(alloc: Global, line: &str) -> Result<Vec<u8>, LineFault> {
+    read_line(alloc, Profile::Lenient, 65536, line.as_bytes())
 }
 
 /// Returns how many items are found in the first octets of a message of `size` octets.
@@ -217,6 +233,34 @@ fn listed(alloc: Global, file: &[u8]) -> (Vec<u8>, u8) {
     (text, status(&outcome))
 }
 
+/// Returns a stream as lines of JSON, and whether all of it is decoded.
+fn decoded(alloc: Global, stream: &[u8]) -> (Vec<u8>, bool) {
+    let mut lines = Vec::new(alloc);
+    let mut reader = stream;
+    let end = run_decode(
+        alloc,
+        Profile::Lenient,
+        &mut reader,
+        &mut lines,
+        Limit::DEFAULT,
+    );
+    (lines, matches!(end, Ok(DecodeEnd::Clean)))
+}
+
+/// Returns lines of JSON as a stream, and whether all of them are encoded.
+fn encoded(alloc: Global, lines: &[u8]) -> (Vec<u8>, bool) {
+    let mut stream = Vec::new(alloc);
+    let mut reader = lines;
+    let end = run_encode(
+        alloc,
+        Profile::Lenient,
+        &mut reader,
+        &mut stream,
+        Limit::DEFAULT,
+    );
+    (stream, matches!(end, Ok(EncodeEnd::Clean)))
+}
+
 /// Returns whether words are a command that lists a keytab.
 fn is_keytab_command(alloc: Global, words: &[String]) -> Result<bool, WordsFault> {
     let command_line = read_words(alloc, words)?;
@@ -253,6 +297,11 @@ fn show_messages(rt: &HostRuntime) -> Result<()> {
         println!(rt; "no Ticket: {refusal}")?;
     }
     println!(rt; "{}", line?)?;
+    let json = json_of(alloc, octets.as_slice())?;
+    println!(rt; "{}", str::from_utf8(json.as_slice())?)?;
+    if let Err(fault) = spelled(alloc, "{\"AP-REP\":{\"pvno\":4}}") {
+        println!(rt; "no message: {fault}")?;
+    }
     println!(rt; "{}", user_text(alloc, "u/v", "A")?)?;
     println!(rt; "18 is {}", etype_name(18))?;
     Ok(())
@@ -268,6 +317,16 @@ fn show_stream(rt: &HostRuntime) -> Result<()> {
     println!(rt;
         "begins strictly: {}",
         begins_strictly(alloc, framed.as_slice())?
+    )?;
+    let (lines, all_decoded) = decoded(alloc, framed.as_slice());
+    println!(rt;
+        "{} octets of JSON, all decoded: {all_decoded}",
+        lines.len()
+    )?;
+    let (stream, all_encoded) = encoded(alloc, lines.as_slice());
+    println!(rt;
+        "{} octets of frames, all encoded: {all_encoded}",
+        stream.len()
     )?;
     if let Some(kind) = first_kind(alloc, STREAM) {
         println!(rt; "first message: {}", kind.name())?;

@@ -24,6 +24,8 @@ mod flow;
 #[cfg(test)]
 mod frame;
 #[cfg(test)]
+mod json_lines;
+#[cfg(test)]
 mod judge;
 #[cfg(test)]
 mod keytab;

@@ -3,7 +3,11 @@
 //! worked out by hand from the rules of `docs/FORMATS.md`.
 
 use crate::fakes::{Asked, Full, Watched};
-use krb_tool::{Limit, RunEnd, RunFault, run_ccache, run_keytab, run_message, run_stream, status};
+use krb_tool::{
+    DecodeEnd, EncodeEnd, Limit, Profile, RunEnd, RunFault, run_ccache, run_decode,
+    run_decode_unframed, run_encode, run_encode_unframed, run_keytab, run_message, run_stream,
+    status,
+};
 use std::alloc::{AllocError, Global};
 use std::io::{Read, Write};
 use std::test::Fail;
@@ -14,6 +18,26 @@ enum Run {
     Message,
     Keytab,
     Ccache,
+    Decode,
+    DecodeUnframed,
+    Encode,
+    EncodeUnframed,
+}
+
+/// Returns how a decoding ended, without what was refused.
+fn decoded(end: Result<DecodeEnd, RunFault>) -> Result<RunEnd, RunFault> {
+    match end? {
+        DecodeEnd::Clean => Ok(RunEnd::Clean),
+        _ => Ok(RunEnd::Refused),
+    }
+}
+
+/// Returns how an encoding ended, without what was at fault.
+fn encoded(end: Result<EncodeEnd, RunFault>) -> Result<RunEnd, RunFault> {
+    match end? {
+        EncodeEnd::Clean => Ok(RunEnd::Clean),
+        _ => Ok(RunEnd::Refused),
+    }
 }
 
 /// Runs it.
@@ -28,72 +52,141 @@ fn list<R: Read, W: Write>(
         Run::Message => run_message(alloc, reader, writer),
         Run::Keytab => run_keytab(alloc, reader, writer),
         Run::Ccache => run_ccache(alloc, reader, writer, None),
+        Run::Decode => decoded(run_decode(alloc, Profile::Lenient, reader, writer, Limit::DEFAULT)),
+        Run::DecodeUnframed => decoded(run_decode_unframed(
+            alloc,
+            Profile::Lenient,
+            reader,
+            writer,
+            Limit::DEFAULT,
+        )),
+        Run::Encode => encoded(run_encode(alloc, Profile::Lenient, reader, writer, Limit::DEFAULT)),
+        Run::EncodeUnframed => encoded(run_encode_unframed(
+            alloc,
+            Profile::Lenient,
+            reader,
+            writer,
+            Limit::DEFAULT,
+        )),
     }
 }
 
-/// A run, its input, the lines that it writes, and the first of them, each with how many octets of
-/// the input it needs.
-struct Example(Run, &'static [u8], &'static str, [(usize, &'static str); 2]);
+/// A run, its input, what it writes, and the first line and two of that, each with how many octets
+/// of the input it needs.
+struct Example(
+    Run,
+    &'static [u8],
+    &'static [u8],
+    [(usize, &'static [u8]); 2],
+);
 
 const FRAME: &[u8] =
     b"\x00\x00\x00\x1F\x6F\x1D\x30\x1B\xA0\x03\x02\x01\x05\xA1\x03\x02\x01\x0F\xA2\x0F\x30\x0D\xA0\x03\x02\x01\x12\xA2\x06\x04\x04\xDE\xAD\xBE\xEF";
 
-/// Two of these frames, a message in hexadecimal, a keytab with an entry and a hole, and a cache of
-/// u@A with no credential.
-const EXAMPLES: [Example; 4] = [
+/// Two of these frames, a message in hexadecimal, a keytab with an entry and a hole, a cache of
+/// u@A with no credential, and then the frames and the message decoded, and their lines encoded.
+const EXAMPLES: [Example; 8] = [
     Example(
         Run::Stream,
         b"\x00\x00\x00\x1F\x6F\x1D\x30\x1B\xA0\x03\x02\x01\x05\xA1\x03\x02\x01\x0F\xA2\x0F\x30\x0D\xA0\x03\x02\x01\x12\xA2\x06\x04\x04\xDE\xAD\xBE\xEF\x00\x00\x00\x1F\x6F\x1D\x30\x1B\xA0\x03\x02\x01\x05\xA1\x03\x02\x01\x0F\xA2\x0F\x30\x0D\xA0\x03\x02\x01\x12\xA2\x06\x04\x04\xDE\xAD\xBE\xEF",
-        "AP-REP enc=18:-:4 notes=[]\nAP-REP enc=18:-:4 notes=[]\nend messages=2\n",
+        b"AP-REP enc=18:-:4 notes=[]\nAP-REP enc=18:-:4 notes=[]\nend messages=2\n",
         [
-            (35, "AP-REP enc=18:-:4 notes=[]\n"),
+            (35, b"AP-REP enc=18:-:4 notes=[]\n"),
             (
                 70,
-                "AP-REP enc=18:-:4 notes=[]\nAP-REP enc=18:-:4 notes=[]\n",
+                b"AP-REP enc=18:-:4 notes=[]\nAP-REP enc=18:-:4 notes=[]\n",
             ),
         ],
     ),
     Example(
         Run::Message,
         b"6F1D301BA003020105A10302010FA20F300DA003020112A2060404DEADBEEF",
-        "AP-REP enc=18:-:4 notes=[]\n",
-        [(0, ""), (0, "")],
+        b"AP-REP enc=18:-:4 notes=[]\n",
+        [(0, b""), (0, b"")],
     ),
     Example(
         Run::Keytab,
         b"\x05\x02\x00\x00\x00\x1B\x00\x01\x00\x01\x41\x00\x01\x68\x00\x00\x00\x01\x38\x6D\x43\x80\x02\x00\x12\x00\x02\xAB\xCD\x00\x00\x01\x02\xFF\xFF\xFF\xF8\x00\x00\x00\x00\x00\x00\x00\x00",
-        "entry principal=h@A type=1 time=2000-01-01T00:00:00Z kvno=258 enctype=18 key=2 rest=4\nhole size=8 clean=yes\nend records=2 zero=no\n",
+        b"entry principal=h@A type=1 time=2000-01-01T00:00:00Z kvno=258 enctype=18 key=2 rest=4\nhole size=8 clean=yes\nend records=2 zero=no\n",
         [
             (
                 33,
-                "entry principal=h@A type=1 time=2000-01-01T00:00:00Z kvno=258 enctype=18 key=2 rest=4\n",
+                b"entry principal=h@A type=1 time=2000-01-01T00:00:00Z kvno=258 enctype=18 key=2 rest=4\n",
             ),
             (
                 45,
-                "entry principal=h@A type=1 time=2000-01-01T00:00:00Z kvno=258 enctype=18 key=2 rest=4\nhole size=8 clean=yes\n",
+                b"entry principal=h@A type=1 time=2000-01-01T00:00:00Z kvno=258 enctype=18 key=2 rest=4\nhole size=8 clean=yes\n",
             ),
         ],
     ),
     Example(
         Run::Ccache,
         b"\x05\x04\x00\x00\x00\x00\x00\x01\x00\x00\x00\x01\x00\x00\x00\x01A\x00\x00\x00\x01u",
-        "cache principal=u@A type=1 offset=- fields=0\nend credentials=0\n",
+        b"cache principal=u@A type=1 offset=- fields=0\nend credentials=0\n",
         [
-            (0, ""),
-            (22, "cache principal=u@A type=1 offset=- fields=0\n"),
+            (0, b""),
+            (22, b"cache principal=u@A type=1 offset=- fields=0\n"),
+        ],
+    ),
+    Example(
+        Run::Decode,
+        b"\x00\x00\x00\x1F\x6F\x1D\x30\x1B\xA0\x03\x02\x01\x05\xA1\x03\x02\x01\x0F\xA2\x0F\x30\x0D\xA0\x03\x02\x01\x12\xA2\x06\x04\x04\xDE\xAD\xBE\xEF\x00\x00\x00\x1F\x6F\x1D\x30\x1B\xA0\x03\x02\x01\x05\xA1\x03\x02\x01\x0F\xA2\x0F\x30\x0D\xA0\x03\x02\x01\x12\xA2\x06\x04\x04\xDE\xAD\xBE\xEF",
+        b"{\"AP-REP\":{\"pvno\":5,\"msg-type\":15,\"enc-part\":{\"etype\":18,\"cipher\":\"deadbeef\"}}}\n{\"AP-REP\":{\"pvno\":5,\"msg-type\":15,\"enc-part\":{\"etype\":18,\"cipher\":\"deadbeef\"}}}\n",
+        [
+            (
+                35,
+                b"{\"AP-REP\":{\"pvno\":5,\"msg-type\":15,\"enc-part\":{\"etype\":18,\"cipher\":\"deadbeef\"}}}\n",
+            ),
+            (
+                70,
+                b"{\"AP-REP\":{\"pvno\":5,\"msg-type\":15,\"enc-part\":{\"etype\":18,\"cipher\":\"deadbeef\"}}}\n{\"AP-REP\":{\"pvno\":5,\"msg-type\":15,\"enc-part\":{\"etype\":18,\"cipher\":\"deadbeef\"}}}\n",
+            ),
+        ],
+    ),
+    Example(
+        Run::DecodeUnframed,
+        b"\x6F\x1D\x30\x1B\xA0\x03\x02\x01\x05\xA1\x03\x02\x01\x0F\xA2\x0F\x30\x0D\xA0\x03\x02\x01\x12\xA2\x06\x04\x04\xDE\xAD\xBE\xEF",
+        b"{\"AP-REP\":{\"pvno\":5,\"msg-type\":15,\"enc-part\":{\"etype\":18,\"cipher\":\"deadbeef\"}}}\n",
+        [(31, b""), (31, b"")],
+    ),
+    Example(
+        Run::Encode,
+        b"{\"AP-REP\":{\"pvno\":5,\"msg-type\":15,\"enc-part\":{\"etype\":18,\"cipher\":\"deadbeef\"}}}\n{\"AP-REP\":{\"pvno\":5,\"msg-type\":15,\"enc-part\":{\"etype\":18,\"cipher\":\"deadbeef\"}}}\n",
+        b"\x00\x00\x00\x1F\x6F\x1D\x30\x1B\xA0\x03\x02\x01\x05\xA1\x03\x02\x01\x0F\xA2\x0F\x30\x0D\xA0\x03\x02\x01\x12\xA2\x06\x04\x04\xDE\xAD\xBE\xEF\x00\x00\x00\x1F\x6F\x1D\x30\x1B\xA0\x03\x02\x01\x05\xA1\x03\x02\x01\x0F\xA2\x0F\x30\x0D\xA0\x03\x02\x01\x12\xA2\x06\x04\x04\xDE\xAD\xBE\xEF",
+        [
+            (
+                80,
+                b"\x00\x00\x00\x1F\x6F\x1D\x30\x1B\xA0\x03\x02\x01\x05\xA1\x03\x02\x01\x0F\xA2\x0F\x30\x0D\xA0\x03\x02\x01\x12\xA2\x06\x04\x04\xDE\xAD\xBE\xEF",
+            ),
+            (
+                160,
+                b"\x00\x00\x00\x1F\x6F\x1D\x30\x1B\xA0\x03\x02\x01\x05\xA1\x03\x02\x01\x0F\xA2\x0F\x30\x0D\xA0\x03\x02\x01\x12\xA2\x06\x04\x04\xDE\xAD\xBE\xEF\x00\x00\x00\x1F\x6F\x1D\x30\x1B\xA0\x03\x02\x01\x05\xA1\x03\x02\x01\x0F\xA2\x0F\x30\x0D\xA0\x03\x02\x01\x12\xA2\x06\x04\x04\xDE\xAD\xBE\xEF",
+            ),
+        ],
+    ),
+    Example(
+        Run::EncodeUnframed,
+        b"{\"AP-REP\":{\"pvno\":5,\"msg-type\":15,\"enc-part\":{\"etype\":18,\"cipher\":\"deadbeef\"}}}\n",
+        b"\x6F\x1D\x30\x1B\xA0\x03\x02\x01\x05\xA1\x03\x02\x01\x0F\xA2\x0F\x30\x0D\xA0\x03\x02\x01\x12\xA2\x06\x04\x04\xDE\xAD\xBE\xEF",
+        [
+            (0, b""),
+            (
+                80,
+                b"\x6F\x1D\x30\x1B\xA0\x03\x02\x01\x05\xA1\x03\x02\x01\x0F\xA2\x0F\x30\x0D\xA0\x03\x02\x01\x12\xA2\x06\x04\x04\xDE\xAD\xBE\xEF",
+            ),
         ],
     ),
 ];
 
-/// Returns the lines of an example that are written if a read fails after this many octets.
-fn lines_before(example: &Example, count: usize) -> &'static str {
+/// Returns what of an example is written if a read fails after this many octets.
+fn lines_before(example: &Example, count: usize) -> &'static [u8] {
     let Example(_, _, _, [(one, line), (two, lines)]) = example;
     if count >= *two {
         lines
     } else if count >= *one {
         line
     } else {
-        ""
+        b""
     }
 }
 
@@ -153,7 +246,7 @@ fn is_listed(alloc: Global, example: &Example, count: Option<usize>, at_most: us
     };
     let wanted = Given {
         outcome,
-        lines: lines.as_bytes(),
+        lines,
         asks: asks.saturating_add(1),
     };
     gives(alloc, run, octets, at_most, count.is_some(), &wanted)
@@ -205,7 +298,7 @@ fn is_cut(alloc: Global, example: &Example, room: usize, fails: bool) -> bool {
         asked: &asked,
     };
     let mut writer = Full {
-        text: lines.as_bytes(),
+        text: lines,
         room,
         fails,
         is_over: false,
@@ -242,7 +335,7 @@ fn writes_of(alloc: Global, at_most: usize) -> usize {
         asked: &asked,
     };
     let mut writer = Full {
-        text: lines.as_bytes(),
+        text: lines,
         room: 1000,
         fails: true,
         is_over: false,

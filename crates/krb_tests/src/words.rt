@@ -1,7 +1,7 @@
 //! Command lines.
 
 use krb_der::Profile;
-use krb_words::{AfterRefusal, Form, Job, Order, Source, WordsFault, read_words};
+use krb_words::{AfterRefusal, Form, Framing, Job, Order, Source, WordsFault, read_words};
 use std::alloc::Global;
 use std::test::Fail;
 
@@ -26,6 +26,20 @@ fn stream_name(profile: Profile, after: AfterRefusal) -> &'static str {
     }
 }
 
+/// Returns a short name of a conversion of messages.
+fn conversion_name(is_decode: bool, profile: Profile, framing: Framing) -> &'static str {
+    match (is_decode, profile, framing) {
+        (true, Profile::Lenient, Framing::Framed) => "decode",
+        (true, Profile::Strict, Framing::Framed) => "strict decode",
+        (true, Profile::Lenient, Framing::Unframed) => "decode one",
+        (true, Profile::Strict, Framing::Unframed) => "strict decode one",
+        (false, Profile::Lenient, Framing::Framed) => "encode",
+        (false, Profile::Strict, Framing::Framed) => "strict encode",
+        (false, Profile::Lenient, Framing::Unframed) => "encode one",
+        (false, Profile::Strict, Framing::Unframed) => "strict encode one",
+    }
+}
+
 /// Returns the first line of a text.
 fn first_line(text: &str) -> &str {
     text.lines().next().unwrap_or("")
@@ -40,6 +54,14 @@ fn named(job: &Job) -> (&str, Option<u32>) {
         Job::Keytab => ("keytab", None),
         Job::Ccache(now) => ("ccache", *now),
         Job::Capture(limit, _) => ("capture", Some(limit.get())),
+        Job::Decode(limit, profile, framing) => (
+            conversion_name(true, *profile, *framing),
+            Some(limit.get()),
+        ),
+        Job::Encode(limit, profile, framing) => (
+            conversion_name(false, *profile, *framing),
+            Some(limit.get()),
+        ),
         Job::Help(text) => (first_line(text.as_str()), None),
         Job::Version(text) => (first_line(text.as_str()), None),
     }
@@ -104,7 +126,7 @@ fn shown(alloc: Global, line: &str) -> Result<String, Fail> {
 }
 
 /// Words, and what they ask for: the job with its numbers, the form, and the sources.
-const ORDERS: [(&str, &str); 37] = [
+const ORDERS: [(&str, &str); 42] = [
     ("stream", "stream 16777216, -"),
     ("stream --limit 30 --file a", "stream 30, a"),
     ("stream --limit=5", "stream 5, -"),
@@ -140,6 +162,14 @@ const ORDERS: [(&str, &str); 37] = [
         "capture --names --port +0001",
         "capture 16777216 1 named, -",
     ),
+    ("decode a b", "decode 16777216, a, b"),
+    (
+        "decode --strict --limit 30 --unframed",
+        "strict decode one 30, -",
+    ),
+    ("encode --unframed --file a", "encode one 16777216, a"),
+    ("encode --strict -", "strict encode 16777216, -"),
+    ("encode --help", "Makes framed messages of JSON"),
     ("capture -h", "Lists the messages in a capture"),
     (
         "--help",

@@ -8,7 +8,8 @@
 //!   take the form of the records ([`Form`]) and the profile of messages ([`Profile`]);
 //!   [`run_stream_going_on`] goes on after refusals.
 //! - [`list_octets`] returns the line of a message that is in memory.
-//! - [`run_sources`] lists several sources one after another, each by what a [`ListSource`] does.
+//! - [`run_sources`] lists several sources one after another, each by what a [`ListSource`] does;
+//!   [`run_sources_unnamed`] does so without their names.
 //! - [`status`] returns the exit status for what a run returned.
 //!
 //! Nothing here opens a file or reads a command line: `krbls` and `krb_words` do. `krb_text` and
@@ -38,4 +39,4 @@ pub use krb_text::Form;
 pub use message_run::{list_octets, run_message, run_message_in};
 pub use record_run::{run_ccache, run_ccache_in, run_keytab, run_keytab_in};
 pub use run::{RunEnd, RunFault, run_stream, run_stream_in, status};
-pub use sources::{ListSource, run_sources};
+pub use sources::{ListSource, run_sources, run_sources_unnamed};

@@ -94,6 +94,31 @@ fn ends_run(outcome: &Result<RunEnd, RunFault>) -> bool
     matches!(outcome, Err(RunFault::Write(_) | RunFault::Memory))
 }
 
+/// Lists sources one after another, each after a line with its name if they are named, and returns
+/// the greatest of their statuses.
+fn run_each<S, L: ListSource<S>, W: Write>(
+    alloc: Global,
+    form: Form,
+    lister: &L,
+    sources: &[S],
+    is_named: bool,
+    writer: &mut W,
+) -> u8
+    ensures { ListsEach (λ source. Reports (L.IsReported lister.now source) (ListsOne form is_named (L.called source) (L.Lists lister.now source))) sources.now (W.contents writer.old) (W.contents writer.new) result }
+{
+    let mut greatest = 0;
+    let mut rest = sources;
+    'sources: while let Some((source, others)) = rest.split_first() {
+        let outcome = list_one(alloc, form, lister, source, is_named, writer);
+        greatest = greatest.max(status(&outcome));
+        if ends_run(&outcome) {
+            return greatest;
+        }
+        rest = others;
+    }
+    greatest
+}
+
 /// Lists sources one after another in a form, and returns the greatest of their statuses, which is
 /// that of the process. If there are several, a line with its name is written before the listing of
 /// each. A source that is refused, or that cannot be opened or read, does not end the run: the next
@@ -109,15 +134,18 @@ pub fn run_sources<S, L: ListSource<S>, W: Write>(
     ensures { ListsEach (λ source. Reports (L.IsReported lister.now source) (ListsOne form (nat_lt 1 (length sources.now)) (L.called source) (L.Lists lister.now source))) sources.now (W.contents writer.old) (W.contents writer.new) result }
 {
     let is_named = sources.len() > 1;
-    let mut greatest = 0;
-    let mut rest = sources;
-    'sources: while let Some((source, others)) = rest.split_first() {
-        let outcome = list_one(alloc, form, lister, source, is_named, writer);
-        greatest = greatest.max(status(&outcome));
-        if ends_run(&outcome) {
-            return greatest;
-        }
-        rest = others;
-    }
-    greatest
+    run_each(alloc, form, lister, sources, is_named, writer)
+}
+
+/// Does the same, and never writes the name of a source: what is written of each follows that of
+/// the one before it.
+pub fn run_sources_unnamed<S, L: ListSource<S>, W: Write>(
+    alloc: Global,
+    lister: &L,
+    sources: &[S],
+    writer: &mut W,
+) -> u8
+    ensures { ListsEach (λ source. Reports (L.IsReported lister.now source) (L.Lists lister.now source)) sources.now (W.contents writer.old) (W.contents writer.new) result }
+{
+    run_each(alloc, Form::Lines, lister, sources, false, writer)
 }

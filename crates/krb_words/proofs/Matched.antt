@@ -52,6 +52,8 @@ no_text (jobs.Message chosen) text = text
 no_text jobs.Keytab text = text
 no_text (jobs.Ccache now) text = text
 no_text (jobs.Capture limit port) text = text
+no_text (jobs.Decode limit chosen framing) text = text
+no_text (jobs.Encode limit chosen framing) text = text
 no_text (jobs.Help help) text = cc
 no_text (jobs.Version version) text = cc
 

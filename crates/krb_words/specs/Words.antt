@@ -15,6 +15,8 @@ use Rattle.krb_text.specs.declared.form.Form.{Form}
 use Rattle.krb_text.specs.declared.form.Form.TheVariants as form
 use Rattle.krb_words.specs.declared.words.AfterRefusal.{AfterRefusal}
 use Rattle.krb_words.specs.declared.words.AfterRefusal.TheVariants as after
+use Rattle.krb_words.specs.declared.words.Framing.{Framing}
+use Rattle.krb_words.specs.declared.words.Framing.TheVariants as framing
 use Rattle.krb_words.specs.declared.words.Job.{Job}
 use Rattle.krb_words.specs.declared.words.Job.TheVariants as job
 use Rattle.krb_words.specs.declared.words.Order.{Order}
@@ -52,6 +54,9 @@ strict_flag = flag (codes "strict")
 abbrev pub keep_going_flag : Rule
 keep_going_flag = flag (codes "keep-going")
 
+abbrev pub unframed_flag : Rule
+unframed_flag = flag (codes "unframed")
+
 abbrev pub names_flag : Rule
 names_flag = flag (codes "names")
 
@@ -70,6 +75,10 @@ with_output app = with_rule (with_rule app names_flag) json_flag
 abbrev pub with_files : App → App
 with_files app = with_rule (with_rule app file_option) file_names
 
+-- the options and words of a command that turns messages into another form
+abbrev pub with_messages : App → App
+with_messages app = with_files (with_rule (with_rule (with_rule app limit_option) strict_flag) unframed_flag)
+
 abbrev pub stream_app : App
 stream_app = with_files (with_output (with_rule (with_rule (with_rule (new_app (codes "stream")) limit_option) keep_going_flag) strict_flag))
 
@@ -85,12 +94,18 @@ ccache_app = with_files (with_output (with_rule (new_app (codes "ccache")) now_o
 abbrev pub capture_app : App
 capture_app = with_files (with_output (with_rule (with_rule (new_app (codes "capture")) limit_option) port_option))
 
+abbrev pub decode_app : App
+decode_app = with_messages (new_app (codes "decode"))
+
+abbrev pub encode_app : App
+encode_app = with_messages (new_app (codes "encode"))
+
 -- the words have no program's name before them, `help` is no command, one is wanted, and `--version` is known
 abbrev pub krbls_top : App
 krbls_top = on_top (λ s. record s { no_binary_name = true; disable_help_subcommand = true; subcommand_required = true; has_version = true }) (new_app (codes "krbls"))
 
 abbrev pub krbls : App
-krbls = with_subcommand (with_subcommand (with_subcommand (with_subcommand (with_subcommand krbls_top stream_app.top) message_app.top) keytab_app.top) ccache_app.top) capture_app.top
+krbls = with_subcommand (with_subcommand (with_subcommand (with_subcommand (with_subcommand (with_subcommand (with_subcommand krbls_top stream_app.top) message_app.top) keytab_app.top) ccache_app.top) capture_app.top) decode_app.top) encode_app.top
 
 -- ---- the command line
 -- a text is a number of 32 bits, as `u32` reads it
@@ -117,6 +132,11 @@ abbrev pub IsAfter : Option Text → AfterRefusal → Type 0
 IsAfter text after.Ends = text ≢ Some (codes "true")
 IsAfter text after.GoesOn = text ≡ Some (codes "true")
 
+-- how messages lie in a source, by a flag
+abbrev pub IsFraming : Option Text → Framing → Type 0
+IsFraming text framing.Framed = text ≢ Some (codes "true")
+IsFraming text framing.Unframed = text ≡ Some (codes "true")
+
 -- whether a flag is given
 abbrev pub IsGiven : Option Text → Bool → Type 0
 IsGiven text true = text ≡ Some (codes "true")
@@ -135,6 +155,8 @@ IsJob name rows (job.Message chosen) = (name ≡ codes "message") × IsProfile (
 IsJob name rows job.Keytab = name ≡ codes "keytab"
 IsJob name rows (job.Ccache now) = (name ≡ codes "ccache") × IsNumber (one_of (codes "now") rows) now
 IsJob name rows (job.Capture limit port) = (name ≡ codes "capture") × IsNumberOr 16777216 (one_of (codes "limit") rows) limit × IsNumberOr 88 (one_of (codes "port") rows) port
+IsJob name rows (job.Decode limit chosen framed) = (name ≡ codes "decode") × IsNumberOr 16777216 (one_of (codes "limit") rows) limit × IsProfile (first_of (codes "strict") rows) chosen × IsFraming (first_of (codes "unframed") rows) framed
+IsJob name rows (job.Encode limit chosen framed) = (name ≡ codes "encode") × IsNumberOr 16777216 (one_of (codes "limit") rows) limit × IsProfile (first_of (codes "strict") rows) chosen × IsFraming (first_of (codes "unframed") rows) framed
 IsJob name rows (job.Help text) = ⊥
 IsJob name rows (job.Version text) = ⊥
 

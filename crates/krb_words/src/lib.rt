@@ -19,4 +19,4 @@ pub use krb_der::Profile;
 pub use krb_frame::Limit;
 pub use krb_text::Form;
 pub use sources::Source;
-pub use words::{AfterRefusal, Job, NOT_UTF8, Order, VERSION, WordsFault, read_words};
+pub use words::{AfterRefusal, Framing, Job, NOT_UTF8, Order, VERSION, WordsFault, read_words};

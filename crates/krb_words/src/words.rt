@@ -3,7 +3,7 @@
 ghost use Rattle.std.specs.Prelude.{◌≡◌, false, codes, map, string_bytes, [], IfOk};
 ghost use Rattle.clap.specs.Words.{app_of, new_app, found_of, kind_of, rows_of, rule_of, subcommand_rows_of, first_of, one_of};
 ghost use Rattle.clap.specs.declared.builder.command.Command.TheViews.{out-Command};
-ghost use Rattle.krb_words.specs.Words.{file_option, file_names, with_output, with_files, number_option, limit_option, flag, strict_flag, keep_going_flag, names_flag, json_flag, stream_app, message_app, keytab_app, ccache_app, capture_app, krbls, IsTextBy, IsJob, IsProfile, IsAfter, IsForm, IsGiven, IsOrderOf, IsOrderIn, IsNumber, IsNumberOr};
+ghost use Rattle.krb_words.specs.Words.{file_option, file_names, with_output, with_files, number_option, limit_option, flag, strict_flag, keep_going_flag, names_flag, json_flag, unframed_flag, with_messages, stream_app, message_app, keytab_app, ccache_app, capture_app, decode_app, encode_app, krbls, IsTextBy, IsJob, IsProfile, IsAfter, IsFraming, IsForm, IsGiven, IsOrderOf, IsOrderIn, IsNumber, IsNumberOr};
 
 use crate::sources::{Source, sources_of};
 use clap::builder::ValueParser;
@@ -23,7 +23,16 @@ pub enum AfterRefusal {
     GoesOn,
 }
 
-/// What is to be listed.
+/// How messages lie in a source.
+#[derive(Clone, Copy, PartialEq, Eq, Debug)]
+pub enum Framing {
+    /// Each in a frame, after the four octets of its length.
+    Framed,
+    /// One alone, without its length.
+    Unframed,
+}
+
+/// What is to be done with the sources: listed, or turned into another form.
 #[derive(Drop)]
 pub enum Job {
     /// Framed messages of a profile, with frames of at most the limit's octets, and what becomes of
@@ -38,6 +47,10 @@ pub enum Job {
     Ccache(Option<u32>),
     /// A capture, with frames of at most the limit's octets, and the port of Kerberos.
     Capture(Limit, u16),
+    /// Messages of a profile, of at most the limit's octets, which are turned into lines of JSON.
+    Decode(Limit, Profile, Framing),
+    /// Lines of JSON, which are turned into messages of a profile, of at most the limit's octets.
+    Encode(Limit, Profile, Framing),
     /// Nothing: this help is to be printed.
     Help(String),
     /// Nothing: this line with the name and the version of the program is to be printed.
@@ -47,11 +60,11 @@ pub enum Job {
 /// A command line that was read.
 #[derive(Drop)]
 pub struct Order {
-    /// What is to be listed.
+    /// What is to be done.
     pub job: Job,
     /// How records are printed.
     pub form: Form,
-    /// The sources to list, in order. There are none if a text is to be printed.
+    /// The sources to read, in order. There are none if a text is to be printed.
     pub sources: Vec<Source>,
 }
 
@@ -86,7 +99,7 @@ Usage: krbls <COMMAND> [OPTIONS] [FILE]...
 For more information, try '--help'.
 ";
 
-/// What help says of a command: first what it lists, then how it is called, and last, below its
+/// What help says of a command: first what it does, then how it is called, and last, below its
 /// options, what it reads and prints.
 struct CommandHelp {
     about: &'static str,
@@ -101,8 +114,12 @@ const KRBLS_HELP: CommandHelp = CommandHelp {
 Reads files or the standard input, and prints a line for each message, record or
 credential. The last line says that all was read, or what was refused, at which
 octet and why. If there are several files, a line `file name=FILE` comes before
-the lines of each. Each command has --json, with which lines are JSON objects.
-No octet of a key is shown.
+the lines of each. With --json lines are JSON objects. No octet of a key or of a
+cipher is shown.
+
+`decode` writes whole messages as JSON, and `encode` makes the same messages of
+it again; what they refuse is on the standard error. So `decode` prints ciphers,
+which can be attacked, but nothing that is not encrypted, and so no key either.
 
 Exit status, the greatest of those of all files:
   0  all was read
@@ -196,6 +213,39 @@ Example:
     \"a003020112a2060404deadbeef\"' | krbls capture",
 };
 
+const DECODE_HELP: CommandHelp = CommandHelp {
+    about: "Writes framed messages as JSON",
+    usage: "krbls decode [OPTIONS] [FILE]...",
+    below: "\
+Reads frames as `krbls stream` does, and writes a line for each message: a JSON
+object of one member, with the names of RFC 4120, appendix A. Octets are in
+hexadecimal. `krbls encode` makes the same frames of the lines again.
+
+A refusal ends a file: the standard error says at which octet of the frame it
+is, why and in which field. So does an EncryptedData of encryption type 0, which
+is not encrypted and so not printed. Other ciphers are printed, and can be
+attacked.
+
+Example:
+  perl -e 'print pack \"H*\", \"0000001f6f1d301ba003020105a10302010fa20f300d\" .
+    \"a003020112a2060404deadbeef\"' | krbls decode",
+};
+
+const ENCODE_HELP: CommandHelp = CommandHelp {
+    about: "Makes framed messages of JSON",
+    usage: "krbls encode [OPTIONS] [FILE]...",
+    below: "\
+Reads a JSON object in each line, as `krbls decode` writes them, and writes the
+frame of each message. Lines of blanks are passed over.
+
+A line that is at fault ends a file: the standard error has its number, the path
+of a field and what is wrong with that.
+
+Example:
+  printf '{\"AP-REP\":{\"pvno\":5,\"msg-type\":15,%s}}\\n' \\
+    '\"enc-part\":{\"etype\":18,\"cipher\":\"00\"}' | krbls encode | krbls stream",
+};
+
 /// Returns a command with its help and no options yet.
 fn new_command<'a>(alloc: Global, name: &'a str, help: &CommandHelp) -> Command<'a>
     ensures app { app_of result ≡ new_app name.entry.now }
@@ -258,6 +308,18 @@ fn keep_going_flag<'a>(alloc: Global) -> Arg<'a>
         alloc,
         "keep-going",
         "Goes on with the next frame after one that is refused",
+    )
+}
+
+/// Returns the option `--unframed`.
+fn unframed_flag<'a>(alloc: Global) -> Arg<'a>
+    ensures rule { rule_of result ≡ unframed_flag }
+    ensures local { result.global ≡ false }
+{
+    flag(
+        alloc,
+        "unframed",
+        "Reads or writes one message, without its length",
     )
 }
 
@@ -334,6 +396,18 @@ fn with_files<'a>(alloc: Global, command: Command<'a>) -> Result<Command<'a>, Al
     command.arg(file_option(alloc))?.arg(file_names(alloc))
 }
 
+/// Returns a command with the options and words of one that turns messages into another form.
+fn with_messages<'a>(alloc: Global, command: Command<'a>) -> Result<Command<'a>, AllocError>
+    requires local { (out-Command command).has_globals ≡ false }
+    ensures { IfOk result (λ c. (app_of c ≡ with_messages (app_of command.entry)) × ((out-Command c).has_globals ≡ false)) }
+{
+    let command = command
+        .arg(limit_option(alloc))?
+        .arg(strict_flag(alloc))?
+        .arg(unframed_flag(alloc))?;
+    with_files(alloc, command)
+}
+
 /// Returns the command `stream`.
 fn stream_command<'a>(alloc: Global) -> Result<Command<'a>, AllocError>
     ensures { IfOk result (λ c. (app_of c ≡ stream_app) × ((out-Command c).has_globals ≡ false)) }
@@ -393,6 +467,20 @@ fn capture_command<'a>(alloc: Global) -> Result<Command<'a>, AllocError>
     with_files(alloc, with_output(alloc, command)?)
 }
 
+/// Returns the command `decode`.
+fn decode_command<'a>(alloc: Global) -> Result<Command<'a>, AllocError>
+    ensures { IfOk result (λ c. (app_of c ≡ decode_app) × ((out-Command c).has_globals ≡ false)) }
+{
+    with_messages(alloc, new_command(alloc, "decode", &DECODE_HELP))
+}
+
+/// Returns the command `encode`.
+fn encode_command<'a>(alloc: Global) -> Result<Command<'a>, AllocError>
+    ensures { IfOk result (λ c. (app_of c ≡ encode_app) × ((out-Command c).has_globals ≡ false)) }
+{
+    with_messages(alloc, new_command(alloc, "encode", &ENCODE_HELP))
+}
+
 /// Returns the command `krbls`, which `clap` calls simple.
 fn krbls_command<'a>(alloc: Global) -> Result<Command<'a>, AllocError>
     ensures { IfOk result (λ c. app_of c ≡ krbls) }
@@ -406,7 +494,9 @@ fn krbls_command<'a>(alloc: Global) -> Result<Command<'a>, AllocError>
         .subcommand(message_command(alloc)?)?
         .subcommand(keytab_command(alloc)?)?
         .subcommand(ccache_command(alloc)?)?
-        .subcommand(capture_command(alloc)?)
+        .subcommand(capture_command(alloc)?)?
+        .subcommand(decode_command(alloc)?)?
+        .subcommand(encode_command(alloc)?)
 }
 
 /// Returns the fault of words that `clap` accepts and that are no command line. There are none.
@@ -495,6 +585,17 @@ fn after_refusal_of(found: &ArgMatches<'_>) -> AfterRefusal
     }
 }
 
+/// Returns how messages lie in a source: one alone if its flag is given, and else in frames.
+fn framing_of(found: &ArgMatches<'_>) -> Framing
+    ensures { IsFraming (first_of (codes "unframed") (rows_of (found_of found.now))) result }
+{
+    if is_given(found, "unframed") {
+        Framing::Unframed
+    } else {
+        Framing::Framed
+    }
+}
+
 /// Returns the form of records: JSON if its flag is given, and else lines, with names if theirs is.
 fn form_of(found: &ArgMatches<'_>) -> Form
     ensures { IsForm (rows_of (found_of found.now)) result }
@@ -523,6 +624,16 @@ fn job_of(alloc: Global, name: &str, found: &ArgMatches<'_>) -> Result<Job, Word
         "keytab" => Ok(Job::Keytab),
         "ccache" => Ok(Job::Ccache(number_of(alloc, found, "now")?)),
         "capture" => Ok(Job::Capture(limit_of(alloc, found)?, port_of(alloc, found)?)),
+        "decode" => Ok(Job::Decode(
+            limit_of(alloc, found)?,
+            profile_of(found),
+            framing_of(found),
+        )),
+        "encode" => Ok(Job::Encode(
+            limit_of(alloc, found)?,
+            profile_of(found),
+            framing_of(found),
+        )),
         _ => Err(not_read(alloc)),
     }
 }

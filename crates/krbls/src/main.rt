@@ -4,7 +4,8 @@
 //!
 //! `krbls stream` reads framed messages, `krbls message` one message in hexadecimal, `krbls keytab`
 //! a keytab, `krbls ccache` a cache, and `krbls capture` a pcap or a pcapng, each from files or
-//! from the standard input. The status is the greatest of those of all files: 0 if all was read, 1
+//! from the standard input. `krbls decode` turns framed messages into lines of JSON, and `krbls
+//! encode` turns these into the same messages; what they refuse is on the standard error. The status is the greatest of those of all files: 0 if all was read, 1
 //! if something was refused, or of a capture lost or unread, 2 if the command line is wrong, and 3
 //! if a read, a write or an allocation failed. The standard error has a line for each fault.
 //!
@@ -17,12 +18,17 @@ ghost use Rattle.std.specs.Process.{exit_status};
 ghost use Rattle.krb_tool.specs.Sources.{ListsEach, ListsOne, Reports};
 ghost use Rattle.krb_words.specs.Sources.{path_of};
 
+mod ends;
+
+use crate::ends::{put_decode_end, put_encode_end};
 use krb_list::FileName;
+use krb_text::TextBuffer;
 use krb_tool::{
-    Form, ListSource, RunEnd, RunFault, run_capture, run_ccache_in, run_keytab_in, run_message_in,
-    run_sources, run_stream_going_on, run_stream_in,
+    Form, Limit, ListSource, Profile, RunEnd, RunFault, run_capture, run_ccache_in, run_decode,
+    run_decode_unframed, run_encode, run_encode_unframed, run_keytab_in, run_message_in,
+    run_sources, run_sources_unnamed, run_stream_going_on, run_stream_in,
 };
-use krb_words::{AfterRefusal, Job, NOT_UTF8, Order, Source, WordsFault, read_words};
+use krb_words::{AfterRefusal, Framing, Job, NOT_UTF8, Order, Source, WordsFault, read_words};
 use std::alloc::Global;
 use std::fmt::Display;
 use std::io::{ErrorKind, Read, Write};
@@ -59,16 +65,18 @@ fn order(rt: &HostRuntime) -> Result<Order, WordsFault> {
     read_words(alloc, words.as_slice())
 }
 
-/// Lists each source of the command line, or prints its text.
+/// Lists or turns into another form each source of the command line, or prints its text.
 fn carry_out(rt: &HostRuntime, order: &Order) -> ExitCode {
-    match &order.job {
+    let job = &order.job;
+    let form = order.form;
+    let lister = Lister { rt, form, job };
+    let sources = order.sources.as_slice();
+    match job {
         Job::Help(text) | Job::Version(text) => print_text(rt, text.as_str()),
-        job => {
-            let form = order.form;
-            let lister = Lister { rt, form, job };
-            let sources = order.sources.as_slice();
-            list_each(rt.alloc(), form, &lister, sources, &mut rt.stdout())
+        Job::Decode(..) | Job::Encode(..) => {
+            convert_each(rt.alloc(), &lister, sources, &mut rt.stdout())
         }
+        _ => list_each(rt.alloc(), form, &lister, sources, &mut rt.stdout()),
     }
 }
 
@@ -85,6 +93,18 @@ fn list_each<S, L: ListSource<S>, W: Write>(
     ExitCode::from(run_sources(alloc, form, lister, sources, writer))
 }
 
+/// Turns sources into another form one after another, and returns the greatest of their statuses.
+fn convert_each<S, L: ListSource<S>, W: Write>(
+    alloc: Global,
+    lister: &L,
+    sources: &[S],
+    writer: &mut W,
+) -> ExitCode
+    ensures { ListsEach (λ source. Reports (L.IsReported lister.now source) (L.Lists lister.now source)) sources.now (W.contents writer.old) (W.contents writer.new) (exit_status result) }
+{
+    ExitCode::from(run_sources_unnamed(alloc, lister, sources, writer))
+}
+
 /// A lister of sources by a job.
 #[derive(Clone, Copy)]
 struct Lister<'a> {
@@ -94,8 +114,13 @@ struct Lister<'a> {
 }
 
 impl Lister<'_> {
-    /// Lists what a reader reads.
-    fn run<R: Read, W: Write>(&self, reader: &mut R, writer: &mut W) -> Result<RunEnd, RunFault> {
+    /// Lists what a reader reads from the source of a name, or turns it into another form.
+    fn run<N: Display, R: Read, W: Write>(
+        &self,
+        name: &N,
+        reader: &mut R,
+        writer: &mut W,
+    ) -> Result<RunEnd, RunFault> {
         let alloc = self.rt.alloc();
         let form = self.form;
         match self.job {
@@ -109,8 +134,54 @@ impl Lister<'_> {
             Job::Keytab => run_keytab_in(alloc, form, reader, writer),
             Job::Ccache(now) => run_ccache_in(alloc, form, reader, writer, *now),
             Job::Capture(limit, port) => run_capture(alloc, form, reader, writer, *limit, *port),
+            Job::Decode(limit, profile, framing) => {
+                self.decode(name, *limit, *profile, *framing, reader, writer)
+            }
+            Job::Encode(limit, profile, framing) => {
+                self.encode(name, *limit, *profile, *framing, reader, writer)
+            }
             Job::Help(_) | Job::Version(_) => Ok(RunEnd::Clean),
         }
+    }
+
+    /// Turns messages into lines of JSON.
+    fn decode<N: Display, R: Read, W: Write>(
+        &self,
+        name: &N,
+        limit: Limit,
+        profile: Profile,
+        framing: Framing,
+        reader: &mut R,
+        writer: &mut W,
+    ) -> Result<RunEnd, RunFault> {
+        let alloc = self.rt.alloc();
+        let end = match framing {
+            Framing::Framed => run_decode(alloc, profile, reader, writer, limit)?,
+            Framing::Unframed => run_decode_unframed(alloc, profile, reader, writer, limit)?,
+        };
+        let mut line = TextBuffer::new(alloc);
+        put_decode_end(&mut line, framing, &end)?;
+        Ok(report_end(self.rt, name, line))
+    }
+
+    /// Turns lines of JSON into messages.
+    fn encode<N: Display, R: Read, W: Write>(
+        &self,
+        name: &N,
+        limit: Limit,
+        profile: Profile,
+        framing: Framing,
+        reader: &mut R,
+        writer: &mut W,
+    ) -> Result<RunEnd, RunFault> {
+        let alloc = self.rt.alloc();
+        let end = match framing {
+            Framing::Framed => run_encode(alloc, profile, reader, writer, limit)?,
+            Framing::Unframed => run_encode_unframed(alloc, profile, reader, writer, limit)?,
+        };
+        let mut line = TextBuffer::new(alloc);
+        put_encode_end(&mut line, &end)?;
+        Ok(report_end(self.rt, name, line))
     }
 }
 
@@ -132,9 +203,9 @@ impl ListSource<Source> for Lister<'_> {
 
     fn list<W: Write>(&self, source: &Source, writer: &mut W) -> Result<RunEnd, RunFault> {
         match source {
-            Source::Input => self.run(&mut self.rt.stdin(), writer),
+            Source::Input => self.run(&INPUT, &mut self.rt.stdin(), writer),
             Source::File(path) => match fs::open(self.rt, path.as_str()) {
-                Ok(mut file) => self.run(&mut file, writer),
+                Ok(mut file) => self.run(&FileName(path.as_str()), &mut file, writer),
                 Err(error) => Err(RunFault::Read(error)),
             },
         }
@@ -146,6 +217,18 @@ impl ListSource<Source> for Lister<'_> {
             Source::File(path) => report(self.rt, &FileName(path.as_str()), fault),
         }
     }
+}
+
+/// Writes the line that says why a source was not read to its end to the standard error, if there
+/// is one, and returns how its run ended. All that was written before is on the standard output,
+/// which has no buffer.
+fn report_end<N: Display>(rt: &HostRuntime, name: &N, line: TextBuffer) -> RunEnd {
+    let line = line.into_string();
+    if line.is_empty() {
+        return RunEnd::Clean;
+    }
+    let _ = eprint!(rt; "krbls: {name}: {line}");
+    RunEnd::Refused
 }
 
 /// Writes the line of a fault to the standard error. There is none if the reader of the standard

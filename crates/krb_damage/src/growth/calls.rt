@@ -2,6 +2,7 @@
 
 use super::Outcome;
 use super::captures::{CUT, FRAGMENTS, OUT_OF_ORDER, goes_on, lists, puts_together};
+use super::conversions::Conversion;
 use super::decoders::{fed_twice, reserved_answers, reserved_feeds, reserves, stepped_over};
 use super::octets::{AP_REP, CACHE, KEYTAB, KRB_ERROR, METHOD_DATA, TICKET, message_of};
 use super::readers::{credentials, records, upgrades};
@@ -76,6 +77,7 @@ pub(super) enum Call {
     Read(Reading),
     Encode(Encoding),
     Text(Text, &'static str),
+    Convert(Conversion),
     Upgrade,
     Records,
     Credentials,
@@ -85,7 +87,7 @@ pub(super) enum Call {
 }
 
 /// Each call with its name, and with what it has to return.
-pub(super) const CALLS: [(&str, Call); 42] = [
+pub(super) const CALLS: [(&str, Call); 50] = [
     ("feed", Call::Feed(1)),
     ("feed", Call::Feed(7)),
     ("feed", Call::Feed(100)),
@@ -140,6 +142,20 @@ pub(super) const CALLS: [(&str, Call); 42] = [
             Text::Message,
             "KRB-ERROR code=25:KDC_ERR_PREAUTH_REQUIRED client=- server=h@A ctime=- cusec=- stime=20000101000000Z susec=0 text=- data=13 methods=[2] notes=[]",
         ),
+    ),
+    ("put_text", Call::Convert(Conversion::PutText)),
+    ("unsealed_path", Call::Convert(Conversion::UnsealedPath)),
+    ("read_line", Call::Convert(Conversion::ReadLine)),
+    ("read_line", Call::Convert(Conversion::ReadFault)),
+    ("run_decode", Call::Convert(Conversion::Decode)),
+    (
+        "run_decode_unframed",
+        Call::Convert(Conversion::DecodeUnframed),
+    ),
+    ("run_encode", Call::Convert(Conversion::Encode)),
+    (
+        "run_encode_unframed",
+        Call::Convert(Conversion::EncodeUnframed),
     ),
     ("krb_keytab::read", Call::Read(Reading::Keytab)),
     ("krb_keytab::write", Call::Encode(Encoding::Keytab)),
@@ -341,6 +357,7 @@ impl Call {
                 Ok(encoding.make(alloc, given)?.as_deref() == Some(encoding.wanted()))
             }
             Call::Text(text, wanted) => Ok(text.make(alloc, given)?.as_str() == wanted),
+            Call::Convert(conversion) => conversion.make(alloc),
             _ => Ok(false),
         }
     }

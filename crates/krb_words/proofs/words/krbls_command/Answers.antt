@@ -2,7 +2,7 @@ use Rattle.std.proofs.Common.{◌≡◌, true, ◌∙◌, ap, codes}
 use Rattle.std.proofs.lemmas.Result.{IfOk-weaker}
 use Rattle.clap.specs.Words.{App, app_of, new_app, with_subcommand}
 use Rattle.clap.specs.Simple.{Shape, app_of_fields, on_top}
-use Rattle.krb_words.specs.Words.{stream_app, message_app, keytab_app, ccache_app, krbls_top}
+use Rattle.krb_words.specs.Words.{stream_app, message_app, keytab_app, ccache_app, capture_app, decode_app, krbls_top}
 use Rattle.krb_words.proofs.Matched.{subcommand_added}
 use Rattle.krb_words.proofs.words.krbls_command.Goals as goal
 
@@ -25,4 +25,8 @@ returns c =
     subcommand_added _ _ _ _ _ c.in_ok-subcommand-3.ensures second c.in_ok-keytab_command.ensures.0 c.in_ok-keytab_command.ensures.1 in
     let fourth : app_of c.in_ok-subcommand-4.field-0 ≡ with_subcommand (with_subcommand (with_subcommand (with_subcommand krbls_top stream_app.top) message_app.top) keytab_app.top) ccache_app.top =
     subcommand_added _ _ _ _ _ c.in_ok-subcommand-4.ensures third c.in_ok-ccache_command.ensures.0 c.in_ok-ccache_command.ensures.1 in
-    IfOk-weaker c.subcommand-5.result _ _ (λ r adds. subcommand_added _ _ r _ _ adds fourth c.in_ok-capture_command.ensures.0 c.in_ok-capture_command.ensures.1) c.subcommand-5.ensures
+    let fifth : app_of c.in_ok-subcommand-5.field-0 ≡ with_subcommand (with_subcommand (with_subcommand (with_subcommand (with_subcommand krbls_top stream_app.top) message_app.top) keytab_app.top) ccache_app.top) capture_app.top =
+    subcommand_added _ _ _ _ _ c.in_ok-subcommand-5.ensures fourth c.in_ok-capture_command.ensures.0 c.in_ok-capture_command.ensures.1 in
+    let sixth : app_of c.in_ok-subcommand-6.field-0 ≡ with_subcommand (with_subcommand (with_subcommand (with_subcommand (with_subcommand (with_subcommand krbls_top stream_app.top) message_app.top) keytab_app.top) ccache_app.top) capture_app.top) decode_app.top =
+    subcommand_added _ _ _ _ _ c.in_ok-subcommand-6.ensures fifth c.in_ok-decode_command.ensures.0 c.in_ok-decode_command.ensures.1 in
+    IfOk-weaker c.subcommand-7.result _ _ (λ r adds. subcommand_added _ _ r _ _ adds sixth c.in_ok-encode_command.ensures.0 c.in_ok-encode_command.ensures.1) c.subcommand-7.ensures

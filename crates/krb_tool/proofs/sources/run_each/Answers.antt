@@ -2,7 +2,7 @@ use Rattle.std.proofs.Common.{◌∙◌, ap, sym}
 use Rattle.std.specs.Ordering.{ord_max, nat_cmp}
 use Rattle.std.proofs.lemmas.List.{nil_from_length}
 use Rattle.krb_tool.proofs.SourceRuns.{Goes-end, Goes-stops, Goes-on}
-use Rattle.krb_tool.proofs.sources.run_sources.Goals as goal
+use Rattle.krb_tool.proofs.sources.run_each.Goals as goal
 
 pub returns-then-ends_run : goal.returns-then-ends_run
 returns-then-ends_run g c =

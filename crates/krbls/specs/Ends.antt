@@ -1,0 +1,34 @@
+-- What the standard error has after the name of a source that was not turned into another form to its end: a line, or nothing if it was.
+use Rattle.std.specs.Prelude.{ℕ, List, [], ◌++◌, codes, decimal, string_bytes}
+use Rattle.std.specs.Option.{option_map}
+use Rattle.krb_json.specs.Reading.{read_fault_text}
+use Rattle.krb_text.specs.Refusals.{message_refused_line}
+use Rattle.krb_text.specs.Streams.{refused_line}
+use Rattle.krb_text.specs.declared.form.Form.TheVariants.{NamedLines}
+use Rattle.krb_tool.specs.declared.decode_run.DecodeEnd.{DecodeEnd}
+use Rattle.krb_tool.specs.declared.decode_run.DecodeEnd.TheVariants as decoded
+use Rattle.krb_tool.specs.declared.encode_run.EncodeEnd.{EncodeEnd}
+use Rattle.krb_tool.specs.declared.encode_run.EncodeEnd.TheVariants as encoded
+use Rattle.krb_words.specs.declared.words.Framing.{Framing}
+use Rattle.krb_words.specs.declared.words.Framing.TheVariants as framing
+
+abbrev pub numbered : List ℕ → ℕ → List ℕ
+numbered what number = what ++ codes " " ++ decimal number ++ codes ": "
+
+-- the number of a message among frames
+abbrev pub message_number : Framing → ℕ → List ℕ
+message_number framing.Framed number = numbered (codes "message") number
+message_number framing.Unframed number = []
+
+-- a refusal is that of `krbls stream --names`, or of `krbls message --names`
+abbrev pub decode_end_line : Framing → DecodeEnd → List ℕ
+decode_end_line framed decoded.Clean = []
+decode_end_line framing.Framed (decoded.Refused messages refusal path) = refused_line NamedLines messages refusal.place refusal.why (option_map string_bytes path)
+decode_end_line framing.Unframed (decoded.Refused messages refusal path) = message_refused_line NamedLines refusal (option_map string_bytes path)
+decode_end_line framed (decoded.Unsealed message path) = message_number framed message ++ string_bytes path ++ codes ": not encrypted, and so not printed\n"
+
+abbrev pub encode_end_line : EncodeEnd → List ℕ
+encode_end_line encoded.Clean = []
+encode_end_line (encoded.Fault number fault) = numbered (codes "line") number ++ read_fault_text fault ++ codes "\n"
+encode_end_line (encoded.SecondMessage number) = numbered (codes "line") number ++ codes "a second message\n"
+encode_end_line encoded.NoMessage = codes "no message\n"

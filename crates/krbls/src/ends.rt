@@ -1,0 +1,58 @@
+//! What is said of a source that was not turned into another form to its end.
+
+ghost use Rattle.std.specs.Prelude.{◌≡◌, ◌++◌, OnOk};
+ghost use Rattle.krbls.specs.Ends.{decode_end_line, encode_end_line};
+
+use krb_text::{Form, TextBuffer, put_message_refusal, put_stream_refusal};
+use krb_tool::{DecodeEnd, EncodeEnd};
+use krb_words::Framing;
+use std::alloc::AllocError;
+
+/// Appends the line that says why messages were not decoded to their end; if they were, there is
+/// none.
+pub(crate) fn put_decode_end(
+    line: &mut TextBuffer,
+    framing: Framing,
+    end: &DecodeEnd,
+) -> Result<(), AllocError>
+    ensures { OnOk result (line.new ≡ line.old ++ decode_end_line framing end.now) }
+{
+    match end {
+        DecodeEnd::Clean => Ok(()),
+        DecodeEnd::Refused {
+            messages,
+            refusal,
+            path,
+        } => match framing {
+            Framing::Framed => {
+                put_stream_refusal(line, Form::NamedLines, *messages, *refusal, path.as_deref())
+            }
+            Framing::Unframed => {
+                put_message_refusal(line, Form::NamedLines, *refusal, path.as_deref())
+            }
+        },
+        DecodeEnd::Unsealed { message, path } => {
+            if framing == Framing::Framed {
+                write!(line, "message {message}: ")?;
+            }
+            write!(line, "{path}: not encrypted, and so not printed\n")
+        }
+    }
+}
+
+/// Appends the line that says why lines were not encoded to their end; if they were, there is none.
+pub(crate) fn put_encode_end(line: &mut TextBuffer, end: &EncodeEnd) -> Result<(), AllocError>
+    ensures { OnOk result (line.new ≡ line.old ++ encode_end_line end.now) }
+{
+    match end {
+        EncodeEnd::Clean => Ok(()),
+        EncodeEnd::Fault {
+            line: number,
+            fault,
+        } => write!(line, "line {number}: {fault}\n"),
+        EncodeEnd::SecondMessage { line: number } => {
+            write!(line, "line {number}: a second message\n")
+        }
+        EncodeEnd::NoMessage => line.push_str("no message\n"),
+    }
+}
