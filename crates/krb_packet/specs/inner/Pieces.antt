@@ -23,7 +23,7 @@ pub record Precedes (one other : Span) : Type 0 where
 -- a part is of these octets
 pub record IsWithin (octets : List ℕ) (part : Part) : Type 0 where
   pub size : part.span.start ≤ part.span.end
-  pub octets : part.begin + (part.span.end - part.span.start) ≤ length octets
+  pub came : part.begin + (part.span.end - part.span.start) ≤ length octets
 
 pub record AreParts (octets : List ℕ) (parts : List Part) : Type 0 where
   pub few : length octets ≤ most_octets
