@@ -3,6 +3,7 @@ pub mod Clocks
 pub mod Gathering
 pub mod Heads
 pub mod PacketHeads
+pub mod Pieces
 pub mod Options
 pub mod Parsing
 pub mod Skipping

@@ -1,7 +1,7 @@
 -- A law of fragments.
 use Rattle.std.specs.Prelude.{◌≡◌, ℕ, ◌+◌, ◌%◌, ◌<◌, ◌≤◌, ◌⊎◌, true, false, ◌==◌, Option, Some, None, List, [], ◌∷◌, length, slice_index}
 use Rattle.krb_packet.specs.declared.contents.Fragment.{Fragment}
-use Rattle.krb_packet.specs.Parts.{Parts, no_parts, most_octets, span_of, are_apart, add_fragment, is_complete}
+use Rattle.krb_packet.specs.Parts.{Parts, no_parts, most_octets, span_of, are_apart, add_fragment, is_complete, joined}
 
 -- A fragment of a datagram that has these octets: it has one or more of them, from its offset on, all of which were captured. The last one ends with the datagram, and any other one has a multiple of 8 octets.
 pub record IsPiece (octets : List ℕ) (fragment : Fragment) : Type 0 where
@@ -50,7 +50,7 @@ gathered (Some parts) (fragment ∷ fragments) = gathered (add_fragment parts fr
 
 abbrev pub MakesWhole : List ℕ → Option Parts → Type 0
 MakesWhole octets None = ⊥
-MakesWhole octets (Some parts) = (is_complete parts ≡ true) × (parts.octets ≡ octets)
+MakesWhole octets (Some parts) = (is_complete parts ≡ true) × (joined parts.pieces ≡ octets)
 
 -- However a datagram is cut into fragments, and in whatever order these come, its octets are put together from them.
 abbrev pub FragmentsMakeDatagram : Type 0

@@ -8,7 +8,7 @@ use Rattle.std.specs.declared.net.ip_addr.IpAddr.TheVariants as ip
 use Rattle.krb_der.specs.Octets.{when}
 use Rattle.krb_packet.specs.Payloads.{Captured}
 use Rattle.krb_packet.specs.Contents.{transport, after_headers}
-use Rattle.krb_packet.specs.Parts.{Parts, no_parts, add_fragment, is_complete}
+use Rattle.krb_packet.specs.Parts.{Parts, no_parts, add_fragment, is_complete, joined}
 use Rattle.krb_packet.specs.declared.contents.Original.{Original}
 use Rattle.krb_packet.specs.declared.contents.Fragment.{Fragment}
 use Rattle.krb_packet.specs.declared.contents.Contents.{Contents}
@@ -61,7 +61,7 @@ abbrev pub pending_with : Fragment → Pending → Pending
 pending_with fragment pending = record { original = pending.original; count = plus pending.count 1; progress = progress_with fragment pending.progress }
 
 abbrev pub whole : Original → Progress → Option Reassembled
-whole original (Open parts) = when (is_complete parts) (λ _. Some (record { original = original; protocol = parts.protocol; octets = parts.octets })) (λ _. None)
+whole original (Open parts) = when (is_complete parts) (λ _. Some (record { original = original; protocol = parts.protocol; octets = joined parts.pieces })) (λ _. None)
 whole original Discarded = None
 
 abbrev pub whole_of : Pending → Option Reassembled

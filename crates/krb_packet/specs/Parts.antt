@@ -1,16 +1,22 @@
 -- The fragments of one datagram (RFC 791, 3.2; RFC 8200, 4.5).
-use Rattle.std.specs.Prelude.{ℕ, ◌+◌, ◌-◌, ◌%◌, nat_eq, nat_le, Bool, true, false, not, ◌&&◌, ◌||◌, ◌==◌, Option, Some, None, List, [], ◌∷◌, ◌++◌, length, take, drop, replicate}
-use Rattle.std.specs.List.{list_all, list_any, starts_with}
+use Rattle.std.specs.Prelude.{ℕ, ◌+◌, ◌%◌, max, nat_eq, nat_lt, nat_le, Bool, true, false, not, ◌&&◌, ◌||◌, ◌==◌, Option, Some, None, List, [], ◌∷◌, ◌++◌, length}
+use Rattle.std.specs.List.{list_all, list_any}
+use Rattle.std.specs.Cmp.Lexicographic.{pointwise}
 use Rattle.krb_der.specs.Octets.{when}
 use Rattle.krb_packet.specs.declared.contents.Fragment.{Fragment}
 use Rattle.krb_packet.specs.declared.assembly.Span.{Span}
 
--- The fragments of a datagram that came, put together.
-pub record Parts : Type 0 where
-  -- its octets up to the last one that came; 0 for those that did not come
+-- A fragment that came: the places of its octets in the datagram, and these.
+pub record Piece : Type 0 where
+  pub span : Span
   pub octets : List ℕ
-  -- the span of each fragment
-  pub spans : List Span
+
+-- The fragments of a datagram that came.
+pub record Parts : Type 0 where
+  -- in the order of their places
+  pub pieces : List Piece
+  -- the place after the last octet that came
+  pub reach : ℕ
   -- the number of octets that came
   pub count : ℕ
   -- whether the last fragment came
@@ -19,7 +25,7 @@ pub record Parts : Type 0 where
   pub protocol : ℕ
 
 abbrev pub no_parts : Parts
-no_parts = record { octets = []; spans = []; count = 0; is_ended = false; protocol = 0 }
+no_parts = record { pieces = []; reach = 0; count = 0; is_ended = false; protocol = 0 }
 
 -- ---- a fragment alone
 
@@ -37,6 +43,9 @@ is_sound fragment =
 abbrev pub span_of : Fragment → Span
 span_of fragment = record { start = fragment.offset; end = fragment.offset + length fragment.payload.octets; is_last = fragment.is_last }
 
+abbrev pub piece_of : Fragment → Piece
+piece_of fragment = record { span = span_of fragment; octets = fragment.payload.octets }
+
 -- ---- a fragment and those that came
 
 abbrev pub same_flag : Bool → Bool → Bool
@@ -46,9 +55,12 @@ same_flag false flag = not flag
 abbrev pub same_span : Span → Span → Bool
 same_span one other = one.start == other.start && one.end == other.end && same_flag one.is_last other.is_last
 
+abbrev pub same_piece : Piece → Piece → Bool
+same_piece one other = same_span one.span other.span && pointwise nat_eq one.octets other.octets
+
 -- whether a fragment is a copy of one that came
 abbrev pub is_copy : Parts → Fragment → Bool
-is_copy parts fragment = list_any (same_span (span_of fragment)) parts.spans && starts_with nat_eq (drop fragment.offset parts.octets) fragment.payload.octets
+is_copy parts fragment = list_any (same_piece (piece_of fragment)) parts.pieces
 
 -- whether one span ends before the other begins
 abbrev pub are_apart : Span → Span → Bool
@@ -56,30 +68,31 @@ are_apart one other = nat_le one.end other.start || nat_le other.end one.start
 
 -- whether a span agrees with the end of the datagram: no octets follow those of the last fragment
 abbrev pub agrees : Parts → Span → Bool
-agrees parts span = (not parts.is_ended || nat_le span.end (length parts.octets)) && (not span.is_last || nat_le (length parts.octets) span.end)
+agrees parts span = (not parts.is_ended || nat_le span.end parts.reach) && (not span.is_last || nat_le parts.reach span.end)
 
 -- whether none that came overlaps a fragment (RFC 5722), they agree about the end, and there are not too many octets in all
 abbrev pub fits : Parts → Fragment → Bool
 fits parts fragment =
     let span = span_of fragment in
-    list_all (are_apart span) parts.spans
+    list_all (λ piece. are_apart span piece.span) parts.pieces
     && agrees parts span
     && nat_le (parts.count + length fragment.payload.octets) most_octets
 
 -- ---- put together
 
--- octets, lengthened to a size by octets 0
-abbrev pub lengthened : ℕ → List ℕ → List ℕ
-lengthened size octets = octets ++ replicate (size - length octets) 0
+-- whether a span comes before another: it begins before that, or at the same place and ends before, or has the same places and is not the last one
+abbrev pub is_before : Span → Span → Bool
+is_before one other = nat_lt one.start other.start || one.start == other.start && (nat_lt one.end other.end || one.end == other.end && not one.is_last && other.is_last)
 
--- octets, with new ones in place of those from a place on
-abbrev pub overwritten : ℕ → List ℕ → List ℕ → List ℕ
-overwritten place new octets = take place octets ++ new ++ drop (place + length new) octets
+-- pieces, with one more at its place
+abbrev pub with_piece : Piece → List Piece → List Piece
+with_piece piece [] = piece ∷ []
+with_piece piece (first ∷ others) = when (is_before first.span piece.span) (λ _. first ∷ with_piece piece others) (λ _. piece ∷ first ∷ others)
 
 abbrev pub with_fragment : Parts → Fragment → Parts
 with_fragment parts fragment = record {
-  octets = overwritten fragment.offset fragment.payload.octets (lengthened (fragment.offset + length fragment.payload.octets) parts.octets);
-  spans = parts.spans ++ span_of fragment ∷ [];
+  pieces = with_piece (piece_of fragment) parts.pieces;
+  reach = max parts.reach (fragment.offset + length fragment.payload.octets);
   count = parts.count + length fragment.payload.octets;
   is_ended = parts.is_ended || fragment.is_last;
   protocol = when (fragment.offset == 0) (λ _. fragment.protocol) (λ _. parts.protocol);
@@ -94,4 +107,9 @@ add_fragment parts fragment =
 
 -- whether no octet of the datagram is missing
 abbrev pub is_complete : Parts → Bool
-is_complete parts = parts.is_ended && parts.count == length parts.octets
+is_complete parts = parts.is_ended && parts.count == parts.reach
+
+-- the octets of pieces, one after another
+abbrev pub joined : List Piece → List ℕ
+joined [] = []
+joined (piece ∷ pieces) = piece.octets ++ joined pieces

@@ -1,1 +1,3 @@
 pub mod PacketHeads
+pub mod Pieces
+pub mod Places

@@ -19,31 +19,59 @@ pub struct Span {
     is_last: bool,
 }
 
-/// The fragments of a datagram that came, put together. It allocates for the octets up to the last
-/// one that came, and a few octets for each fragment.
+/// A fragment that came. It is public for contracts alone.
+#[derive(Clone, Copy)]
+pub struct Part {
+    /// The places of its octets in their datagram.
+    span: Span,
+    /// Where its octets begin among those that came.
+    begin: u16,
+}
+
+/// What a fragment is to those that came. It is public for contracts alone.
+#[derive(Clone, Copy)]
+pub enum Relation {
+    /// Its datagram has to be discarded for it.
+    Conflict,
+    /// It is a copy of one of them.
+    Copy,
+    /// It is new, and this many of them come before it.
+    New(usize),
+}
+
+/// The fragments of a datagram that came. It allocates for their octets, and a few octets for each
+/// of them.
 #[derive(Drop)]
 pub struct Assembly {
+    /// The octets of the fragments, in the order in which these came.
     octets: Vec<u8>,
-    spans: Vec<Span>,
-    count: usize,
+    /// The fragments, in the order of their places.
+    parts: Vec<Part>,
+    /// The place after the last octet that came.
+    reach: u16,
+    /// The last fragment came.
     is_ended: bool,
+    /// The protocol of the fragment at offset 0.
     protocol: u8,
 }
 
 impl Model for Assembly {
-    ghost use Rattle.std.specs.Prelude.{◌≤◌, length};
+    ghost use Rattle.std.specs.Prelude.{length, map};
     ghost use Rattle.krb_packet.specs.Parts.{Parts};
+    ghost use Rattle.krb_packet.specs.inner.Pieces.{AreParts, piece_in};
 
     ghost Value = { Parts };
 
-    ghost view = { λ assembly. record { octets = assembly.octets.items; spans = assembly.spans.items; count = assembly.count; is_ended = assembly.is_ended; protocol = assembly.protocol } };
+    ghost view = { λ assembly. record { pieces = map (piece_in assembly.octets.items) assembly.parts.items; reach = assembly.reach; count = length assembly.octets.items; is_ended = assembly.is_ended; protocol = assembly.protocol } };
 
-    ghost invariant = { λ assembly. assembly.count ≤ 65535 };
+    ghost invariant = { λ assembly. AreParts assembly.octets.items assembly.parts.items };
 }
 
-ghost use Rattle.std.specs.Prelude.{◌≡◌, ◌+◌, ◌<◌, ◌≤◌, if◌then◌else◌, true, Some, None, not, ◌&&◌, ◌||◌, nat_le, length, IfOk, OnErr, OnOk, nat_eq, drop};
-ghost use Rattle.std.specs.List.{list_all, list_any, starts_with};
-ghost use Rattle.krb_packet.specs.Parts.{no_parts, is_sound, span_of, same_span, is_copy, are_apart, fits, lengthened, overwritten, with_fragment, add_fragment, is_complete};
+ghost use Rattle.std.specs.Prelude.{◌≡◌, ℕ, ◌+◌, ◌++◌, ◌<◌, ◌≤◌, true, false, List, length, map, IfOk, IfSome, IfNone, OnErr, OnOk};
+ghost use Rattle.std.specs.List.{list_all, list_any, slice_index_or};
+ghost use Rattle.std.specs.Option.{option_copied, option_map_or};
+ghost use Rattle.krb_packet.specs.Parts.{no_parts, is_sound, span_of, same_span, are_apart, agrees, is_before, with_fragment, is_complete, joined};
+ghost use Rattle.krb_packet.specs.inner.Pieces.{AreParts, IsNew, IsPlace, IsRelation, IsWithin, octets_in, piece_in};
 
 /// Returns whether a fragment is sound by itself: it was captured whole, it is within a datagram,
 /// and it has a multiple of eight octets unless it is the last one.
@@ -83,58 +111,79 @@ impl Span {
     {
         self.end <= other.start || other.end <= self.start
     }
-}
 
-/// Returns whether one of the spans is the same as another one.
-fn is_among(span: Span, spans: &[Span]) -> bool
-    ensures { result ≡ list_any (same_span span) spans.now }
-{
-    spans.iter().any(|other| span.is_same(*other))
-}
-
-/// Returns whether a span is apart from all of these.
-fn is_apart_from(span: Span, spans: &[Span]) -> bool
-    ensures { result ≡ list_all (are_apart span) spans.now }
-{
-    spans.iter().all(|other| span.is_apart(*other))
-}
-
-/// Returns whether a span agrees with the end of the datagram: `size` octets came up to the last
-/// one, and these are all if `is_ended`.
-fn is_within(span: Span, size: usize, is_ended: bool) -> bool
-    ensures { result ≡ ((not is_ended || nat_le span.end size) && (not span.is_last || nat_le size span.end)) }
-{
-    let end = usize::from(span.end);
-    (!is_ended | (end <= size)) & (!span.is_last | (size <= end))
-}
-
-/// Returns whether `octets` has the octets `wanted` from a place on.
-fn has_at(octets: &[u8], place: usize, wanted: &[u8]) -> bool
-    ensures { result ≡ starts_with nat_eq (drop place octets.now) wanted.now }
-{
-    match octets.get(place..) {
-        Some(rest) => rest.starts_with(wanted),
-        None => wanted.is_empty(),
+    /// Returns whether it comes before another one: it begins before that, or at the same place and
+    /// ends before, or has the same places and is not the last one.
+    fn is_before(self, other: Span) -> bool
+        ensures { result ≡ is_before self other }
+    {
+        self.start < other.start
+            || self.start == other.start
+                && (self.end < other.end
+                    || self.end == other.end && !self.is_last && other.is_last)
     }
 }
 
-/// Lengthens octets to a size by octets 0, unless they are at least as long.
-fn lengthen(octets: &mut Vec<u8>, size: usize) -> Result<(), Memory>
-    ensures reaches { OnOk result (octets.new.items ≡ lengthened size octets.old.items) }
-    ensures memory { OnErr result (octets.new.items ≡ octets.old.items) }
+/// Returns how many parts come before a span.
+fn place_of(span: Span, parts: &[Part]) -> usize
+    ensures { (octets : List ℕ) → AreParts octets parts.now → IsPlace result span parts.now }
 {
-    if octets.len() < size {
-        octets.resize(size, 0)?;
+    parts.partition_point(|part| part.span.is_before(span))
+}
+
+/// Returns the part that has the places of a span, before which `place` of the parts come.
+fn same_at(span: Span, place: usize, parts: &[Part]) -> Option<Part>
+    requires { IsPlace place span parts.now }
+    ensures same { IfSome result (λ part. (same_span span part.span ≡ true) × (place < length parts.now) × (slice_index_or parts.now place part ≡ part)) }
+    ensures none { (octets : List ℕ) → AreParts octets parts.now → IfNone result (list_any (λ part. same_span span part.span) parts.now ≡ false) }
+{
+    match parts.get(place) {
+        Some(part) if span.is_same(part.span) => Some(*part),
+        _ => None,
+    }
+}
+
+/// Returns whether a span is apart from a part, if there is one.
+fn is_apart_from(span: Span, part: Option<&Part>) -> bool
+    ensures { result ≡ option_map_or (λ part. are_apart span part.span) (option_copied part.entry) true }
+{
+    match part {
+        Some(part) => span.is_apart(part.span),
+        None => true,
+    }
+}
+
+/// Returns whether a span is apart from all parts, of which `place` come before it.
+fn is_apart_from_all(span: Span, place: usize, parts: &[Part]) -> bool
+    requires some { span.start ≤ span.end }
+    requires place { IsPlace place span parts.now }
+    ensures { (octets : List ℕ) → AreParts octets parts.now → result ≡ list_all (λ part. are_apart span part.span) parts.now }
+{
+    let before = match place.checked_sub(1) {
+        Some(before) => is_apart_from(span, parts.get(before)),
+        None => true,
+    };
+    before & is_apart_from(span, parts.get(place))
+}
+
+/// Returns the octets of a part.
+fn octets_of(part: Part, octets: &[u8]) -> &[u8]
+    requires { IsWithin octets.now part }
+    ensures { result.now ≡ octets_in octets.now part }
+{
+    let begin = usize::from(part.begin);
+    &octets[begin..begin + usize::from(part.span.end - part.span.start)]
+}
+
+/// Appends the octets of parts, one after another.
+fn append(parts: &[Part], octets: &[u8], joined: &mut Vec<u8>) -> Result<(), Memory>
+    requires { (k : ℕ) (d : Part) → k < length parts.now → IsWithin octets.now (slice_index_or parts.now k d) }
+    ensures { OnOk result (joined.new.items ≡ joined.old.items ++ joined (map (piece_in octets.now) parts.now)) }
+{
+    for part in parts {
+        joined.extend_from_slice(octets_of(*part, octets))?;
     }
     Ok(())
-}
-
-/// Writes octets over those from a place on.
-fn overwrite(octets: &mut [u8], place: usize, new: &[u8])
-    requires { place + length new.now ≤ length octets.old }
-    ensures { octets.new ≡ overwritten place new.now octets.old }
-{
-    octets[place..place + new.len()].copy_from_slice(new);
 }
 
 impl Assembly {
@@ -144,93 +193,103 @@ impl Assembly {
     {
         Assembly {
             octets: Vec::new(alloc),
-            spans: Vec::new(alloc),
-            count: 0,
+            parts: Vec::new(alloc),
+            reach: 0,
             is_ended: false,
             protocol: 0,
         }
     }
 
-    /// Returns whether a fragment is a copy of one that came.
-    fn has_copy(&self, fragment: &Fragment<'_>, span: Span) -> bool
-        requires { span ≡ span_of fragment.now }
-        ensures { result ≡ is_copy self.now fragment.now }
+    /// Returns whether a span agrees with the end of the datagram.
+    fn agrees(&self, span: Span) -> bool
+        ensures { result ≡ agrees self.now span }
     {
-        is_among(span, &self.spans)
-            && has_at(
-                &self.octets,
-                usize::from(span.start),
-                fragment.payload.octets(),
-            )
+        (!self.is_ended | (span.end <= self.reach)) & (!span.is_last | (self.reach <= span.end))
     }
 
-    /// Returns whether a fragment fits beside those that came.
-    fn fits(&self, fragment: &Fragment<'_>, span: Span) -> bool
-        requires { span ≡ span_of fragment.now }
-        ensures { result ≡ fits self.now fragment.now }
+    /// Returns what a fragment is to those that came.
+    pub(crate) fn relation(&self, fragment: &Fragment<'_>) -> Relation
+        ensures { IsRelation self.now fragment.now result }
     {
-        is_apart_from(span, &self.spans)
-            && is_within(span, self.octets.len(), self.is_ended)
-            && fragment.payload.octets().len() <= MOST_OCTETS - self.count
+        if !is_sound(fragment) {
+            return Relation::Conflict;
+        }
+        let span = span_of(fragment);
+        let place = place_of(span, &self.parts);
+        let octets = fragment.payload.octets();
+        if let Some(part) = same_at(span, place, &self.parts) {
+            return if octets_of(part, &self.octets) == octets {
+                Relation::Copy
+            } else {
+                Relation::Conflict
+            };
+        }
+        let fits = is_apart_from_all(span, place, &self.parts)
+            & self.agrees(span)
+            & (octets.len() <= MOST_OCTETS - self.octets.len());
+        if fits {
+            Relation::New(place)
+        } else {
+            Relation::Conflict
+        }
     }
 
-    /// Keeps a fragment that fits. Out of memory, nothing changes.
-    fn keep(&mut self, fragment: &Fragment<'_>, span: Span) -> Result<(), Memory>
-        requires span { span ≡ span_of fragment.now }
-        requires fits { fits self.old fragment.now ≡ true }
+    /// Returns whether no octet of the datagram is missing with a new fragment.
+    pub(crate) fn is_completed_by(&self, fragment: &Fragment<'_>) -> bool
+        requires end { fragment.now.offset + length fragment.now.payload.octets ≤ 65535 }
+        requires count { self.now.count + length fragment.now.payload.octets ≤ 65535 }
+        ensures { result ≡ is_complete (with_fragment self.now fragment.now) }
+    {
+        let Span { end, is_last, .. } = span_of(fragment);
+        (self.is_ended | is_last)
+            & (self.octets.len() + fragment.payload.octets().len() == usize::from(self.reach.max(end)))
+    }
+
+    /// Returns the protocol of the fragment at offset 0, with a new one.
+    pub(crate) fn protocol_with(&self, fragment: &Fragment<'_>) -> u8
+        ensures { result ≡ (with_fragment self.now fragment.now).protocol }
+    {
+        if fragment.offset == 0 {
+            fragment.protocol
+        } else {
+            self.protocol
+        }
+    }
+
+    /// Returns all octets, with those of a new fragment.
+    pub(crate) fn octets_with(
+        &self,
+        alloc: Global,
+        place: usize,
+        fragment: &Fragment<'_>,
+    ) -> Result<Vec<u8>, Memory>
+        requires { IsNew self.now fragment.now place }
+        ensures { IfOk result (λ octets. octets.items ≡ joined (with_fragment self.now fragment.now).pieces) }
+    {
+        let (before, after) = self.parts.split_at(place);
+        let octets = fragment.payload.octets();
+        let mut joined = Vec::with_capacity(alloc, self.octets.len() + octets.len())?;
+        append(before, &self.octets, &mut joined)?;
+        joined.extend_from_slice(octets)?;
+        append(after, &self.octets, &mut joined)?;
+        Ok(joined)
+    }
+
+    /// Keeps a new fragment. Out of memory, nothing changes.
+    pub(crate) fn keep(&mut self, place: usize, fragment: &Fragment<'_>) -> Result<(), Memory>
+        requires { IsNew self.old fragment.now place }
         ensures keeps { OnOk result (self.new ≡ with_fragment self.old fragment.now) }
         ensures memory { OnErr result (self.new ≡ self.old) }
     {
-        let octets = fragment.payload.octets();
-        self.spans.try_reserve(1)?;
-        lengthen(&mut self.octets, usize::from(span.end))?;
-        self.spans.push(span)?;
-        overwrite(&mut self.octets, usize::from(span.start), octets);
-        self.count += octets.len();
-        self.is_ended |= span.is_last;
-        if span.start == 0 {
-            self.protocol = fragment.protocol;
-        }
-        Ok(())
-    }
-
-    /// Adds a fragment of the datagram. Returns `false` if the datagram has to be discarded. Out of
-    /// memory, nothing changes.
-    pub(crate) fn take(&mut self, fragment: &Fragment<'_>) -> Result<bool, Memory>
-        ensures takes { IfOk result (λ is_taken. add_fragment self.old fragment.now ≡ (if is_taken then Some self.new else None)) }
-        ensures memory { OnErr result (self.new ≡ self.old) }
-    {
-        if !is_sound(fragment) {
-            return Ok(false);
-        }
         let span = span_of(fragment);
-        if self.has_copy(fragment, span) {
-            return Ok(true);
-        }
-        if !self.fits(fragment, span) {
-            return Ok(false);
-        }
-        self.keep(fragment, span)?;
-        Ok(true)
-    }
-
-    /// Returns whether no octet of the datagram is missing.
-    pub(crate) fn is_complete(&self) -> bool
-        ensures { result ≡ is_complete self.now }
-    {
-        self.is_ended && self.count == self.octets.len()
-    }
-
-    /// Returns what the octets begin with, and these.
-    pub(crate) fn into_parts(self) -> (u8, Vec<u8>)
-        ensures protocol { result.0 ≡ self.protocol }
-        ensures octets { result.1.items ≡ self.octets }
-    {
-        let Assembly {
-            octets,
-            protocol,
-            ..
-        } = self;
-        (protocol, octets)
+        let begin = self.octets.len() as u16;
+        let protocol = self.protocol_with(fragment);
+        self.parts.try_reserve(1)?;
+        self.octets.extend_from_slice(fragment.payload.octets())?;
+        self.parts.insert(place, Part { span, begin })?;
+        self.reach = self.reach.max(span.end);
+        self.is_ended |= span.is_last;
+        self.protocol = protocol;
+        Ok(())
     }
 }

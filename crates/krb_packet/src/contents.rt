@@ -52,7 +52,7 @@ pub struct Segment<'a> {
 }
 
 /// What the fragments of one IP datagram have in common (RFC 791, 3.2; RFC 8200, 4.5).
-#[derive(Clone, Copy, PartialEq, Eq, Hash)]
+#[derive(Clone, Copy, PartialEq, Eq, PartialOrd, Ord, Hash)]
 pub struct Original {
     /// Where the datagram comes from.
     pub source: IpAddr,

@@ -1,12 +1,13 @@
 //! Datagrams put together from their fragments (RFC 791, 3.2; RFC 8200, 4.5).
 
-use crate::assembly::Assembly;
+use crate::assembly::{Assembly, Relation};
 use crate::contents::{Contents, Fragment, Original};
 use crate::internet::after_headers;
 use crate::payload::Payload;
 use crate::transport::transport;
 use krb_der::{Memory, Octets};
 use std::alloc::Global;
+use std::cmp::Ordering;
 use std::marker::Model;
 use std::net::IpAddr;
 
@@ -47,7 +48,10 @@ pub struct Reassembled {
 #[derive(Drop)]
 pub struct Fragments {
     alloc: Global,
-    pending: Vec<Pending>,
+    /// In the order in which they began.
+    pending: Vec<Box<Pending>>,
+    /// The places of the datagrams among these, in the order of what their fragments have in common.
+    places: Vec<usize>,
     /// How many fragments came of the datagrams that were given up.
     given_up: u64,
 }
@@ -77,7 +81,6 @@ impl Original {
 impl Pending {
     /// Returns a datagram with no fragments yet.
     fn new(alloc: Global, original: Original) -> Pending
-        ensures { result ≡ no_fragments_of original }
     {
         Pending {
             original,
@@ -86,50 +89,28 @@ impl Pending {
         }
     }
 
-    /// Adds a fragment of the datagram. Out of memory, nothing changes.
-    fn take(&mut self, fragment: &Fragment<'_>) -> Result<(), Memory>
-        ensures takes { OnOk result (self.new ≡ pending_with fragment.now self.old) }
-        ensures memory { OnErr result (self.new ≡ self.old) }
+    /// Adds a fragment of the datagram, or returns the whole datagram if that is completed by it;
+    /// then it stays as it was. Out of memory, nothing changes.
+    fn take(&mut self, alloc: Global, fragment: &Fragment<'_>) -> Result<Option<Reassembled>, Memory>
     {
         if let Progress::Open(assembly) = &mut self.progress {
-            if !assembly.take(fragment)? {
-                self.progress = Progress::Discarded;
+            match assembly.relation(fragment) {
+                Relation::Copy => {}
+                Relation::Conflict => self.progress = Progress::Discarded,
+                Relation::New(place) => {
+                    if assembly.is_completed_by(fragment) {
+                        return Ok(Some(Reassembled {
+                            original: self.original,
+                            protocol: assembly.protocol_with(fragment),
+                            octets: Octets::new(assembly.octets_with(alloc, place, fragment)?),
+                        }));
+                    }
+                    assembly.keep(place, fragment)?;
+                }
             }
         }
         self.count = self.count.saturating_add(1);
-        Ok(())
-    }
-
-    /// Returns whether no octet of it is missing.
-    fn is_complete(&self) -> bool
-        ensures { result ≡ is_some (whole_of self.now) }
-    {
-        match &self.progress {
-            Progress::Open(assembly) => assembly.is_complete(),
-            Progress::Discarded => false,
-        }
-    }
-
-    /// Returns the whole datagram, if no octet of it is missing.
-    fn into_whole(self) -> Option<Reassembled>
-        ensures { result ≡ whole_of self }
-    {
-        let Pending {
-            original,
-            progress,
-            ..
-        } = self;
-        match progress {
-            Progress::Open(assembly) if assembly.is_complete() => {
-                let (protocol, octets) = assembly.into_parts();
-                Some(Reassembled {
-                    original,
-                    protocol,
-                    octets: Octets::new(octets),
-                })
-            }
-            Progress::Open(_) | Progress::Discarded => None,
-        }
+        Ok(None)
     }
 }
 
@@ -156,11 +137,11 @@ impl Reassembled {
 impl Fragments {
     /// Creates a table of no datagrams.
     pub fn new(alloc: Global) -> Fragments
-        ensures { result ≡ no_fragments }
     {
         Fragments {
             alloc,
             pending: Vec::new(alloc),
+            places: Vec::new(alloc),
             given_up: 0,
         }
     }
@@ -170,75 +151,84 @@ impl Fragments {
     /// any other way, ends after 65535 octets, was not captured whole, has no multiple of 8 octets
     /// without being the last, or disagrees about the end, its datagram is discarded, and so are
     /// its later fragments until it is given up. Out of memory, nothing changes.
-    #[tactic(auto, unfolding(crate::specs::Fragments::step))]
     pub fn take(&mut self, fragment: &Fragment<'_>) -> Result<Option<Reassembled>, Memory>
-        ensures whole { IfOk result (λ whole. whole ≡ (step self.old fragment.now).0) }
-        ensures state { OnOk result (self.new ≡ (step self.old fragment.now).1) }
-        ensures memory { OnErr result (self.new ≡ self.old) }
     {
-        let place = match self.index_of(&fragment.original) {
-            Some(place) => {
-                self.pending[place].take(fragment)?;
-                place
-            }
-            None => self.begin(fragment)?,
-        };
-        Ok(self.finish(place))
+        match self.search(&fragment.original) {
+            Ok(at) => self.go_on(at, fragment),
+            Err(at) => self.begin(at, fragment),
+        }
     }
 
     /// Returns how many fragments came of which no whole datagram came, at most 2^64 - 1.
-    #[tactic(auto, unfolding(crate::specs::Fragments::unread))]
     pub fn unread(&self) -> u64
-        ensures { result ≡ unread self.now }
     {
         self.pending.iter().fold(self.given_up, |count, pending| {
             count.saturating_add(pending.count)
         })
     }
 
-    /// Returns the place of a datagram.
-    fn index_of(&self, original: &Original) -> Option<usize>
-        ensures { result ≡ index_of original.now self.now.pending }
+    /// Returns where the places have that of a datagram, or else where they would have it.
+    fn search(&self, original: &Original) -> Result<usize, usize>
     {
-        self.pending
-            .iter()
-            .position(|other| other.original.is_same(original))
+        self.places.binary_search_by(|place| match self.pending.get(*place) {
+            Some(pending) => pending.original.cmp(original),
+            None => Ordering::Greater,
+        })
+    }
+
+    /// Adds a fragment of a datagram, whose place is at an index of the places.
+    fn go_on(&mut self, at: usize, fragment: &Fragment<'_>) -> Result<Option<Reassembled>, Memory>
+    {
+        let place = self.places[at];
+        let whole = self.pending[place].take(self.alloc, fragment)?;
+        if whole.is_some() {
+            self.remove(at, place);
+        }
+        Ok(whole)
+    }
+
+    /// Removes the datagram at a place, which is at an index of the places.
+    fn remove(&mut self, at: usize, place: usize) -> Box<Pending>
+    {
+        self.places.remove(at);
+        for other in self.places.iter_mut() {
+            if *other > place {
+                *other -= 1;
+            }
+        }
+        self.pending.remove(place)
     }
 
     /// Gives up the datagram that began first, if there are more than 1024.
     fn give_up_first(&mut self)
-        ensures within_limit { self.new ≡ within_limit self.old }
-        ensures some { 0 < length self.old.pending → 0 < length self.new.pending }
     {
-        if self.pending.len() > MOST_DATAGRAMS {
-            let first = self.pending.remove(0);
-            self.given_up = self.given_up.saturating_add(first.count);
+        if let Some(first) = self.pending.first() {
+            if let Ok(at) = self.search(&first.original) {
+                let first = self.remove(at, 0);
+                self.given_up = self.given_up.saturating_add(first.count);
+            }
         }
     }
 
-    /// Begins a datagram with a fragment, and returns its place. Out of memory, nothing changes.
-    fn begin(&mut self, fragment: &Fragment<'_>) -> Result<usize, Memory>
-        ensures begins { IfOk result (λ place. (self.new, place) ≡ with_fragment_at self.old fragment.now None) }
-        ensures within { IfOk result (λ place. place < length self.new.pending) }
-        ensures memory { OnErr result (self.new ≡ self.old) }
+    /// Begins a datagram with a fragment, and returns it if it is whole with that. Out of memory, nothing changes.
+    fn begin(&mut self, at: usize, fragment: &Fragment<'_>) -> Result<Option<Reassembled>, Memory>
     {
+        let place = self.pending.len();
         let mut pending = Pending::new(self.alloc, fragment.original);
-        pending.take(fragment)?;
-        self.pending.push(pending)?;
-        self.give_up_first();
-        Ok(self.pending.len().saturating_sub(1))
-    }
-
-    /// Removes and returns the datagram at a place, if no octet of it is missing.
-    fn finish(&mut self, place: usize) -> Option<Reassembled>
-        requires { place < length self.old.pending }
-        ensures whole { result ≡ (finished (self.old, place)).0 }
-        ensures state { self.new ≡ (finished (self.old, place)).1 }
-    {
-        if self.pending[place].is_complete() {
-            self.pending.remove(place).into_whole()
-        } else {
-            None
+        let whole = pending.take(self.alloc, fragment)?;
+        if whole.is_some() {
+            if place >= MOST_DATAGRAMS {
+                self.give_up_first();
+            }
+            return Ok(whole);
         }
+        let pending = Box::new(self.alloc, pending)?;
+        self.places.try_reserve(1)?;
+        self.pending.push(pending)?;
+        self.places.insert(at, place)?;
+        if self.pending.len() > MOST_DATAGRAMS {
+            self.give_up_first();
+        }
+        Ok(None)
     }
 }
