@@ -10,7 +10,7 @@ ghost use Rattle.krb_capture.specs.Sending.{Sent, Represents, step_of};
 
 use crate::flow::{Due, Flow, Service};
 use crate::listing::Listing;
-use crate::sending::{Sending, Step};
+use crate::sending::{Sending, Step, Stepped, Unlisted};
 use krb_der::Memory;
 use krb_flow::{Direction, Had};
 use krb_frame::Limit;
@@ -39,6 +39,17 @@ pub(crate) struct Gone {
     flow: Flow,
     /// What it had.
     had: Had,
+}
+
+/// What is left of a packet whose records are not all listed: the direction whose segment it is,
+/// which is not among those that are kept meanwhile, and octets whose frames are to be listed.
+#[derive(Drop)]
+pub struct Rest {
+    /// The flow of the direction.
+    flow: Flow,
+    last: Last,
+    step: Step,
+    left: Unlisted,
 }
 
 /// The directions that are kept. Each has the number of the packet that began it, so that they are
@@ -104,7 +115,7 @@ impl Directions {
         service: Service,
         due: Due,
         listing: &mut Listing,
-    ) -> Result<(), Memory>
+    ) -> Result<Option<Box<Rest>>, Memory>
         ensures table { OnOk result ((limit : ℕ) (table : Table) → HoldsTable self.old limit table → HoldsTable self.new limit (followed limit due.packet service segment.now table).table) }
         ensures found { OnOk result ((limit : ℕ) (table : Table) → HoldsTable self.old limit table → listing.new ≡ with_each (over_tcp due (followed limit due.packet service segment.now table).found) listing.old) }
     {
@@ -149,7 +160,7 @@ impl Directions {
         service: Service,
         due: Due,
         listing: &mut Listing,
-    ) -> Result<(), Memory>
+    ) -> Result<Option<Box<Rest>>, Memory>
         requires of_segment { flow ≡ flow_of segment.now }
         requires none { self.old.last ≡ None }
         ensures table { OnOk result ((limit : ℕ) (table : Table) → HoldsMaps self.old limit table → HoldsTable self.new limit (followed limit due.packet service segment.now table).table) }
@@ -161,7 +172,7 @@ impl Directions {
                 self.make_room(due, listing)?;
                 self.begin(flow, Direction::new(), segment, service, due, listing)
             }
-            None => Ok(()),
+            None => Ok(None),
         }
     }
 
@@ -174,7 +185,7 @@ impl Directions {
         service: Service,
         due: Due,
         listing: &mut Listing,
-    ) -> Result<(), Memory>
+    ) -> Result<Option<Box<Rest>>, Memory>
         requires of_segment { flow ≡ flow_of segment.now }
         requires none { self.old.last ≡ None }
         requires known { lookup (is_at (flow_cmp flow)) self.old.numbers.entries ≡ Some number }
@@ -205,17 +216,17 @@ impl Directions {
         service: Service,
         due: Due,
         listing: &mut Listing,
-    ) -> Result<(), Memory>
+    ) -> Result<Option<Box<Rest>>, Memory>
         requires of_segment { flow ≡ flow_of segment.now }
         requires none { self.old.last ≡ None }
         ensures table { OnOk result ((limit : ℕ) (table : Table) → HoldsMaps self.old limit table → HoldsTable self.new limit (of_ended limit due.packet number (lookup (is_at (nat_cmp number)) table.ended) service segment.now table).table) }
         ensures found { OnOk result ((limit : ℕ) (table : Table) → HoldsMaps self.old limit table → listing.new ≡ with_each (over_tcp due (of_ended limit due.packet number (lookup (is_at (nat_cmp number)) table.ended) service segment.now table).found) listing.old) }
     {
         let Some(gone) = self.ended.get(&number).copied() else {
-            return Ok(());
+            return Ok(None);
         };
         if !gone.had.is_followed_by(segment) {
-            return Ok(());
+            return Ok(None);
         }
         self.ended.remove(&number);
         let direction = Direction::ended(gone.had);
@@ -229,20 +240,20 @@ impl Directions {
         segment: &Segment<'_>,
         due: Due,
         listing: &mut Listing,
-    ) -> Result<(), Memory>
+    ) -> Result<Option<Box<Rest>>, Memory>
         requires { self.old.last ≡ None }
         ensures table { OnOk result ((limit : ℕ) (table : Table) (sent : Sent) → HoldsMaps self.old limit (without last.number table) → lookup (is_at (flow_cmp last.flow)) self.old.numbers.entries ≡ Some last.number → Represents last.sending.value limit sent → HoldsTable self.new limit (gone_on limit due.packet last.number sent segment.now table).table) }
         ensures found { OnOk result ((limit : ℕ) (table : Table) (sent : Sent) → Represents last.sending.value limit sent → listing.new ≡ with_each (over_tcp due (gone_on limit due.packet last.number sent segment.now table).found) listing.old) }
     {
         let mut sending = last.sending;
-        let step = sending.take(segment, due, &mut self.waited, listing)?;
+        let stepped = sending.take(segment, due, &mut self.waited, listing)?;
         let flow = sending.flow();
         let kept = Last {
-            flow: flow_after(last.flow, flow, step),
-            number: number_after(last.number, step, due),
+            flow: flow_after(last.flow, flow, stepped.step),
+            number: number_after(last.number, stepped.step, due),
             sending,
         };
-        self.keep(flow, kept, step)
+        self.keep_or_wait(flow, kept, stepped)
     }
 
     /// Begins a direction of a flow that has none in the table.
@@ -254,7 +265,7 @@ impl Directions {
         service: Service,
         due: Due,
         listing: &mut Listing,
-    ) -> Result<(), Memory>
+    ) -> Result<Option<Box<Rest>>, Memory>
         requires of_segment { flow ≡ flow_of segment.now }
         requires begins { (step_of direction.state segment.now).began ≡ true }
         requires none { self.old.last ≡ None }
@@ -262,13 +273,55 @@ impl Directions {
         ensures found { OnOk result ((limit : ℕ) (table : Table) → HoldsMaps self.old limit table → listing.new ≡ with_each (over_tcp due (begun limit due.packet service direction.state segment.now table).found) listing.old) }
     {
         let mut sending = Sending::new(self.alloc, self.limit, flow, service, direction);
-        let step = sending.take(segment, due, &mut self.waited, listing)?;
+        let stepped = sending.take(segment, due, &mut self.waited, listing)?;
         let kept = Last {
             flow,
             number: due.packet,
             sending: Box::new(self.alloc, sending)?,
         };
-        self.keep(flow, kept, step)
+        self.keep_or_wait(flow, kept, stepped)
+    }
+
+    /// Keeps a direction after its segment, or returns what is left of that.
+    fn keep_or_wait(
+        &mut self,
+        flow: Flow,
+        last: Last,
+        stepped: Stepped,
+    ) -> Result<Option<Box<Rest>>, Memory> {
+        let step = stepped.step;
+        match stepped.left {
+            None => {
+                self.keep(flow, last, step)?;
+                Ok(None)
+            }
+            Some(left) => Ok(Some(Box::new(
+                self.alloc,
+                Rest {
+                    flow,
+                    last,
+                    step,
+                    left,
+                },
+            )?)),
+        }
+    }
+
+    /// Goes on with a segment whose frames are not all listed. Returns what is left of it then.
+    pub(crate) fn go_on_with(
+        &mut self,
+        rest: Box<Rest>,
+        due: Due,
+        listing: &mut Listing,
+    ) -> Result<Option<Box<Rest>>, Memory> {
+        let Rest {
+            flow,
+            mut last,
+            step,
+            left,
+        } = Box::into_inner(rest);
+        let left = last.sending.go_on(left, due, listing)?;
+        self.keep_or_wait(flow, last, Stepped { step, left })
     }
 
     /// Keeps a direction of a flow by its number, or what it had if it ended.
