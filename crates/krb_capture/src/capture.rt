@@ -1,11 +1,12 @@
 //! A capture, followed packet by packet.
 
-ghost use Rattle.std.specs.Prelude.{◌≡◌, ℕ, ◌++◌, true, IfOk, IsErr, OnErr, OnOk};
+ghost use Rattle.std.specs.Prelude.{◌≡◌, ℕ, ◌++◌, true, List, Some, IfOk, IsErr, OnErr, OnOk};
 ghost use Rattle.std.specs.Option.{option_copied};
 ghost use Rattle.krb_packet.specs.Fragments.{unread};
-ghost use Rattle.krb_capture.specs.Captures.{HasFollowed, Progress, Settings, all_counts, and_counted, at_first, contents_taken, datagram_taken, end_taken, end_text, fragment_taken, is_clean, lines_of, packet_taken, refusal_text, segment_taken, unread_taken, whole_taken};
+ghost use Rattle.krb_capture.specs.Captures.{Finding, HasFollowed, Progress, Settings, all_counts, and_counted, at_first, contents_taken, datagram_taken, end_taken, end_text, fragment_taken, is_clean, lines_of, packet_taken, refusal_text, segment_taken, unread_taken, whole_taken};
 ghost use Rattle.krb_capture.specs.Flows.{service_of};
 ghost use Rattle.krb_capture.specs.Found.{totals};
+ghost use Rattle.krb_capture.specs.Rests.{HasFollowedBut, Lists};
 
 use crate::datagram::list_datagram;
 use crate::directions::{Directions, Rest};
@@ -56,8 +57,7 @@ impl Capture {
     /// Takes the next packet, and appends the records that are due with it to a text. Out of
     /// memory, the text may have some of them.
     pub fn take(&mut self, packet: &Packet, text: &mut TextBuffer) -> Result<Option<Box<Rest>>, Memory>
-        ensures followed { OnOk result ((settings : Settings) (progress : Progress) → HasFollowed self.old settings progress → HasFollowed self.new settings (packet_taken settings packet.now progress).progress) }
-        ensures listed { OnOk result ((settings : Settings) (progress : Progress) → HasFollowed self.old settings progress → text.new ≡ text.old ++ lines_of settings.form (packet_taken settings packet.now progress).found) }
+        ensures listed { IfOk result (λ rest. (settings : Settings) (progress : Progress) → HasFollowed self.old settings progress → Lists self.new settings (packet_taken settings packet.now progress) rest text.old text.new) }
         ensures failed { OnErr result (self.new.has_failed ≡ true) }
         ensures again { self.old.has_failed ≡ true → IsErr result × (self.new ≡ self.old) × (text.new ≡ text.old) }
     {
@@ -74,7 +74,11 @@ impl Capture {
         &mut self,
         rest: Box<Rest>,
         text: &mut TextBuffer,
-    ) -> Result<Option<Box<Rest>>, Memory> {
+    ) -> Result<Option<Box<Rest>>, Memory>
+        ensures listed { IfOk result (λ next. (settings : Settings) (progress : Progress) (left : List Finding) → HasFollowedBut self.old settings progress (Some rest) left → Lists self.new settings (record { found = left; progress = progress }) next text.old text.new) }
+        ensures failed { OnErr result (self.new.has_failed ≡ true) }
+        ensures again { self.old.has_failed ≡ true → IsErr result × (self.new ≡ self.old) × (text.new ≡ text.old) }
+    {
         if self.has_failed {
             return Err(Memory);
         }
@@ -88,7 +92,9 @@ impl Capture {
         &mut self,
         rest: Box<Rest>,
         text: &mut TextBuffer,
-    ) -> Result<Option<Box<Rest>>, Memory> {
+    ) -> Result<Option<Box<Rest>>, Memory>
+        ensures { IfOk result (λ next. (settings : Settings) (progress : Progress) (left : List Finding) → HasFollowedBut self.old settings progress (Some rest) left → Lists self.new settings (record { found = left; progress = progress }) next text.old text.new) }
+    {
         self.listing.swap_text(text);
         let gone = self
             .directions
@@ -99,8 +105,7 @@ impl Capture {
 
     /// Takes the next packet, and appends the records that are due with it to a text.
     fn take_packet(&mut self, packet: &Packet, text: &mut TextBuffer) -> Result<Option<Box<Rest>>, Memory>
-        ensures followed { OnOk result ((settings : Settings) (progress : Progress) → HasFollowed self.old settings progress → HasFollowed self.new settings (packet_taken settings packet.now progress).progress) }
-        ensures listed { OnOk result ((settings : Settings) (progress : Progress) → HasFollowed self.old settings progress → text.new ≡ text.old ++ lines_of settings.form (packet_taken settings packet.now progress).found) }
+        ensures { IfOk result (λ rest. (settings : Settings) (progress : Progress) → HasFollowed self.old settings progress → Lists self.new settings (packet_taken settings packet.now progress) rest text.old text.new) }
     {
         self.listing.swap_text(text);
         self.last = Due::with(packet);
@@ -112,8 +117,7 @@ impl Capture {
 
     /// Lists what a packet carries.
     fn take_contents(&mut self, contents: Contents<'_>) -> Result<Option<Box<Rest>>, Memory>
-        ensures followed { OnOk result ((settings : Settings) (progress : Progress) → HasFollowed self.old settings progress → HasFollowed self.new settings (and_counted (contents_taken settings contents.entry progress)).progress) }
-        ensures listed { OnOk result ((settings : Settings) (progress : Progress) → HasFollowed self.old settings progress → self.new.listing.text ≡ self.old.listing.text ++ lines_of settings.form (contents_taken settings contents.entry progress).found) }
+        ensures { IfOk result (λ rest. (settings : Settings) (progress : Progress) → HasFollowed self.old settings progress → Lists self.new settings (and_counted (contents_taken settings contents.entry progress)) rest self.old.listing.text self.new.listing.text) }
     {
         match &contents {
             Contents::Fragment(fragment) => self.take_fragment(fragment),
@@ -123,8 +127,7 @@ impl Capture {
 
     /// Lists what a datagram carries that a fragment completes.
     fn take_fragment(&mut self, fragment: &Fragment<'_>) -> Result<Option<Box<Rest>>, Memory>
-        ensures followed { OnOk result ((settings : Settings) (progress : Progress) → HasFollowed self.old settings progress → HasFollowed self.new settings (and_counted (fragment_taken settings fragment.now progress)).progress) }
-        ensures listed { OnOk result ((settings : Settings) (progress : Progress) → HasFollowed self.old settings progress → self.new.listing.text ≡ self.old.listing.text ++ lines_of settings.form (fragment_taken settings fragment.now progress).found) }
+        ensures { IfOk result (λ rest. (settings : Settings) (progress : Progress) → HasFollowed self.old settings progress → Lists self.new settings (and_counted (fragment_taken settings fragment.now progress)) rest self.old.listing.text self.new.listing.text) }
     {
         match self.fragments.take(fragment)? {
             Some(whole) => self.take_whole(&whole.contents()),
@@ -134,8 +137,7 @@ impl Capture {
 
     /// Lists what is all there.
     fn take_whole(&mut self, contents: &Contents<'_>) -> Result<Option<Box<Rest>>, Memory>
-        ensures followed { OnOk result ((settings : Settings) (progress : Progress) → HasFollowed self.old settings progress → HasFollowed self.new settings (and_counted (whole_taken settings contents.now progress)).progress) }
-        ensures listed { OnOk result ((settings : Settings) (progress : Progress) → HasFollowed self.old settings progress → self.new.listing.text ≡ self.old.listing.text ++ lines_of settings.form (whole_taken settings contents.now progress).found) }
+        ensures { IfOk result (λ rest. (settings : Settings) (progress : Progress) → HasFollowed self.old settings progress → Lists self.new settings (and_counted (whole_taken settings contents.now progress)) rest self.old.listing.text self.new.listing.text) }
     {
         match contents {
             Contents::Datagram(datagram) => {
@@ -179,8 +181,7 @@ impl Capture {
 
     /// Lists what is found with a segment of TCP, if it is of Kerberos.
     fn take_segment(&mut self, segment: &Segment<'_>) -> Result<Option<Box<Rest>>, Memory>
-        ensures followed { OnOk result ((settings : Settings) (progress : Progress) → HasFollowed self.old settings progress → HasFollowed self.new settings (and_counted (segment_taken settings.limit (service_of settings.port segment.now.source segment.now.target) segment.now progress)).progress) }
-        ensures listed { OnOk result ((settings : Settings) (progress : Progress) → HasFollowed self.old settings progress → self.new.listing.text ≡ self.old.listing.text ++ lines_of settings.form (segment_taken settings.limit (service_of settings.port segment.now.source segment.now.target) segment.now progress).found) }
+        ensures { IfOk result (λ rest. (settings : Settings) (progress : Progress) → HasFollowed self.old settings progress → Lists self.new settings (and_counted (segment_taken settings.limit (service_of settings.port segment.now.source segment.now.target) segment.now progress)) rest self.old.listing.text self.new.listing.text) }
     {
         let Some(service) = Service::between(self.port, segment.source, segment.target) else {
             return Ok(None);

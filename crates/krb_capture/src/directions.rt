@@ -1,11 +1,13 @@
 //! The directions of TCP connections, by their flows.
 
-ghost use Rattle.std.specs.Prelude.{◌≡◌, ℕ, true, None, Some, if◌then◌else◌, OnOk, IfSome, IfNone};
+ghost use Rattle.std.specs.Prelude.{◌≡◌, ℕ, true, List, None, Some, if◌then◌else◌, IfOk, OnOk, IfSome, IfNone};
 ghost use Rattle.std.specs.BTreeMap.{insert_entry, is_at};
 ghost use Rattle.std.specs.Map.{lookup};
 ghost use Rattle.std.specs.Ordering.{eq_by_cmp, nat_cmp};
-ghost use Rattle.krb_capture.specs.Captures.{over_tcp, with_each};
-ghost use Rattle.krb_capture.specs.Directions.{HoldsMaps, HoldsTable, IsKnown, Table, begins, begun, flow_cmp, flow_of, followed, gone_on, kept, last_of, no_directions, of_ended, of_known, with_room, without};
+ghost use Rattle.krb_capture.specs.Captures.{Finding, over_tcp, with_each};
+ghost use Rattle.krb_capture.specs.Directions.{HoldsMaps, HoldsTable, IsKnown, Table, begins, begun, flow_cmp, flow_of, followed, gone_on, in_flow, kept, last_of, no_directions, of_ended, of_known, with_room, without};
+ghost use Rattle.krb_capture.specs.Found.{Found};
+ghost use Rattle.krb_capture.specs.Rests.{Follows, HoldsBut, HoldsSome, RepresentsBut};
 ghost use Rattle.krb_capture.specs.Sending.{Sent, Represents, step_of};
 
 use crate::flow::{Due, Flow, Service};
@@ -116,8 +118,7 @@ impl Directions {
         due: Due,
         listing: &mut Listing,
     ) -> Result<Option<Box<Rest>>, Memory>
-        ensures table { OnOk result ((limit : ℕ) (table : Table) → HoldsTable self.old limit table → HoldsTable self.new limit (followed limit due.packet service segment.now table).table) }
-        ensures found { OnOk result ((limit : ℕ) (table : Table) → HoldsTable self.old limit table → listing.new ≡ with_each (over_tcp due (followed limit due.packet service segment.now table).found) listing.old) }
+        ensures { IfOk result (λ rest. (limit : ℕ) (table : Table) → HoldsTable self.old limit table → Follows self.new limit (followed limit due.packet service segment.now table).table due rest (over_tcp due (followed limit due.packet service segment.now table).found) listing.old listing.new) }
     {
         let flow = Flow::between(segment.source, segment.target);
         match self.last_of(&flow) {
@@ -163,8 +164,7 @@ impl Directions {
     ) -> Result<Option<Box<Rest>>, Memory>
         requires of_segment { flow ≡ flow_of segment.now }
         requires none { self.old.last ≡ None }
-        ensures table { OnOk result ((limit : ℕ) (table : Table) → HoldsMaps self.old limit table → HoldsTable self.new limit (followed limit due.packet service segment.now table).table) }
-        ensures found { OnOk result ((limit : ℕ) (table : Table) → HoldsMaps self.old limit table → listing.new ≡ with_each (over_tcp due (followed limit due.packet service segment.now table).found) listing.old) }
+        ensures { IfOk result (λ rest. (limit : ℕ) (table : Table) → HoldsMaps self.old limit table → Follows self.new limit (followed limit due.packet service segment.now table).table due rest (over_tcp due (followed limit due.packet service segment.now table).found) listing.old listing.new) }
     {
         match self.numbers.get(&flow).copied() {
             Some(number) => self.take_known(flow, number, segment, service, due, listing),
@@ -189,8 +189,7 @@ impl Directions {
         requires of_segment { flow ≡ flow_of segment.now }
         requires none { self.old.last ≡ None }
         requires known { lookup (is_at (flow_cmp flow)) self.old.numbers.entries ≡ Some number }
-        ensures table { OnOk result ((limit : ℕ) (table : Table) → HoldsMaps self.old limit table → HoldsTable self.new limit (of_known limit due.packet number (lookup (is_at (nat_cmp number)) table.active) service segment.now table).table) }
-        ensures found { OnOk result ((limit : ℕ) (table : Table) → HoldsMaps self.old limit table → listing.new ≡ with_each (over_tcp due (of_known limit due.packet number (lookup (is_at (nat_cmp number)) table.active) service segment.now table).found) listing.old) }
+        ensures { IfOk result (λ rest. (limit : ℕ) (table : Table) → HoldsMaps self.old limit table → Follows self.new limit (of_known limit due.packet number (lookup (is_at (nat_cmp number)) table.active) service segment.now table).table due rest (over_tcp due (of_known limit due.packet number (lookup (is_at (nat_cmp number)) table.active) service segment.now table).found) listing.old listing.new) }
     {
         match self.active.remove(&number) {
             Some(sending) => self.go_on(
@@ -219,8 +218,7 @@ impl Directions {
     ) -> Result<Option<Box<Rest>>, Memory>
         requires of_segment { flow ≡ flow_of segment.now }
         requires none { self.old.last ≡ None }
-        ensures table { OnOk result ((limit : ℕ) (table : Table) → HoldsMaps self.old limit table → HoldsTable self.new limit (of_ended limit due.packet number (lookup (is_at (nat_cmp number)) table.ended) service segment.now table).table) }
-        ensures found { OnOk result ((limit : ℕ) (table : Table) → HoldsMaps self.old limit table → listing.new ≡ with_each (over_tcp due (of_ended limit due.packet number (lookup (is_at (nat_cmp number)) table.ended) service segment.now table).found) listing.old) }
+        ensures { IfOk result (λ rest. (limit : ℕ) (table : Table) → HoldsMaps self.old limit table → Follows self.new limit (of_ended limit due.packet number (lookup (is_at (nat_cmp number)) table.ended) service segment.now table).table due rest (over_tcp due (of_ended limit due.packet number (lookup (is_at (nat_cmp number)) table.ended) service segment.now table).found) listing.old listing.new) }
     {
         let Some(gone) = self.ended.get(&number).copied() else {
             return Ok(None);
@@ -242,8 +240,7 @@ impl Directions {
         listing: &mut Listing,
     ) -> Result<Option<Box<Rest>>, Memory>
         requires { self.old.last ≡ None }
-        ensures table { OnOk result ((limit : ℕ) (table : Table) (sent : Sent) → HoldsMaps self.old limit (without last.number table) → lookup (is_at (flow_cmp last.flow)) self.old.numbers.entries ≡ Some last.number → Represents last.sending.value limit sent → HoldsTable self.new limit (gone_on limit due.packet last.number sent segment.now table).table) }
-        ensures found { OnOk result ((limit : ℕ) (table : Table) (sent : Sent) → Represents last.sending.value limit sent → listing.new ≡ with_each (over_tcp due (gone_on limit due.packet last.number sent segment.now table).found) listing.old) }
+        ensures { IfOk result (λ rest. (limit : ℕ) (table : Table) (sent : Sent) → HoldsMaps self.old limit (without last.number table) → lookup (is_at (flow_cmp last.flow)) self.old.numbers.entries ≡ Some last.number → Represents last.sending.value limit sent → Follows self.new limit (gone_on limit due.packet last.number sent segment.now table).table due rest (over_tcp due (gone_on limit due.packet last.number sent segment.now table).found) listing.old listing.new) }
     {
         let mut sending = last.sending;
         let stepped = sending.take(segment, due, &mut self.waited, listing)?;
@@ -269,8 +266,7 @@ impl Directions {
         requires of_segment { flow ≡ flow_of segment.now }
         requires begins { (step_of direction.state segment.now).began ≡ true }
         requires none { self.old.last ≡ None }
-        ensures table { OnOk result ((limit : ℕ) (table : Table) → HoldsMaps self.old limit table → HoldsTable self.new limit (begun limit due.packet service direction.state segment.now table).table) }
-        ensures found { OnOk result ((limit : ℕ) (table : Table) → HoldsMaps self.old limit table → listing.new ≡ with_each (over_tcp due (begun limit due.packet service direction.state segment.now table).found) listing.old) }
+        ensures { IfOk result (λ rest. (limit : ℕ) (table : Table) → HoldsMaps self.old limit table → Follows self.new limit (begun limit due.packet service direction.state segment.now table).table due rest (over_tcp due (begun limit due.packet service direction.state segment.now table).found) listing.old listing.new) }
     {
         let mut sending = Sending::new(self.alloc, self.limit, flow, service, direction);
         let stepped = sending.take(segment, due, &mut self.waited, listing)?;
@@ -288,7 +284,10 @@ impl Directions {
         flow: Flow,
         last: Last,
         stepped: Stepped,
-    ) -> Result<Option<Box<Rest>>, Memory> {
+    ) -> Result<Option<Box<Rest>>, Memory>
+        requires { self.old.last ≡ None }
+        ensures { IfOk result (λ rest. (limit : ℕ) (table : Table) (sent : Sent) (due : Due) (left : List Found) → HoldsMaps self.old limit table → IsKnown stepped.step.began flow last self.old.numbers.entries → RepresentsBut last.sending.value limit sent stepped.left left → HoldsSome self.new limit (kept flow last.number stepped.step sent table) due rest (over_tcp due (in_flow sent.flow left))) }
+    {
         let step = stepped.step;
         match stepped.left {
             None => {
@@ -313,7 +312,10 @@ impl Directions {
         rest: Box<Rest>,
         due: Due,
         listing: &mut Listing,
-    ) -> Result<Option<Box<Rest>>, Memory> {
+    ) -> Result<Option<Box<Rest>>, Memory>
+        ensures { IfOk result (λ next. (limit : ℕ) (table : Table) (found : List Finding) → HoldsBut self.old limit table due rest.value found → Follows self.new limit table due next found listing.old listing.new) }
+    {
+        self.put_back()?;
         let Rest {
             flow,
             mut last,

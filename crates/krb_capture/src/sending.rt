@@ -1,9 +1,10 @@
 //! What one end of a TCP connection sends.
 
-ghost use Rattle.std.specs.Prelude.{◌≡◌, ℕ, List, IfOk, OnOk};
+ghost use Rattle.std.specs.Prelude.{◌≡◌, ◌≤◌, ℕ, List, ◌++◌, drop, length, Some, IfOk, OnOk};
 ghost use Rattle.krb_text.specs.declared.origin.Transport.TheVariants as transports;
 ghost use Rattle.krb_capture.specs.Flows.{origin_of};
-ghost use Rattle.krb_capture.specs.Found.{with_all};
+ghost use Rattle.krb_capture.specs.Found.{Found, with_all};
+ghost use Rattle.krb_capture.specs.Rests.{RepresentsBut, Sends, Takes};
 ghost use Rattle.krb_capture.specs.Sending.{Sent, Represents, after_segment, beginning_found, end_if, last_found, segment_found, sent_from, step_of, stream_at};
 ghost use Rattle.krb_capture.specs.Taken.{Took, service_of};
 
@@ -150,7 +151,7 @@ impl Sending {
     ) -> Result<Stepped, Memory>
         ensures flow { self.new.flow ≡ self.old.flow }
         ensures step { IfOk result (λ stepped. stepped.step ≡ step_of self.old.direction.state segment.now) }
-        ensures found { IfOk result (λ stepped. (limit : ℕ) (sent : Sent) → Represents self.old limit sent → Sends self.new limit (after_segment sent segment.now) stepped.left (with_all (origin_of due transports.Tcp self.old.flow.source self.old.flow.target)) (segment_found limit sent segment.now) listing.old listing.new) }
+        ensures found { IfOk result (λ stepped. (limit : ℕ) (sent : Sent) → Represents self.old limit sent → Sends self.new limit (after_segment sent segment.now) stepped.left (origin_of due transports.Tcp self.old.flow.source self.old.flow.target) (segment_found limit sent segment.now) listing.old listing.new) }
     {
         let origin = due.over_tcp(self.flow);
         let taken = self.direction.take(self.alloc, segment, waited)?;
@@ -174,7 +175,10 @@ impl Sending {
         left: Unlisted,
         due: Due,
         listing: &mut Listing,
-    ) -> Result<Option<Unlisted>, Memory> {
+    ) -> Result<Option<Unlisted>, Memory>
+        ensures flow { self.new.flow ≡ self.old.flow }
+        ensures found { IfOk result (λ rest. (limit : ℕ) (sent : Sent) (found : List Found) → RepresentsBut self.old limit sent (Some left) found → Sends self.new limit sent rest (origin_of due transports.Tcp self.old.flow.source self.old.flow.target) found listing.old listing.new) }
+    {
         let origin = due.over_tcp(self.flow);
         self.list_left(left, &origin, listing)
     }
@@ -188,7 +192,11 @@ impl Sending {
         end: Option<End>,
         origin: &Origin,
         listing: &mut Listing,
-    ) -> Result<Option<Unlisted>, Memory> {
+    ) -> Result<Option<Unlisted>, Memory>
+        ensures same { self.new ≡ record self.old { frames = self.new.frames } }
+        ensures service { OnOk result (service_of self.new.frames ≡ service_of self.old.frames) }
+        ensures found { IfOk result (λ rest. (limit : ℕ) (stream : List ℕ) → Took self.old.frames limit stream → Takes self.old.frames self.new.frames limit stream (record { octets = octets.now ++ others.now; end = end }) rest origin.now listing.old listing.new) }
+    {
         let count = self.frames.take(octets, origin, listing)?;
         if (count == octets.len()) & others.is_empty() {
             self.list_end(end, origin, listing)?;
@@ -204,7 +212,11 @@ impl Sending {
         mut left: Unlisted,
         origin: &Origin,
         listing: &mut Listing,
-    ) -> Result<Option<Unlisted>, Memory> {
+    ) -> Result<Option<Unlisted>, Memory>
+        ensures same { self.new ≡ record self.old { frames = self.new.frames } }
+        ensures service { OnOk result (service_of self.new.frames ≡ service_of self.old.frames) }
+        ensures found { IfOk result (λ rest. (limit : ℕ) (stream : List ℕ) → Took self.old.frames limit stream → Takes self.old.frames self.new.frames limit stream left rest origin.now listing.old listing.new) }
+    {
         let count = self.frames.take(left.octets(), origin, listing)?;
         left.pass(count);
         if !left.octets().is_empty() {
