@@ -1,5 +1,6 @@
 -- What a capture keeps after what is found is listed.
-use Rattle.std.proofs.Common.{◌≡◌, ℕ, List, ◌++◌, Option, Some, sym, ◌∙◌, ap, subst, append_assoc}
+use Rattle.std.proofs.Common.{◌≡◌, ℕ, List, [], ◌∷◌, ◌++◌, Option, Some, None, Box, refl, sym, ◌∙◌, ap, subst, append_assoc, append-nil}
+use Rattle.std.specs.declared.alloc.Global.{Global}
 use Rattle.krb_packet.specs.Fragments.{unread}
 use Rattle.krb_packet.specs.declared.contents.Datagram.{Datagram}
 use Rattle.krb_packet.specs.declared.contents.Segment.{Segment}
@@ -9,12 +10,14 @@ use Rattle.krb_text.specs.declared.capture.CaptureCounts.{CaptureCounts}
 use Rattle.krb_text.specs.declared.form.Form.{Form}
 use Rattle.krb_text.specs.declared.origin.Origin.{Origin}
 use Rattle.krb_text.specs.declared.origin.Transport.TheVariants as transports
-use Rattle.krb_capture.specs.Captures.{Finding, HasFollowed, Progress, Settings, all_counts, and_counted, counted_each, datagram_taken, end_taken, end_text, refusal_text, lines_of, over_tcp, over_udp, segment_taken, with_each}
+use Rattle.krb_capture.specs.Captures.{Finding, HasFollowed, Progress, Settings, Taken, all_counts, and_counted, counted_each, datagram_taken, end_taken, end_text, refusal_text, lines_of, over_tcp, over_udp, segment_taken, with_each}
 use Rattle.krb_capture.specs.Datagrams.{datagram_found}
 use Rattle.krb_capture.specs.Directions.{HoldsTable, Table, followed, last_of}
 use Rattle.krb_capture.specs.Flows.{origin_of, service_of}
-use Rattle.krb_capture.specs.Found.{Written, totals, with_all}
+use Rattle.krb_capture.specs.Found.{Written, counted, totals, with_all}
+use Rattle.krb_capture.specs.Rests.{Follows, HasFollowedBut, HoldsSome, Lists}
 use Rattle.krb_capture.specs.declared.capture.Capture.{Capture}
+use Rattle.krb_capture.specs.declared.directions.Rest.{Rest}
 use Rattle.krb_capture.specs.declared.flow.Service.{Service}
 use Rattle.krb_capture.proofs.Written.{counts-each, form-each, text-each, with_each-datagram}
 
@@ -45,13 +48,90 @@ datagram-steps old new settings progress service datagram origin h s o l p g d t
     (l ∙ ap (λ x. with_all x found old.listing) (o ∙ ap (λ x. origin_of x transports.Udp datagram.source datagram.target) h.last) ∙ sym (with_each-datagram progress.last datagram found old.listing))
     p g t)
 
-pub segment-steps : (old new : Capture) (settings : Settings) (progress : Progress) (service : Service) (segment : Segment) → HasFollowed old settings progress → service_of old.port segment.source segment.target ≡ Some service → HoldsTable new.directions settings.limit (followed settings.limit old.last.packet service segment progress.table).table → new.listing ≡ with_each (over_tcp old.last (followed settings.limit old.last.packet service segment progress.table).found) old.listing → new.port ≡ old.port → new.fragments ≡ old.fragments → new.last ≡ old.last → Steps old new settings (segment_taken settings.limit (service_of settings.port segment.source segment.target) segment progress).found (and_counted (segment_taken settings.limit (service_of settings.port segment.source segment.target) segment progress)).progress
-segment-steps old new settings progress service segment h s t l p g e =
-    subst (λ x. Steps old new settings (segment_taken settings.limit x segment progress).found (and_counted (segment_taken settings.limit x segment progress)).progress) (sym (ap (λ n. service_of n segment.source segment.target) (sym h.port) ∙ s))
-    (steps old new settings progress (over_tcp progress.last (followed settings.limit progress.last.packet service segment progress.table).found) (followed settings.limit progress.last.packet service segment progress.table).table h
-    (subst (λ x. HoldsTable new.directions settings.limit (followed settings.limit x.packet service segment progress.table).table) h.last t)
-    (l ∙ ap (λ x. with_each (over_tcp x (followed settings.limit x.packet service segment progress.table).found) old.listing) h.last)
-    p g e)
+-- all of it was listed
+pub lists-whole : (new : Capture) (settings : Settings) (taken : Taken) (before after : List ℕ) → HasFollowed new settings taken.progress → after ≡ before ++ lines_of settings.form taken.found → Lists new settings taken None before after
+lists-whole new settings taken before after h e = record {
+  listed = taken.found;
+  left = [];
+  parts = sym (append-nil taken.found);
+  text = e;
+  followed = record { port = h.port; form = h.form; fragments = h.fragments; table = (h.table, refl); last = h.last; counts = h.counts };
+}
+
+counted-append : (xs ys : List Finding) (counts : CaptureCounts) → counted_each (xs ++ ys) counts ≡ counted_each ys (counted_each xs counts)
+counted-append [] ys counts = refl
+counted-append (x ∷ xs) ys counts = counted-append xs ys (counted x.1 counts)
+
+-- what is found of a table, of which some is listed
+abbrev pub found-in : Settings → Progress → Table → List Finding → Taken
+found-in settings progress table found = record { found = found; progress = record { fragments = progress.fragments; table = table; last = progress.last; counts = counted_each found progress.counts } }
+
+pub lists-some : (old new : Capture) (settings : Settings) (progress : Progress) (table : Table) (rest : Option (Box Rest Global)) (found : List Finding) → HasFollowed old settings progress → Follows new.directions settings.limit table old.last rest found old.listing new.listing → new.port ≡ old.port → new.fragments ≡ old.fragments → new.last ≡ old.last → Lists new settings (found-in settings progress table found) rest old.listing.text new.listing.text
+lists-some old new settings progress table rest found h f p g l = record {
+  listed = f.listed;
+  left = f.left;
+  parts = f.parts;
+  text = ap (λ w. w.text) f.written ∙ text-each f.listed old.listing ∙ ap (λ x. old.listing.text ++ lines_of x f.listed) h.form;
+  followed = record {
+    port = p ∙ h.port;
+    form = ap (λ w. w.form) f.written ∙ form-each f.listed old.listing ∙ h.form;
+    fragments = g ∙ h.fragments;
+    table = subst (λ due. HoldsSome new.directions settings.limit table due rest f.left) (sym l) f.holds;
+    last = l ∙ h.last;
+    counts =
+        ap (λ w. counted_each f.left w.counts) f.written
+        ∙ ap (λ x. counted_each f.left x) (counts-each f.listed old.listing)
+        ∙ sym (counted-append f.listed f.left old.listing.counts)
+        ∙ ap (λ xs. counted_each xs old.listing.counts) (sym f.parts)
+        ∙ ap (λ x. counted_each found x) h.counts;
+  };
+}
+
+-- what is found with a segment
+pub segment-lists : (old new : Capture) (settings : Settings) (progress : Progress) (service : Service) (segment : Segment) (rest : Option (Box Rest Global)) → HasFollowed old settings progress → service_of old.port segment.source segment.target ≡ Some service → Follows new.directions settings.limit (followed settings.limit old.last.packet service segment progress.table).table old.last rest (over_tcp old.last (followed settings.limit old.last.packet service segment progress.table).found) old.listing new.listing → new.port ≡ old.port → new.fragments ≡ old.fragments → new.last ≡ old.last → Lists new settings (and_counted (segment_taken settings.limit (service_of settings.port segment.source segment.target) segment progress)) rest old.listing.text new.listing.text
+segment-lists old new settings progress service segment rest h s f p g e =
+    subst (λ x. Lists new settings (and_counted (segment_taken settings.limit x segment progress)) rest old.listing.text new.listing.text) (sym (ap (λ n. service_of n segment.source segment.target) (sym h.port) ∙ s))
+    (subst (λ x. Lists new settings (found-in settings progress (followed settings.limit x.packet service segment progress.table).table (over_tcp x (followed settings.limit x.packet service segment progress.table).found)) rest old.listing.text new.listing.text) h.last
+    (lists-some old new settings progress (followed settings.limit old.last.packet service segment progress.table).table rest (over_tcp old.last (followed settings.limit old.last.packet service segment progress.table).found) h f p g e))
+
+-- the text is written elsewhere
+pub lists-text : (one other : Capture) (settings : Settings) (taken : Taken) (rest : Option (Box Rest Global)) (before after : List ℕ) → Lists one settings taken rest before after → other.port ≡ one.port → other.fragments ≡ one.fragments → other.directions ≡ one.directions → other.last ≡ one.last → other.listing.form ≡ one.listing.form → other.listing.counts ≡ one.listing.counts → Lists other settings taken rest before after
+lists-text one other settings taken rest before after l p g d e f c = record {
+  listed = l.listed;
+  left = l.left;
+  parts = l.parts;
+  text = l.text;
+  followed = record {
+    port = p ∙ l.followed.port;
+    form = f ∙ l.followed.form;
+    fragments = g ∙ l.followed.fragments;
+    table = subst (λ x. HoldsSome x settings.limit taken.progress.table other.last rest l.left) (sym d) (subst (λ x. HoldsSome one.directions settings.limit taken.progress.table x rest l.left) (sym e) l.followed.table);
+    last = e ∙ l.followed.last;
+    counts = ap (λ x. counted_each l.left x) c ∙ l.followed.counts;
+  };
+}
+
+-- others of those that are left were listed
+pub lists-rest : (old new : Capture) (settings : Settings) (progress : Progress) (rest : Box Rest Global) (next : Option (Box Rest Global)) (left : List Finding) → HasFollowedBut old settings progress (Some rest) left → Follows new.directions settings.limit progress.table old.last next left old.listing new.listing → new.port ≡ old.port → new.fragments ≡ old.fragments → new.last ≡ old.last → Lists new settings (record { found = left; progress = progress }) next old.listing.text new.listing.text
+lists-rest old new settings progress rest next left h f p g l = record {
+  listed = f.listed;
+  left = f.left;
+  parts = f.parts;
+  text = ap (λ w. w.text) f.written ∙ text-each f.listed old.listing ∙ ap (λ x. old.listing.text ++ lines_of x f.listed) h.form;
+  followed = record {
+    port = p ∙ h.port;
+    form = ap (λ w. w.form) f.written ∙ form-each f.listed old.listing ∙ h.form;
+    fragments = g ∙ h.fragments;
+    table = subst (λ due. HoldsSome new.directions settings.limit progress.table due next f.left) (sym l) f.holds;
+    last = l ∙ h.last;
+    counts =
+        ap (λ w. counted_each f.left w.counts) f.written
+        ∙ ap (λ x. counted_each f.left x) (counts-each f.listed old.listing)
+        ∙ sym (counted-append f.listed f.left old.listing.counts)
+        ∙ ap (λ xs. counted_each xs old.listing.counts) (sym f.parts)
+        ∙ h.counts;
+  };
+}
 
 -- ---- the end of the file
 pub end-counts : (old : Capture) (settings : Settings) (progress : Progress) (written : Written) (shown : CaptureCounts) → HasFollowed old settings progress → written ≡ with_each (over_tcp old.last (last_of settings.limit progress.table.active)) old.listing → shown ≡ totals (unread old.fragments) written.counts → shown ≡ totals (unread progress.fragments) (counted_each (over_tcp progress.last (last_of settings.limit progress.table.active)) progress.counts)

@@ -3,6 +3,7 @@ mod Ends
 mod Extends
 mod Feeding
 mod Following
+mod Follows
 mod Found
 mod Framed
 mod Listed
@@ -12,6 +13,7 @@ mod Parts
 mod Passed
 mod PasswordEnds
 mod Prefixes
+mod Rests
 mod Sendings
 mod Tables
 mod Taken

@@ -20,7 +20,7 @@ use Rattle.krb_frame.proofs.Ends.{refused_end}
 use Rattle.krb_frame.proofs.DecoderFrames.{more-nothing}
 use Rattle.krb_text.specs.declared.origin.Origin.{Origin}
 use Rattle.krb_capture.specs.Found.{Whole, Written, with_all, with_found}
-use Rattle.krb_capture.specs.Listed.{Lists, ListsPrefix, ListsLast, ListsOne, ListsRefused, status_in}
+use Rattle.krb_capture.specs.Listed.{Lists, ListsPrefix, ListsLast, ListsOne, ListsRefused, ListsUpTo, status_in}
 use Rattle.krb_capture.specs.Streams.{entry_found}
 use Rattle.krb_capture.specs.Taken.{IsDone}
 use Rattle.krb_capture.proofs.Found.{with_all-append}
@@ -206,6 +206,14 @@ lists-refused old new refusal true origin before after st s l =
       };
       waits = left_waits old new left;
     }
+
+-- ---- the octets before a rest
+pub up-to : (limit : ℕ) (old new : Skipping) (piece rest : List ℕ) (origin : Origin) (before after : Written) → ListsPrefix old new piece rest origin before after → status_in new ≡ status.More → ListsUpTo limit rest old new piece origin before after
+up-to limit old new piece rest origin before after l e = record {
+  used = l.used;
+  parts = l.parts;
+  lists = record { prefix = record { used = l.used; parts = sym (append-nil l.used); lists = l.lists }; waits = e; next_part = tt };
+}
 
 -- ---- what becomes of a frame that is refused
 pub one-of : (old new : Skipping) (origin : Origin) (before after : Written) (refusal : Refusal) (skipped : Bool) → skipped ≡ true → ListsRefused skipped old refusal new origin before after → ListsOne old new origin before after

@@ -1,62 +1,52 @@
 -- What is listed with a segment of a direction.
-use Rattle.std.proofs.Common.{◌≡◌, ℕ, List, ◌++◌, sym, ◌∙◌, ap, append_assoc}
+use Rattle.std.proofs.Common.{◌≡◌, ℕ, List, ◌++◌, Option, sym, ◌∙◌, ap, append_assoc}
 use Rattle.krb_flow.specs.Directions.{Outcome}
 use Rattle.krb_text.specs.declared.origin.Origin.{Origin}
 use Rattle.krb_capture.specs.Found.{Found, Written, with_all}
+use Rattle.krb_capture.specs.Rests.{Takes, TookSome, unlisted_found}
 use Rattle.krb_capture.specs.Sending.{beginning_found, end_if, outcome_found, stream_at}
-use Rattle.krb_capture.specs.Streams.{found_with}
-use Rattle.krb_capture.specs.Taken.{Took, service_of}
+use Rattle.krb_capture.specs.Unlisted.{Unlisted}
 use Rattle.krb_capture.specs.declared.flow.Service.{Service}
 use Rattle.krb_capture.specs.declared.frames.Frames.{Frames}
-use Rattle.krb_capture.proofs.Extends.{took-append}
+use Rattle.krb_capture.specs.Taken.{service_of}
 use Rattle.krb_capture.proofs.Found.{with_all-append}
 
-pub segment-listed : (origin : Origin) (service : Service) (limit : ℕ) (stream first second : List ℕ) (outcome : Outcome) (f0 f1 f2 f3 : Frames) (l0 l1 l2 l3 l4 l5 : Written)
-    → service_of f0 ≡ service → service_of f1 ≡ service → service_of f2 ≡ service_of f1 → service_of f3 ≡ service_of f2
-    → Took f1 limit (stream_at outcome.begins stream) → Took f2 limit (stream_at outcome.begins stream ++ first)
-    → outcome.octets ≡ first ++ second
+-- the octets of an outcome, and how the direction ends after them
+abbrev pub octets_of : Outcome → Unlisted
+octets_of outcome = record { octets = outcome.octets; end = outcome.end }
+
+-- of what is found with a segment, the first findings were listed
+pub record ListsOutcome (new : Frames) (service : Service) (limit : ℕ) (stream : List ℕ) (outcome : Outcome) (rest : Option Unlisted) (origin : Origin) (before after : Written) : Type 0 where
+  pub listed : List Found
+  pub left : List Found
+  pub parts : outcome_found service limit stream outcome ≡ listed ++ left
+  pub written : after ≡ with_all origin listed before
+  pub took : TookSome new limit (stream_at outcome.begins stream ++ outcome.octets) rest left
+
+pub outcome-listed : (origin : Origin) (service : Service) (limit : ℕ) (stream : List ℕ) (outcome : Outcome) (rest : Option Unlisted) (f0 f1 f2 : Frames) (l0 l1 l2 l3 : Written)
+    → service_of f0 ≡ service → service_of f1 ≡ service
     → l1 ≡ with_all origin (end_if (service_of f0) limit stream outcome.before) l0
     → l2 ≡ with_all origin (beginning_found outcome.begins) l1
-    → l3 ≡ with_all origin (found_with (service_of f1) limit (stream_at outcome.begins stream) first) l2
-    → l4 ≡ with_all origin (found_with (service_of f2) limit (stream_at outcome.begins stream ++ first) second) l3
-    → l5 ≡ with_all origin (end_if (service_of f3) limit ((stream_at outcome.begins stream ++ first) ++ second) outcome.end) l4
-    → l5 ≡ with_all origin (outcome_found service limit stream outcome) l0
-segment-listed origin service limit stream first second outcome f0 f1 f2 f3 l0 l1 l2 l3 l4 l5 s0 s1 s2 s3 t1 t2 o h1 h2 h3 h4 h5 =
-    ends ∙ ap (λ l. with_all origin last l) takes ∙ ap (λ l. with_all origin last (with_all origin taken l)) begins
-    ∙ sym (with_all-append origin taken last (with_all origin begun (with_all origin before l0)))
-    ∙ sym (with_all-append origin begun (taken ++ last) (with_all origin before l0))
-    ∙ sym (with_all-append origin before (begun ++ (taken ++ last)) l0)
+    → Takes f1 f2 limit (stream_at outcome.begins stream) (octets_of outcome) rest origin l2 l3
+    → ListsOutcome f2 service limit stream outcome rest origin l0 l3
+outcome-listed origin service limit stream outcome rest f0 f1 f2 l0 l1 l2 l3 s0 s1 h1 h2 t = record {
+  listed = before ++ (begun ++ t.listed);
+  left = t.left;
+  parts =
+      ap (λ s. before ++ (begun ++ unlisted_found s limit (stream_at outcome.begins stream) (octets_of outcome))) (sym s1)
+      ∙ ap (λ z. before ++ (begun ++ z)) t.parts
+      ∙ ap (λ z. before ++ z) (sym (append_assoc begun t.listed t.left))
+      ∙ sym (append_assoc before (begun ++ t.listed) t.left);
+  written =
+      t.written
+      ∙ ap (λ l. with_all origin t.listed l) (h2 ∙ ap (λ l. with_all origin begun l) (h1 ∙ ap (λ s. with_all origin (end_if s limit stream outcome.before) l0) s0))
+      ∙ sym (with_all-append origin begun t.listed (with_all origin before l0))
+      ∙ sym (with_all-append origin before (begun ++ t.listed) l0);
+  took = t.took;
+}
   where
-    at : List ℕ
-    at = stream_at outcome.begins stream
-
     before : List Found
     before = end_if service limit stream outcome.before
 
     begun : List Found
     begun = beginning_found outcome.begins
-
-    taken : List Found
-    taken = found_with service limit at outcome.octets
-
-    last : List Found
-    last = end_if service limit (at ++ outcome.octets) outcome.end
-
-    begins : l2 ≡ with_all origin begun (with_all origin before l0)
-    begins = h2 ∙ ap (λ l. with_all origin begun l) (h1 ∙ ap (λ s. with_all origin (end_if s limit stream outcome.before) l0) s0)
-
-    takes : l4 ≡ with_all origin taken l2
-    takes =
-        h4
-        ∙ ap (λ s. with_all origin (found_with s limit (at ++ first) second) l3) s2
-        ∙ ap (λ l. with_all origin (found_with (service_of f1) limit (at ++ first) second) l) h3
-        ∙ sym (with_all-append origin (found_with (service_of f1) limit at first) (found_with (service_of f1) limit (at ++ first) second) l2)
-        ∙ ap (λ xs. with_all origin xs l2) (sym (took-append f1 f2 limit at first second t1 t2 s2))
-        ∙ ap (λ y. with_all origin (found_with (service_of f1) limit at y) l2) (sym o)
-        ∙ ap (λ s. with_all origin (found_with s limit at outcome.octets) l2) s1
-
-    ends : l5 ≡ with_all origin last l4
-    ends =
-        h5
-        ∙ ap (λ s. with_all origin (end_if s limit ((at ++ first) ++ second) outcome.end) l4) (s3 ∙ s2 ∙ s1)
-        ∙ ap (λ y. with_all origin (end_if service limit y outcome.end) l4) (append_assoc at first second ∙ ap (λ y. at ++ y) (sym o))

@@ -178,12 +178,6 @@ is-found limit (Some k) (Some s) one b e =
     let k' : k ≡ one = cc in
     record { sent = s; is = refl; represents = subst (λ (x : Kept). Represents x.value limit s) k' b }
 
-pub kept-same : (d : Directions) (limit : ℕ) (flow flow' : Flow) (number number' : ℕ) (step step' : Step) (sent : Sent) (table : Table) → flow ≡ flow' → number ≡ number' → step ≡ step' → HoldsTable d limit (kept flow number step sent table) → HoldsTable d limit (kept flow' number' step' sent table)
-kept-same d limit flow flow' number number' step step' sent table f n e h =
-    subst (λ x. HoldsTable d limit (kept flow' number' x sent table)) e
-    (subst (λ x. HoldsTable d limit (kept flow' x step sent table)) n
-    (subst (λ x. HoldsTable d limit (kept x number step sent table)) f h))
-
 -- ---- one that begins
 pub known-begun : (began : Bool) (flow : Flow) (last : Last) (numbers : List (Flow × ℕ)) → began ≡ true → last.flow ≡ flow → IsKnown began flow last numbers
 known-begun began flow last numbers b f = subst (λ b. IsKnown b flow last numbers) (sym b) f

@@ -1,7 +1,8 @@
 -- What the frames of messages have to do with the octets that they took.
-use Rattle.std.proofs.Common.{◌≡◌, ℕ, Bool, true, false, List, [], ◌∷◌, ◌++◌, length, map, drop, None, refl, sym, ◌∙◌, ap, ap₂, subst, append_assoc, append-nil}
+use Rattle.std.proofs.Common.{◌≡◌, ◌+◌, ◌-◌, ◌≤◌, ℕ, Bool, true, false, List, [], ◌∷◌, ◌++◌, length, map, take, drop, None, refl, sym, ◌∙◌, ap, ap₂, subst, arith, append_assoc, append-nil, length-append}
 use Rattle.std.specs.Option.{option_map}
 use Rattle.std.specs.List.{AllByRecursion}
+use Rattle.std.proofs.Math.Seq.{take-append-add, take-append_seam}
 use Rattle.std.proofs.lemmas.List.{map-append}
 use Rattle.krb_der.specs.declared.profile.Profile.TheVariants.{Lenient}
 use Rattle.krb_msg.specs.Grammar.{messages}
@@ -160,17 +161,17 @@ module _ (old new : MessageFrames) (piece octets : List ℕ) (origin : Origin) (
 abbrev pub ListsBy : MessageFrames → MessageFrames → List ℕ → Origin → Written → Written → Bool → Type 0
 ListsBy old new piece origin before after b = ListsPiece b old.limit (option_map (λ p. p.octets) new.part) old.decoder new.decoder piece origin before after
 
-pub takes-piece : (old new : MessageFrames) (piece octets : List ℕ) (origin : Origin) (before after : Written) → old.is_over ≡ false → piece ≡ kept_of old.part [] ++ octets → ListsNext (record old { part = None }) new piece origin before after → TakesMessages old new octets origin before after
-takes-piece old new piece octets origin before after o parts l = record {
+takes-all : (old new : MessageFrames) (piece octets : List ℕ) (origin : Origin) (before after : Written) → old.is_over ≡ false → piece ≡ kept_of old.part [] ++ octets → new.limit ≡ old.limit → ListsBy old new piece origin before after new.is_over → TakesMessages old new octets origin before after
+takes-all old new piece octets origin before after o parts same l = record {
   took = λ limit stream t.
       let w = waits limit stream t in
       record {
-        profile = (kept-profile new.is_over l.lists).0 ∙ t.profile;
-        limit_is = (kept-profile new.is_over l.lists).1 ∙ t.limit_is;
-        own_limit = l.limit ∙ t.own_limit;
-        state = state limit stream t w new.is_over refl l.lists;
+        profile = (kept-profile new.is_over l).0 ∙ t.profile;
+        limit_is = (kept-profile new.is_over l).1 ∙ t.limit_is;
+        own_limit = same ∙ t.own_limit;
+        state = state limit stream t w new.is_over refl l;
       };
-  listed = λ limit stream t. listed limit stream t (waits limit stream t) new.is_over l.lists;
+  listed = λ limit stream t. listed limit stream t (waits limit stream t) new.is_over l;
 }
   where
     waits : (limit : ℕ) (stream : List ℕ) → TookMessages old limit stream → WaitsWith old limit stream
@@ -187,3 +188,20 @@ takes-piece old new piece octets origin before after o parts l = record {
     listed : (limit : ℕ) (stream : List ℕ) → TookMessages old limit stream → WaitsWith old limit stream → (b : Bool) → ListsBy old new piece origin before after b → after ≡ with_all origin (found_with services.Kerberos limit stream octets) before
     listed limit stream t w true l = past-listed old new piece octets origin before after parts limit stream t w l
     listed limit stream t w false l = with-listed old new piece octets origin before after parts limit stream t w l
+
+-- but for octets at its end, of which none was kept
+pub takes-piece : (old new : MessageFrames) (piece octets rest : List ℕ) (kept : ℕ) (origin : Origin) (before after : Written) → old.is_over ≡ false → piece ≡ kept_of old.part [] ++ octets → length (kept_of old.part []) ≡ kept → kept + length rest ≤ length piece → ListsNext (record old { part = None }) new piece rest origin before after → TakesMessages old new (take (length octets - length rest) octets) origin before after
+takes-piece old new piece octets rest kept origin before after o parts size few l = takes-all old new l.used (take (length octets - length rest) octets) origin before after o used l.limit l.lists
+  where
+    first : List ℕ
+    first = kept_of old.part []
+
+    count : length l.used ≡ length first + (length octets - length rest)
+    count = omega (arith, size, few, ap length parts, ap length l.parts, length-append l.used rest, length-append first octets)
+
+    used : l.used ≡ first ++ take (length octets - length rest) octets
+    used =
+        sym (take-append_seam l.used rest)
+        ∙ ap (λ xs. take (length l.used) xs) (sym l.parts ∙ parts)
+        ∙ ap (λ n. take n (first ++ octets)) count
+        ∙ take-append-add first octets (length octets - length rest)

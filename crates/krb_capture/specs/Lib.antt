@@ -12,3 +12,5 @@ pub mod Directions
 pub mod Captures
 pub mod Laws
 pub mod Unfinished
+pub mod Unlisted
+pub mod Rests

@@ -1,5 +1,5 @@
 -- What is listed of the frames of messages, one after another, as their octets come.
-use Rattle.std.specs.Prelude.{ℕ, ◌≡◌, Bool, true, false, Option, List, [], ◌++◌, map, None}
+use Rattle.std.specs.Prelude.{ℕ, ◌≡◌, Bool, true, false, Option, Some, None, List, [], ◌++◌, map}
 use Rattle.std.specs.Option.{option_map, unwrap_or}
 use Rattle.std.specs.List.{AllByRecursion}
 use Rattle.krb_der.specs.declared.verdict.Refusal.{Refusal}
@@ -12,6 +12,8 @@ use Rattle.krb_text.specs.declared.origin.Origin.{Origin}
 use Rattle.krb_capture.specs.Found.{Written, with_all, with_found}
 use Rattle.krb_capture.specs.Streams.{entry_found}
 use Rattle.krb_capture.specs.Taken.{IsDone, IsNextPart}
+use Rattle.krb_capture.specs.declared.message_frames.Listed.{Listed}
+use Rattle.krb_capture.specs.declared.message_frames.Listed.TheVariants as listed
 use Rattle.krb_capture.specs.declared.message_frames.MessageFrames.{MessageFrames}
 
 -- Octets were used; the frames that are whole with them or refused were listed, and cleared or skipped.
@@ -62,12 +64,34 @@ pub record ListsWith (limit : ℕ) (part : Option (List ℕ)) (old new : Skippin
   pub waits : status_in new ≡ status.More
   pub next_part : IsNextPart limit new (option_map (λ octets. record { limit = limit; octets = octets }) part)
 
+-- the frames of the octets of a piece before the rest were listed
+pub record ListsUpTo (limit : ℕ) (rest : List ℕ) (old new : Skipping) (piece : List ℕ) (origin : Origin) (before after : Written) : Type 0 where
+  pub used : List ℕ
+  pub parts : piece ≡ used ++ rest
+  pub lists : ListsWith limit None old new used origin before after
+
+-- what became of the octets of a piece
+abbrev pub ListsSome : Listed → ℕ → Skipping → Skipping → List ℕ → Origin → Written → Written → Type 0
+ListsSome listed.All limit old new piece origin before after = ListsWith limit None old new piece origin before after
+ListsSome (listed.Before part) limit old new piece origin before after = ListsWith limit (Some part.now) old new piece origin before after
+ListsSome listed.Over limit old new piece origin before after = ListsLast old new piece origin before after
+ListsSome (listed.UpTo rest) limit old new piece origin before after = ListsUpTo limit rest.now old new piece origin before after
+
+-- the octets that are left
+abbrev pub rest_after : Listed → List ℕ
+rest_after listed.All = []
+rest_after (listed.Before part) = []
+rest_after listed.Over = []
+rest_after (listed.UpTo rest) = rest.now
+
 -- the frames of a piece were listed, and none can follow, or more
 abbrev pub ListsPiece : Bool → ℕ → Option (List ℕ) → Skipping → Skipping → List ℕ → Origin → Written → Written → Type 0
 ListsPiece true limit part old new piece origin before after = ListsLast old new piece origin before after
 ListsPiece false limit part old new piece origin before after = ListsWith limit part old new piece origin before after
 
--- the frames of a piece that follows what the decoder was fed were listed
-pub record ListsNext (old new : MessageFrames) (piece : List ℕ) (origin : Origin) (before after : Written) : Type 0 where
+-- the frames of the octets before the rest of a piece, which follows what the decoder was fed, were listed
+pub record ListsNext (old new : MessageFrames) (piece rest : List ℕ) (origin : Origin) (before after : Written) : Type 0 where
+  pub used : List ℕ
+  pub parts : piece ≡ used ++ rest
   pub limit : new.limit ≡ old.limit
-  pub lists : ListsPiece new.is_over old.limit (option_map (λ p. p.octets) new.part) old.decoder new.decoder piece origin before after
+  pub lists : ListsPiece new.is_over old.limit (option_map (λ p. p.octets) new.part) old.decoder new.decoder used origin before after

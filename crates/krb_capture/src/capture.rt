@@ -1,14 +1,15 @@
 //! A capture, followed packet by packet.
 
-ghost use Rattle.std.specs.Prelude.{◌≡◌, ℕ, ◌++◌, true, IfOk, IsErr, OnErr, OnOk};
+ghost use Rattle.std.specs.Prelude.{◌≡◌, ℕ, ◌++◌, true, List, Some, IfOk, IsErr, OnErr, OnOk};
 ghost use Rattle.std.specs.Option.{option_copied};
 ghost use Rattle.krb_packet.specs.Fragments.{unread};
-ghost use Rattle.krb_capture.specs.Captures.{HasFollowed, Progress, Settings, all_counts, and_counted, at_first, contents_taken, datagram_taken, end_taken, end_text, fragment_taken, is_clean, lines_of, packet_taken, refusal_text, segment_taken, unread_taken, whole_taken};
+ghost use Rattle.krb_capture.specs.Captures.{Finding, HasFollowed, Progress, Settings, all_counts, and_counted, at_first, contents_taken, datagram_taken, end_taken, end_text, fragment_taken, is_clean, lines_of, packet_taken, refusal_text, segment_taken, unread_taken, whole_taken};
 ghost use Rattle.krb_capture.specs.Flows.{service_of};
 ghost use Rattle.krb_capture.specs.Found.{totals};
+ghost use Rattle.krb_capture.specs.Rests.{HasFollowedBut, Lists};
 
 use crate::datagram::list_datagram;
-use crate::directions::Directions;
+use crate::directions::{Directions, Rest};
 use crate::flow::{Due, Service};
 use crate::listing::Listing;
 use krb_der::Memory;
@@ -55,9 +56,8 @@ impl Capture {
 
     /// Takes the next packet, and appends the records that are due with it to a text. Out of
     /// memory, the text may have some of them.
-    pub fn take(&mut self, packet: &Packet, text: &mut TextBuffer) -> Result<(), Memory>
-        ensures followed { OnOk result ((settings : Settings) (progress : Progress) → HasFollowed self.old settings progress → HasFollowed self.new settings (packet_taken settings packet.now progress).progress) }
-        ensures listed { OnOk result ((settings : Settings) (progress : Progress) → HasFollowed self.old settings progress → text.new ≡ text.old ++ lines_of settings.form (packet_taken settings packet.now progress).found) }
+    pub fn take(&mut self, packet: &Packet, text: &mut TextBuffer) -> Result<Option<Box<Rest>>, Memory>
+        ensures listed { IfOk result (λ rest. (settings : Settings) (progress : Progress) → HasFollowed self.old settings progress → Lists self.new settings (packet_taken settings packet.now progress) rest text.old text.new) }
         ensures failed { OnErr result (self.new.has_failed ≡ true) }
         ensures again { self.old.has_failed ≡ true → IsErr result × (self.new ≡ self.old) × (text.new ≡ text.old) }
     {
@@ -69,10 +69,43 @@ impl Capture {
         taken
     }
 
+    /// Goes on with a packet whose records were not all listed, and appends others to a text.
+    pub fn go_on(
+        &mut self,
+        rest: Box<Rest>,
+        text: &mut TextBuffer,
+    ) -> Result<Option<Box<Rest>>, Memory>
+        ensures listed { IfOk result (λ next. (settings : Settings) (progress : Progress) (left : List Finding) → HasFollowedBut self.old settings progress (Some rest) left → Lists self.new settings (record { found = left; progress = progress }) next text.old text.new) }
+        ensures failed { OnErr result (self.new.has_failed ≡ true) }
+        ensures again { self.old.has_failed ≡ true → IsErr result × (self.new ≡ self.old) × (text.new ≡ text.old) }
+    {
+        if self.has_failed {
+            return Err(Memory);
+        }
+        let gone = self.list_rest(rest, text);
+        self.has_failed = gone.is_err();
+        gone
+    }
+
+    /// Appends records of the last packet to a text.
+    fn list_rest(
+        &mut self,
+        rest: Box<Rest>,
+        text: &mut TextBuffer,
+    ) -> Result<Option<Box<Rest>>, Memory>
+        ensures { IfOk result (λ next. (settings : Settings) (progress : Progress) (left : List Finding) → HasFollowedBut self.old settings progress (Some rest) left → Lists self.new settings (record { found = left; progress = progress }) next text.old text.new) }
+    {
+        self.listing.swap_text(text);
+        let gone = self
+            .directions
+            .go_on_with(rest, self.last, &mut self.listing);
+        self.listing.swap_text(text);
+        gone
+    }
+
     /// Takes the next packet, and appends the records that are due with it to a text.
-    fn take_packet(&mut self, packet: &Packet, text: &mut TextBuffer) -> Result<(), Memory>
-        ensures followed { OnOk result ((settings : Settings) (progress : Progress) → HasFollowed self.old settings progress → HasFollowed self.new settings (packet_taken settings packet.now progress).progress) }
-        ensures listed { OnOk result ((settings : Settings) (progress : Progress) → HasFollowed self.old settings progress → text.new ≡ text.old ++ lines_of settings.form (packet_taken settings packet.now progress).found) }
+    fn take_packet(&mut self, packet: &Packet, text: &mut TextBuffer) -> Result<Option<Box<Rest>>, Memory>
+        ensures { IfOk result (λ rest. (settings : Settings) (progress : Progress) → HasFollowed self.old settings progress → Lists self.new settings (packet_taken settings packet.now progress) rest text.old text.new) }
     {
         self.listing.swap_text(text);
         self.last = Due::with(packet);
@@ -83,9 +116,8 @@ impl Capture {
     }
 
     /// Lists what a packet carries.
-    fn take_contents(&mut self, contents: Contents<'_>) -> Result<(), Memory>
-        ensures followed { OnOk result ((settings : Settings) (progress : Progress) → HasFollowed self.old settings progress → HasFollowed self.new settings (and_counted (contents_taken settings contents.entry progress)).progress) }
-        ensures listed { OnOk result ((settings : Settings) (progress : Progress) → HasFollowed self.old settings progress → self.new.listing.text ≡ self.old.listing.text ++ lines_of settings.form (contents_taken settings contents.entry progress).found) }
+    fn take_contents(&mut self, contents: Contents<'_>) -> Result<Option<Box<Rest>>, Memory>
+        ensures { IfOk result (λ rest. (settings : Settings) (progress : Progress) → HasFollowed self.old settings progress → Lists self.new settings (and_counted (contents_taken settings contents.entry progress)) rest self.old.listing.text self.new.listing.text) }
     {
         match &contents {
             Contents::Fragment(fragment) => self.take_fragment(fragment),
@@ -94,32 +126,33 @@ impl Capture {
     }
 
     /// Lists what a datagram carries that a fragment completes.
-    fn take_fragment(&mut self, fragment: &Fragment<'_>) -> Result<(), Memory>
-        ensures followed { OnOk result ((settings : Settings) (progress : Progress) → HasFollowed self.old settings progress → HasFollowed self.new settings (and_counted (fragment_taken settings fragment.now progress)).progress) }
-        ensures listed { OnOk result ((settings : Settings) (progress : Progress) → HasFollowed self.old settings progress → self.new.listing.text ≡ self.old.listing.text ++ lines_of settings.form (fragment_taken settings fragment.now progress).found) }
+    fn take_fragment(&mut self, fragment: &Fragment<'_>) -> Result<Option<Box<Rest>>, Memory>
+        ensures { IfOk result (λ rest. (settings : Settings) (progress : Progress) → HasFollowed self.old settings progress → Lists self.new settings (and_counted (fragment_taken settings fragment.now progress)) rest self.old.listing.text self.new.listing.text) }
     {
         match self.fragments.take(fragment)? {
             Some(whole) => self.take_whole(&whole.contents()),
-            None => Ok(()),
+            None => Ok(None),
         }
     }
 
     /// Lists what is all there.
-    fn take_whole(&mut self, contents: &Contents<'_>) -> Result<(), Memory>
-        ensures followed { OnOk result ((settings : Settings) (progress : Progress) → HasFollowed self.old settings progress → HasFollowed self.new settings (and_counted (whole_taken settings contents.now progress)).progress) }
-        ensures listed { OnOk result ((settings : Settings) (progress : Progress) → HasFollowed self.old settings progress → self.new.listing.text ≡ self.old.listing.text ++ lines_of settings.form (whole_taken settings contents.now progress).found) }
+    fn take_whole(&mut self, contents: &Contents<'_>) -> Result<Option<Box<Rest>>, Memory>
+        ensures { IfOk result (λ rest. (settings : Settings) (progress : Progress) → HasFollowed self.old settings progress → Lists self.new settings (and_counted (whole_taken settings contents.now progress)) rest self.old.listing.text self.new.listing.text) }
     {
         match contents {
-            Contents::Datagram(datagram) => self.take_datagram(datagram),
+            Contents::Datagram(datagram) => {
+                self.take_datagram(datagram)?;
+                Ok(None)
+            }
             Contents::Segment(segment) => self.take_segment(segment),
-            Contents::Fragment(_) | Contents::Other => Ok(()),
+            Contents::Fragment(_) | Contents::Other => Ok(None),
             Contents::UnreadBetween(ends) => {
                 self.take_unread(*ends);
-                Ok(())
+                Ok(None)
             }
             Contents::Unread => {
                 self.listing.count_unread();
-                Ok(())
+                Ok(None)
             }
         }
     }
@@ -147,12 +180,11 @@ impl Capture {
     }
 
     /// Lists what is found with a segment of TCP, if it is of Kerberos.
-    fn take_segment(&mut self, segment: &Segment<'_>) -> Result<(), Memory>
-        ensures followed { OnOk result ((settings : Settings) (progress : Progress) → HasFollowed self.old settings progress → HasFollowed self.new settings (and_counted (segment_taken settings.limit (service_of settings.port segment.now.source segment.now.target) segment.now progress)).progress) }
-        ensures listed { OnOk result ((settings : Settings) (progress : Progress) → HasFollowed self.old settings progress → self.new.listing.text ≡ self.old.listing.text ++ lines_of settings.form (segment_taken settings.limit (service_of settings.port segment.now.source segment.now.target) segment.now progress).found) }
+    fn take_segment(&mut self, segment: &Segment<'_>) -> Result<Option<Box<Rest>>, Memory>
+        ensures { IfOk result (λ rest. (settings : Settings) (progress : Progress) → HasFollowed self.old settings progress → Lists self.new settings (and_counted (segment_taken settings.limit (service_of settings.port segment.now.source segment.now.target) segment.now progress)) rest self.old.listing.text self.new.listing.text) }
     {
         let Some(service) = Service::between(self.port, segment.source, segment.target) else {
-            return Ok(());
+            return Ok(None);
         };
         self.directions
             .take(segment, service, self.last, &mut self.listing)

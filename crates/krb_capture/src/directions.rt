@@ -1,16 +1,18 @@
 //! The directions of TCP connections, by their flows.
 
-ghost use Rattle.std.specs.Prelude.{◌≡◌, ℕ, true, None, Some, if◌then◌else◌, OnOk, IfSome, IfNone};
+ghost use Rattle.std.specs.Prelude.{◌≡◌, ℕ, true, List, None, Some, if◌then◌else◌, IfOk, OnOk, IfSome, IfNone};
 ghost use Rattle.std.specs.BTreeMap.{insert_entry, is_at};
 ghost use Rattle.std.specs.Map.{lookup};
 ghost use Rattle.std.specs.Ordering.{eq_by_cmp, nat_cmp};
-ghost use Rattle.krb_capture.specs.Captures.{over_tcp, with_each};
-ghost use Rattle.krb_capture.specs.Directions.{HoldsMaps, HoldsTable, IsKnown, Table, begins, begun, flow_cmp, flow_of, followed, gone_on, kept, last_of, no_directions, of_ended, of_known, with_room, without};
+ghost use Rattle.krb_capture.specs.Captures.{Finding, over_tcp, with_each};
+ghost use Rattle.krb_capture.specs.Directions.{HoldsMaps, HoldsTable, IsKnown, Table, begins, begun, flow_cmp, flow_of, followed, gone_on, in_flow, kept, last_of, no_directions, of_ended, of_known, with_room, without};
+ghost use Rattle.krb_capture.specs.Found.{Found};
+ghost use Rattle.krb_capture.specs.Rests.{Follows, HoldsBut, HoldsSome, RepresentsBut};
 ghost use Rattle.krb_capture.specs.Sending.{Sent, Represents, step_of};
 
 use crate::flow::{Due, Flow, Service};
 use crate::listing::Listing;
-use crate::sending::{Sending, Step};
+use crate::sending::{Sending, Step, Stepped, Unlisted};
 use krb_der::Memory;
 use krb_flow::{Direction, Had};
 use krb_frame::Limit;
@@ -39,6 +41,17 @@ pub(crate) struct Gone {
     flow: Flow,
     /// What it had.
     had: Had,
+}
+
+/// What is left of a packet whose records are not all listed: the direction whose segment it is,
+/// which is not among those that are kept meanwhile, and octets whose frames are to be listed.
+#[derive(Drop)]
+pub struct Rest {
+    /// The flow of the direction.
+    flow: Flow,
+    last: Last,
+    step: Step,
+    left: Unlisted,
 }
 
 /// The directions that are kept. Each has the number of the packet that began it, so that they are
@@ -104,9 +117,8 @@ impl Directions {
         service: Service,
         due: Due,
         listing: &mut Listing,
-    ) -> Result<(), Memory>
-        ensures table { OnOk result ((limit : ℕ) (table : Table) → HoldsTable self.old limit table → HoldsTable self.new limit (followed limit due.packet service segment.now table).table) }
-        ensures found { OnOk result ((limit : ℕ) (table : Table) → HoldsTable self.old limit table → listing.new ≡ with_each (over_tcp due (followed limit due.packet service segment.now table).found) listing.old) }
+    ) -> Result<Option<Box<Rest>>, Memory>
+        ensures { IfOk result (λ rest. (limit : ℕ) (table : Table) → HoldsTable self.old limit table → Follows self.new limit (followed limit due.packet service segment.now table).table due rest (over_tcp due (followed limit due.packet service segment.now table).found) listing.old listing.new) }
     {
         let flow = Flow::between(segment.source, segment.target);
         match self.last_of(&flow) {
@@ -149,11 +161,10 @@ impl Directions {
         service: Service,
         due: Due,
         listing: &mut Listing,
-    ) -> Result<(), Memory>
+    ) -> Result<Option<Box<Rest>>, Memory>
         requires of_segment { flow ≡ flow_of segment.now }
         requires none { self.old.last ≡ None }
-        ensures table { OnOk result ((limit : ℕ) (table : Table) → HoldsMaps self.old limit table → HoldsTable self.new limit (followed limit due.packet service segment.now table).table) }
-        ensures found { OnOk result ((limit : ℕ) (table : Table) → HoldsMaps self.old limit table → listing.new ≡ with_each (over_tcp due (followed limit due.packet service segment.now table).found) listing.old) }
+        ensures { IfOk result (λ rest. (limit : ℕ) (table : Table) → HoldsMaps self.old limit table → Follows self.new limit (followed limit due.packet service segment.now table).table due rest (over_tcp due (followed limit due.packet service segment.now table).found) listing.old listing.new) }
     {
         match self.numbers.get(&flow).copied() {
             Some(number) => self.take_known(flow, number, segment, service, due, listing),
@@ -161,7 +172,7 @@ impl Directions {
                 self.make_room(due, listing)?;
                 self.begin(flow, Direction::new(), segment, service, due, listing)
             }
-            None => Ok(()),
+            None => Ok(None),
         }
     }
 
@@ -174,12 +185,11 @@ impl Directions {
         service: Service,
         due: Due,
         listing: &mut Listing,
-    ) -> Result<(), Memory>
+    ) -> Result<Option<Box<Rest>>, Memory>
         requires of_segment { flow ≡ flow_of segment.now }
         requires none { self.old.last ≡ None }
         requires known { lookup (is_at (flow_cmp flow)) self.old.numbers.entries ≡ Some number }
-        ensures table { OnOk result ((limit : ℕ) (table : Table) → HoldsMaps self.old limit table → HoldsTable self.new limit (of_known limit due.packet number (lookup (is_at (nat_cmp number)) table.active) service segment.now table).table) }
-        ensures found { OnOk result ((limit : ℕ) (table : Table) → HoldsMaps self.old limit table → listing.new ≡ with_each (over_tcp due (of_known limit due.packet number (lookup (is_at (nat_cmp number)) table.active) service segment.now table).found) listing.old) }
+        ensures { IfOk result (λ rest. (limit : ℕ) (table : Table) → HoldsMaps self.old limit table → Follows self.new limit (of_known limit due.packet number (lookup (is_at (nat_cmp number)) table.active) service segment.now table).table due rest (over_tcp due (of_known limit due.packet number (lookup (is_at (nat_cmp number)) table.active) service segment.now table).found) listing.old listing.new) }
     {
         match self.active.remove(&number) {
             Some(sending) => self.go_on(
@@ -205,17 +215,16 @@ impl Directions {
         service: Service,
         due: Due,
         listing: &mut Listing,
-    ) -> Result<(), Memory>
+    ) -> Result<Option<Box<Rest>>, Memory>
         requires of_segment { flow ≡ flow_of segment.now }
         requires none { self.old.last ≡ None }
-        ensures table { OnOk result ((limit : ℕ) (table : Table) → HoldsMaps self.old limit table → HoldsTable self.new limit (of_ended limit due.packet number (lookup (is_at (nat_cmp number)) table.ended) service segment.now table).table) }
-        ensures found { OnOk result ((limit : ℕ) (table : Table) → HoldsMaps self.old limit table → listing.new ≡ with_each (over_tcp due (of_ended limit due.packet number (lookup (is_at (nat_cmp number)) table.ended) service segment.now table).found) listing.old) }
+        ensures { IfOk result (λ rest. (limit : ℕ) (table : Table) → HoldsMaps self.old limit table → Follows self.new limit (of_ended limit due.packet number (lookup (is_at (nat_cmp number)) table.ended) service segment.now table).table due rest (over_tcp due (of_ended limit due.packet number (lookup (is_at (nat_cmp number)) table.ended) service segment.now table).found) listing.old listing.new) }
     {
         let Some(gone) = self.ended.get(&number).copied() else {
-            return Ok(());
+            return Ok(None);
         };
         if !gone.had.is_followed_by(segment) {
-            return Ok(());
+            return Ok(None);
         }
         self.ended.remove(&number);
         let direction = Direction::ended(gone.had);
@@ -229,20 +238,19 @@ impl Directions {
         segment: &Segment<'_>,
         due: Due,
         listing: &mut Listing,
-    ) -> Result<(), Memory>
+    ) -> Result<Option<Box<Rest>>, Memory>
         requires { self.old.last ≡ None }
-        ensures table { OnOk result ((limit : ℕ) (table : Table) (sent : Sent) → HoldsMaps self.old limit (without last.number table) → lookup (is_at (flow_cmp last.flow)) self.old.numbers.entries ≡ Some last.number → Represents last.sending.value limit sent → HoldsTable self.new limit (gone_on limit due.packet last.number sent segment.now table).table) }
-        ensures found { OnOk result ((limit : ℕ) (table : Table) (sent : Sent) → Represents last.sending.value limit sent → listing.new ≡ with_each (over_tcp due (gone_on limit due.packet last.number sent segment.now table).found) listing.old) }
+        ensures { IfOk result (λ rest. (limit : ℕ) (table : Table) (sent : Sent) → HoldsMaps self.old limit (without last.number table) → lookup (is_at (flow_cmp last.flow)) self.old.numbers.entries ≡ Some last.number → Represents last.sending.value limit sent → Follows self.new limit (gone_on limit due.packet last.number sent segment.now table).table due rest (over_tcp due (gone_on limit due.packet last.number sent segment.now table).found) listing.old listing.new) }
     {
         let mut sending = last.sending;
-        let step = sending.take(segment, due, &mut self.waited, listing)?;
+        let stepped = sending.take(segment, due, &mut self.waited, listing)?;
         let flow = sending.flow();
         let kept = Last {
-            flow: flow_after(last.flow, flow, step),
-            number: number_after(last.number, step, due),
+            flow: flow_after(last.flow, flow, stepped.step),
+            number: number_after(last.number, stepped.step, due),
             sending,
         };
-        self.keep(flow, kept, step)
+        self.keep_or_wait(flow, kept, stepped)
     }
 
     /// Begins a direction of a flow that has none in the table.
@@ -254,21 +262,68 @@ impl Directions {
         service: Service,
         due: Due,
         listing: &mut Listing,
-    ) -> Result<(), Memory>
+    ) -> Result<Option<Box<Rest>>, Memory>
         requires of_segment { flow ≡ flow_of segment.now }
         requires begins { (step_of direction.state segment.now).began ≡ true }
         requires none { self.old.last ≡ None }
-        ensures table { OnOk result ((limit : ℕ) (table : Table) → HoldsMaps self.old limit table → HoldsTable self.new limit (begun limit due.packet service direction.state segment.now table).table) }
-        ensures found { OnOk result ((limit : ℕ) (table : Table) → HoldsMaps self.old limit table → listing.new ≡ with_each (over_tcp due (begun limit due.packet service direction.state segment.now table).found) listing.old) }
+        ensures { IfOk result (λ rest. (limit : ℕ) (table : Table) → HoldsMaps self.old limit table → Follows self.new limit (begun limit due.packet service direction.state segment.now table).table due rest (over_tcp due (begun limit due.packet service direction.state segment.now table).found) listing.old listing.new) }
     {
         let mut sending = Sending::new(self.alloc, self.limit, flow, service, direction);
-        let step = sending.take(segment, due, &mut self.waited, listing)?;
+        let stepped = sending.take(segment, due, &mut self.waited, listing)?;
         let kept = Last {
             flow,
             number: due.packet,
             sending: Box::new(self.alloc, sending)?,
         };
-        self.keep(flow, kept, step)
+        self.keep_or_wait(flow, kept, stepped)
+    }
+
+    /// Keeps a direction after its segment, or returns what is left of that.
+    fn keep_or_wait(
+        &mut self,
+        flow: Flow,
+        last: Last,
+        stepped: Stepped,
+    ) -> Result<Option<Box<Rest>>, Memory>
+        requires { self.old.last ≡ None }
+        ensures { IfOk result (λ rest. (limit : ℕ) (table : Table) (sent : Sent) (due : Due) (left : List Found) → HoldsMaps self.old limit table → IsKnown stepped.step.began flow last self.old.numbers.entries → RepresentsBut last.sending.value limit sent stepped.left left → HoldsSome self.new limit (kept flow last.number stepped.step sent table) due rest (over_tcp due (in_flow sent.flow left))) }
+    {
+        let step = stepped.step;
+        match stepped.left {
+            None => {
+                self.keep(flow, last, step)?;
+                Ok(None)
+            }
+            Some(left) => Ok(Some(Box::new(
+                self.alloc,
+                Rest {
+                    flow,
+                    last,
+                    step,
+                    left,
+                },
+            )?)),
+        }
+    }
+
+    /// Goes on with a segment whose frames are not all listed. Returns what is left of it then.
+    pub(crate) fn go_on_with(
+        &mut self,
+        rest: Box<Rest>,
+        due: Due,
+        listing: &mut Listing,
+    ) -> Result<Option<Box<Rest>>, Memory>
+        ensures { IfOk result (λ next. (limit : ℕ) (table : Table) (found : List Finding) → HoldsBut self.old limit table due rest.value found → Follows self.new limit table due next found listing.old listing.new) }
+    {
+        self.put_back()?;
+        let Rest {
+            flow,
+            mut last,
+            step,
+            left,
+        } = Box::into_inner(rest);
+        let left = last.sending.go_on(left, due, listing)?;
+        self.keep_or_wait(flow, last, Stepped { step, left })
     }
 
     /// Keeps a direction of a flow by its number, or what it had if it ended.

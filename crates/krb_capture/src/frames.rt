@@ -1,6 +1,6 @@
 //! The frames of a stream (RFC 4120, 7.2.2), by what they carry.
 
-ghost use Rattle.std.specs.Prelude.{◌≡◌, ℕ, false, List, [], ◌++◌, OnOk};
+ghost use Rattle.std.specs.Prelude.{◌≡◌, ◌≤◌, ℕ, false, List, [], ◌++◌, length, take, IfOk, OnOk};
 ghost use Rattle.krb_capture.specs.Found.{Missing, with_all, with_found};
 ghost use Rattle.krb_capture.specs.Streams.{cut_refusal, end_found, found_with, framed, open_path, refusal_found};
 ghost use Rattle.krb_capture.specs.Taken.{Took, kept_in, over_in, service_of};
@@ -37,21 +37,22 @@ impl Frames {
         }
     }
 
-    /// Takes the next octets, and lists the frames that are whole with them or refused. The frame
-    /// after one that is refused begins where that one ends, unless its length is not known: then
-    /// all that follows is passed over.
+    /// Takes the next octets, until the listing is full, and lists the frames that are whole with
+    /// them or refused. Returns how many octets it took. The frame after one that is refused begins
+    /// where that one ends, unless its length is not known: then all that follows is passed over.
     pub(crate) fn take(
         &mut self,
         octets: &[u8],
         origin: &Origin,
         listing: &mut Listing,
-    ) -> Result<(), Memory>
+    ) -> Result<usize, Memory>
         ensures service { OnOk result (service_of self.new ≡ service_of self.old) }
-        ensures took { OnOk result ((limit : ℕ) (stream : List ℕ) → Took self.old limit stream → Took self.new limit (stream ++ octets.now)) }
-        ensures listed { OnOk result ((limit : ℕ) (stream : List ℕ) → Took self.old limit stream → listing.new ≡ with_all origin.now (found_with (service_of self.old) limit stream octets.now) listing.old) }
+        ensures few { IfOk result (λ count. count ≤ length octets.now) }
+        ensures took { IfOk result (λ count. (limit : ℕ) (stream : List ℕ) → Took self.old limit stream → Took self.new limit (stream ++ take count octets.now)) }
+        ensures listed { IfOk result (λ count. (limit : ℕ) (stream : List ℕ) → Took self.old limit stream → listing.new ≡ with_all origin.now (found_with (service_of self.old) limit stream (take count octets.now)) listing.old) }
     {
         if octets.is_empty() {
-            return Ok(());
+            return Ok(0);
         }
         match self {
             Frames::Messages(frames) => frames.take(octets, origin, listing),

@@ -31,3 +31,4 @@ mod password_frames;
 mod sending;
 
 pub use capture::Capture;
+pub use directions::Rest;

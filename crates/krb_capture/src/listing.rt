@@ -18,6 +18,9 @@ use std::alloc::Global;
 use std::marker::Model;
 use std::mem::swap;
 
+/// How many octets of text are written together: 64 KiB.
+const FULL_OCTETS: usize = 1 << 16;
+
 /// The records of a capture that are not written yet, in a form, and how many of each kind there
 /// were in all.
 #[derive(Drop)]
@@ -83,6 +86,11 @@ impl Listing {
         ensures { result ≡ self.now.form }
     {
         self.form
+    }
+
+    /// Returns whether the text is long enough to be written.
+    pub(crate) fn is_full(&self) -> bool {
+        self.text.octets().len() >= FULL_OCTETS
     }
 
     /// Exchanges the text of the records and another one.

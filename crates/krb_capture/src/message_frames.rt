@@ -1,11 +1,11 @@
 //! Frames whose contents are messages of Kerberos.
 
-ghost use Rattle.std.specs.Prelude.{◌≡◌, ℕ, false, List, [], ◌++◌, IfOk, IfSome, OnOk, string_bytes};
+ghost use Rattle.std.specs.Prelude.{◌≡◌, ◌+◌, ◌≤◌, ℕ, false, List, [], ◌++◌, length, take, IfOk, IfSome, OnOk, string_bytes};
 ghost use Rattle.std.specs.Option.{option_map};
 ghost use Rattle.krb_text.specs.Refusals.{path_in};
 ghost use Rattle.krb_frame.specs.declared.decoder.Status.TheVariants as status;
 ghost use Rattle.krb_capture.specs.Found.{with_all};
-ghost use Rattle.krb_capture.specs.Listed.{ListsNext, ListsPrefix, ListsOne, ListsPiece, ListsRefused, status_in};
+ghost use Rattle.krb_capture.specs.Listed.{ListsNext, ListsPrefix, ListsOne, ListsRefused, ListsSome, rest_after, status_in};
 ghost use Rattle.krb_capture.specs.Streams.{cut_refusal, found_with, framed, frame_path};
 ghost use Rattle.krb_capture.specs.Taken.{TookMessages, kept_of};
 ghost use Rattle.krb_capture.specs.Unfinished.{IsUnfinished};
@@ -48,54 +48,71 @@ impl MessageFrames {
         }
     }
 
-    /// Takes the next octets, and lists the frames that are whole with them or refused.
+    /// Takes the next octets, until the listing is full, and lists the frames that are whole with
+    /// them or refused. Returns how many octets it took.
     pub(crate) fn take(
         &mut self,
         octets: &[u8],
         origin: &Origin,
         listing: &mut Listing,
-    ) -> Result<(), Memory>
-        ensures took { OnOk result ((limit : ℕ) (stream : List ℕ) → TookMessages self.old limit stream → TookMessages self.new limit (stream ++ octets.now)) }
-        ensures listed { OnOk result ((limit : ℕ) (stream : List ℕ) → TookMessages self.old limit stream → listing.new ≡ with_all origin.now (found_with services.Kerberos limit stream octets.now) listing.old) }
+    ) -> Result<usize, Memory>
+        ensures few { IfOk result (λ count. count ≤ length octets.now) }
+        ensures took { IfOk result (λ count. (limit : ℕ) (stream : List ℕ) → TookMessages self.old limit stream → TookMessages self.new limit (stream ++ take count octets.now)) }
+        ensures listed { IfOk result (λ count. (limit : ℕ) (stream : List ℕ) → TookMessages self.old limit stream → listing.new ≡ with_all origin.now (found_with services.Kerberos limit stream (take count octets.now)) listing.old) }
     {
         if self.is_over {
-            return Ok(());
+            return Ok(octets.len());
         }
         match self.part.take() {
-            None => self.list(octets, false, origin, listing),
+            None => {
+                let rest = self.list(octets, 0, origin, listing)?;
+                Ok(octets.len() - rest.len())
+            }
             Some(part) => {
+                let kept = part.len() as usize;
                 let piece = part.followed_by(octets)?;
-                self.list(piece.as_slice(), true, origin, listing)
+                let rest = self.list(piece.as_slice(), kept, origin, listing)?;
+                Ok(octets.len() - rest.len())
             }
         }
     }
 
     /// Lists the frames that are whole with octets or refused, which follow those that the decoder
-    /// was fed. The last octets may be kept as a part of the next frame, but not a second time.
-    fn list(
+    /// was fed, until the listing is full, and returns the octets that are left. The first `kept`
+    /// octets were kept as a part of a frame, and are not left. The last octets may be kept as a
+    /// part of the next frame, but not a second time.
+    fn list<'a>(
         &mut self,
-        octets: &[u8],
-        were_kept: bool,
+        octets: &'a [u8],
+        kept: usize,
         origin: &Origin,
         listing: &mut Listing,
-    ) -> Result<(), Memory>
-        ensures { OnOk result (ListsNext self.old self.new octets.now origin.now listing.old listing.new) }
+    ) -> Result<&'a [u8], Memory>
+        requires none { self.old.part ≡ None }
+        requires goes { self.old.is_over ≡ false }
+        requires kept { kept ≤ length octets.now }
+        ensures few { IfOk result (λ rest. kept + length rest.now ≤ length octets.now) }
+        ensures listed { IfOk result (λ rest. ListsNext self.old self.new octets.now rest.now origin.now listing.old listing.new) }
     {
-        let listed = list_frames(
+        match list_frames(
             &mut self.decoder,
             self.limit,
-            were_kept,
+            kept,
             octets,
             origin,
             listing,
-        )?;
-        let part = match listed.part {
-            None => None,
-            Some(octets) => Some(Part::new(self.alloc, self.limit, octets)?),
-        };
-        self.is_over = listed.is_over;
-        self.part = part;
-        Ok(())
+        )? {
+            Listed::All => Ok(&[]),
+            Listed::Before(part) => {
+                self.part = Some(Part::new(self.alloc, self.limit, part)?);
+                Ok(&[])
+            }
+            Listed::Over => {
+                self.is_over = true;
+                Ok(&[])
+            }
+            Listed::UpTo(rest) => Ok(rest),
+        }
     }
 
     /// Returns the path of the field of which the next octet is due, or that has the octet that is
@@ -133,15 +150,19 @@ impl MessageFrames {
 
 /// What becomes of octets whose frames were listed.
 #[derive(Clone, Copy)]
-struct Listed<'a> {
-    /// No frame can follow the last one.
-    is_over: bool,
-    /// The octets after those that the decoder was fed, if they are a part of a frame.
-    part: Option<&'a [u8]>,
+enum Listed<'a> {
+    /// All were taken, and more are awaited.
+    All,
+    /// All were taken but these, which are a part of the next frame.
+    Before(&'a [u8]),
+    /// All were taken, and no frame can follow the last one.
+    Over,
+    /// The listing is full, and the frames of these are still to be listed.
+    UpTo(&'a [u8]),
 }
 
-/// Lists the frames that lie whole at the beginning of octets, where they lie, and returns what
-/// follows them. The decoder stays as it is.
+/// Lists the frames that lie whole at the beginning of octets, where they lie, until the listing is
+/// full, and returns what follows them. The decoder stays as it is.
 fn list_passed<'a>(
     decoder: &SkippingDecoder,
     octets: &'a [u8],
@@ -154,67 +175,70 @@ fn list_passed<'a>(
     while let Some(passed) = decoder.pass(rest) {
         listing.put_message(origin, &passed.message)?;
         rest = passed.rest;
-        if rest.is_empty() {
+        if rest.is_empty() | listing.is_full() {
             return Ok(rest);
         }
     }
     Ok(rest)
 }
 
-/// Lists the frames that are whole with the next octets or refused. None can follow a frame whose
-/// length is not known. A part of a frame at the end is left to the caller, if the decoder is clear
-/// then; but not if the octets begin with it and were kept as a part before, so that none is judged
-/// more than twice.
+/// Lists the frames that are whole with the next octets or refused, until the listing is full. None
+/// can follow a frame whose length is not known. A part of a frame at the end is left to the
+/// caller, if the decoder is clear then; but not if the octets begin with it and `kept` of them were
+/// kept as a part before, so that none is judged more than twice. These are not left to be listed,
+/// either.
 fn list_frames<'a>(
     decoder: &mut SkippingDecoder,
     limit: Limit,
-    were_kept: bool,
+    kept: usize,
     octets: &'a [u8],
     origin: &Origin,
     listing: &mut Listing,
 ) -> Result<Listed<'a>, Memory>
-    ensures part { IfOk result (λ listed. IfSome listed.part (λ part. IsUnfinished limit part.now)) }
-    ensures listed { IfOk result (λ listed. ListsPiece listed.is_over limit (option_map (λ part. part.now) listed.part) decoder.old decoder.new octets.now origin.now listing.old listing.new) }
+    requires { kept ≤ length octets.now }
+    ensures few { IfOk result (λ listed. kept + length (rest_after listed) ≤ length octets.now) }
+    ensures listed { IfOk result (λ listed. ListsSome listed limit decoder.old decoder.new octets.now origin.now listing.old listing.new) }
 {
     let mut rest = octets;
-    let mut may_keep = !were_kept;
+    let mut may_keep = kept == 0;
     'frames: loop {
         let after = list_passed(decoder, rest, origin, listing)?;
         may_keep = may_keep | (after.len() < rest.len());
         if decoder.is_clear() {
             if after.is_empty() {
-                return Ok(Listed {
-                    is_over: false,
-                    part: None,
-                });
+                return Ok(Listed::All);
+            }
+            if may_stop(listing, kept, octets, after) {
+                return Ok(Listed::UpTo(after));
             }
             if may_keep && is_part(limit, after) {
-                return Ok(Listed {
-                    is_over: false,
-                    part: Some(after),
-                });
+                return Ok(Listed::Before(after));
             }
         }
         let fed = decoder.feed(after);
         rest = &after[fed.used..];
         may_keep = true;
         match fed.status {
-            Status::More => return Ok(Listed {
-                is_over: false,
-                part: None,
-            }),
+            Status::More => return Ok(Listed::All),
             Status::Memory => return Err(Memory),
             Status::Ready => list_ready(decoder, origin, listing)?,
             Status::Refused(refusal) => {
                 if !list_refused(decoder, refusal, origin, listing)? {
-                    return Ok(Listed {
-                        is_over: true,
-                        part: None,
-                    });
+                    return Ok(Listed::Over);
+                }
+                if may_stop(listing, kept, octets, rest) {
+                    return Ok(Listed::UpTo(rest));
                 }
             }
         }
     }
+}
+
+/// Returns whether the listing is full, and the first `kept` octets are not among the rest.
+fn may_stop(listing: &Listing, kept: usize, octets: &[u8], rest: &[u8]) -> bool
+    ensures { result ≡ true → kept + length rest.now ≤ length octets.now }
+{
+    listing.is_full() && rest.len() <= octets.len() && kept <= octets.len() - rest.len()
 }
 
 /// Lists the frame that is ready, and clears it.

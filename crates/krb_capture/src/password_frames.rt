@@ -1,6 +1,6 @@
 //! Frames whose contents are messages that change passwords.
 
-ghost use Rattle.std.specs.Prelude.{◌≡◌, ◌≤◌, ℕ, false, List, [], ◌∷◌, ◌++◌, length, OnOk};
+ghost use Rattle.std.specs.Prelude.{◌≡◌, ◌≤◌, ℕ, false, List, [], ◌∷◌, ◌++◌, length, take, IfOk, OnOk};
 ghost use Rattle.std.specs.Option.{option_copied};
 ghost use Rattle.krb_capture.specs.Found.{with_all, with_found};
 ghost use Rattle.krb_capture.specs.Streams.{cut_refusal, found_with, framed, length_found, open_path};
@@ -44,20 +44,24 @@ impl PasswordFrames {
         }
     }
 
-    /// Takes the next octets, and lists the frames that are whole with them or refused.
+    /// Takes the next octets, until the listing is full, and lists the frames that are whole with
+    /// them or refused. Returns how many octets it took.
     pub(crate) fn take(
         &mut self,
         octets: &[u8],
         origin: &Origin,
         listing: &mut Listing,
-    ) -> Result<(), Memory>
-        ensures took { OnOk result ((limit : ℕ) (stream : List ℕ) → TookPasswords self.old limit stream → TookPasswords self.new limit (stream ++ octets.now)) }
-        ensures listed { OnOk result ((limit : ℕ) (stream : List ℕ) → TookPasswords self.old limit stream → listing.new ≡ with_all origin.now (found_with services.Passwords limit stream octets.now) listing.old) }
+    ) -> Result<usize, Memory>
+        ensures few { IfOk result (λ count. count ≤ length octets.now) }
+        ensures took { IfOk result (λ count. (limit : ℕ) (stream : List ℕ) → TookPasswords self.old limit stream → TookPasswords self.new limit (stream ++ take count octets.now)) }
+        ensures listed { IfOk result (λ count. (limit : ℕ) (stream : List ℕ) → TookPasswords self.old limit stream → listing.new ≡ with_all origin.now (found_with services.Passwords limit stream (take count octets.now)) listing.old) }
     {
-        for octet in octets {
-            self.take_octet(*octet, origin, listing)?;
+        let mut count = 0;
+        while (count < octets.len()) & !listing.is_full() {
+            self.take_octet(octets[count], origin, listing)?;
+            count += 1;
         }
-        Ok(())
+        Ok(count)
     }
 
     /// Takes the next octet, and lists the frame that is whole with it or refused.

@@ -1,9 +1,10 @@
 //! What one end of a TCP connection sends.
 
-ghost use Rattle.std.specs.Prelude.{◌≡◌, ℕ, List, IfOk, OnOk};
+ghost use Rattle.std.specs.Prelude.{◌≡◌, ◌≤◌, ℕ, List, ◌++◌, drop, length, Some, IfOk, OnOk};
 ghost use Rattle.krb_text.specs.declared.origin.Transport.TheVariants as transports;
 ghost use Rattle.krb_capture.specs.Flows.{origin_of};
-ghost use Rattle.krb_capture.specs.Found.{with_all};
+ghost use Rattle.krb_capture.specs.Found.{Found, with_all};
+ghost use Rattle.krb_capture.specs.Rests.{RepresentsBut, Sends, Takes};
 ghost use Rattle.krb_capture.specs.Sending.{Sent, Represents, after_segment, beginning_found, end_if, last_found, segment_found, sent_from, step_of, stream_at};
 ghost use Rattle.krb_capture.specs.Taken.{Took, service_of};
 
@@ -16,6 +17,7 @@ use krb_frame::Limit;
 use krb_packet::Segment;
 use krb_text::Origin;
 use std::alloc::Global;
+use std::marker::Model;
 
 /// What became of a direction by a segment.
 #[derive(Clone, Copy, PartialEq, Eq, Debug)]
@@ -24,6 +26,78 @@ pub(crate) struct Step {
     pub(crate) began: bool,
     /// What it had, if it ended.
     pub(crate) ended: Option<Had>,
+}
+
+/// Octets of a segment, or that waited for it, whose frames are still to be listed.
+#[derive(Drop)]
+pub(crate) struct Unlisted {
+    octets: Vec<u8>,
+    /// How many of them were taken.
+    taken: usize,
+    /// How the direction ends after them, if it does.
+    end: Option<End>,
+}
+
+impl Model for Unlisted {
+    ghost use Rattle.std.specs.Prelude.{◌≤◌, drop, length};
+    ghost use Rattle.krb_capture.specs.Unlisted.{Unlisted};
+
+    ghost Value = { Unlisted };
+
+    ghost view = { λ left. record { octets = drop left.taken left.octets.items; end = left.end } };
+
+    ghost invariant = { λ left. left.taken ≤ length left.octets.items };
+}
+
+impl Unlisted {
+    /// Copies octets, and others that follow them.
+    fn new(
+        alloc: Global,
+        octets: &[u8],
+        others: &[u8],
+        end: Option<End>,
+    ) -> Result<Unlisted, Memory>
+        ensures { IfOk result (λ left. left ≡ record { octets = octets.now ++ others.now; end = end }) }
+    {
+        let mut copied = Vec::new(alloc);
+        copied.extend_from_slice(octets)?;
+        copied.extend_from_slice(others)?;
+        Ok(Unlisted {
+            octets: copied,
+            taken: 0,
+            end,
+        })
+    }
+
+    /// Returns the octets.
+    fn octets(&self) -> &[u8]
+        ensures { result.now ≡ self.now.octets }
+    {
+        &self.octets[self.taken..]
+    }
+
+    /// Returns how the direction ends after them, if it does.
+    fn end(&self) -> Option<End>
+        ensures { result ≡ self.now.end }
+    {
+        self.end
+    }
+
+    /// Passes over the first octets, which were taken.
+    fn pass(&mut self, count: usize)
+        requires { count ≤ length self.old.octets }
+        ensures { self.new ≡ record self.old { octets = drop count self.old.octets } }
+    {
+        self.taken += count;
+    }
+}
+
+/// What came of a segment.
+#[derive(Drop)]
+pub(crate) struct Stepped {
+    pub(crate) step: Step,
+    /// What is left of it, if the listing was full before its end.
+    pub(crate) left: Option<Unlisted>,
 }
 
 /// A direction of a TCP connection, with its frames.
@@ -66,30 +140,90 @@ impl Sending {
         self.flow
     }
 
-    /// Takes a segment, and lists what is found with it. Octets that waited for it go through
-    /// `waited`.
+    /// Takes a segment, and lists what is found with it until the listing is full. Octets that
+    /// waited for it go through `waited`.
     pub(crate) fn take(
         &mut self,
         segment: &Segment<'_>,
         due: Due,
         waited: &mut Vec<u8>,
         listing: &mut Listing,
-    ) -> Result<Step, Memory>
-        ensures step { IfOk result (λ step. step ≡ step_of self.old.direction.state segment.now) }
-        ensures represents { OnOk result ((limit : ℕ) (sent : Sent) → Represents self.old limit sent → Represents self.new limit (after_segment sent segment.now)) }
-        ensures found { OnOk result ((limit : ℕ) (sent : Sent) → Represents self.old limit sent → listing.new ≡ with_all (origin_of due transports.Tcp self.old.flow.source self.old.flow.target) (segment_found limit sent segment.now) listing.old) }
+    ) -> Result<Stepped, Memory>
+        ensures flow { self.new.flow ≡ self.old.flow }
+        ensures step { IfOk result (λ stepped. stepped.step ≡ step_of self.old.direction.state segment.now) }
+        ensures found { IfOk result (λ stepped. (limit : ℕ) (sent : Sent) → Represents self.old limit sent → Sends self.new limit (after_segment sent segment.now) stepped.left (origin_of due transports.Tcp self.old.flow.source self.old.flow.target) (segment_found limit sent segment.now) listing.old listing.new) }
     {
         let origin = due.over_tcp(self.flow);
         let taken = self.direction.take(self.alloc, segment, waited)?;
         self.list_end(taken.before, &origin, listing)?;
         self.begin(taken.begins, &origin, listing)?;
-        self.frames.take(taken.octets, &origin, listing)?;
-        self.frames.take(waited.as_slice(), &origin, listing)?;
-        self.list_end(taken.end, &origin, listing)?;
-        Ok(Step {
-            began: taken.begins.is_some(),
-            ended: self.direction.had(),
+        let octets = taken.octets;
+        let left = self.list(octets, waited.as_slice(), taken.end, &origin, listing)?;
+        Ok(Stepped {
+            step: Step {
+                began: taken.begins.is_some(),
+                ended: self.direction.had(),
+            },
+            left,
         })
+    }
+
+    /// Goes on with a segment whose frames are not all listed, until the listing is full. Returns
+    /// what is left of it then.
+    pub(crate) fn go_on(
+        &mut self,
+        left: Unlisted,
+        due: Due,
+        listing: &mut Listing,
+    ) -> Result<Option<Unlisted>, Memory>
+        ensures flow { self.new.flow ≡ self.old.flow }
+        ensures found { IfOk result (λ rest. (limit : ℕ) (sent : Sent) (found : List Found) → RepresentsBut self.old limit sent (Some left) found → Sends self.new limit sent rest (origin_of due transports.Tcp self.old.flow.source self.old.flow.target) found listing.old listing.new) }
+    {
+        let origin = due.over_tcp(self.flow);
+        self.list_left(left, &origin, listing)
+    }
+
+    /// Takes octets and others that follow them, until the listing is full, lists what is found,
+    /// and how the direction ends after them. Returns what is left of them.
+    fn list(
+        &mut self,
+        octets: &[u8],
+        others: &[u8],
+        end: Option<End>,
+        origin: &Origin,
+        listing: &mut Listing,
+    ) -> Result<Option<Unlisted>, Memory>
+        ensures same { self.new ≡ record self.old { frames = self.new.frames } }
+        ensures service { OnOk result (service_of self.new.frames ≡ service_of self.old.frames) }
+        ensures found { IfOk result (λ rest. (limit : ℕ) (stream : List ℕ) → Took self.old.frames limit stream → Takes self.old.frames self.new.frames limit stream (record { octets = octets.now ++ others.now; end = end }) rest origin.now listing.old listing.new) }
+    {
+        let count = self.frames.take(octets, origin, listing)?;
+        if (count == octets.len()) & others.is_empty() {
+            self.list_end(end, origin, listing)?;
+            return Ok(None);
+        }
+        let left = Unlisted::new(self.alloc, &octets[count..], others, end)?;
+        self.list_left(left, origin, listing)
+    }
+
+    /// Takes octets, as [`list`](Sending::list) does.
+    fn list_left(
+        &mut self,
+        mut left: Unlisted,
+        origin: &Origin,
+        listing: &mut Listing,
+    ) -> Result<Option<Unlisted>, Memory>
+        ensures same { self.new ≡ record self.old { frames = self.new.frames } }
+        ensures service { OnOk result (service_of self.new.frames ≡ service_of self.old.frames) }
+        ensures found { IfOk result (λ rest. (limit : ℕ) (stream : List ℕ) → Took self.old.frames limit stream → Takes self.old.frames self.new.frames limit stream left rest origin.now listing.old listing.new) }
+    {
+        let count = self.frames.take(left.octets(), origin, listing)?;
+        left.pass(count);
+        if !left.octets().is_empty() {
+            return Ok(Some(left));
+        }
+        self.list_end(left.end(), origin, listing)?;
+        Ok(None)
     }
 
     /// Lists what is known at an end, if it is one.

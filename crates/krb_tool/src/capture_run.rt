@@ -11,7 +11,7 @@ ghost use Rattle.krb_tool.specs.inner.CaptureRuns.{AddsCaptureEnd, AddsFileRefus
 
 use crate::record_run::{RecordLines, Watch, Watched, in_pieces, list_records};
 use crate::run::{RunEnd, RunFault};
-use krb_capture::Capture;
+use krb_capture::{Capture, Rest};
 use krb_file::FileFault;
 use krb_frame::Limit;
 use krb_packet::{CaptureFault, CaptureField, Packets};
@@ -24,6 +24,8 @@ use std::io::{Read, Write};
 struct CaptureLines<'a, R: Read> {
     packets: Packets<R>,
     capture: Capture,
+    /// What is left of the packet that came last, if its records are not all listed.
+    rest: Option<Box<Rest>>,
     form: Form,
     watch: &'a Watch,
 }
@@ -89,9 +91,13 @@ impl<R: Read> RecordLines for CaptureLines<'_, R> {
         _count: u64,
         text: &mut TextBuffer,
     ) -> Result<Option<RunEnd>, RunFault> {
+        if let Some(rest) = self.rest.take() {
+            self.rest = self.capture.go_on(rest, text)?;
+            return Ok(None);
+        }
         match self.packets.next_packet(alloc) {
             Ok(Some(packet)) => {
-                self.capture.take(&packet, text)?;
+                self.rest = self.capture.take(&packet, text)?;
                 self.packets.give_back(packet);
                 Ok(None)
             }
@@ -126,6 +132,7 @@ pub fn run_capture<R: Read, W: Write>(
         &mut CaptureLines {
             packets,
             capture,
+            rest: None,
             form,
             watch,
         },

@@ -4,7 +4,7 @@ use Rattle.krb_capture.proofs.Unfinished.{clear-waits, empty_of}
 use Rattle.std.proofs.lemmas.List.{take_rest}
 use Rattle.krb_frame.specs.declared.decoder.Status.TheVariants as status
 use Rattle.krb_capture.proofs.Feeding.{fed_all, fewer_due, memory_more, memory_ready, memory_refused, more_ready, more_refused, status_is}
-use Rattle.krb_capture.proofs.Listed.{prefix-all, prefix-both, prefix-more, prefix-one, prefix-start, prefix_shorter, last-of, lists-fed, one-of}
+use Rattle.krb_capture.proofs.Listed.{prefix-all, prefix-both, prefix-more, prefix-one, prefix-start, prefix_shorter, last-of, lists-fed, one-of, up-to}
 use Rattle.krb_capture.proofs.message_frames.list_frames.Goals as goal
 
 pub frames-init : goal.frames-init
@@ -20,6 +20,12 @@ returns-then-is_empty-clause-listed c =
       waits = clear-waits c.frames.decoder is;
       next_part = tt;
     }
+
+pub returns-then-may_stop-clause-listed : goal.returns-then-may_stop-clause-listed
+returns-then-may_stop-clause-listed c =
+    let is = c.is_clear.ensures.0 c.if-is_clear.true in
+    let passed = prefix-both c.args.decoder.now c.frames.decoder c.frames.decoder c.args.octets.now c.frames.rest.now c.in_ok-after.after.now c.args.origin.now c.args.listing.now c.frames.listing c.list_passed.new.listing c.frames.invariant c.in_ok-after.ensures in
+    up-to c.args.limit c.args.decoder.now c.frames.decoder c.args.octets.now c.in_ok-after.after.now c.args.origin.now c.args.listing.now c.list_passed.new.listing passed (clear-waits c.frames.decoder is)
 
 pub returns-then-is_part-clause-listed : goal.returns-then-is_part-clause-listed
 returns-then-is_part-clause-listed c =
@@ -73,6 +79,15 @@ returns-then-not-branch-clause-listed c =
     let fed = lists-fed c.frames.decoder c.feed-fed.new.self c.in_ok-after.after.now c.feed-fed.result c.args.origin.now c.list_passed.new.listing c.feed-fed.ensures in
     let prefix = prefix-more c.args.decoder.now c.frames.decoder c.feed-fed.new.self c.args.octets.now c.in_ok-after.after.now c.feed-fed.result.used c.args.origin.now c.args.listing.now c.list_passed.new.listing c.list_passed.new.listing passed fed in
     last-of c.args.decoder.now c.feed-fed.new.self c.list_refused.new.decoder c.args.octets.now _ c.args.origin.now c.args.listing.now c.list_passed.new.listing c.list_refused.new.listing c.in-Refused.refusal c.in_ok-list_refused-in-Refused.field-0 prefix c.if-not-branch.true c.in_ok-list_refused-in-Refused.ensures
+
+pub returns-then-may_stop-2-clause-listed : goal.returns-then-may_stop-2-clause-listed
+returns-then-may_stop-2-clause-listed c =
+    let passed = prefix-both c.args.decoder.now c.frames.decoder c.frames.decoder c.args.octets.now c.frames.rest.now c.in_ok-after.after.now c.args.origin.now c.args.listing.now c.frames.listing c.list_passed.new.listing c.frames.invariant c.in_ok-after.ensures in
+    let fed = lists-fed c.frames.decoder c.feed-fed.new.self c.in_ok-after.after.now c.feed-fed.result c.args.origin.now c.list_passed.new.listing c.feed-fed.ensures in
+    let prefix = prefix-more c.args.decoder.now c.frames.decoder c.feed-fed.new.self c.args.octets.now c.in_ok-after.after.now c.feed-fed.result.used c.args.origin.now c.args.listing.now c.list_passed.new.listing c.list_passed.new.listing passed fed in
+    let one = one-of c.feed-fed.new.self c.list_refused.new.decoder c.args.origin.now c.list_passed.new.listing c.list_refused.new.listing c.in-Refused.refusal c.in_ok-list_refused-in-Refused.field-0 c.if-not-branch.false c.in_ok-list_refused-in-Refused.ensures in
+    rw (take_rest c.in_ok-after.after.now c.feed-fed.result.used)
+    (up-to c.args.limit c.args.decoder.now c.list_refused.new.decoder c.args.octets.now _ c.args.origin.now c.args.listing.now c.list_refused.new.listing (prefix-one c.args.decoder.now c.feed-fed.new.self c.list_refused.new.decoder c.args.octets.now _ c.args.origin.now c.args.listing.now c.list_passed.new.listing c.list_refused.new.listing prefix one) one.waits)
 
 pub frames-smaller : goal.frames-smaller
 frames-smaller c =

@@ -1,37 +1,25 @@
-use Rattle.std.proofs.Common.{true, Some, sym, ◌≡◌, ◌∙◌, ap, subst}
+use Rattle.std.proofs.Common.{◌≡◌, true, Some, sym, ◌∙◌, ap, subst}
+use Rattle.std.proofs.lemmas.Result.{IfOk-weaker}
 use Rattle.std.specs.BTreeMap.{is_at}
 use Rattle.std.specs.Map.{lookup, remove_entry}
 use Rattle.std.specs.Ordering.{nat_cmp}
 use Rattle.krb_flow.specs.declared.direction.State.TheVariants as states
-use Rattle.krb_capture.specs.Captures.{over_tcp, with_each}
-use Rattle.krb_capture.specs.Directions.{HoldsTable, begun, of_ended}
+use Rattle.krb_capture.specs.Captures.{over_tcp}
+use Rattle.krb_capture.specs.Directions.{begun, of_ended}
+use Rattle.krb_capture.specs.Rests.{Follows}
 use Rattle.krb_capture.specs.Sending.{step_of}
 use Rattle.krb_capture.proofs.Tables.{ended-begins}
-use Rattle.krb_capture.proofs.Written.{on_ok-map}
 use Rattle.krb_capture.proofs.directions.Directions.take_ended.Goals as goal
 
-pub returns-clause-table : goal.returns-clause-table
-returns-clause-table c = on_ok-map c.begin.result
-    (λ k limit table h.
+pub returns : goal.returns
+returns c = IfOk-weaker c.begin.result _ _
+    (λ rest k limit table h.
     let test = is_at (nat_cmp c.args.number) in
     let there : lookup test table.ended ≡ Some c.in-Some.gone = ap (λ es. lookup test es) (sym h.ended) ∙ sym c.get.ensures.value ∙ sym c.copied.ensures ∙ c.in-Some.is in
     let began : (step_of (states.Ended c.in-Some.gone.had) c.args.segment.now).began ≡ true = sym c.is_followed_by.ensures ∙ c.if-not-is_followed_by.false in
     let left = record table { ended = remove_entry test table.ended } in
     let whole = ap (λ o. of_ended limit c.args.due.packet c.args.number o c.args.service c.args.segment.now table) there ∙ ended-begins limit c.args.due.packet c.args.service c.args.segment.now table c.args.number c.in-Some.gone began in
-    subst (λ f. HoldsTable c.begin.new.self limit f.table) (sym whole)
-    (subst (λ s. HoldsTable c.begin.new.self limit (begun limit c.args.due.packet c.args.service s c.args.segment.now left).table) c.ended-direction.ensures
+    subst (λ f. Follows c.begin.new.self limit f.table c.args.due rest (over_tcp c.args.due f.found) c.args.listing.now c.begin.new.listing) (sym whole)
+    (subst (λ s. Follows c.begin.new.self limit (begun limit c.args.due.packet c.args.service s c.args.segment.now left).table c.args.due rest (over_tcp c.args.due (begun limit c.args.due.packet c.args.service s c.args.segment.now left).found) c.args.listing.now c.begin.new.listing) c.ended-direction.ensures
     (k limit left (record { limit_is = h.limit_is; numbers = h.numbers; active = h.active; ended = c.remove.ensures.entries ∙ ap (λ es. remove_entry test es) h.ended }))))
-    c.begin.ensures.table
-
-pub returns-clause-found : goal.returns-clause-found
-returns-clause-found c = on_ok-map c.begin.result
-    (λ k limit table h.
-    let test = is_at (nat_cmp c.args.number) in
-    let there : lookup test table.ended ≡ Some c.in-Some.gone = ap (λ es. lookup test es) (sym h.ended) ∙ sym c.get.ensures.value ∙ sym c.copied.ensures ∙ c.in-Some.is in
-    let began : (step_of (states.Ended c.in-Some.gone.had) c.args.segment.now).began ≡ true = sym c.is_followed_by.ensures ∙ c.if-not-is_followed_by.false in
-    let left = record table { ended = remove_entry test table.ended } in
-    let whole = ap (λ o. of_ended limit c.args.due.packet c.args.number o c.args.service c.args.segment.now table) there ∙ ended-begins limit c.args.due.packet c.args.service c.args.segment.now table c.args.number c.in-Some.gone began in
-    k limit left (record { limit_is = h.limit_is; numbers = h.numbers; active = h.active; ended = c.remove.ensures.entries ∙ ap (λ es. remove_entry test es) h.ended })
-    ∙ ap (λ s. with_each (over_tcp c.args.due (begun limit c.args.due.packet c.args.service s c.args.segment.now left).found) c.args.listing.now) c.ended-direction.ensures
-    ∙ ap (λ f. with_each (over_tcp c.args.due f.found) c.args.listing.now) (sym whole))
-    c.begin.ensures.found
+    c.begin.ensures
