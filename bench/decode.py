@@ -6,7 +6,7 @@ import sys
 import tempfile
 
 from frames import real_frames, repeated
-from timing import best_runs, output_of, peak_octets
+from timing import best_runs, most_octets, output_of, peak_octets
 
 DECODE = ["bash", "-c", "ulimit -v 8192; exec bin/krbls decode"]
 STREAM = ["bash", "-c", "ulimit -v 8192; exec bin/krbls stream --json"]
@@ -25,8 +25,9 @@ def print_costs(name, commands, path):
     for (title, command), seconds in zip(commands.items(), best_runs(commands.values(), path)):
         written = len(output_of(command, path))
         each = f", {seconds / written * 1e9:.2f} ns for each of {written} octets written" if written else ""
+        memory = (peak_octets if written else most_octets)(command, path)
         rate = os.path.getsize(path) / seconds / 1e6
-        print(f"    {title} {seconds:.3f} s, {rate:.1f} MB/s read{each}, {peak_octets(command, path) / 1e6:.1f} MB of memory")
+        print(f"    {title} {seconds:.3f} s, {rate:.1f} MB/s read{each}, {memory / 1e6:.1f} MB of memory")
 
 
 def main():
