@@ -16,11 +16,12 @@ use Rattle.krb_tool.specs.Lines.{message_line}
 use Rattle.krb_tool.specs.Lines.{end_line}
 use Rattle.krb_tool.specs.Paths.{frame_path, last_octets, end_path}
 use Rattle.krb_tool.specs.Listing.{end_of, run_end, AllIsRead, IsNotRefused, StopsInPiece, Lists, AreLines}
-use Rattle.krb_tool.specs.inner.Streams.{Request, Taken, with_piece, Begins, EndsListing, ListsBy}
+use Rattle.krb_tool.specs.inner.Streams.{Taken, with_piece, Begins, EndsListing, ListsBy}
 use Rattle.krb_tool.specs.inner.Pieces.{TakesPiece, WaitsAfter, IsLastOf}
 use Rattle.krb_tool.specs.inner.Listers.{HasListed, AddsEnd, IsRefusedAfter, stopping, stopping_rules}
 use Rattle.krb_tool.specs.declared.listing.Lister.{Lister}
 use Rattle.krb_tool.specs.declared.run.RunEnd.{RunEnd}
+use Rattle.krb_tool.specs.declared.stream_run.Request.{Request}
 
 -- the frames of a stream by what a lister was asked for
 abbrev frames_of : Lister → List ℕ → Frames

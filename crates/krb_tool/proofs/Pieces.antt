@@ -7,9 +7,8 @@ use Rattle.krb_frame.specs.Decoding.{Decoding}
 use Rattle.krb_frame.specs.Frame.{framed}
 use Rattle.krb_frame.specs.Passes.{Passes, contents_of}
 use Rattle.krb_frame.specs.declared.pass.Passed.{Passed}
-use Rattle.krb_tool.specs.inner.Streams.{Request, Taken, with_piece, Begins, GoesOn, IsNew, AcceptsPiece, Feeds, Clears, IsLast, EndsListing, Finishes}
+use Rattle.krb_tool.specs.inner.Streams.{Taken, with_piece, Begins, GoesOn, IsNew, AcceptsPiece, Feeds, Clears, IsLast, EndsListing, Finishes}
 use Rattle.krb_tool.specs.inner.Pieces.{Kind, IsWaiting, IsFed, Goes, TakesPiece, WaitsAfter, IsLastOf, listing_of}
-use Rattle.krb_tool.specs.declared.run.RunEnd.{RunEnd}
 
 -- the octets used so far, and some more
 pub together : (piece rest stream : List ℕ) (used : ℕ) → rest ≡ drop (length piece - length rest) piece → (stream ++ take (length piece - length rest) piece) ++ take used rest ≡ stream ++ take (length piece - length rest + used) piece
@@ -22,7 +21,7 @@ together piece rest stream used e =
 pub passed_shorter : {messages : List Term} {decoding : Decoding} {octets : List ℕ} {passed : Passed} → Passes messages decoding octets passed → length passed.rest.now < length octets
 passed_shorter {passed = passed} p = omega (arith, ap length p.parts, length-append (framed (contents_of passed)) passed.rest.now)
 
-module _ {L : Type 0} (kind : Kind L) where
+module _ {L Q E : Type 0} (kind : Kind L Q E) where
   -- ---- a piece, as far as it was used
   -- some octets were used
   pub IsFed-used : (old new : L) (piece : List ℕ) (used : ℕ) → used ≤ length piece → kind.request new ≡ kind.request old → IsWaiting kind new → kind.count new ≤ kind.count old + used → ((stream written : List ℕ) → kind.HasListed old stream written → kind.HasListed new (stream ++ take used piece) written) → IsFed kind old piece (drop used piece) new
@@ -111,7 +110,7 @@ module _ {L : Type 0} (kind : Kind L) where
   -- ---- a lister of a stream
   module _ (begins : (lister : L) (taken : Taken) → WaitsAfter kind lister taken → Begins (kind.rules (kind.request lister)) taken (kind.text lister)) where
     -- nothing came yet
-    pub IsNew-made : {lister : L} {request : Request} → kind.request lister ≡ request → WaitsAfter kind lister (record { pieces = 0; octets = []; written = [] }) → IsNew (kind.rules request) request (listing_of kind lister)
+    pub IsNew-made : {lister : L} {request : Q} → kind.request lister ≡ request → WaitsAfter kind lister (record { pieces = 0; octets = []; written = [] }) → IsNew (kind.rules request) request (listing_of kind lister)
     IsNew-made {lister = lister} {request = request} e w =
         let start : Taken = record { pieces = 0; octets = []; written = [] } in
         record { waits = record { waits = (e, w); begins = subst (λ r. Begins (kind.rules r) start (kind.text lister)) e (begins lister start w) } }
@@ -126,7 +125,7 @@ module _ {L : Type 0} (kind : Kind L) where
         }
 
     module _ (stops : (old new : L) (piece : List ℕ) (taken : Taken) → length piece ≤ 65536 → WaitsAfter kind old taken → TakesPiece kind old piece new false → kind.Stops new (with_piece taken piece) × (kind.rules (kind.request new)).AreLines (taken.octets ++ piece) (taken.written ++ kind.text new)) where
-      goes_on_after : {old new : L} {piece : List ℕ} (goes_on : Bool) (request : Request) (taken : Taken) → length piece ≤ 65536 → kind.request old ≡ request → WaitsAfter kind old taken → TakesPiece kind old piece new goes_on → GoesOn goes_on (kind.rules request) request (with_piece taken piece) (listing_of kind new)
+      goes_on_after : {old new : L} {piece : List ℕ} (goes_on : Bool) (request : Q) (taken : Taken) → length piece ≤ 65536 → kind.request old ≡ request → WaitsAfter kind old taken → TakesPiece kind old piece new goes_on → GoesOn goes_on (kind.rules request) request (with_piece taken piece) (listing_of kind new)
       goes_on_after {new = new} {piece = piece} true request taken short e w f =
           let n = waits_on taken short w f in
           record { waits = (f.same ∙ e, n); begins = subst (λ r. Begins (kind.rules r) (with_piece taken piece) (kind.text new)) (f.same ∙ e) (begins new (with_piece taken piece) n) }
@@ -153,9 +152,9 @@ module _ {L : Type 0} (kind : Kind L) where
   }
 
   -- the lines of the end were added
-  pub Finishes-made : (old new : L) (ended : RunEnd) → ((taken : Taken) (left : Option (List ℕ)) → IsLastOf kind old taken left → EndsListing (kind.rules (kind.request old)) taken.octets (taken.written ++ kind.text new) left ended) → Finishes kind.rules (listing_of kind old) (listing_of kind new) ended
+  pub Finishes-made : (old new : L) (ended : E) → ((taken : Taken) (left : Option (List ℕ)) → IsLastOf kind old taken left → EndsListing (kind.rules (kind.request old)) taken.octets (taken.written ++ kind.text new) left ended) → Finishes kind.rules (listing_of kind old) (listing_of kind new) ended
   Finishes-made old new ended made = λ request taken left last. by request taken left last
     where
-      by : (request : Request) (taken : Taken) (left : Option (List ℕ)) → IsLast (listing_of kind old) request taken left → EndsListing (kind.rules request) taken.octets (taken.written ++ kind.text new) left ended
+      by : (request : Q) (taken : Taken) (left : Option (List ℕ)) → IsLast (listing_of kind old) request taken left → EndsListing (kind.rules request) taken.octets (taken.written ++ kind.text new) left ended
       by request taken left (inl (w, a)) = subst (λ r. EndsListing (kind.rules r) taken.octets (taken.written ++ kind.text new) left ended) w.0 (made taken left (inl (w.1, a)))
       by request taken left (inr s) = subst (λ r. EndsListing (kind.rules r) taken.octets (taken.written ++ kind.text new) left ended) s.0 (made taken left (inr s.1))
