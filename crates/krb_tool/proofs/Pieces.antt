@@ -8,7 +8,7 @@ use Rattle.krb_frame.specs.Frame.{framed}
 use Rattle.krb_frame.specs.Passes.{Passes, contents_of}
 use Rattle.krb_frame.specs.declared.pass.Passed.{Passed}
 use Rattle.krb_tool.specs.inner.Streams.{Taken, with_piece, Begins, GoesOn, IsNew, AcceptsPiece, Feeds, Clears, IsLast, EndsListing, Finishes}
-use Rattle.krb_tool.specs.inner.Pieces.{Kind, IsWaiting, IsFed, Goes, TakesPiece, WaitsAfter, IsLastOf, listing_of}
+use Rattle.krb_tool.specs.inner.Pieces.{Kind, IsFed, Goes, TakesPiece, WaitsAfter, IsLastOf, listing_of}
 
 -- the octets used so far, and some more
 pub together : (piece rest stream : List ℕ) (used : ℕ) → rest ≡ drop (length piece - length rest) piece → (stream ++ take (length piece - length rest) piece) ++ take used rest ≡ stream ++ take (length piece - length rest + used) piece
@@ -24,7 +24,7 @@ passed_shorter {passed = passed} p = omega (arith, ap length p.parts, length-app
 module _ {L Q E : Type 0} (kind : Kind L Q E) where
   -- ---- a piece, as far as it was used
   -- some octets were used
-  pub IsFed-used : (old new : L) (piece : List ℕ) (used : ℕ) → used ≤ length piece → kind.request new ≡ kind.request old → IsWaiting kind new → kind.count new ≤ kind.count old + used → ((stream written : List ℕ) → kind.HasListed old stream written → kind.HasListed new (stream ++ take used piece) written) → IsFed kind old piece (drop used piece) new
+  pub IsFed-used : (old new : L) (piece : List ℕ) (used : ℕ) → used ≤ length piece → kind.request new ≡ kind.request old → kind.IsWaiting new → kind.count new ≤ kind.count old + used → ((stream written : List ℕ) → kind.HasListed old stream written → kind.HasListed new (stream ++ take used piece) written) → IsFed kind old piece (drop used piece) new
   IsFed-used old new piece used within same waits few listed =
       let left : length piece - length (drop used piece) ≡ used = omega (arith, length-drop used piece) in
       record {
@@ -37,7 +37,7 @@ module _ {L Q E : Type 0} (kind : Kind L Q E) where
       }
 
   -- those of a frame, which is listed
-  pub IsFed-frame : (old new : L) (octets contents rest : List ℕ) → octets ≡ framed contents ++ rest → kind.request new ≡ kind.request old → IsWaiting kind new → kind.count new ≡ kind.count old + 1 → ((stream written : List ℕ) → kind.HasListed old stream written → kind.HasListed new (stream ++ framed contents) written) → IsFed kind old octets rest new
+  pub IsFed-frame : (old new : L) (octets contents rest : List ℕ) → octets ≡ framed contents ++ rest → kind.request new ≡ kind.request old → kind.IsWaiting new → kind.count new ≡ kind.count old + 1 → ((stream written : List ℕ) → kind.HasListed old stream written → kind.HasListed new (stream ++ framed contents) written) → IsFed kind old octets rest new
   IsFed-frame old new octets contents rest parts same waits one listed =
       let size : length octets ≡ length (framed contents) + length rest = ap length parts ∙ length-append (framed contents) rest in
       let prefix : take (length (framed contents)) octets ≡ framed contents = ap (take (length (framed contents))) parts ∙ take_at (framed contents) rest (length (framed contents)) refl in
@@ -47,7 +47,7 @@ module _ {L Q E : Type 0} (kind : Kind L Q E) where
       (λ stream written h. subst (λ f. kind.HasListed new (stream ++ f) written) (sym prefix) (listed stream written h)))
 
   -- none was used
-  pub IsFed-start : (lister : L) (piece : List ℕ) → IsWaiting kind lister → IsFed kind lister piece piece lister
+  pub IsFed-start : (lister : L) (piece : List ℕ) → kind.IsWaiting lister → IsFed kind lister piece piece lister
   IsFed-start lister piece w =
       let none : length piece - length piece ≡ 0 = omega arith in
       record {
@@ -97,7 +97,7 @@ module _ {L Q E : Type 0} (kind : Kind L Q E) where
     }
 
   -- ---- a lister that accepts a piece
-  pub may_wait : {lister : L} → AcceptsPiece (listing_of kind lister) → IsWaiting kind lister
+  pub may_wait : {lister : L} → AcceptsPiece (listing_of kind lister) → kind.IsWaiting lister
   may_wait m = m.waits.1.waits
 
   -- the frames of a piece can be counted, and one more after some of its octets
@@ -137,15 +137,21 @@ module _ {L Q E : Type 0} (kind : Kind L Q E) where
       pub Feeds-made : {old new : L} {piece : List ℕ} {goes_on : Bool} → length piece ≤ 65536 → TakesPiece kind old piece new goes_on → Feeds kind.rules (listing_of kind old) piece (listing_of kind new) goes_on
       Feeds-made {goes_on = goes_on} short f = λ request taken w. goes_on_after goes_on request taken short w.0 w.1 f
 
+  -- a piece came, and the lister accepts none after it
+  pub Feeds-stopped : {old new : L} {piece : List ℕ} → kind.request new ≡ kind.request old → ((taken : Taken) → WaitsAfter kind old taken → kind.Stops new (with_piece taken piece) × (kind.rules (kind.request new)).AreLines (taken.octets ++ piece) (taken.written ++ kind.text new)) → Feeds kind.rules (listing_of kind old) piece (listing_of kind new) false
+  Feeds-stopped {new = new} {piece = piece} same stops = λ request taken w.
+      let n = stops taken w.1 in
+      record { stops = (same ∙ w.0, n.0); lines = subst (λ r. (kind.rules r).AreLines (taken.octets ++ piece) (taken.written ++ kind.text new)) (same ∙ w.0) n.1 }
+
   -- the lines were written
-  pub Clears-made : {old new : L} → kind.text new ≡ [] → kind.request new ≡ kind.request old → kind.decoding new ≡ kind.decoding old → kind.count new ≡ kind.count old → ((stream written : List ℕ) → kind.HasListed old stream written → kind.HasListed new stream (written ++ kind.text old)) → Clears (listing_of kind old) (listing_of kind new)
-  Clears-made {old = old} {new = new} none same decoding count listed = record {
+  pub Clears-made : {old new : L} → kind.text new ≡ [] → kind.request new ≡ kind.request old → (kind.IsWaiting old → kind.IsWaiting new) → kind.count new ≡ kind.count old → ((stream written : List ℕ) → kind.HasListed old stream written → kind.HasListed new stream (written ++ kind.text old)) → Clears (listing_of kind old) (listing_of kind new)
+  Clears-made {old = old} {new = new} none same waits count listed = record {
     none = none;
     waits = λ request taken w. (
       same ∙ w.0,
       record {
         listed = listed taken.octets taken.written w.1.listed;
-        waits = rw (same, decoding) w.1.waits;
+        waits = waits w.1.waits;
         few = omega (arith, w.1.few, count);
       },
     );

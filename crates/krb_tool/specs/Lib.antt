@@ -9,3 +9,5 @@ pub mod Sources
 pub mod inner
 pub mod Laws
 pub mod Captures
+pub mod Conversions
+pub mod Decoding

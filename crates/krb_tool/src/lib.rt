@@ -16,10 +16,12 @@
 #![tactic(auto)]
 
 mod capture_run;
+mod decode_run;
 mod fault_path;
 mod file_path;
 mod file_run;
 mod going_on;
+mod json_lines;
 pub mod law;
 mod listing;
 mod message_run;
@@ -30,6 +32,7 @@ mod stream_run;
 mod transfer;
 
 pub use capture_run::run_capture;
+pub use decode_run::{DecodeEnd, run_decode};
 pub use file_run::FileText;
 pub use going_on::run_stream_going_on;
 pub use krb_der::Profile;

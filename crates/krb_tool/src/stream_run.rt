@@ -27,7 +27,7 @@ pub(crate) trait ListStream: Drop {
     type Request;
 
     /// How a run over it ends.
-    type End;
+    type End: Drop;
 
     /// What is written of the octets of a stream.
     ghost rules: { Self.Request → Rules Self.End };

@@ -16,7 +16,7 @@ use Rattle.krb_tool.specs.Lines.{refused_line, counted_end_line}
 use Rattle.krb_tool.specs.Paths.{frame_path}
 use Rattle.krb_tool.specs.GoingOn.{Listed, Faulty, entry_of, messages_in, refused_in, lines_after, IsCountedListing, AreCountedLines, EndsUnknown, StopsInPiece, counted_run_end}
 use Rattle.krb_tool.specs.inner.Streams.{Rules, Taken}
-use Rattle.krb_tool.specs.inner.Pieces.{request_of, Kind}
+use Rattle.krb_tool.specs.inner.Pieces.{request_of, NeedsMore, Kind}
 use Rattle.krb_tool.specs.declared.going_on.CountingLister.{CountingLister}
 use Rattle.krb_tool.specs.declared.run.RunEnd.{RunEnd}
 use Rattle.krb_tool.specs.declared.stream_run.Request.{Request}
@@ -118,10 +118,10 @@ abbrev pub counting : Kind CountingLister Request RunEnd
 counting = record {
   rules = counting_rules;
   request = λ lister. request_of lister.form lister.decoder.current;
-  decoding = λ lister. lister.decoder.current;
   text = λ lister. lister.text;
   count = λ lister. lister.messages + lister.refused;
   HasListed = HasCounted;
+  IsWaiting = λ lister. NeedsMore lister.decoder.current;
   IsRefused = λ lister. (refusal : Refusal) × (status_of (grammar lister.decoder.current.profile) lister.decoder.current ≡ status.Refused refusal) × (rest_to_come (grammar lister.decoder.current.profile) lister.decoder.current ≡ None);
   Stops = IsUnknownAfter;
 }

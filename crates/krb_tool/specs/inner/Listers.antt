@@ -16,7 +16,7 @@ use Rattle.krb_tool.specs.Lines.{end_line}
 use Rattle.krb_tool.specs.Paths.{frame_path}
 use Rattle.krb_tool.specs.Listing.{end_of, run_end, IsListing, AllIsRead, StopsInPiece, AreLines}
 use Rattle.krb_tool.specs.inner.Streams.{Rules, Taken}
-use Rattle.krb_tool.specs.inner.Pieces.{request_of, Kind}
+use Rattle.krb_tool.specs.inner.Pieces.{request_of, NeedsMore, Kind}
 use Rattle.krb_tool.specs.declared.listing.Lister.{Lister}
 use Rattle.krb_tool.specs.declared.run.RunEnd.{RunEnd}
 use Rattle.krb_tool.specs.declared.stream_run.Request.{Request}
@@ -81,10 +81,10 @@ abbrev pub stopping : Kind Lister Request RunEnd
 stopping = record {
   rules = stopping_rules;
   request = λ lister. request_of lister.form lister.decoder;
-  decoding = λ lister. lister.decoder;
   text = λ lister. lister.text;
   count = λ lister. lister.messages;
   HasListed = HasListed;
+  IsWaiting = λ lister. NeedsMore lister.decoder;
   IsRefused = λ lister. (refusal : Refusal) × (status_of (grammar lister.decoder.profile) lister.decoder ≡ status.Refused refusal);
   Stops = IsRefusedAfter;
 }

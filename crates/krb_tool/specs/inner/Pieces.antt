@@ -12,37 +12,38 @@ use Rattle.krb_tool.specs.inner.Streams.{Rules, Taken, Listing}
 abbrev pub request_of : Form → Decoding → Request
 request_of form decoding = record { form = form; profile = decoding.profile; limit = decoding.limit }
 
+-- a decoder needs more octets
+abbrev pub NeedsMore : Decoding → Type 0
+NeedsMore decoding = status_of (messages decoding.profile) decoding ≡ status.More
+
 -- What is known of the listers of a kind, and of how their runs end.
 pub record Kind (L Q E : Type 0) : Type 1 where
   pub rules : Q → Rules E
-  -- what a lister was asked for, its decoder, its lines that are not written yet, and how many frames it has listed
+  -- what a lister was asked for, its lines that are not written yet, and how many frames, or how much else, it has listed
   pub request : L → Q
-  pub decoding : L → Decoding
   pub text : L → List ℕ
   pub count : L → ℕ
   -- The frames that its decoder cleared of a stream are listed. Their lines are those that were written and then its own.
   pub HasListed : L → List ℕ → List ℕ → Type 0
+  -- it needs more octets
+  pub IsWaiting : L → Type 0
   -- it looks at no octet more
   pub IsRefused : L → Type 0
   -- and what came then
   pub Stops : L → Taken → Type 0
-
--- more octets are needed
-abbrev pub IsWaiting : {L Q E : Type 0} → Kind L Q E → L → Type 0
-IsWaiting kind lister = status_of (messages (kind.decoding lister).profile) (kind.decoding lister) ≡ status.More
 
 -- A piece came, of which this rest is not used yet, and the frames that are whole are listed.
 pub record IsFed {L Q E : Type 0} (kind : Kind L Q E) (initial : L) (piece rest : List ℕ) (now : L) : Type 0 where
   pub place : rest ≡ drop (length piece - length rest) piece
   pub within : length rest ≤ length piece
   pub same : kind.request now ≡ kind.request initial
-  pub waits : IsWaiting kind now
+  pub waits : kind.IsWaiting now
   pub few : kind.count now + length rest ≤ kind.count initial + length piece
   pub listed : (stream written : List ℕ) → kind.HasListed initial stream written → kind.HasListed now (stream ++ take (length piece - length rest) piece) written
 
 -- if the stream goes on all octets of a piece were used, and else it is refused
 abbrev pub Goes : {L Q E : Type 0} → Kind L Q E → L → ℕ → ℕ → Bool → Type 0
-Goes kind lister size used true = (used ≡ size) × IsWaiting kind lister
+Goes kind lister size used true = (used ≡ size) × kind.IsWaiting lister
 Goes kind lister size used false = kind.IsRefused lister
 
 -- a piece came, and the frames that are whole now are listed
@@ -58,7 +59,7 @@ pub record TakesPiece {L Q E : Type 0} (kind : Kind L Q E) (old : L) (piece : Li
 -- it waits for a piece after these
 pub record WaitsAfter {L Q E : Type 0} (kind : Kind L Q E) (lister : L) (taken : Taken) : Type 0 where
   pub listed : kind.HasListed lister taken.octets taken.written
-  pub waits : IsWaiting kind lister
+  pub waits : kind.IsWaiting lister
   pub few : kind.count lister ≤ 65536 * taken.pieces
 
 abbrev pub IsLastOf : {L Q E : Type 0} → Kind L Q E → L → Taken → Option (List ℕ) → Type 0
