@@ -21,3 +21,5 @@ mod CaptureLines
 pub mod ConversionRuns
 pub mod DecodedFrames
 pub mod DecodedPieces
+pub mod SourceLineParts
+pub mod EncodedLines

@@ -11,3 +11,4 @@ pub mod Laws
 pub mod Captures
 pub mod Conversions
 pub mod Decoding
+pub mod Encoding

@@ -8,3 +8,4 @@ pub mod RecordRuns
 pub mod CaptureRuns
 pub mod Conversions
 pub mod JsonLines
+pub mod EncodedLines
