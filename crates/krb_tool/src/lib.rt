@@ -17,10 +17,14 @@
 #![tactic(auto)]
 
 mod capture_run;
+mod decode_run;
+mod encode_run;
 mod fault_path;
 mod file_path;
 mod file_run;
 mod going_on;
+mod json_lines;
+mod json_reader;
 pub mod law;
 mod listing;
 mod message_run;
@@ -31,6 +35,8 @@ mod stream_run;
 mod transfer;
 
 pub use capture_run::run_capture;
+pub use decode_run::{DecodeEnd, run_decode};
+pub use encode_run::{EncodeEnd, run_encode, run_encode_unframed};
 pub use file_run::FileText;
 pub use going_on::run_stream_going_on;
 pub use krb_der::Profile;
