@@ -130,7 +130,7 @@ not_all_apart parts span k d within touches = list_all_at (λ part. are_apart sp
 
 -- ---- what a fragment is to those that came
 
-same_pieces : (octets : List ℕ) (parts : List Part) (piece : Piece) → list_any (λ part. same_span piece.span part.span) parts ≡ false → list_any (same_piece piece) (map (piece_in octets) parts) ≡ false
+pub same_pieces : (octets : List ℕ) (parts : List Part) (piece : Piece) → list_any (λ part. same_span piece.span part.span) parts ≡ false → list_any (same_piece piece) (map (piece_in octets) parts) ≡ false
 same_pieces octets [] piece none = refl
 same_pieces octets (part ∷ parts) piece none =
     let here : same_span piece.span part.span ≡ false = grind (arith, nat_tests) in

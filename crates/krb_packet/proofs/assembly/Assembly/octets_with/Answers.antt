@@ -1,4 +1,4 @@
-use Rattle.std.proofs.Common.{◌≡◌, ◌++◌, ◌≤◌, List, ℕ, length, length-map, map, take, drop, sym, ap, arith, rules}
+use Rattle.std.proofs.Common.{◌≡◌, ◌++◌, ◌≤◌, List, ℕ, length, map, take, drop, sym, ap, arith, rules}
 use Rattle.krb_packet.specs.Parts.{Parts, joined}
 use Rattle.krb_packet.specs.inner.Pieces.{piece_in}
 use Rattle.krb_packet.proofs.Pieces.{octets_of_all, within_take, within_drop}
