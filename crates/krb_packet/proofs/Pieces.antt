@@ -130,7 +130,7 @@ not_all_apart parts span k d within touches = list_all_at (λ part. are_apart sp
 
 -- ---- what a fragment is to those that came
 
-same_pieces : (octets : List ℕ) (parts : List Part) (piece : Piece) → list_any (λ part. same_span piece.span part.span) parts ≡ false → list_any (same_piece piece) (map (piece_in octets) parts) ≡ false
+pub same_pieces : (octets : List ℕ) (parts : List Part) (piece : Piece) → list_any (λ part. same_span piece.span part.span) parts ≡ false → list_any (same_piece piece) (map (piece_in octets) parts) ≡ false
 same_pieces octets [] piece none = refl
 same_pieces octets (part ∷ parts) piece none =
     let here : same_span piece.span part.span ≡ false = grind (arith, nat_tests) in
@@ -190,6 +190,16 @@ joined_with octets parts place piece =
     joined-append (take place (map (piece_in octets) parts)) (piece ∷ drop place (map (piece_in octets) parts))
     ∙ rw (take-map (piece_in octets) place parts, drop-map (piece_in octets) place parts)
     (sym (append_assoc (joined (map (piece_in octets) (take place parts))) piece.octets (joined (map (piece_in octets) (drop place parts)))))
+
+-- the octets of one part more
+pub joined_more : (octets : List ℕ) (parts : List Part) (k : ℕ) (d : Part) → k < length parts → joined (map (piece_in octets) (take (k + 1) parts)) ≡ joined (map (piece_in octets) (take k parts)) ++ octets_in octets (get_or parts k d)
+joined_more octets parts k d within =
+    rw (take-more parts k d within, map-append (piece_in octets) (take k parts) (get_or parts k d ∷ []), joined-append (map (piece_in octets) (take k parts)) (piece_in octets (get_or parts k d) ∷ [])) (ap (λ (xs : List ℕ). joined (map (piece_in octets) (take k parts)) ++ xs) (append-nil (octets_in octets (get_or parts k d))))
+  where
+    append-nil : (xs : List ℕ) → xs ++ [] ≡ xs
+    append-nil xs = grind (arith, common_steps)
+    take-more : (xs : List Part) (n : ℕ) (e : Part) → n < length xs → take (n + 1) xs ≡ take n xs ++ get_or xs n e ∷ []
+    take-more xs n e inside = grind (arith, common_steps)
 
 -- ---- a part more
 
@@ -289,3 +299,107 @@ is_new octets parts all fragment place are pieces is sound end differs fit = rec
       before = not_before_is_after (get_or parts k (part d)).span (span_of fragment) (is.from k (part d) from inside) (any_at k d inside);
       ends = apart_begins (get_or parts k (part d)).span (span_of fragment) (are.within k (part d) inside).size (omega arith) (all_at (λ part. are_apart (span_of fragment) part.span) parts k (part d) apart inside) (is.from k (part d) from inside);
     }
+
+pub after_keep : (octets more : List ℕ) (parts others : List Part) (all : Parts) (fragment : Fragment) (place : ℕ) (part : Part) → AreParts octets parts → all.pieces ≡ map (piece_in octets) parts → all.count ≡ length octets → IsNew all fragment place → more ≡ octets ++ fragment.payload.octets → others ≡ insert parts place part → part.span ≡ span_of fragment → part.begin ≡ length octets → AreParts more others
+after_keep octets more parts others all fragment place part are pieces count new m o span begin =
+    rw (m, o) (kept_parts octets fragment.payload.octets parts place part are (omega (arith, new.count, count)) within begin ends
+    (λ k d earlier. rw span (subst (λ (s : Span). Precedes s (span_of fragment)) (spanned k d (omega (arith, within))) (new.before k (piece_in octets d) earlier)))
+    (λ k d from inside. rw span (subst (λ (s : Span). Precedes (span_of fragment) s) (spanned k d inside) (new.from k (piece_in octets d) from (omega (arith, inside, ap length pieces, length-map parts (piece_in octets)))))))
+  where
+    within : place ≤ length parts
+    within = omega (arith, new.within, ap length pieces, length-map parts (piece_in octets))
+    ends : part.span.end ≡ part.span.start + length fragment.payload.octets
+    ends = rw span refl
+    spanned : (k : ℕ) (d : Part) → k < length parts → (get_or all.pieces k (piece_in octets d)).span ≡ (get_or parts k d).span
+    spanned k d inside = rw pieces (ap (λ (p : Piece). p.span) (get_or-map (piece_in octets) parts k d (piece_in octets d) inside))
+
+pub after_keep_pieces : (octets more : List ℕ) (parts others : List Part) (all : Parts) (fragment : Fragment) (place : ℕ) (part : Part) → AreParts octets parts → all.pieces ≡ map (piece_in octets) parts → IsNew all fragment place → more ≡ octets ++ fragment.payload.octets → others ≡ insert parts place part → part.span ≡ span_of fragment → part.begin ≡ length octets → map (piece_in more) others ≡ (with_fragment all fragment).pieces
+after_keep_pieces octets more parts others all fragment place part are pieces new m o span begin =
+    rw (m, o) (kept_pieces octets fragment.payload.octets parts place part are begin ends ∙ rw span (ap (λ (p : List Piece). insert p place (piece_of fragment)) (sym pieces)) ∙ sym new.pieces)
+  where
+    ends : part.span.end ≡ part.span.start + length fragment.payload.octets
+    ends = rw span refl
+
+-- ---- a fragment that has the places of one that came, and other octets
+
+no_octets : (xs ys : List ℕ) → length xs ≡ 0 → length ys ≡ 0 → pointwise nat_eq xs ys ≡ true
+no_octets [] [] of_one of_other = refl
+no_octets [] (y ∷ ys) of_one of_other = absurd (omega (arith, of_other))
+no_octets (x ∷ xs) [] of_one of_other = absurd (omega (arith, of_one))
+no_octets (x ∷ xs) (y ∷ ys) of_one of_other = absurd (omega (arith, of_one))
+
+pub no_fit_there : (octets : List ℕ) (parts : List Part) (all : Parts) (fragment : Fragment) (place : ℕ) (part : Part) → all.pieces ≡ map (piece_in octets) parts → place < length parts → get_or parts place part ≡ part → same_span (span_of fragment) part.span ≡ true → pointwise nat_eq fragment.payload.octets (octets_in octets part) ≡ false → fits all fragment ≡ false
+no_fit_there octets parts all fragment place part pieces within at same differs =
+    rw (pieces, list_all-map (λ piece. are_apart (span_of fragment) piece.span) (piece_in octets) parts, not_all_apart parts (span_of fragment) place part within (rw at (same_not_apart (span_of fragment) part.span some same))) refl
+  where
+    none_in : part.span.end - part.span.start ≡ 0 → length (octets_in octets part) ≡ 0
+    none_in empty = rw empty refl
+    size : part.span.end - part.span.start ≡ length fragment.payload.octets
+    size = grind (arith, nat_tests, same)
+    some : (span_of fragment).start < (span_of fragment).end
+    some = elim (cases_lt 0 (length fragment.payload.octets)) [
+      | inl there ↦ omega arith
+      | inr nothing ↦ absurd (true≢false (sym (no_octets fragment.payload.octets (octets_in octets part) (omega arith) (none_in (omega (arith, size)))) ∙ differs))
+    ]
+
+-- ---- a span and the parts around its place
+
+pub apart_is : (octets : List ℕ) (parts : List Part) (span : Span) (place : ℕ) (before after : Bool) → span.start ≤ span.end → AreParts octets parts → IsPlace place span parts → ((d : Part) → 0 < place → before ≡ are_apart span (get_or parts (place - 1) d).span) → (place ≡ 0 → before ≡ true) → ((d : Part) → place < length parts → after ≡ are_apart span (get_or parts place d).span) → (length parts ≤ place → after ≡ true) → (before && after) ≡ list_all (λ part. are_apart span part.span) parts
+apart_is octets parts span place true true some are is before first after last = sym (all_apart octets parts span place some are is (λ d within. sym (before d within)) (λ d within. sym (after d within)))
+apart_is octets parts span place true false some are is before first after last = elim (cases_lt place (length parts)) [
+  | inl within ↦ sym (not_all_apart parts span place (part_at parts place within) within (sym (after (part_at parts place within) within)))
+  | inr none ↦ absurd (true≢false (sym (last none)))
+]
+  where
+    part_at : (xs : List Part) (k : ℕ) → k < length xs → Part
+    part_at [] k within = absurd (omega (arith, within))
+    part_at (x ∷ xs) k within = x
+apart_is octets parts span place false after some are is before first then last = elim (cases_lt 0 place) [
+  | inl within ↦ sym (not_all_apart parts span (place - 1) (part_at parts (place - 1) (omega (arith, is.within))) (omega (arith, is.within)) (sym (before (part_at parts (place - 1) (omega (arith, is.within))) within)))
+  | inr none ↦ absurd (true≢false (sym (first (omega arith))))
+]
+  where
+    part_at : (xs : List Part) (k : ℕ) → k < length xs → Part
+    part_at [] k within = absurd (omega (arith, within))
+    part_at (x ∷ xs) k within = x
+
+-- ---- whether a fragment fits
+
+pub fits_is : (octets : List ℕ) (parts : List Part) (all : Parts) (fragment : Fragment) → all.pieces ≡ map (piece_in octets) parts → all.count ≡ length octets → length octets ≤ most_octets → fits all fragment ≡ (list_all (λ part. are_apart (span_of fragment) part.span) parts && agrees all (span_of fragment) && nat_le (length fragment.payload.octets) (most_octets - length octets))
+fits_is octets parts all fragment pieces count few =
+    rw (pieces, list_all-map (λ piece. are_apart (span_of fragment) piece.span) (piece_in octets) parts, count, room (length octets) (length fragment.payload.octets) most_octets few) refl
+  where
+    room : (c n m : ℕ) → c ≤ m → nat_le (c + n) m ≡ nat_le n (m - c)
+    room c n m within = grind (arith, nat_tests)
+
+pub same_parts : (one other : Parts) → one.pieces ≡ other.pieces → one.reach ≡ other.reach → one.count ≡ other.count → one.is_ended ≡ other.is_ended → one.protocol ≡ other.protocol → one ≡ other
+same_parts one other pieces reach count is_ended protocol = λ i. record { pieces = pieces i; reach = reach i; count = count i; is_ended = is_ended i; protocol = protocol i }
+
+-- ---- the octets of all parts
+
+pub within_take : (octets : List ℕ) (parts front : List Part) (n : ℕ) → ((k : ℕ) (d : Part) → k < length parts → IsWithin octets (get_or parts k d)) → n ≤ length parts → front ≡ take n parts → (k : ℕ) (d : Part) → k < length front → IsWithin octets (get_or front k d)
+within_take octets parts front n are few is k d within =
+    let inside : k < length (take n parts) = subst (λ (xs : List Part). k < length xs) is within in
+    rw (is, get_or_take parts n k d few (omega (arith, inside, length_take parts n few))) (are k d (omega (arith, inside, length_take parts n few)))
+  where
+    length_take : (xs : List Part) (n : ℕ) → n ≤ length xs → length (take n xs) ≡ n
+    length_take xs n few = grind (arith, common_steps)
+    get_or_take : (xs : List Part) (n k : ℕ) (d : Part) → n ≤ length xs → k < n → get_or (take n xs) k d ≡ get_or xs k d
+    get_or_take xs n k d few within = grind (arith, common_steps)
+
+pub within_drop : (octets : List ℕ) (parts back : List Part) (n : ℕ) → ((k : ℕ) (d : Part) → k < length parts → IsWithin octets (get_or parts k d)) → n ≤ length parts → back ≡ drop n parts → (k : ℕ) (d : Part) → k < length back → IsWithin octets (get_or back k d)
+within_drop octets parts back n are few is k d within =
+    let inside : k < length (drop n parts) = subst (λ (xs : List Part). k < length xs) is within in
+    rw (is, get_or_drop parts n k d) (are (n + k) d (omega (arith, inside, length_drop parts n few)))
+  where
+    length_drop : (xs : List Part) (n : ℕ) → n ≤ length xs → length (drop n xs) + n ≡ length xs
+    length_drop xs n few = grind (arith, common_steps)
+    get_or_drop : (xs : List Part) (n k : ℕ) (d : Part) → get_or (drop n xs) k d ≡ get_or xs (n + k) d
+    get_or_drop xs n k d = grind (arith, common_steps)
+
+pub append_step : (begun now more before one after : List ℕ) → now ≡ begun ++ before → more ≡ now ++ one → after ≡ before ++ one → more ≡ begun ++ after
+append_step begun now more before one after n m a = rw (m, n, a) (append_assoc begun before one)
+
+pub octets_of_all : (octets : List ℕ) (parts : List Part) (all : Parts) (fragment : Fragment) (place : ℕ) (front back : List Part) (first second third : List ℕ) → all.pieces ≡ map (piece_in octets) parts → IsNew all fragment place → front ≡ take place parts → back ≡ drop place parts → first ≡ joined (map (piece_in octets) front) → second ≡ first ++ fragment.payload.octets → third ≡ second ++ joined (map (piece_in octets) back) → third ≡ joined (with_fragment all fragment).pieces
+octets_of_all octets parts all fragment place front back first second third pieces new f b one two three =
+    rw (three, two, one, f, b) (sym (joined_with octets parts place (piece_of fragment)) ∙ ap (λ (p : List Piece). joined (insert p place (piece_of fragment))) (sym pieces) ∙ ap joined (sym new.pieces))

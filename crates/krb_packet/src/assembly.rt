@@ -176,12 +176,12 @@ fn octets_of(part: Part, octets: &[u8]) -> &[u8]
 }
 
 /// Appends the octets of parts, one after another.
-fn append(parts: &[Part], octets: &[u8], joined: &mut Vec<u8>) -> Result<(), Memory>
+fn append(parts: &[Part], octets: &[u8], all: &mut Vec<u8>) -> Result<(), Memory>
     requires { (k : ℕ) (d : Part) → k < length parts.now → IsWithin octets.now (slice_index_or parts.now k d) }
-    ensures { OnOk result (joined.new.items ≡ joined.old.items ++ joined (map (piece_in octets.now) parts.now)) }
+    ensures { OnOk result (all.new.items ≡ all.old.items ++ joined (map (piece_in octets.now) parts.now)) }
 {
     for part in parts {
-        joined.extend_from_slice(octets_of(*part, octets))?;
+        all.extend_from_slice(octets_of(*part, octets))?;
     }
     Ok(())
 }
@@ -218,7 +218,7 @@ impl Assembly {
         let place = place_of(span, &self.parts);
         let octets = fragment.payload.octets();
         if let Some(part) = same_at(span, place, &self.parts) {
-            return if octets_of(part, &self.octets) == octets {
+            return if octets == octets_of(part, &self.octets) {
                 Relation::Copy
             } else {
                 Relation::Conflict
@@ -268,11 +268,11 @@ impl Assembly {
     {
         let (before, after) = self.parts.split_at(place);
         let octets = fragment.payload.octets();
-        let mut joined = Vec::with_capacity(alloc, self.octets.len() + octets.len())?;
-        append(before, &self.octets, &mut joined)?;
-        joined.extend_from_slice(octets)?;
-        append(after, &self.octets, &mut joined)?;
-        Ok(joined)
+        let mut all = Vec::with_capacity(alloc, self.octets.len() + octets.len())?;
+        append(before, &self.octets, &mut all)?;
+        all.extend_from_slice(octets)?;
+        append(after, &self.octets, &mut all)?;
+        Ok(all)
     }
 
     /// Keeps a new fragment. Out of memory, nothing changes.

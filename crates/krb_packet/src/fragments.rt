@@ -2,17 +2,14 @@
 
 use crate::assembly::{Assembly, Relation};
 use crate::contents::{Contents, Fragment, Original};
+use crate::datagrams::Datagrams;
 use crate::internet::after_headers;
 use crate::payload::Payload;
 use crate::transport::transport;
 use krb_der::{Memory, Octets};
 use std::alloc::Global;
-use std::cmp::Ordering;
 use std::marker::Model;
 use std::net::IpAddr;
-
-/// How many datagrams are put together at once.
-const MOST_DATAGRAMS: usize = 1024;
 
 /// The progress of a datagram. It is public for contracts alone.
 #[derive(Drop)]
@@ -26,9 +23,9 @@ pub enum Progress {
 /// A datagram of which a fragment came. It is public for contracts alone.
 #[derive(Drop)]
 pub struct Pending {
-    original: Original,
+    pub(crate) original: Original,
     /// How many fragments of it came.
-    count: u64,
+    pub(crate) count: u64,
     progress: Progress,
 }
 
@@ -44,43 +41,32 @@ pub struct Reassembled {
 }
 
 /// Datagrams that are put together, at most 1024 at once: for one more, the one that began first is
-/// given up. It allocates for at most 65535 octets of each, and a few for each fragment.
+/// given up. It allocates for the octets of the fragments that came, at most 65535 of a datagram,
+/// and a few for each fragment.
 #[derive(Drop)]
 pub struct Fragments {
     alloc: Global,
-    /// In the order in which they began.
-    pending: Vec<Box<Pending>>,
-    /// The places of the datagrams among these, in the order of what their fragments have in common.
-    places: Vec<usize>,
-    /// How many fragments came of the datagrams that were given up.
-    given_up: u64,
+    datagrams: Datagrams,
 }
 
 impl Model for Fragments {
-    ghost use Rattle.std.specs.Prelude.{◌≤◌, length};
     ghost use Rattle.krb_packet.specs.Table.{Table};
+    ghost use Rattle.krb_packet.specs.inner.Places.{IsIndexed, table_of};
 
     ghost Value = { Table };
 
-    ghost view = { λ fragments. record { pending = fragments.pending.items; given_up = fragments.given_up } };
+    ghost view = { λ fragments. table_of fragments.datagrams };
+
+    ghost invariant = { λ fragments. IsIndexed fragments.datagrams };
 }
 
-ghost use Rattle.std.specs.Prelude.{◌≡◌, ◌+◌, ◌<◌, ◌≤◌, Some, None, is_some, length, max, IfOk, OnErr, OnOk};
-ghost use Rattle.krb_packet.specs.Parts.{no_parts, add_fragment};
-ghost use Rattle.krb_packet.specs.Fragments.{same_original, no_fragments_of, pending_with, whole_of, no_fragments, index_of, within_limit, with_fragment_at, finished, step, unread, carried, or_unread, contents_of_whole};
-
-impl Original {
-    /// Returns whether another one is the same.
-    fn is_same(&self, other: &Original) -> bool
-        ensures { result ≡ same_original self.now other.now }
-    {
-        self == other
-    }
-}
+ghost use Rattle.std.specs.Prelude.{◌≡◌, ◌+◌, if◌then◌else◌, None, is_some, IfOk, OnErr, OnOk};
+ghost use Rattle.krb_packet.specs.Fragments.{no_fragments_of, plus, pending_with, whole_of, no_fragments, step, unread, contents_of_whole};
 
 impl Pending {
-    /// Returns a datagram with no fragments yet.
-    fn new(alloc: Global, original: Original) -> Pending
+    /// Returns a datagram of which no fragment came.
+    pub(crate) fn new(alloc: Global, original: Original) -> Pending
+        ensures { result ≡ no_fragments_of original }
     {
         Pending {
             original,
@@ -89,9 +75,20 @@ impl Pending {
         }
     }
 
-    /// Adds a fragment of the datagram, or returns the whole datagram if that is completed by it;
-    /// then it stays as it was. Out of memory, nothing changes.
-    fn take(&mut self, alloc: Global, fragment: &Fragment<'_>) -> Result<Option<Reassembled>, Memory>
+    /// Counts a fragment more.
+    fn count(&mut self)
+        ensures { self.new ≡ record self.old { count = plus self.old.count 1 } }
+    {
+        self.count = self.count.saturating_add(1);
+    }
+
+    /// Adds a fragment of the datagram, which is not whole. If it completes the datagram, that is
+    /// returned, and what is kept of it stays as it was. So it does out of memory.
+    pub(crate) fn take(&mut self, alloc: Global, fragment: &Fragment<'_>) -> Result<Option<Reassembled>, Memory>
+        requires open { whole_of self.old ≡ None }
+        ensures whole { IfOk result (λ whole. whole ≡ whole_of (pending_with fragment.now self.old)) }
+        ensures kept { IfOk result (λ whole. self.new ≡ (if is_some whole then self.old else pending_with fragment.now self.old)) }
+        ensures memory { OnErr result (self.new ≡ self.old) }
     {
         if let Progress::Open(assembly) = &mut self.progress {
             match assembly.relation(fragment) {
@@ -109,7 +106,7 @@ impl Pending {
                 }
             }
         }
-        self.count = self.count.saturating_add(1);
+        self.count();
         Ok(None)
     }
 }
@@ -137,12 +134,11 @@ impl Reassembled {
 impl Fragments {
     /// Creates a table of no datagrams.
     pub fn new(alloc: Global) -> Fragments
+        ensures { result ≡ no_fragments }
     {
         Fragments {
             alloc,
-            pending: Vec::new(alloc),
-            places: Vec::new(alloc),
-            given_up: 0,
+            datagrams: Datagrams::new(alloc),
         }
     }
 
@@ -152,83 +148,17 @@ impl Fragments {
     /// without being the last, or disagrees about the end, its datagram is discarded, and so are
     /// its later fragments until it is given up. Out of memory, nothing changes.
     pub fn take(&mut self, fragment: &Fragment<'_>) -> Result<Option<Reassembled>, Memory>
+        ensures whole { IfOk result (λ whole. whole ≡ (step self.old fragment.now).0) }
+        ensures state { OnOk result (self.new ≡ (step self.old fragment.now).1) }
+        ensures memory { OnErr result (self.new ≡ self.old) }
     {
-        match self.search(&fragment.original) {
-            Ok(at) => self.go_on(at, fragment),
-            Err(at) => self.begin(at, fragment),
-        }
+        self.datagrams.take(self.alloc, fragment)
     }
 
     /// Returns how many fragments came of which no whole datagram came, at most 2^64 - 1.
     pub fn unread(&self) -> u64
+        ensures { result ≡ unread self.now }
     {
-        self.pending.iter().fold(self.given_up, |count, pending| {
-            count.saturating_add(pending.count)
-        })
-    }
-
-    /// Returns where the places have that of a datagram, or else where they would have it.
-    fn search(&self, original: &Original) -> Result<usize, usize>
-    {
-        self.places.binary_search_by(|place| match self.pending.get(*place) {
-            Some(pending) => pending.original.cmp(original),
-            None => Ordering::Greater,
-        })
-    }
-
-    /// Adds a fragment of a datagram, whose place is at an index of the places.
-    fn go_on(&mut self, at: usize, fragment: &Fragment<'_>) -> Result<Option<Reassembled>, Memory>
-    {
-        let place = self.places[at];
-        let whole = self.pending[place].take(self.alloc, fragment)?;
-        if whole.is_some() {
-            self.remove(at, place);
-        }
-        Ok(whole)
-    }
-
-    /// Removes the datagram at a place, which is at an index of the places.
-    fn remove(&mut self, at: usize, place: usize) -> Box<Pending>
-    {
-        self.places.remove(at);
-        for other in self.places.iter_mut() {
-            if *other > place {
-                *other -= 1;
-            }
-        }
-        self.pending.remove(place)
-    }
-
-    /// Gives up the datagram that began first, if there are more than 1024.
-    fn give_up_first(&mut self)
-    {
-        if let Some(first) = self.pending.first() {
-            if let Ok(at) = self.search(&first.original) {
-                let first = self.remove(at, 0);
-                self.given_up = self.given_up.saturating_add(first.count);
-            }
-        }
-    }
-
-    /// Begins a datagram with a fragment, and returns it if it is whole with that. Out of memory, nothing changes.
-    fn begin(&mut self, at: usize, fragment: &Fragment<'_>) -> Result<Option<Reassembled>, Memory>
-    {
-        let place = self.pending.len();
-        let mut pending = Pending::new(self.alloc, fragment.original);
-        let whole = pending.take(self.alloc, fragment)?;
-        if whole.is_some() {
-            if place >= MOST_DATAGRAMS {
-                self.give_up_first();
-            }
-            return Ok(whole);
-        }
-        let pending = Box::new(self.alloc, pending)?;
-        self.places.try_reserve(1)?;
-        self.pending.push(pending)?;
-        self.places.insert(at, place)?;
-        if self.pending.len() > MOST_DATAGRAMS {
-            self.give_up_first();
-        }
-        Ok(None)
+        self.datagrams.unread()
     }
 }

@@ -17,6 +17,7 @@ mod block;
 mod blocks;
 mod body;
 mod contents;
+mod datagrams;
 mod fault;
 mod field;
 mod format;

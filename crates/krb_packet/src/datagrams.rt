@@ -1,0 +1,183 @@
+//! Datagrams that are put together, found by what their fragments have in common.
+
+ghost use Rattle.std.specs.Prelude.{◌≡◌, ◌++◌, ◌<◌, None, Some, Err, [], ◌∷◌, length, remove, slice_index, if◌then◌else◌, is_some, IfOk, OnErr, OnOk};
+ghost use Rattle.std.specs.List.{slice_index_or};
+ghost use Rattle.krb_packet.specs.Fragments.{no_fragments, whole_of, with_fragment_at, without_first, finished, step, unread};
+ghost use Rattle.krb_packet.specs.inner.Places.{IsFound, IsGap, IsIndexed, pending_in, table_of};
+
+use crate::contents::{Fragment, Original};
+use crate::fragments::{Pending, Reassembled};
+use krb_der::Memory;
+use std::alloc::Global;
+use std::cmp::Ordering;
+
+/// How many datagrams are put together at once.
+const MOST_DATAGRAMS: usize = 1024;
+
+/// Datagrams that are put together, none of which is whole. It is public for contracts alone.
+#[derive(Drop)]
+pub struct Datagrams {
+    /// In the order in which they began.
+    pending: Vec<Box<Pending>>,
+    /// The place of each of them, in the order of what their fragments have in common.
+    places: Vec<usize>,
+    /// How many fragments came of the datagrams that were given up.
+    given_up: u64,
+}
+
+impl Datagrams {
+    /// Creates a table of no datagrams.
+    pub(crate) fn new(alloc: Global) -> Datagrams
+        ensures table { table_of result ≡ no_fragments }
+        ensures index { IsIndexed result }
+    {
+        Datagrams {
+            pending: Vec::new(alloc),
+            places: Vec::new(alloc),
+            given_up: 0,
+        }
+    }
+
+    /// Returns where among the places is that of a datagram, or where it would be.
+    fn search(&self, original: &Original) -> Result<usize, usize>
+        requires { IsIndexed self.now }
+        ensures { IsFound result original.now self.now.places.items (pending_in self.now) }
+    {
+        self.places
+            .binary_search_by(|place| match self.pending.get(*place) {
+                Some(pending) => pending.original.cmp(original),
+                None => Ordering::Equal,
+            })
+    }
+
+    /// Adds a datagram, whose place comes to `at` among the places. Out of memory, nothing changes.
+    fn push(&mut self, alloc: Global, at: usize, pending: Pending) -> Result<(), Memory>
+        requires index { IsIndexed self.old }
+        requires gap { IsGap at pending.original self.old.places.items (pending_in self.old) }
+        requires open { whole_of pending ≡ None }
+        ensures pushed { OnOk result (table_of self.new ≡ record (table_of self.old) { pending = pending_in self.old ++ pending ∷ [] }) }
+        ensures index { IsIndexed self.new }
+        ensures memory { OnErr result (table_of self.new ≡ table_of self.old) }
+    {
+        let place = self.pending.len();
+        let pending = Box::new(alloc, pending)?;
+        self.places.try_reserve(1)?;
+        self.pending.push(pending)?;
+        self.places.insert(at, place)?;
+        Ok(())
+    }
+
+    /// Removes and returns the datagram whose place is at an index of the places.
+    fn remove(&mut self, at: usize) -> Box<Pending>
+        requires index { IsIndexed self.old }
+        requires within { at < length self.old.places.items }
+        ensures value { result.value ≡ slice_index_or (pending_in self.old) (slice_index self.old.places.items at) result.value }
+        ensures removed { table_of self.new ≡ record (table_of self.old) { pending = remove (pending_in self.old) (slice_index self.old.places.items at) } }
+        ensures index { IsIndexed self.new }
+    {
+        let place = self.places.remove(at);
+        for other in self.places.iter_mut() {
+            if *other > place {
+                *other -= 1;
+            }
+        }
+        self.pending.remove(place)
+    }
+
+    /// Gives up the datagram that began first.
+    fn give_up_first(&mut self)
+        requires index { IsIndexed self.old }
+        requires some { 0 < length (pending_in self.old) }
+        ensures given_up { table_of self.new ≡ without_first (pending_in self.old) self.old.given_up }
+        ensures index { IsIndexed self.new }
+    {
+        let original = self.pending[0].original;
+        if let Ok(at) = self.search(&original) {
+            let first = self.remove(at);
+            self.given_up = self.given_up.saturating_add(first.count);
+        }
+    }
+
+    /// Adds a fragment of a datagram whose place is at an index of the places. Out of memory,
+    /// nothing changes.
+    fn go_on(
+        &mut self,
+        alloc: Global,
+        at: usize,
+        fragment: &Fragment<'_>,
+    ) -> Result<Option<Reassembled>, Memory>
+        requires index { IsIndexed self.old }
+        requires within { at < length self.old.places.items }
+        ensures whole { IfOk result (λ whole. whole ≡ (finished (with_fragment_at (table_of self.old) fragment.now (Some (slice_index self.old.places.items at)))).0) }
+        ensures state { OnOk result (table_of self.new ≡ (finished (with_fragment_at (table_of self.old) fragment.now (Some (slice_index self.old.places.items at)))).1) }
+        ensures index { IsIndexed self.new }
+        ensures memory { OnErr result (table_of self.new ≡ table_of self.old) }
+    {
+        let place = self.places[at];
+        let whole = self.pending[place].take(alloc, fragment)?;
+        if whole.is_some() {
+            self.remove(at);
+        }
+        Ok(whole)
+    }
+
+    /// Begins a datagram with a fragment, whose place comes to `at` among the places; if it is
+    /// whole with that, it is returned. Out of memory, nothing changes.
+    fn begin(
+        &mut self,
+        alloc: Global,
+        at: usize,
+        fragment: &Fragment<'_>,
+    ) -> Result<Option<Reassembled>, Memory>
+        requires index { IsIndexed self.old }
+        requires gap { IsGap at fragment.now.original self.old.places.items (pending_in self.old) }
+        ensures whole { IfOk result (λ whole. whole ≡ (finished (with_fragment_at (table_of self.old) fragment.now None)).0) }
+        ensures state { OnOk result (table_of self.new ≡ (finished (with_fragment_at (table_of self.old) fragment.now None)).1) }
+        ensures index { IsIndexed self.new }
+        ensures memory { OnErr result (table_of self.new ≡ table_of self.old) }
+    {
+        let mut pending = Pending::new(alloc, fragment.original);
+        let whole = pending.take(alloc, fragment)?;
+        if whole.is_some() {
+            if self.pending.len() >= MOST_DATAGRAMS {
+                self.give_up_first();
+            }
+            return Ok(whole);
+        }
+        self.push(alloc, at, pending)?;
+        if self.pending.len() > MOST_DATAGRAMS {
+            self.give_up_first();
+        }
+        Ok(None)
+    }
+
+    /// Adds a fragment, and returns the whole datagram if that is completed by it. Out of memory,
+    /// nothing changes.
+    #[tactic(auto, unfolding(crate::specs::Fragments::step))]
+    pub(crate) fn take(
+        &mut self,
+        alloc: Global,
+        fragment: &Fragment<'_>,
+    ) -> Result<Option<Reassembled>, Memory>
+        requires { IsIndexed self.old }
+        ensures whole { IfOk result (λ whole. whole ≡ (step (table_of self.old) fragment.now).0) }
+        ensures state { OnOk result (table_of self.new ≡ (step (table_of self.old) fragment.now).1) }
+        ensures index { IsIndexed self.new }
+        ensures memory { OnErr result (table_of self.new ≡ table_of self.old) }
+    {
+        match self.search(&fragment.original) {
+            Ok(at) => self.go_on(alloc, at, fragment),
+            Err(at) => self.begin(alloc, at, fragment),
+        }
+    }
+
+    /// Returns how many fragments came of which no whole datagram came, at most 2^64 - 1.
+    #[tactic(auto, unfolding(crate::specs::Fragments::unread))]
+    pub(crate) fn unread(&self) -> u64
+        ensures { result ≡ unread (table_of self.now) }
+    {
+        self.pending.iter().fold(self.given_up, |count, pending| {
+            count.saturating_add(pending.count)
+        })
+    }
+}
