@@ -11,6 +11,8 @@
 //! it ([`Wrong`]), and [`law`] that these belong together; no call reads JSON yet.
 #![tactic(auto)]
 
+mod heads;
+mod kinds;
 pub mod law;
 mod line_fault;
 mod members;

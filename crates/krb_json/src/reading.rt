@@ -1,12 +1,32 @@
 //! The message that a line spells.
 
-ghost use Rattle.std.specs.Prelude.{◌≡◌, ◌<◌, ◌^◌, IfOk, IfErr, IfSome};
+ghost use Rattle.std.specs.Prelude.{◌≡◌, ◌<◌, ◌^◌, ◌+◌, length, IfOk, IfErr, IfSome, Some};
+ghost use Rattle.std.specs.List.{AllByRecursion};
+ghost use Rattle.json.specs.Value.{value_view};
+ghost use Rattle.krb_msg.specs.Nodes.{nodes, term_at};
+ghost use Rattle.krb_msg.specs.Table.{IsNode, IsSlot, fields_from};
+ghost use Rattle.krb_msg.specs.Term.{der, der_of_fields};
+ghost use Rattle.krb_msg.specs.inner.Values.{contents};
 ghost use Rattle.krb_json.specs.Lines.{line_spells};
 ghost use Rattle.krb_json.specs.Reading.{SpellsOctets, line_fault_of};
+ghost use Rattle.krb_json.specs.Spelled.{spelled};
+ghost use Rattle.krb_json.specs.inner.Reading.{Reads, ReadsField, ReadsFields};
 
-use crate::line_fault::LineFault;
+use crate::heads::put_head;
+use crate::kinds::all_kinds;
+use crate::line_fault::{Fault, LineFault};
+use crate::members::{Allowed, check_members};
+use crate::scalars::{read_bits, read_integer, read_octets, read_text, read_time};
+use crate::sealing::joined;
+use crate::value_fault::{ValueFault, fault_here, fault_of_field, in_field, in_item};
+use crate::writing::node_of;
+use crate::wrong::Wrong;
+use json::{Error, Scratch, Value};
 use krb_der::Profile;
-use std::alloc::Global;
+use krb_judge::{Field, Names, message_node};
+use krb_msg::Kind;
+use krb_msg::grammar::{Form, Slot, form_of, tag_of};
+use std::alloc::{AllocError, Global};
 
 /// Returns the DER octets of the message of a profile that a line spells, at most `limit` octets,
 /// or the first fault of the line. The line feed is not part of the line.
@@ -20,5 +40,206 @@ pub fn read_line(
     ensures octets { IfOk result (λ octets. SpellsOctets profile limit line.now octets.items) }
     ensures fault { IfErr result (λ fault. IfSome (line_fault_of fault) (λ found. line_spells profile limit line.now ≡ Err found)) }
 {
-    Err(LineFault::Memory)
+    let mut scratch = Scratch::new(alloc);
+    match Value::from_slice(alloc, line, &mut scratch) {
+        Ok(value) => read_object(alloc, profile, limit, &value),
+        Err(Error::OutOfMemory) => Err(LineFault::Memory),
+        Err(_) => Err(LineFault::NotJson),
+    }
+}
+
+/// Returns the name and the value of the sole member of an object.
+fn sole_member<'v, 'a>(value: &'v Value<'a>) -> Option<(&'a str, &'v Value<'a>)> {
+    let Value::Object(members) = value else {
+        return None;
+    };
+    let [member] = members.as_slice() else {
+        return None;
+    };
+    Some((member.0, &member.1))
+}
+
+/// Returns the kind of the messages that have a name.
+fn kind_named(name: &str) -> Option<Kind> {
+    all_kinds().iter().copied().find(|kind| kind.name() == name)
+}
+
+fn read_object(
+    alloc: Global,
+    profile: Profile,
+    limit: u32,
+    value: &Value,
+) -> Result<Vec<u8>, LineFault> {
+    let Some((name, inner)) = sole_member(value) else {
+        return Err(LineFault::NotAMessage);
+    };
+    match kind_named(name) {
+        Some(kind) => read_message(alloc, profile, limit, kind, inner),
+        None => Err(LineFault::NotAMessage),
+    }
+}
+
+fn read_message(
+    alloc: Global,
+    profile: Profile,
+    limit: u32,
+    kind: Kind,
+    value: &Value,
+) -> Result<Vec<u8>, LineFault> {
+    let node = message_node(profile, kind);
+    let mut octets = Vec::new(alloc);
+    match read_item(alloc, &mut octets, node, Names::of_kind(kind), value) {
+        Ok(()) => within(alloc, limit, kind, octets),
+        Err(ValueFault::Memory) => Err(LineFault::Memory),
+        Err(ValueFault::At(Fault { path, wrong })) => Err(fault_in(alloc, kind, &path, wrong)),
+    }
+}
+
+/// Returns the fault of a path that follows the name of a kind.
+fn fault_in(alloc: Global, kind: Kind, path: &String, wrong: Wrong) -> LineFault {
+    match joined(alloc, kind.name(), path) {
+        Ok(path) => LineFault::At(Fault { path, wrong }),
+        Err(_) => LineFault::Memory,
+    }
+}
+
+/// Returns octets, if they are no more than a limit.
+fn within(
+    alloc: Global,
+    limit: u32,
+    kind: Kind,
+    octets: Vec<u8>,
+) -> Result<Vec<u8>, LineFault> {
+    if octets.len() <= limit as usize {
+        return Ok(octets);
+    }
+    let path = String::new(alloc);
+    Err(fault_in(alloc, kind, &path, Wrong::Longer { limit }))
+}
+
+/// Appends the DER octets of the value of a node's term that a JSON value spells.
+#[cycle(read)]
+fn read_item(
+    alloc: Global,
+    out: &mut Vec<u8>,
+    node: u16,
+    names: Names,
+    value: &Value,
+) -> Result<(), ValueFault>
+    requires { IsNode node }
+    ensures { Reads (λ path. spelled (term_at node) names path (value_view value.now)) (der (term_at node)) out.old.items out.new.items result }
+{
+    let start = out.len();
+    read_contents(alloc, out, node, names, value)?;
+    put_head(out, start, tag_of(node))?;
+    Ok(())
+}
+
+/// Appends the contents octets of the value of a node's term that a JSON value spells.
+#[cycle(read)]
+fn read_contents(
+    alloc: Global,
+    out: &mut Vec<u8>,
+    node: u16,
+    names: Names,
+    value: &Value,
+) -> Result<(), ValueFault>
+    requires { IsNode node }
+    ensures { Reads (λ path. spelled (term_at node) names path (value_view value.now)) (contents (term_at node)) out.old.items out.new.items result }
+{
+    match form_of(node) {
+        Form::Integer { low, high, .. } => read_integer(alloc, out, low, high, value),
+        Form::Text { greatest } => read_text(alloc, out, greatest, value),
+        Form::Octets => read_octets(alloc, out, value),
+        Form::Time => read_time(alloc, out, value),
+        Form::Bits { least } => read_bits(alloc, out, least, value),
+        Form::Item { node } => read_item(alloc, out, node, names, value),
+        Form::Items { node, empty } => read_list(alloc, out, node, empty, names, value),
+        Form::Fields { fields } => read_sequence(alloc, out, fields, names, value),
+    }
+}
+
+/// Appends the items of the SEQUENCE OF that a JSON value spells, which may be `empty` or not.
+#[cycle(read)]
+fn read_list(
+    alloc: Global,
+    out: &mut Vec<u8>,
+    node: u16,
+    empty: bool,
+    names: Names,
+    value: &Value,
+) -> Result<(), ValueFault> {
+    let Value::Array(items) = value else {
+        return Err(fault_here(alloc, Wrong::NotAnArray));
+    };
+    if !empty & items.is_empty() {
+        return Err(fault_here(alloc, Wrong::Empty));
+    }
+    read_items(alloc, out, node, names, items.as_slice())
+}
+
+/// Appends the items that JSON values spell.
+#[cycle(read)]
+fn read_items(
+    alloc: Global,
+    out: &mut Vec<u8>,
+    node: u16,
+    names: Names,
+    items: &[Value],
+) -> Result<(), ValueFault> {
+    for (index, item) in items.iter().enumerate() {
+        in_item(alloc, index, read_item(alloc, out, node, names, item))?;
+    }
+    Ok(())
+}
+
+/// Appends the fields of the SEQUENCE that a JSON value spells.
+#[cycle(read)]
+fn read_sequence(
+    alloc: Global,
+    out: &mut Vec<u8>,
+    slots: &[Slot],
+    names: Names,
+    value: &Value,
+) -> Result<(), ValueFault> {
+    check_members(alloc, Allowed::Fields(names), value)?;
+    read_fields(alloc, out, slots, names, 0, value)
+}
+
+/// Appends the fields of which an object has the members, the first of them that at an index.
+#[cycle(read)]
+fn read_fields(
+    alloc: Global,
+    out: &mut Vec<u8>,
+    slots: &[Slot],
+    names: Names,
+    index: usize,
+    object: &Value,
+) -> Result<(), ValueFault> {
+    let [slot, others @ ..] = slots else {
+        return Ok(());
+    };
+    read_field(alloc, out, *slot, names.field(index), object)?;
+    read_fields(alloc, out, others, names, index + 1, object)
+}
+
+/// Appends a field, of which an object has the member or not.
+#[cycle(read)]
+fn read_field(
+    alloc: Global,
+    out: &mut Vec<u8>,
+    slot: Slot,
+    field: Field,
+    object: &Value,
+) -> Result<(), ValueFault> {
+    match object.get(field.name) {
+        Some(value) => {
+            let read = read_item(alloc, out, node_of(slot), field.inside, value);
+            in_field(alloc, field.name, read)
+        }
+        None => match slot {
+            Slot::Optional { .. } => Ok(()),
+            Slot::Required { .. } => Err(fault_of_field(alloc, field.name, Wrong::Missing)),
+        },
+    }
 }

@@ -50,7 +50,7 @@ fn find_in_message(alloc: Global, kind: Kind, octets: &[u8]) -> Result<Option<St
 }
 
 /// Returns a text and one after it.
-fn joined(alloc: Global, front: &str, more: &String) -> Result<String, AllocError>
+pub(crate) fn joined(alloc: Global, front: &str, more: &String) -> Result<String, AllocError>
     ensures { IfOk result (λ text. string_bytes text ≡ front.now ++ string_bytes more.now) }
 {
     let mut text = String::new(alloc);
