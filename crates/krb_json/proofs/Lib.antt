@@ -8,3 +8,6 @@ mod Texts
 mod Messages
 mod Walks
 mod Searches
+mod ReadLemmas
+mod ReadLists
+mod ReadMessages

@@ -1,6 +1,8 @@
 //! The names of the members of an object.
 
 ghost use Rattle.std.specs.Prelude.{◌≡◌, []};
+ghost use Rattle.std.specs.List.{list_any};
+ghost use Rattle.std.specs.Str.{bytes_eq};
 ghost use Rattle.json.specs.Value.{members_view, value_view};
 ghost use Rattle.krb_json.specs.Spelled.{checked_members, is_field, members_spelled};
 ghost use Rattle.krb_json.specs.inner.Reading.{Reads, is_allowed};
@@ -38,16 +40,14 @@ fn is_allowed(allowed: Allowed, name: &str) -> bool
 }
 
 /// Returns whether one of some members has a name.
-fn is_among(name: &str, members: &[(&str, Value)]) -> bool {
+fn is_among(name: &str, members: &[(&str, Value)]) -> bool
+    ensures { result ≡ list_any (λ member. bytes_eq member.0.now name.now) members.now }
+{
     members.iter().any(|member| member.0 == name)
 }
 
 /// Finds the first of some members that is not allowed, or that came before.
-fn check_names(
-    alloc: Global,
-    allowed: Allowed,
-    members: &[(&str, Value)],
-) -> Result<(), ValueFault>
+fn check_names(alloc: Global, allowed: Allowed, members: &[(&str, Value)]) -> Result<(), ValueFault>
     ensures { Reads (λ path. checked_members (is_allowed allowed) path [] (members_view members.now)) (λ _. []) [] [] result }
 {
     for (index, member) in members.iter().enumerate() {

@@ -1,16 +1,23 @@
 //! The message that a line spells.
 
-ghost use Rattle.std.specs.Prelude.{◌≡◌, ◌<◌, ◌^◌, ◌+◌, length, IfOk, IfErr, IfSome, Some};
-ghost use Rattle.std.specs.List.{AllByRecursion};
-ghost use Rattle.json.specs.Value.{value_view};
+ghost use Rattle.std.specs.Prelude.{◌≡◌, ◌<◌, ◌≤◌, ◌^◌, ◌+◌, ◌++◌, length, vec_len, IfOk, IfErr, Some, Ok, Err, option_map, string_bytes};
+ghost use Rattle.std.specs.List.{AllByRecursion, flat_map};
+ghost use Rattle.std.specs.Option.{option_and_then};
+ghost use Rattle.json.specs.Find.{as_object};
+ghost use Rattle.json.specs.Json.{Members};
+ghost use Rattle.json.specs.Value.{items_view, value_view};
+ghost use Rattle.krb_judge.specs.FieldNames.{named};
 ghost use Rattle.krb_msg.specs.Nodes.{nodes, term_at};
 ghost use Rattle.krb_msg.specs.Table.{IsNode, IsSlot, fields_from};
-ghost use Rattle.krb_msg.specs.Term.{der, der_of_fields};
+ghost use Rattle.krb_msg.specs.Term.{SequenceOf, Sequence, der, der_of_fields};
+ghost use Rattle.krb_msg.specs.Views.{kind_name};
+ghost use Rattle.krb_msg.specs.declared.message.Message.{Message};
 ghost use Rattle.krb_msg.specs.inner.Values.{contents};
-ghost use Rattle.krb_json.specs.Lines.{line_spells};
-ghost use Rattle.krb_json.specs.Reading.{SpellsOctets, line_fault_of};
-ghost use Rattle.krb_json.specs.Spelled.{spelled};
-ghost use Rattle.krb_json.specs.inner.Reading.{Reads, ReadsField, ReadsFields};
+ghost use Rattle.krb_json.specs.Faults.{fault};
+ghost use Rattle.krb_json.specs.Lines.{in_line, kind_named, line_spells, message_spelled, sole_member, value_spells};
+ghost use Rattle.krb_json.specs.Reading.{AreSpelled, IsFaultOf};
+ghost use Rattle.krb_json.specs.Spelled.{items_spelled, spelled};
+ghost use Rattle.krb_json.specs.inner.Reading.{Reads, ReadsField, ReadsFields, ReadsLine};
 
 use crate::heads::put_head;
 use crate::kinds::all_kinds;
@@ -37,8 +44,8 @@ pub fn read_line(
     line: &[u8],
 ) -> Result<Vec<u8>, LineFault>
     requires { limit < 2 ^ 31 }
-    ensures octets { IfOk result (λ octets. SpellsOctets profile limit line.now octets.items) }
-    ensures fault { IfErr result (λ fault. IfSome (line_fault_of fault) (λ found. line_spells profile limit line.now ≡ Err found)) }
+    ensures octets { IfOk result (λ octets. AreSpelled (line_spells profile limit line.now) octets.items) }
+    ensures fault { IfErr result (IsFaultOf (line_spells profile limit line.now)) }
 {
     let mut scratch = Scratch::new(alloc);
     match Value::from_slice(alloc, line, &mut scratch) {
@@ -49,7 +56,9 @@ pub fn read_line(
 }
 
 /// Returns the name and the value of the sole member of an object.
-fn sole_member<'v, 'a>(value: &'v Value<'a>) -> Option<(&'a str, &'v Value<'a>)> {
+fn sole_member<'v, 'a>(value: &'v Value<'a>) -> Option<(&'a str, &'v Value<'a>)>
+    ensures { option_map (λ sole. (sole.0.now, value_view sole.1.now)) result ≡ option_and_then sole_member (as_object (value_view value.now)) }
+{
     let Value::Object(members) = value else {
         return None;
     };
@@ -60,16 +69,22 @@ fn sole_member<'v, 'a>(value: &'v Value<'a>) -> Option<(&'a str, &'v Value<'a>)>
 }
 
 /// Returns the kind of the messages that have a name.
-fn kind_named(name: &str) -> Option<Kind> {
+fn kind_named(name: &str) -> Option<Kind>
+    ensures { result ≡ kind_named name.now }
+{
     all_kinds().iter().copied().find(|kind| kind.name() == name)
 }
 
+/// Returns the DER octets of the message that a value spells, or what is wrong with it.
 fn read_object(
     alloc: Global,
     profile: Profile,
     limit: u32,
     value: &Value,
-) -> Result<Vec<u8>, LineFault> {
+) -> Result<Vec<u8>, LineFault>
+    requires { limit < 2 ^ 31 }
+    ensures { ReadsLine (value_spells profile limit (Some (value_view value.now))) result }
+{
     let Some((name, inner)) = sole_member(value) else {
         return Err(LineFault::NotAMessage);
     };
@@ -79,13 +94,17 @@ fn read_object(
     }
 }
 
+/// Returns the DER octets of the message of a kind that a value spells, or what is wrong with it.
 fn read_message(
     alloc: Global,
     profile: Profile,
     limit: u32,
     kind: Kind,
     value: &Value,
-) -> Result<Vec<u8>, LineFault> {
+) -> Result<Vec<u8>, LineFault>
+    requires { limit < 2 ^ 31 }
+    ensures { ReadsLine (in_line (message_spelled profile limit kind (value_view value.now))) result }
+{
     let node = message_node(profile, kind);
     let mut octets = Vec::new(alloc);
     match read_item(alloc, &mut octets, node, Names::of_kind(kind), value) {
@@ -96,7 +115,9 @@ fn read_message(
 }
 
 /// Returns the fault of a path that follows the name of a kind.
-fn fault_in(alloc: Global, kind: Kind, path: &String, wrong: Wrong) -> LineFault {
+fn fault_in(alloc: Global, kind: Kind, path: &String, wrong: Wrong) -> LineFault
+    ensures { IsFaultOf (in_line (fault {Message} (kind_name kind ++ string_bytes path.now) wrong)) result }
+{
     match joined(alloc, kind.name(), path) {
         Ok(path) => LineFault::At(Fault { path, wrong }),
         Err(_) => LineFault::Memory,
@@ -104,12 +125,10 @@ fn fault_in(alloc: Global, kind: Kind, path: &String, wrong: Wrong) -> LineFault
 }
 
 /// Returns octets, if they are no more than a limit.
-fn within(
-    alloc: Global,
-    limit: u32,
-    kind: Kind,
-    octets: Vec<u8>,
-) -> Result<Vec<u8>, LineFault> {
+fn within(alloc: Global, limit: u32, kind: Kind, octets: Vec<u8>) -> Result<Vec<u8>, LineFault>
+    ensures octets { IfOk result (λ same. (same.items ≡ octets.items) × (vec_len octets ≤ limit)) }
+    ensures fault { IfErr result (λ fault. (limit < vec_len octets) × IsFaultOf (in_line (fault {Message} (kind_name kind) (Longer limit))) fault) }
+{
     if octets.len() <= limit as usize {
         return Ok(octets);
     }
@@ -168,7 +187,10 @@ fn read_list(
     empty: bool,
     names: Names,
     value: &Value,
-) -> Result<(), ValueFault> {
+) -> Result<(), ValueFault>
+    requires { IsNode node }
+    ensures { Reads (λ path. spelled (SequenceOf empty (term_at node)) names path (value_view value.now)) (flat_map (der (term_at node))) out.old.items out.new.items result }
+{
     let Value::Array(items) = value else {
         return Err(fault_here(alloc, Wrong::NotAnArray));
     };
@@ -186,7 +208,10 @@ fn read_items(
     node: u16,
     names: Names,
     items: &[Value],
-) -> Result<(), ValueFault> {
+) -> Result<(), ValueFault>
+    requires { IsNode node }
+    ensures { Reads (λ path. items_spelled (spelled (term_at node) names) path 0 (items_view items.now)) (flat_map (der (term_at node))) out.old.items out.new.items result }
+{
     for (index, item) in items.iter().enumerate() {
         in_item(alloc, index, read_item(alloc, out, node, names, item))?;
     }
@@ -201,7 +226,10 @@ fn read_sequence(
     slots: &[Slot],
     names: Names,
     value: &Value,
-) -> Result<(), ValueFault> {
+) -> Result<(), ValueFault>
+    requires { AllByRecursion IsSlot slots.now }
+    ensures { Reads (λ path. spelled (Sequence (fields_from nodes slots.now)) names path (value_view value.now)) (der_of_fields (fields_from nodes slots.now)) out.old.items out.new.items result }
+{
     check_members(alloc, Allowed::Fields(names), value)?;
     read_fields(alloc, out, slots, names, 0, value)
 }
@@ -215,7 +243,11 @@ fn read_fields(
     names: Names,
     index: usize,
     object: &Value,
-) -> Result<(), ValueFault> {
+) -> Result<(), ValueFault>
+    requires known { AllByRecursion IsSlot slots.now }
+    requires few { index + length slots.now < 2 ^ 64 }
+    ensures { (members : Members) → as_object (value_view object.now) ≡ Some members → ReadsFields (fields_from nodes slots.now) names index members out.old.items out.new.items result }
+{
     let [slot, others @ ..] = slots else {
         return Ok(());
     };
@@ -231,7 +263,10 @@ fn read_field(
     slot: Slot,
     field: Field,
     object: &Value,
-) -> Result<(), ValueFault> {
+) -> Result<(), ValueFault>
+    requires { IsSlot slot }
+    ensures { (members : Members) → as_object (value_view object.now) ≡ Some members → ReadsField slot (named field) members out.old.items out.new.items result }
+{
     match object.get(field.name) {
         Some(value) => {
             let read = read_item(alloc, out, node_of(slot), field.inside, value);

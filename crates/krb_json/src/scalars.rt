@@ -36,22 +36,14 @@ pub(crate) fn read_text(
 }
 
 /// Appends the contents of the OCTET STRING that a value spells.
-pub(crate) fn read_octets(
-    alloc: Global,
-    out: &mut Vec<u8>,
-    value: &Value,
-) -> Result<(), ValueFault>
+pub(crate) fn read_octets(alloc: Global, out: &mut Vec<u8>, value: &Value) -> Result<(), ValueFault>
     ensures { Reads (λ path. octets_spelled path (value_view value.now)) (λ octets. octets) out.old.items out.new.items result }
 {
     Err(ValueFault::Memory)
 }
 
 /// Appends the contents of the KerberosTime that a value spells.
-pub(crate) fn read_time(
-    alloc: Global,
-    out: &mut Vec<u8>,
-    value: &Value,
-) -> Result<(), ValueFault>
+pub(crate) fn read_time(alloc: Global, out: &mut Vec<u8>, value: &Value) -> Result<(), ValueFault>
     ensures { Reads (λ path. time_spelled path (value_view value.now)) (λ octets. octets) out.old.items out.new.items result }
 {
     Err(ValueFault::Memory)

@@ -7,8 +7,8 @@ ghost use Rattle.krb_json.specs.inner.Reading.{IsFaultAt, IsUnder};
 
 use crate::line_fault::Fault;
 use crate::sealing::{after_index, after_name};
-use crate::wrong::Wrong;
 use crate::writing::shown;
+use crate::wrong::Wrong;
 use std::alloc::{AllocError, AllocFailed, Global};
 use std::str;
 

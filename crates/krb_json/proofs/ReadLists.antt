@@ -1,0 +1,121 @@
+-- What is read of the items of an array, and of the names of the members of an object, one after another.
+use Rattle.std.proofs.Common.{◌≡◌, ℕ, ◌+◌, ◌<◌, ◌≤◌, List, [], ◌∷◌, ◌++◌, length, take, drop, get_or, map, append_assoc, append-nil, add-one, drop-cons, Bool, true, false, not, ◌&&◌, ◌||◌, Option, Some, None, Result, Ok, Err, refl, sym, ◌∙◌, ap, ap₂, subst, arith}
+use Rattle.std.specs.Borrow.{Bor}
+use Rattle.std.specs.List.{flat_map, list_any}
+use Rattle.std.specs.Str.{bytes_eq}
+use Rattle.std.proofs.Math.Bool.{or_comm}
+use Rattle.std.proofs.lemmas.List.{take_more}
+use Rattle.std.proofs.lemmas.List.Folds.{list_any-append}
+use Rattle.std.proofs.lemmas.Grind.{flat_map-append}
+use Rattle.json.specs.Json.{Json, Items, no_items, item, Members, no_members, member}
+use Rattle.json.specs.Value.{value_view, items_view, members_view}
+use Rattle.json.specs.declared.value.Value.{Value}
+use Rattle.krb_judge.specs.Paths.{field_path, element_path}
+use Rattle.krb_json.specs.declared.wrong.Wrong.TheVariants.{NoSuchField, Twice}
+use Rattle.krb_json.specs.declared.value_fault.ValueFault.{ValueFault}
+use Rattle.krb_json.specs.declared.value_fault.ValueFault.TheVariants.{At, Memory}
+use Rattle.krb_json.specs.Faults.{Fault, fault, ◌>>=◌}
+use Rattle.krb_json.specs.Spelling.{shown}
+use Rattle.krb_json.specs.Spelled.{unless, is_among, checked_members, items_spelled}
+use Rattle.krb_json.specs.inner.Reading.{IsRead, Reads, IsFaultAt}
+use Rattle.krb_json.proofs.ReadLemmas.{fault-read}
+
+-- ---- items
+-- values, and those that come after them
+abbrev after : {A : Type 0} → List A → Result (List A) Fault → Result (List A) Fault
+after values others = others >>= λ more. Ok (values ++ more)
+
+after-none : {A : Type 0} (others : Result (List A) Fault) → others ≡ after [] others
+after-none (Ok more) = refl
+after-none (Err found) = refl
+
+after-one : {A : Type 0} (values : List A) (value : A) (others : Result (List A) Fault) → after values (others >>= λ more. Ok (value ∷ more)) ≡ after (values ++ value ∷ []) others
+after-one values value (Ok more) = ap Ok (sym (append_assoc values (value ∷ []) more))
+after-one values value (Err found) = refl
+
+-- the values so far are read, and those that are left come after them
+pub record AreReadTo {A : Type 0} (read : (path : List ℕ) → Json → Result A Fault) (octets_of : A → List ℕ) (all rest : Items) (index : ℕ) (old now : List ℕ) : Type 0 where
+  pub values : List A
+  pub left : (path : List ℕ) → items_spelled read path 0 all ≡ after values (items_spelled read path index rest)
+  pub octets : now ≡ old ++ flat_map octets_of values
+
+pub none-read : {A : Type 0} (read : (path : List ℕ) → Json → Result A Fault) (octets_of : A → List ℕ) (all : Items) (old : List ℕ) → AreReadTo read octets_of all all 0 old old
+none-read read octets_of all old = record { values = []; left = λ path. after-none (items_spelled read path 0 all); octets = sym (append-nil old) }
+
+pub one-read : {A : Type 0} (read : (path : List ℕ) → Json → Result A Fault) (octets_of : A → List ℕ) (all rest : Items) (j : Json) (index : ℕ) (old mid now : List ℕ) → AreReadTo read octets_of all (item j rest) index old mid → IsRead (λ path. read (element_path path index) j) octets_of mid now → AreReadTo read octets_of all rest (index + 1) old now
+one-read read octets_of all rest j index old mid now a r = record {
+  values = a.values ++ r.value ∷ [];
+  left = λ path.
+      a.left path
+      ∙ ap (λ x. after a.values (x >>= λ first. items_spelled read path (index + 1) rest >>= λ others. Ok (first ∷ others))) (r.spelled path)
+      ∙ after-one a.values r.value (items_spelled read path (index + 1) rest);
+  octets =
+      r.octets ∙ ap (λ l. l ++ octets_of r.value) a.octets ∙ append_assoc old (flat_map octets_of a.values) (octets_of r.value)
+      ∙ ap (λ l. old ++ l) (ap (λ l. flat_map octets_of a.values ++ l) (sym (append-nil (octets_of r.value))) ∙ sym (flat_map-append octets_of a.values (r.value ∷ [])));
+}
+
+pub all-read : {A : Type 0} (read : (path : List ℕ) → Json → Result A Fault) (octets_of : A → List ℕ) (all : Items) (index : ℕ) (old now : List ℕ) → AreReadTo read octets_of all no_items index old now → IsRead (λ path. items_spelled read path 0 all) (flat_map octets_of) old now
+all-read read octets_of all index old now a = record { value = a.values; spelled = λ path. a.left path ∙ ap Ok (append-nil a.values); octets = a.octets }
+
+-- an item has a fault
+pub item-stopped : {A : Type 0} (read : (path : List ℕ) → Json → Result A Fault) (octets_of : A → List ℕ) (all rest : Items) (j : Json) (index : ℕ) (old mid older new now : List ℕ) (found : ValueFault) → AreReadTo read octets_of all (item j rest) index old mid → Reads (λ path. read (element_path path index) j) octets_of mid now (Err found) → Reads (λ path. items_spelled read path 0 all) (flat_map octets_of) older new (Err found)
+item-stopped read octets_of all rest j index old mid older new now (At found) a r =
+    λ path. a.left path ∙ ap (λ x. after a.values (x >>= λ first. items_spelled read path (index + 1) rest >>= λ others. Ok (first ∷ others))) (r path)
+item-stopped read octets_of all rest j index old mid older new now Memory a r = tt
+
+-- ---- names
+-- the members so far have names of their own, which are allowed
+pub record AreCheckedTo (is_field : List ℕ → Bool) (all rest : Members) (has_name : List ℕ → Bool) : Type 0 where
+  pub before : List (List ℕ)
+  pub among : (name : List ℕ) → is_among name before ≡ has_name name
+  pub left : (path : List ℕ) → checked_members is_field path [] all ≡ checked_members is_field path before rest
+
+pub none-checked : (is_field : List ℕ → Bool) (all : Members) → AreCheckedTo is_field all all (λ name. false)
+none-checked is_field all = record { before = []; among = λ name. refl; left = λ path. refl }
+
+pub one-checked : (is_field : List ℕ → Bool) (all rest : Members) (name : List ℕ) (j : Json) (has_name more : List ℕ → Bool) → is_field name ≡ true → has_name name ≡ false → ((other : List ℕ) → more other ≡ (has_name other || bytes_eq name other)) → AreCheckedTo is_field all (member name j rest) has_name → AreCheckedTo is_field all rest more
+one-checked is_field all rest name j has_name more allowed single same a = record {
+  before = name ∷ a.before;
+  among = λ other. ap (λ b. bytes_eq name other || b) (a.among other) ∙ or_comm (bytes_eq name other) (has_name other) ∙ sym (same other);
+  left = λ path.
+      a.left path
+      ∙ ap₂ (λ b d. unless (not b) (field_path path (shown name)) NoSuchField (unless d (field_path path (shown name)) Twice (checked_members is_field path (name ∷ a.before) rest))) allowed (a.among name ∙ single);
+}
+
+pub all-checked : (is_field : List ℕ → Bool) (all : Members) (has_name : List ℕ → Bool) (old : List ℕ) → AreCheckedTo is_field all no_members has_name → IsRead (λ path. checked_members is_field path [] all) (λ _. []) old old
+all-checked is_field all has_name old a = record { value = tt; spelled = a.left; octets = sym (append-nil old) }
+
+-- a member is not allowed
+pub not-allowed : (is_field : List ℕ → Bool) (all rest : Members) (name : List ℕ) (j : Json) (has_name : List ℕ → Bool) (old : List ℕ) (found : ValueFault) → is_field name ≡ false → IsFaultAt (codes "." ++ shown name) NoSuchField found → AreCheckedTo is_field all (member name j rest) has_name → Reads (λ path. checked_members is_field path [] all) (λ _. []) old old (Err found)
+not-allowed is_field all rest name j has_name old found other at a =
+    fault-read (λ path. checked_members is_field path [] all) (λ _. []) old old (codes "." ++ shown name) NoSuchField found
+    (λ path.
+    a.left path
+    ∙ ap (λ b. unless (not b) (field_path path (shown name)) NoSuchField (unless (is_among name a.before) (field_path path (shown name)) Twice (checked_members is_field path (name ∷ a.before) rest))) other
+    ∙ ap (λ p. fault p NoSuchField) (append_assoc path (codes ".") (shown name))) at
+
+-- or came before
+pub came-before : (is_field : List ℕ → Bool) (all rest : Members) (name : List ℕ) (j : Json) (has_name : List ℕ → Bool) (old : List ℕ) (found : ValueFault) → is_field name ≡ true → has_name name ≡ true → IsFaultAt (codes "." ++ shown name) Twice found → AreCheckedTo is_field all (member name j rest) has_name → Reads (λ path. checked_members is_field path [] all) (λ _. []) old old (Err found)
+came-before is_field all rest name j has_name old found allowed twice at a =
+    fault-read (λ path. checked_members is_field path [] all) (λ _. []) old old (codes "." ++ shown name) Twice found
+    (λ path.
+    a.left path
+    ∙ ap₂ (λ b d. unless (not b) (field_path path (shown name)) NoSuchField (unless d (field_path path (shown name)) Twice (checked_members is_field path (name ∷ a.before) rest))) allowed (a.among name ∙ twice)
+    ∙ ap (λ p. fault p Twice) (append_assoc path (codes ".") (shown name))) at
+
+-- ---- what is left of vectors
+pub items-next : {A : Type 0} (vs : List (Value A)) (i : ℕ) (d : Value A) → i < length vs → items_view (drop i vs) ≡ item (value_view (get_or vs i d)) (items_view (drop (i + 1) vs))
+items-next vs i d short = ap items_view (drop-cons vs i d short) ∙ ap (λ n. item (value_view (get_or vs i d)) (items_view (drop n vs))) (sym (add-one i))
+
+pub members-next : {A : Type 0} (ms : List (Bor (List ℕ) × Value A)) (i : ℕ) (d : Bor (List ℕ) × Value A) → i < length ms → members_view (drop i ms) ≡ member (get_or ms i d).0.now (value_view (get_or ms i d).1) (members_view (drop (i + 1) ms))
+members-next ms i d short = ap members_view (drop-cons ms i d short) ∙ ap (λ n. member (get_or ms i d).0.now (value_view (get_or ms i d).1) (members_view (drop n ms))) (sym (add-one i))
+
+-- whether a member of some has a name
+abbrev pub has_name : {A : Type 0} → List (Bor (List ℕ) × Value A) → List ℕ → Bool
+has_name ms name = list_any (λ m. bytes_eq m.0.now name) ms
+
+pub has-name-more : {A : Type 0} (ms : List (Bor (List ℕ) × Value A)) (i : ℕ) (d : Bor (List ℕ) × Value A) → i < length ms → (name : List ℕ) → has_name (take (i + 1) ms) name ≡ (has_name (take i ms) name || bytes_eq (get_or ms i d).0.now name)
+has-name-more ms i d short name =
+    ap (λ l. has_name l name) (take_more ms i d short)
+    ∙ list_any-append (λ m. bytes_eq m.0.now name) (take i ms) (get_or ms i d ∷ [])
+    ∙ ap (λ b. has_name (take i ms) name || b) (or_comm (bytes_eq (get_or ms i d).0.now name) false)
