@@ -39,6 +39,15 @@ pub fault-here : {A : Type 0} (read : (path : List ℕ) → Result A Fault) (oct
 fault-here read octets_of old new wrong found is at =
     fault-read read octets_of old new [] wrong found (λ path. is path ∙ ap (λ p. fault p wrong) (sym (append-nil path))) at
 
+-- a fault, whatever octets there are
+pub still-fault : {A : Type 0} (read : (path : List ℕ) → Result A Fault) (octets_of others_of : A → List ℕ) (old new older newer : List ℕ) (found : ValueFault) → Reads read octets_of old new (Err found) → Reads read others_of older newer (Err found)
+still-fault read octets_of others_of old new older newer (At found) r = r
+still-fault read octets_of others_of old new older newer Memory r = tt
+
+-- and out of memory nothing is said
+pub no-memory : {A : Type 0} (read : (path : List ℕ) → Result A Fault) (octets_of : A → List ℕ) (old new : List ℕ) (found : ValueFault) → found ≡ Memory → Reads read octets_of old new (Err found)
+no-memory read octets_of old new found e = subst (λ f. Reads read octets_of old new (Err f)) (sym e) tt
+
 -- ---- the same by other words
 pub same-read : {A : Type 0} (read other : (path : List ℕ) → Result A Fault) (octets_of : A → List ℕ) (old new : List ℕ) (outcome : Result (Unit {0}) ValueFault) → ((path : List ℕ) → other path ≡ read path) → Reads read octets_of old new outcome → Reads other octets_of old new outcome
 same-read read other octets_of old new (Ok done) same r = record { value = r.value; spelled = λ path. same path ∙ r.spelled path; octets = r.octets }
@@ -63,7 +72,7 @@ field-read read octets_of old new name inner outer u r =
 
 -- ---- one after another
 pub then-read : {A B : Type 0} (first : (path : List ℕ) → Result A Fault) (second : (path : List ℕ) → Result B Fault) (octets_of : A → List ℕ) (others_of : B → List ℕ) (old mid new : List ℕ) (outcome : Result (Unit {0}) ValueFault) → IsRead first octets_of old mid → Reads second others_of mid new outcome
-    → Reads (λ path. first path >>= λ a. second path >>= λ b. Ok (a, b)) (λ p. octets_of p.0 ++ others_of p.1) old new outcome
+    → Reads {A = A × B} (λ path. first path >>= λ a. second path >>= λ b. Ok (a, b)) (λ p. octets_of p.0 ++ others_of p.1) old new outcome
 then-read first second octets_of others_of old mid new (Ok done) r s = record {
   value = (r.value, s.value);
   spelled = λ path. ap (λ x. x >>= λ a. second path >>= λ b. Ok (a, b)) (r.spelled path) ∙ ap (λ y. y >>= λ b. Ok (r.value, b)) (s.spelled path);

@@ -1,5 +1,6 @@
 -- What is read of the items of an array, and of the names of the members of an object, one after another.
-use Rattle.std.proofs.Common.{◌≡◌, ℕ, ◌+◌, ◌<◌, ◌≤◌, List, [], ◌∷◌, ◌++◌, length, take, drop, get_or, map, append_assoc, append-nil, add-one, drop-cons, Bool, true, false, not, ◌&&◌, ◌||◌, Option, Some, None, Result, Ok, Err, refl, sym, ◌∙◌, ap, ap₂, subst, arith}
+use Rattle.std.proofs.Common.{◌≡◌, ℕ, zero, suc, ◌+◌, ◌<◌, ◌≤◌, List, [], ◌∷◌, ◌++◌, length, take, drop, get_or, map, append_assoc, append-nil, add-one, drop-cons, Bool, true, false, not, ◌&&◌, ◌||◌, Option, Some, None, Result, Ok, Err, refl, sym, ◌∙◌, ap, ap₂, subst, arith}
+use Rattle.std.specs.Prelude.{codes}
 use Rattle.std.specs.Borrow.{Bor}
 use Rattle.std.specs.List.{flat_map, list_any}
 use Rattle.std.specs.Str.{bytes_eq}
@@ -7,16 +8,18 @@ use Rattle.std.proofs.Math.Bool.{or_comm}
 use Rattle.std.proofs.lemmas.List.{take_more}
 use Rattle.std.proofs.lemmas.List.Folds.{list_any-append}
 use Rattle.std.proofs.lemmas.Grind.{flat_map-append}
-use Rattle.json.specs.Json.{Json, Items, no_items, item, Members, no_members, member}
+use Rattle.json.specs.Json.{Json, null, boolean, number, string, array, object, Items, no_items, item, Members, no_members, member}
+use Rattle.json.specs.Find.{as_object, get, get_member}
+use Rattle.json.specs.Tree.{HasNumbers, ItemsHaveNumbers}
 use Rattle.json.specs.Value.{value_view, items_view, members_view}
 use Rattle.json.specs.declared.value.Value.{Value}
 use Rattle.krb_judge.specs.Paths.{field_path, element_path}
-use Rattle.krb_json.specs.declared.wrong.Wrong.TheVariants.{NoSuchField, Twice}
+use Rattle.krb_json.specs.declared.wrong.Wrong.TheVariants.{NotAnObject, NoSuchField, Twice}
 use Rattle.krb_json.specs.declared.value_fault.ValueFault.{ValueFault}
 use Rattle.krb_json.specs.declared.value_fault.ValueFault.TheVariants.{At, Memory}
 use Rattle.krb_json.specs.Faults.{Fault, fault, ◌>>=◌}
 use Rattle.krb_json.specs.Spelling.{shown}
-use Rattle.krb_json.specs.Spelled.{unless, is_among, checked_members, items_spelled}
+use Rattle.krb_json.specs.Spelled.{or_fault, unless, is_among, checked_members, members_spelled, items_spelled}
 use Rattle.krb_json.specs.inner.Reading.{IsRead, Reads, IsFaultAt}
 use Rattle.krb_json.proofs.ReadLemmas.{fault-read}
 
@@ -119,3 +122,50 @@ has-name-more ms i d short name =
     ap (λ l. has_name l name) (take_more ms i d short)
     ∙ list_any-append (λ m. bytes_eq m.0.now name) (take i ms) (get_or ms i d ∷ [])
     ∙ ap (λ b. has_name (take i ms) name || b) (or_comm (bytes_eq (get_or ms i d).0.now name) false)
+
+-- ---- the member at an index of a vector
+module _ {A : Type 0} (is_field : List ℕ → Bool) (ms : List (Bor (List ℕ) × Value A)) (i : ℕ) (m : Bor (List ℕ) × Value A) (short : i < length ms) (is : m ≡ get_or ms i m) (a : AreCheckedTo is_field (members_view ms) (members_view (drop i ms)) (has_name (take i ms))) where
+  first : AreCheckedTo is_field (members_view ms) (member m.0.now (value_view m.1) (members_view (drop (i + 1) ms))) (has_name (take i ms))
+  first =
+      subst (λ rest. AreCheckedTo is_field (members_view ms) rest (has_name (take i ms)))
+      (members-next ms i m short ∙ ap (λ (x : Bor (List ℕ) × Value A). member x.0.now (value_view x.1) (members_view (drop (i + 1) ms))) (sym is)) a
+
+  pub name-not-allowed : (old : List ℕ) (found : ValueFault) → is_field m.0.now ≡ false → IsFaultAt (codes "." ++ shown m.0.now) NoSuchField found → Reads (λ path. checked_members is_field path [] (members_view ms)) (λ _. []) old old (Err found)
+  name-not-allowed old found other at = not-allowed is_field (members_view ms) (members_view (drop (i + 1) ms)) m.0.now (value_view m.1) (has_name (take i ms)) old found other at first
+
+  pub name-before : (old : List ℕ) (found : ValueFault) → is_field m.0.now ≡ true → has_name (take i ms) m.0.now ≡ true → IsFaultAt (codes "." ++ shown m.0.now) Twice found → Reads (λ path. checked_members is_field path [] (members_view ms)) (λ _. []) old old (Err found)
+  name-before old found allowed twice at = came-before is_field (members_view ms) (members_view (drop (i + 1) ms)) m.0.now (value_view m.1) (has_name (take i ms)) old found allowed twice at first
+
+  pub name-checked : is_field m.0.now ≡ true → has_name (take i ms) m.0.now ≡ false → AreCheckedTo is_field (members_view ms) (members_view (drop (i + 1) ms)) (has_name (take (i + 1) ms))
+  name-checked allowed single =
+      one-checked is_field (members_view ms) (members_view (drop (i + 1) ms)) m.0.now (value_view m.1) (has_name (take i ms)) (has_name (take (i + 1) ms)) allowed single
+      (λ other. has-name-more ms i m short other ∙ ap (λ (x : Bor (List ℕ) × Value A). has_name (take i ms) other || bytes_eq x.0.now other) (sym is)) first
+
+pub members-read : (is_field : List ℕ → Bool) (j : Json) (ms : Members) (outcome : Result (Unit {0}) ValueFault) → as_object j ≡ Some ms → Reads (λ path. checked_members is_field path [] ms) (λ _. []) [] [] outcome → Reads (λ path. members_spelled is_field path j) (λ _. []) [] [] outcome
+members-read is_field j ms (Ok done) e r = record {
+  value = ms;
+  spelled = λ path. ap (λ o. or_fault path NotAnObject o >>= λ ms. checked_members is_field path [] ms >>= λ _. Ok ms) e ∙ ap (λ x. x >>= λ _. Ok ms) (r.spelled path);
+  octets = refl;
+}
+members-read is_field j ms (Err (At found)) e r =
+    λ path. ap (λ o. or_fault path NotAnObject o >>= λ ms. checked_members is_field path [] ms >>= λ _. Ok ms) e ∙ ap (λ x. x >>= λ _. Ok ms) (r path)
+members-read is_field j ms (Err Memory) e r = tt
+
+-- ---- looking into values
+-- what an object has for a name is what its members have
+pub get-member : (name : List ℕ) (j : Json) (ms : Members) → as_object j ≡ Some ms → get name j ≡ get_member name ms
+get-member name null ms e = cc e
+get-member name (boolean b) ms e = cc e
+get-member name (number s) ms e = cc e
+get-member name (string s) ms e = cc e
+get-member name (array js) ms e = cc e
+get-member name (object own) ms e = ap (get_member name) (same-some own ms e)
+  where
+    same-some : (a b : Members) → Some a ≡ Some b → a ≡ b
+    same-some a b e = cc e
+
+-- each item of an array has numbers that are numbers
+pub item-numbers : {A : Type 0} (vs : List (Value A)) (i : ℕ) (d : Value A) → i < length vs → ItemsHaveNumbers (items_view vs) → HasNumbers (value_view (get_or vs i d))
+item-numbers [] i d short h = absurd (omega arith)
+item-numbers (v ∷ vs) zero d short h = h.0
+item-numbers (v ∷ vs) (suc i) d short h = item-numbers vs i d (omega arith) h.1

@@ -1,10 +1,11 @@
 //! The message that a line spells.
 
-ghost use Rattle.std.specs.Prelude.{◌≡◌, ◌<◌, ◌≤◌, ◌^◌, ◌+◌, ◌++◌, length, vec_len, IfOk, IfErr, Some, Ok, Err, option_map, string_bytes};
+ghost use Rattle.std.specs.Prelude.{◌≡◌, ◌<◌, ◌≤◌, ◌^◌, ◌+◌, ◌++◌, length, vec_len, IfOk, IfErr, IfSome, Some, Ok, Err, option_map, string_bytes};
 ghost use Rattle.std.specs.List.{AllByRecursion, flat_map};
 ghost use Rattle.std.specs.Option.{option_and_then};
 ghost use Rattle.json.specs.Find.{as_object};
 ghost use Rattle.json.specs.Json.{Members};
+ghost use Rattle.json.specs.Tree.{HasNumbers, ItemsHaveNumbers};
 ghost use Rattle.json.specs.Value.{items_view, value_view};
 ghost use Rattle.krb_judge.specs.FieldNames.{named};
 ghost use Rattle.krb_msg.specs.Nodes.{nodes, term_at};
@@ -50,14 +51,16 @@ pub fn read_line(
     let mut scratch = Scratch::new(alloc);
     match Value::from_slice(alloc, line, &mut scratch) {
         Ok(value) => read_object(alloc, profile, limit, &value),
-        Err(Error::OutOfMemory) => Err(LineFault::Memory),
-        Err(_) => Err(LineFault::NotJson),
+        Err(Error::Invalid) => Err(LineFault::NotJson),
+        Err(_) => Err(LineFault::Memory),
     }
 }
 
 /// Returns the name and the value of the sole member of an object.
 fn sole_member<'v, 'a>(value: &'v Value<'a>) -> Option<(&'a str, &'v Value<'a>)>
-    ensures { option_map (λ sole. (sole.0.now, value_view sole.1.now)) result ≡ option_and_then sole_member (as_object (value_view value.now)) }
+    requires { HasNumbers (value_view value.now) }
+    ensures sole { option_map (λ sole. (sole.0.now, value_view sole.1.now)) result ≡ option_and_then sole_member (as_object (value_view value.now)) }
+    ensures numbers { IfSome result (λ sole. HasNumbers (value_view sole.1.now)) }
 {
     let Value::Object(members) = value else {
         return None;
@@ -82,7 +85,8 @@ fn read_object(
     limit: u32,
     value: &Value,
 ) -> Result<Vec<u8>, LineFault>
-    requires { limit < 2 ^ 31 }
+    requires short { limit < 2 ^ 31 }
+    requires numbers { HasNumbers (value_view value.now) }
     ensures { ReadsLine (value_spells profile limit (Some (value_view value.now))) result }
 {
     let Some((name, inner)) = sole_member(value) else {
@@ -102,7 +106,8 @@ fn read_message(
     kind: Kind,
     value: &Value,
 ) -> Result<Vec<u8>, LineFault>
-    requires { limit < 2 ^ 31 }
+    requires short { limit < 2 ^ 31 }
+    requires numbers { HasNumbers (value_view value.now) }
     ensures { ReadsLine (in_line (message_spelled profile limit kind (value_view value.now))) result }
 {
     let node = message_node(profile, kind);
@@ -145,7 +150,8 @@ fn read_item(
     names: Names,
     value: &Value,
 ) -> Result<(), ValueFault>
-    requires { IsNode node }
+    requires known { IsNode node }
+    requires numbers { HasNumbers (value_view value.now) }
     ensures { Reads (λ path. spelled (term_at node) names path (value_view value.now)) (der (term_at node)) out.old.items out.new.items result }
 {
     let start = out.len();
@@ -163,7 +169,8 @@ fn read_contents(
     names: Names,
     value: &Value,
 ) -> Result<(), ValueFault>
-    requires { IsNode node }
+    requires known { IsNode node }
+    requires numbers { HasNumbers (value_view value.now) }
     ensures { Reads (λ path. spelled (term_at node) names path (value_view value.now)) (contents (term_at node)) out.old.items out.new.items result }
 {
     match form_of(node) {
@@ -188,7 +195,8 @@ fn read_list(
     names: Names,
     value: &Value,
 ) -> Result<(), ValueFault>
-    requires { IsNode node }
+    requires known { IsNode node }
+    requires numbers { HasNumbers (value_view value.now) }
     ensures { Reads (λ path. spelled (SequenceOf empty (term_at node)) names path (value_view value.now)) (flat_map (der (term_at node))) out.old.items out.new.items result }
 {
     let Value::Array(items) = value else {
@@ -209,7 +217,8 @@ fn read_items(
     names: Names,
     items: &[Value],
 ) -> Result<(), ValueFault>
-    requires { IsNode node }
+    requires known { IsNode node }
+    requires numbers { ItemsHaveNumbers (items_view items.now) }
     ensures { Reads (λ path. items_spelled (spelled (term_at node) names) path 0 (items_view items.now)) (flat_map (der (term_at node))) out.old.items out.new.items result }
 {
     for (index, item) in items.iter().enumerate() {
@@ -227,7 +236,8 @@ fn read_sequence(
     names: Names,
     value: &Value,
 ) -> Result<(), ValueFault>
-    requires { AllByRecursion IsSlot slots.now }
+    requires known { AllByRecursion IsSlot slots.now }
+    requires numbers { HasNumbers (value_view value.now) }
     ensures { Reads (λ path. spelled (Sequence (fields_from nodes slots.now)) names path (value_view value.now)) (der_of_fields (fields_from nodes slots.now)) out.old.items out.new.items result }
 {
     check_members(alloc, Allowed::Fields(names), value)?;
@@ -245,6 +255,7 @@ fn read_fields(
     object: &Value,
 ) -> Result<(), ValueFault>
     requires known { AllByRecursion IsSlot slots.now }
+    requires numbers { HasNumbers (value_view object.now) }
     requires few { index + length slots.now < 2 ^ 64 }
     ensures { (members : Members) → as_object (value_view object.now) ≡ Some members → ReadsFields (fields_from nodes slots.now) names index members out.old.items out.new.items result }
 {
@@ -264,7 +275,8 @@ fn read_field(
     field: Field,
     object: &Value,
 ) -> Result<(), ValueFault>
-    requires { IsSlot slot }
+    requires known { IsSlot slot }
+    requires numbers { HasNumbers (value_view object.now) }
     ensures { (members : Members) → as_object (value_view object.now) ≡ Some members → ReadsField slot (named field) members out.old.items out.new.items result }
 {
     match object.get(field.name) {

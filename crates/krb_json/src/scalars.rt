@@ -1,6 +1,7 @@
 //! Scalars, from JSON: their contents octets are appended.
 
 ghost use Rattle.std.specs.Prelude.{◌∷◌};
+ghost use Rattle.json.specs.Tree.{HasNumbers};
 ghost use Rattle.json.specs.Value.{value_view};
 ghost use Rattle.krb_der.specs.Octets.{integer_octets};
 ghost use Rattle.krb_json.specs.Spelled.{bits_spelled, integer_spelled, octets_spelled, text_spelled, time_spelled};
@@ -18,6 +19,7 @@ pub(crate) fn read_integer(
     high: i64,
     value: &Value,
 ) -> Result<(), ValueFault>
+    requires { HasNumbers (value_view value.now) }
     ensures { Reads (λ path. integer_spelled low high path (value_view value.now)) integer_octets out.old.items out.new.items result }
 {
     Err(ValueFault::Memory)
@@ -56,6 +58,7 @@ pub(crate) fn read_bits(
     least: u8,
     value: &Value,
 ) -> Result<(), ValueFault>
+    requires { HasNumbers (value_view value.now) }
     ensures { Reads (λ path. bits_spelled least path (value_view value.now)) (λ bits. bits.0 ∷ bits.1) out.old.items out.new.items result }
 {
     Err(ValueFault::Memory)

@@ -79,15 +79,15 @@ pub(crate) fn fault_of_member(alloc: Global, name: &str, wrong: Wrong) -> ValueF
 }
 
 /// Returns what came of the value of a field, as what comes of the SEQUENCE that it is in.
-pub(crate) fn in_field(
+pub(crate) fn in_field<T>(
     alloc: Global,
     name: &str,
-    outcome: Result<(), ValueFault>,
-) -> Result<(), ValueFault>
+    outcome: Result<T, ValueFault>,
+) -> Result<T, ValueFault>
     ensures { IsUnder (codes "." ++ name.now) outcome result }
 {
     match outcome {
-        Ok(()) => Ok(()),
+        Ok(value) => Ok(value),
         Err(ValueFault::Memory) => Err(ValueFault::Memory),
         Err(ValueFault::At(Fault { path, wrong })) => {
             Err(fault_at(after_name(alloc, name, &path), wrong))

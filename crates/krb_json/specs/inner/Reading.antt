@@ -1,5 +1,5 @@
 -- What reading a value of JSON gives: contents octets are appended, or there is a fault, whose path follows that of the value.
-use Rattle.std.specs.Prelude.{ℕ, ◌≡◌, ⊤, List, ◌++◌, Result, Ok, Err, string_bytes}
+use Rattle.std.specs.Prelude.{ℕ, ◌≡◌, ⊤, List, ◌++◌, Bool, Result, Ok, Err, string_bytes}
 use Rattle.std.specs.Global.{Vec}
 use Rattle.json.specs.Json.{Members}
 use Rattle.krb_msg.specs.Nodes.{term_at}
@@ -54,10 +54,10 @@ IsFaultAt more wrong (At found) = (string_bytes found.path ≡ more) × (found.w
 IsFaultAt more wrong Memory = ⊤
 
 -- what was found in a part of a value, as a fault of the value: more comes before its path
-abbrev pub IsUnder : (more : List ℕ) → Result (Unit {0}) ValueFault → Result (Unit {0}) ValueFault → Type 0
-IsUnder more (Ok done) outer = outer ≡ Ok tt
+abbrev pub IsUnder : {A : Type 0} → (more : List ℕ) → Result A ValueFault → Result A ValueFault → Type 0
+IsUnder more (Ok value) outer = outer ≡ Ok value
 IsUnder more (Err Memory) outer = outer ≡ Err Memory
-IsUnder more (Err (At found)) (Ok done) = ⊥
+IsUnder more (Err (At found)) (Ok value) = ⊥
 IsUnder more (Err (At found)) (Err outer) = IsFaultAt (more ++ string_bytes found.path) found.wrong outer
 
 -- whether an object may have a member of a name
