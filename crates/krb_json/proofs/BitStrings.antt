@@ -1,5 +1,5 @@
 -- A BIT STRING, member by member.
-use Rattle.std.proofs.Common.{◌≡◌, ℕ, ℤ, pos, ◌-◌, ◌*◌, List, [], ◌∷◌, ◌++◌, length, append_assoc, Option, Some, None, Result, Ok, Err, refl, sym, ◌∙◌, ap, subst}
+use Rattle.std.proofs.Common.{◌≡◌, ℕ, ℤ, pos, ◌-◌, ◌*◌, List, [], ◌∷◌, ◌++◌, length, append_assoc, Option, Result, Ok, Err, sym, ◌∙◌, ap, subst}
 use Rattle.std.specs.Prelude.{◌≤ℤ◌, codes}
 use Rattle.json.specs.Json.{Json, Members}
 use Rattle.json.specs.Json as json
@@ -9,7 +9,7 @@ use Rattle.krb_json.specs.declared.members.Allowed.TheVariants as allowed
 use Rattle.krb_json.specs.declared.value_fault.ValueFault.{ValueFault}
 use Rattle.krb_json.specs.declared.value_fault.ValueFault.TheVariants.{At, Memory}
 use Rattle.krb_json.specs.declared.wrong.Wrong.TheVariants.{Missing}
-use Rattle.krb_json.specs.Faults.{Fault, fault, ◌>>=◌}
+use Rattle.krb_json.specs.Faults.{Fault, ◌>>=◌}
 use Rattle.krb_json.specs.Spelled.{bits_from, bits_spelled, checked_members, count_of, integer_spelled, members_spelled, octets_spelled, or_fault}
 use Rattle.krb_json.specs.inner.Reading.{IsRead, Reads, is_allowed}
 use Rattle.krb_json.specs.inner.Scalars.{Gives, member_spelled}

@@ -1,17 +1,17 @@
 -- A number of JSON without a fraction and an exponent is digits, after a minus at most; so what is read of it is its value, if that fits.
-use Rattle.std.proofs.Common.{◌≡◌, ℕ, ℤ, pos, negsuc, zero, suc, ◌+◌, ◌^◌, ◌<◌, ◌≤◌, true, false, cond, ◌&&◌, ◌||◌, ◌==◌, Bool, List, [], ◌∷◌, length, drop, get_or, Option, Some, None, Ok, Err, refl, sym, ◌∙◌, ap, subst, arith, FitsSigned}
-use Rattle.std.specs.Prelude.{◌≤ℤ◌, int_le, nat_le, not}
+use Rattle.std.proofs.Common.{◌≡◌, ℕ, ℤ, pos, negsuc, zero, suc, ◌+◌, ◌<◌, ◌≤◌, true, false, cond, ◌&&◌, ◌||◌, ◌==◌, Bool, List, [], ◌∷◌, length, drop, Option, Some, None, refl, sym, ◌∙◌, ap, subst, arith, FitsSigned}
+use Rattle.std.specs.Prelude.{◌≤ℤ◌, int_le, nat_le}
 use Rattle.std.specs.Option.{option_and_then, ok_or, MatchOption}
 use Rattle.std.specs.List.{list_any, prefix_len}
 use Rattle.std.specs.Char.{digit_value, is_ascii_digit}
 use Rattle.std.specs.Int.{w64}
 use Rattle.std.specs.Str.Parse.{AllDigits, IsNumeral, ParsesSigned, signed_digits_value, without_leading_sign}
-use Rattle.std.proofs.lemmas.Bool.{true≢false, eqb-true, and_parts, leb-true, ne_eqb}
+use Rattle.std.proofs.lemmas.Bool.{eqb-true, and_parts, leb-true, ne_eqb}
 use Rattle.std.proofs.lemmas.Bool.Decides.{nat_tests}
 use Rattle.std.proofs.lemmas.Int.{ints, to_z-of_z}
 use Rattle.std.proofs.lemmas.Str.Parse.{digit_from_value}
 use mir.Val.{to_z, of_z}
-use Rattle.json.specs.Word.{head, after_digits, after_minus, after_whole, after_fraction, after_exponent, after_number}
+use Rattle.json.specs.Word.{head, after_digits, after_whole, after_fraction, after_exponent, after_number}
 use Rattle.json.specs.Json.{Json}
 use Rattle.json.specs.Json as json
 use Rattle.json.specs.Find.{as_number}
@@ -136,7 +136,7 @@ outside-range low number high from to not_fits = by (int_le low number && int_le
 
 pub outside : (low high : ℤ) (path text : List ℕ) (number : Option ℤ) → IsNumber text → NoMark text → ParsesSigned w64 10 text (ok_or number text) → FitsSigned w64 low → FitsSigned w64 high → IsNotWithin low high number → number_spelled low high path text ≡ fault path (Outside low high)
 outside low high path text (Some number) is none parses from to not_within =
-    rw (none, sym parses.1 , not_within) refl
+    rw (none, sym parses.1, not_within) refl
 outside low high path text None is none parses from to not_within =
     let not_fits : ¬ (FitsSigned w64 (signed_digits_value 10 text)) = λ fits. parses (is-numeral text is none, fits) in
     rw (none, outside-range low (signed_digits_value 10 text) high from to not_fits) refl

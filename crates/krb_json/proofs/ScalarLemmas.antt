@@ -1,12 +1,12 @@
 -- What scalars are read from JSON by.
-use Rattle.std.proofs.Common.{◌≡◌, ℕ, ℤ, pos, negsuc, zero, suc, ◌+◌, ◌-◌, ◌*◌, ◌/◌, ◌%◌, ◌^◌, ◌<◌, ◌≤◌, List, [], ◌∷◌, ◌++◌, length, take, drop, map, inl, inr, refl, sym, ◌∙◌, ap, ap₂, arith, rules, length-append, append-nil, append_assoc, subst, true, false, Bool, Some, None, Option, FitsSigned}
+use Rattle.std.proofs.Common.{◌≡◌, ℕ, ℤ, pos, negsuc, zero, suc, ◌+◌, ◌-◌, ◌*◌, ◌/◌, ◌%◌, ◌^◌, ◌<◌, ◌≤◌, List, [], ◌∷◌, ◌++◌, length, take, drop, inl, inr, refl, sym, ◌∙◌, ap, ap₂, arith, append-nil, append_assoc, subst, true, false, Bool, Some, None, Option, FitsSigned}
 use Rattle.std.proofs.Math.Nat.{div-div-eq-div-mul}
 use Rattle.std.proofs.lemmas.Bool.{cases_lt, true≢false}
 use Rattle.std.proofs.lemmas.Grind.{pow_more}
 use Rattle.std.proofs.lemmas.List.{drop-map, drop-append-le, map-append}
 use Rattle.std.proofs.lemmas.Int.{to_z-of_z}
 use Rattle.std.proofs.Math.Seq.{drop-append_seam, take-length}
-use Rattle.std.specs.Prelude.{◌≢◌, codes, string_bytes, IsSome, IfSome, if◌then◌else◌, Result, Ok, Err, is_ok, OnOk, MatchResult}
+use Rattle.std.specs.Prelude.{codes, string_bytes, IsSome, IfSome, if◌then◌else◌, Result, Ok, Err, is_ok, OnOk, MatchResult}
 use Rattle.std.specs.Result.{result_ok}
 use Rattle.std.specs.Array.{IsWholeChunk}
 use Rattle.std.specs.declared.alloc.AllocError.{AllocError}
@@ -14,7 +14,7 @@ use Rattle.std.specs.Int.{bytes_high_first, byte_at, to_be_bytes, cast_unsigned,
 use mir.Val.{to_z, of_z}
 use Rattle.krb_der.specs.Octets.{spelled, complement, item, integer_octets}
 use Rattle.krb_der.specs.Sizes.{magnitude}
-use Rattle.krb_der.specs.inner.Numbers.{spelled-small, spelled-step, length-spelled-pos, length-spelled-step, length-spelled-le}
+use Rattle.krb_der.specs.inner.Numbers.{spelled-small, spelled-step, length-spelled-step, length-spelled-le}
 use Rattle.krb_json.specs.declared.value_fault.ValueFault.{ValueFault}
 use Rattle.krb_json.specs.declared.value_fault.ValueFault.TheVariants.{At, Memory}
 use Rattle.krb_json.specs.declared.wrong.Wrong.{Wrong}
@@ -27,7 +27,6 @@ use Rattle.krb_judge.specs.Paths.{field_path}
 use Rattle.json.specs.Json.{Json}
 use Rattle.json.specs.Find.{get}
 use Rattle.krb_der.specs.Scalars.{IsTimeFrom}
-use Rattle.krb_der.proofs.Shapes.{length-time}
 use Rattle.krb_json.specs.declared.wrong.Wrong.TheVariants.{Missing}
 use Rattle.krb_json.proofs.Leaves.{is-time}
 use Rattle.krb_json.proofs.Fit.{time-shape}
@@ -189,10 +188,3 @@ time-is text octets (Some time) same shape value = (is-time 14 text (subst (IsTi
 pub same-octets : {E : Type 0} (r : Result (List ℕ) E) (text octets : List ℕ) (size : ℕ) (other : E → Type 0) → Some octets ≡ result_ok r → MatchResult r (λ whole. IsWholeChunk text whole size) other → octets ≡ text
 same-octets (Ok whole) text octets size other is chunk = let same : octets ≡ whole = cc is in same ∙ chunk.same
 same-octets (Err e) text octets size other is chunk = cc is
-
-pub no-time : (text : List ℕ) → length text ≢ 15 → is_time_from 14 text ≡ false
-no-time text other = by (is_time_from 14 text) refl
-  where
-    by : (b : Bool) → is_time_from 14 text ≡ b → b ≡ false
-    by true is = absurd (other (sym (length-time 14 text (time-shape 14 text is))))
-    by false is = refl

@@ -1,5 +1,5 @@
 -- The octets that a text shows, one after another.
-use Rattle.std.proofs.Common.{◌≡◌, ℕ, ◌+◌, ◌-◌, ◌*◌, ◌≤◌, true, false, ◌==◌, Bool, List, [], ◌∷◌, ◌++◌, length, append_assoc, take, drop, get_or, Option, Some, None, option_map, Result, Ok, Err, refl, sym, ◌∙◌, ap, subst, arith}
+use Rattle.std.proofs.Common.{◌≡◌, ℕ, ◌+◌, ◌-◌, ◌*◌, ◌≤◌, List, [], ◌∷◌, ◌++◌, length, append_assoc, take, drop, get_or, Option, Some, None, option_map, Result, Ok, Err, refl, sym, ◌∙◌, ap, arith}
 use Rattle.std.specs.Option.{option_and_then}
 use Rattle.std.specs.Result.{MatchResult}
 use Rattle.std.proofs.Math.Seq.{take-length}

@@ -152,11 +152,7 @@ fn hexadecimal_octet(high: u8, low: u8) -> Option<u8>
 }
 
 /// Appends the contents of the OCTET STRING that a value spells.
-pub(crate) fn read_octets(
-    alloc: Global,
-    out: &mut Vec<u8>,
-    value: &Value,
-) -> Result<(), ValueFault>
+pub(crate) fn read_octets(alloc: Global, out: &mut Vec<u8>, value: &Value) -> Result<(), ValueFault>
     ensures { Reads (λ path. octets_spelled path (value_view value.now)) (λ octets. octets) out.old.items out.new.items result }
 {
     let Some(text) = value.as_str() else {
@@ -173,11 +169,7 @@ pub(crate) fn read_octets(
 }
 
 /// Appends the contents of the KerberosTime that a value spells.
-pub(crate) fn read_time(
-    alloc: Global,
-    out: &mut Vec<u8>,
-    value: &Value,
-) -> Result<(), ValueFault>
+pub(crate) fn read_time(alloc: Global, out: &mut Vec<u8>, value: &Value) -> Result<(), ValueFault>
     ensures { Reads (λ path. time_spelled path (value_view value.now)) (λ octets. octets) out.old.items out.new.items result }
 {
     let Some(text) = value.as_str() else {

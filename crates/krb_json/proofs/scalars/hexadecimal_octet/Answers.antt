@@ -1,5 +1,3 @@
-use Rattle.std.proofs.Common.{Ok, Err, subst}
-use Rattle.std.specs.Prelude.{Result, MatchResult}
 use Rattle.krb_json.proofs.Unshown.{two-digits}
 use Rattle.krb_json.proofs.scalars.hexadecimal_octet.Goals as goal
 

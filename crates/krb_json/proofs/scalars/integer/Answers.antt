@@ -1,12 +1,8 @@
-use Rattle.std.proofs.Common.{◌≡◌, ℤ, Some, option_map, ap, ap₂, sym, subst, ◌∙◌, rules, []}
-use Rattle.std.proofs.lemmas.Int.{to_z-of_z}
-use Rattle.std.specs.Borrow.{Bor}
-use Rattle.std.specs.Int.{w64}
+use Rattle.std.proofs.Common.{◌≡◌, ℤ, Some, sym, subst, rules}
 use Rattle.json.specs.Find.{as_number}
 use Rattle.json.specs.Value.{value_view}
 use Rattle.krb_json.specs.Spelled.{integer_spelled}
 use Rattle.krb_json.specs.declared.wrong.Wrong.TheVariants.{Outside}
-use Rattle.krb_json.specs.inner.Reading.{IsFaultAt}
 use Rattle.krb_json.proofs.NumberTexts.{IsNotWithin, NoMark, outside-spelled, same-range}
 use Rattle.krb_json.proofs.ScalarLemmas.{gives-fault-here}
 use Rattle.krb_json.proofs.scalars.integer.Goals as goal
