@@ -1,14 +1,19 @@
 -- What functions return that read values, put together.
-use Rattle.std.proofs.Common.{◌≡◌, ℕ, ℤ, ◌+◌, ◌-◌, ◌≤◌, List, [], ◌∷◌, ◌++◌, length, take, drop, get_or, append_assoc, append-nil, Bool, true, false, not, ◌&&◌, Option, Some, None, Result, Ok, Err, refl, sym, ◌∙◌, ap, ap₂, subst, arith}
-use Rattle.std.specs.Prelude.{codes, string_bytes}
+use Rattle.std.proofs.Common.{◌≡◌, ℕ, ℤ, pos, negsuc, max, inl, inr, to_z, of_z, w64, ◌<◌, ◌+◌, ◌-◌, ◌≤◌, List, [], ◌∷◌, ◌++◌, length, take, drop, get_or, append_assoc, append-nil, Bool, true, false, not, ◌&&◌, Option, Some, None, Result, Ok, Err, refl, sym, ◌∙◌, ap, ap₂, subst, arith}
+use Rattle.std.specs.Prelude.{codes, decimal, string_bytes}
+use Rattle.std.specs.Int.RustNames.{FitsSigned}
 use Rattle.std.specs.Borrow.{Bor}
-use Rattle.std.specs.List.{flat_map}
+use Rattle.std.specs.List.{flat_map, AllByRecursion}
 use Rattle.std.proofs.Math.Seq.{take-append_seam, drop-append_seam}
 use Rattle.json.specs.Json.{Json, Items, Members}
 use Rattle.json.specs.Find.{as_array, get_member}
-use Rattle.krb_der.specs.Octets.{item, integer_octets}
+use Rattle.std.proofs.lemmas.Bool.{cases_lt}
+use Rattle.std.proofs.lemmas.Int.{to_z-of_z, fits_signed_from_abs}
+use Rattle.krb_der.specs.Octets.{item, integer_octets, spelled as spelled_octets}
+use Rattle.krb_der.specs.inner.Numbers.{length-spelled-mono}
+use Rattle.krb_der.proofs.Sizes.{length-complement}
 use Rattle.krb_msg.specs.Nodes.{nodes, term_at}
-use Rattle.krb_msg.specs.Table.{IsFormOf, fields_from, with_slot}
+use Rattle.krb_msg.specs.Table.{IsFormOf, IsSlot, fields_from, with_slot}
 use Rattle.krb_msg.specs.declared.grammar.Form.TheVariants as form
 use Rattle.krb_msg.specs.declared.grammar.Slot.{Slot}
 use Rattle.krb_msg.specs.declared.grammar.Slot.TheVariants as slot
@@ -24,6 +29,7 @@ use Rattle.krb_json.specs.declared.value_fault.ValueFault.{ValueFault}
 use Rattle.krb_json.specs.declared.value_fault.ValueFault.TheVariants.{At, Memory}
 use Rattle.krb_json.specs.Faults.{Fault, fault, ◌>>=◌}
 use Rattle.krb_json.specs.Spelled.{or_fault, unless, integer_spelled, text_spelled, octets_spelled, time_spelled, bits_spelled, required, optional, if_there, spelled, fields_spelled, items_spelled}
+use Rattle.krb_json.specs.inner.Sizes.{size, size_of_fields}
 use Rattle.krb_json.specs.inner.Writing.{slot_node}
 use Rattle.krb_json.specs.inner.Reading.{IsRead, Reads, ReadsField, ReadsFields, IsFaultAt, IsUnder}
 use Rattle.krb_json.proofs.Walks.{slots-split}
@@ -70,6 +76,13 @@ field-read read octets_of old new name inner outer u r =
     same-read (λ path. read (path ++ (codes "." ++ name))) (λ path. read (field_path path name)) octets_of old new outer (λ path. ap read (append_assoc path (codes ".") name))
     (under-read read octets_of old new (codes "." ++ name) inner outer u r)
 
+-- an item
+pub element-read : {A : Type 0} (read : (path : List ℕ) → Result A Fault) (octets_of : A → List ℕ) (old new : List ℕ) (index : ℕ) (inner outer : Result (Unit {0}) ValueFault) → IsUnder (codes "[" ++ decimal index ++ codes "]") inner outer → Reads read octets_of old new inner → Reads (λ path. read (element_path path index)) octets_of old new outer
+element-read read octets_of old new index inner outer u r =
+    same-read (λ path. read (path ++ (codes "[" ++ decimal index ++ codes "]"))) (λ path. read (element_path path index)) octets_of old new outer
+    (λ path. ap read (append_assoc (path ++ codes "[") (decimal index) (codes "]") ∙ append_assoc path (codes "[") (decimal index ++ codes "]") ∙ ap (λ l. path ++ l) (sym (append_assoc (codes "[") (decimal index) (codes "]")))))
+    (under-read read octets_of old new (codes "[" ++ decimal index ++ codes "]") inner outer u r)
+
 -- ---- one after another
 pub then-read : {A B : Type 0} (first : (path : List ℕ) → Result A Fault) (second : (path : List ℕ) → Result B Fault) (octets_of : A → List ℕ) (others_of : B → List ℕ) (old mid new : List ℕ) (outcome : Result (Unit {0}) ValueFault) → IsRead first octets_of old mid → Reads second others_of mid new outcome
     → Reads {A = A × B} (λ path. first path >>= λ a. second path >>= λ b. Ok (a, b)) (λ p. octets_of p.0 ++ others_of p.1) old new outcome
@@ -81,6 +94,11 @@ then-read first second octets_of others_of old mid new (Ok done) r s = record {
 then-read first second octets_of others_of old mid new (Err (At found)) r s =
     λ path. ap (λ x. x >>= λ a. second path >>= λ b. Ok (a, b)) (r.spelled path) ∙ ap (λ y. y >>= λ b. Ok (r.value, b)) (s path)
 then-read first second octets_of others_of old mid new (Err Memory) r s = tt
+
+-- what comes after a step that has no fault
+pub after-step : {A B : Type 0} (first : (path : List ℕ) → Result A Fault) (next : (path : List ℕ) → A → Result B Fault) (octets_of : B → List ℕ) (old new : List ℕ) (outcome : Result (Unit {0}) ValueFault) (a : A) → ((path : List ℕ) → first path ≡ Ok a) → Reads (λ path. next path a) octets_of old new outcome → Reads (λ path. first path >>= next path) octets_of old new outcome
+after-step first next octets_of old new outcome a is r =
+    same-read (λ path. next path a) (λ path. first path >>= next path) octets_of old new outcome (λ path. ap (λ x. x >>= next path) (is path)) r
 
 -- the first has a fault
 pub stopped : {A B : Type 0} (first : (path : List ℕ) → Result A Fault) (next : (path : List ℕ) → A → Result B Fault) (octets_of : A → List ℕ) (others_of : B → List ℕ) (old mid older new : List ℕ) (found : ValueFault) → Reads first octets_of old mid (Err found) → Reads (λ path. first path >>= next path) others_of older new (Err found)
@@ -99,12 +117,42 @@ headed term read old mid new start tag at tagged is r = record {
       ∙ ap (λ l. old ++ l) (sym (der_is term r.value));
 }
 
+-- ---- the numbers of the table
+wide : (n : ℕ) → length (spelled_octets 128 n) ≤ 5 → n < 549755813888
+wide n short =
+    elim (cases_lt n 549755813888) [
+      | inl small ↦ small
+      | inr large ↦ absurd (omega (arith, short, six, length-spelled-mono 128 549755813888 n (omega arith) large))
+    ]
+  where
+    six : length (spelled_octets 128 549755813888) ≡ 6
+    six = refl
+
+number-fits : (z : ℤ) → length (integer_octets z) ≤ 5 → FitsSigned w64 z
+number-fits (pos n) short = fits_signed_from_abs w64 (pos n) (omega (arith, wide n short))
+number-fits (negsuc n) short = fits_signed_from_abs w64 (negsuc n) (omega (arith, wide n (omega (arith, short, length-complement (spelled_octets 128 n)))))
+
+form-fits : (low high : ℤ) (widest : ℕ) (term : Term) → IsFormOf nodes (form.Integer low high widest) term → FitsSigned w64 low × FitsSigned w64 high
+form-fits low high widest (Integer from to) f = (
+  subst (FitsSigned w64) (sym f.0) (number-fits from (omega (arith, f.2, f.3))),
+  subst (FitsSigned w64) (sym f.1) (number-fits to (omega (arith, f.2, f.3))),
+)
+form-fits low high widest term f = absurd f
+
 -- ---- what a form says of a term
 module _ (names : Names) (j : Json) (old new : List ℕ) (outcome : Result (Unit {0}) ValueFault) where
   pub integer-read : (low high : ℤ) (widest : ℕ) (term : Term) → IsFormOf nodes (form.Integer low high widest) term → Reads (λ path. integer_spelled low high path j) integer_octets old new outcome → Reads (λ path. spelled term names path j) (contents term) old new outcome
   integer-read low high widest (Integer from to) f r =
       subst (λ z. Reads (λ path. integer_spelled from z path j) integer_octets old new outcome) f.1 (subst (λ z. Reads (λ path. integer_spelled z high path j) integer_octets old new outcome) f.0 r)
   integer-read low high widest term f r = absurd f
+
+  -- by numbers that are of 64 bits, as those of the table are
+  pub integer-read-as : (low high : ℤ) (widest : ℕ) (term : Term) → IsFormOf nodes (form.Integer low high widest) term → Reads (λ path. integer_spelled (to_z w64 (of_z w64 low)) (to_z w64 (of_z w64 high)) path j) integer_octets old new outcome → Reads (λ path. spelled term names path j) (contents term) old new outcome
+  integer-read-as low high widest term f r =
+      let fits = form-fits low high widest term f in
+      integer-read low high widest term f
+      (subst (λ z. Reads (λ path. integer_spelled low z path j) integer_octets old new outcome) (to_z-of_z w64 high fits.1)
+      (subst (λ z. Reads (λ path. integer_spelled z (to_z w64 (of_z w64 high)) path j) integer_octets old new outcome) (to_z-of_z w64 low fits.0) r))
 
   pub text-read : (most : ℕ) (term : Term) → IsFormOf nodes (form.Text most) term → Reads (λ path. text_spelled most path j) (λ octets. octets) old new outcome → Reads (λ path. spelled term names path j) (contents term) old new outcome
   text-read most (Text greatest) f r = subst (λ n. Reads (λ path. text_spelled n path j) (λ octets. octets) old new outcome) f r
@@ -154,8 +202,8 @@ there-read (slot.Optional node) named members j old new outcome e r =
     (some-read (λ path. spelled (term_at node) named.inside (field_path path named.name) j) (der (term_at node)) old new outcome r)
 
 -- of which there is none
-pub absent-read : (node : ℕ) (named : Named) (members : Members) (old : List ℕ) → get_member named.name members ≡ None → ReadsField (slot.Optional node) named members old old (Ok tt)
-absent-read node named members old e = record {
+pub absent-read : (node : ℕ) (named : Named) (given : Members) (old : List ℕ) → get_member named.name given ≡ None → ReadsField (slot.Optional node) named given old old (Ok tt)
+absent-read node named given old e = record {
   value = None;
   spelled = λ path. ap (if_there (spelled (term_at node) named.inside (field_path path named.name))) e;
   octets = sym (append-nil old);
@@ -185,9 +233,9 @@ stopped-slot (slot.Optional node) fields names index members old mid new found r
     (λ path value. fields_spelled fields names path (index + 1) members >>= λ others. Ok (value, others))
     (octets_of_option (der (term_at node))) (der_of_fields (with_slot nodes (slot.Optional node) fields)) old mid old new found r
 
-pub no-fields : (slots : List Slot) (names : Names) (index : ℕ) (members : Members) (old : List ℕ) → length slots ≤ 0 → ReadsFields (fields_from nodes slots) names index members old old (Ok tt)
-no-fields [] names index members old none = record { value = tt; spelled = λ path. refl; octets = sym (append-nil old) }
-no-fields (first ∷ others) names index members old none = absurd (omega arith)
+pub no-fields : (slots : List Slot) (names : Names) (index : ℕ) (given : Members) (old : List ℕ) → length slots ≤ 0 → ReadsFields (fields_from nodes slots) names index given old old (Ok tt)
+no-fields [] names index given old none = record { value = tt; spelled = λ path. refl; octets = sym (append-nil old) }
+no-fields (first ∷ others) names index given old none = absurd (omega arith)
 
 pub more-fields : (slots : List Slot) (names : Names) (index : ℕ) (named : Named) (members : Members) (old mid new : List ℕ) (outcome : Result (Unit {0}) ValueFault) → 1 ≤ length slots → named ≡ field_at names index → ReadsField (get_or slots 0 (slot.Required 0)) named members old mid (Ok tt) → ReadsFields (fields_from nodes (take (length slots - 1) (drop 1 slots))) names (index + 1) members mid new outcome → ReadsFields (fields_from nodes slots) names index members old new outcome
 more-fields slots names index named members old mid new outcome some same r s =
@@ -200,3 +248,23 @@ stopped-fields slots names index named members old mid new found some same r =
     subst (λ l. ReadsFields (fields_from nodes l) names index members old new (Err found)) (sym (slots-split slots (slot.Required 0) some))
     (stopped-slot (get_or slots 0 (slot.Required 0)) (fields_from nodes (take (length slots - 1) (drop 1 slots))) names index members old mid new found
     (subst (λ f. ReadsField (get_or slots 0 (slot.Required 0)) f members old mid (Err found)) same r))
+
+-- ---- measures
+pub size-slots : (slots : List Slot) → 1 ≤ length slots → size_of_fields (fields_from nodes slots) ≡ 1 + size (term_at (slot_node (get_or slots 0 (slot.Required 0)))) + size_of_fields (fields_from nodes (take (length slots - 1) (drop 1 slots)))
+size-slots slots some = ap (λ l. size_of_fields (fields_from nodes l)) (slots-split slots (slot.Required 0) some) ∙ of (get_or slots 0 (slot.Required 0)) (fields_from nodes (take (length slots - 1) (drop 1 slots)))
+  where
+    of : (field : Slot) (fields : Fields) → size_of_fields (with_slot nodes field fields) ≡ 1 + size (term_at (slot_node field)) + size_of_fields fields
+    of (slot.Required node) fields = refl
+    of (slot.Optional node) fields = refl
+
+pub length-slots : (slots : List Slot) → 1 ≤ length slots → length slots ≡ 1 + length (take (length slots - 1) (drop 1 slots))
+length-slots slots some = ap length (slots-split slots (slot.Required 0) some) ∙ of (take (length slots - 1) (drop 1 slots))
+  where
+    of : (more : List Slot) → length (get_or slots 0 (slot.Required 0) ∷ more) ≡ 1 + length more
+    of more = omega arith
+
+pub slots-known : (slots : List Slot) → 1 ≤ length slots → AllByRecursion IsSlot slots → AllByRecursion IsSlot (take (length slots - 1) (drop 1 slots))
+slots-known slots some known = of (take (length slots - 1) (drop 1 slots)) (subst (AllByRecursion IsSlot) (slots-split slots (slot.Required 0) some) known)
+  where
+    of : (more : List Slot) → AllByRecursion IsSlot (get_or slots 0 (slot.Required 0) ∷ more) → AllByRecursion IsSlot more
+    of more known = known.1

@@ -1,27 +1,30 @@
 -- What is read of the items of an array, and of the names of the members of an object, one after another.
-use Rattle.std.proofs.Common.{◌≡◌, ℕ, zero, suc, ◌+◌, ◌<◌, ◌≤◌, List, [], ◌∷◌, ◌++◌, length, take, drop, get_or, map, append_assoc, append-nil, add-one, drop-cons, Bool, true, false, not, ◌&&◌, ◌||◌, Option, Some, None, Result, Ok, Err, refl, sym, ◌∙◌, ap, ap₂, subst, arith}
+use Rattle.std.proofs.Common.{◌≡◌, ℕ, zero, suc, ◌+◌, ◌<◌, ◌≤◌, List, [], ◌∷◌, ◌++◌, length, take, drop, get_or, map, append_assoc, append-nil, add-one, drop-cons, Bool, true, false, not, ◌&&◌, ◌||◌, ◌==◌, Option, Some, None, Result, Ok, Err, refl, sym, ◌∙◌, ap, ap₂, subst, arith}
 use Rattle.std.specs.Prelude.{codes}
 use Rattle.std.specs.Borrow.{Bor}
 use Rattle.std.specs.List.{flat_map, list_any}
 use Rattle.std.specs.Str.{bytes_eq}
 use Rattle.std.proofs.Math.Bool.{or_comm}
+use Rattle.std.proofs.Math.Dec.{eqb-suc-zero}
 use Rattle.std.proofs.lemmas.List.{take_more}
 use Rattle.std.proofs.lemmas.List.Folds.{list_any-append}
 use Rattle.std.proofs.lemmas.Grind.{flat_map-append}
 use Rattle.json.specs.Json.{Json, null, boolean, number, string, array, object, Items, no_items, item, Members, no_members, member}
-use Rattle.json.specs.Find.{as_object, get, get_member}
+use Rattle.json.specs.Find.{as_array, as_object, get, get_member}
 use Rattle.json.specs.Tree.{HasNumbers, ItemsHaveNumbers}
 use Rattle.json.specs.Value.{value_view, items_view, members_view}
 use Rattle.json.specs.declared.value.Value.{Value}
 use Rattle.krb_judge.specs.Paths.{field_path, element_path}
-use Rattle.krb_json.specs.declared.wrong.Wrong.TheVariants.{NotAnObject, NoSuchField, Twice}
+use Rattle.krb_json.specs.declared.wrong.Wrong.{Wrong}
+use Rattle.krb_json.specs.declared.wrong.Wrong.TheVariants.{NotAnObject, NotAnArray, Empty, NoSuchField, Twice}
 use Rattle.krb_json.specs.declared.value_fault.ValueFault.{ValueFault}
 use Rattle.krb_json.specs.declared.value_fault.ValueFault.TheVariants.{At, Memory}
 use Rattle.krb_json.specs.Faults.{Fault, fault, ◌>>=◌}
 use Rattle.krb_json.specs.Spelling.{shown}
-use Rattle.krb_json.specs.Spelled.{or_fault, unless, is_among, checked_members, members_spelled, items_spelled}
+use Rattle.krb_json.specs.Spelled.{or_fault, unless, is_empty, is_among, checked_members, members_spelled, items_spelled}
 use Rattle.krb_json.specs.inner.Reading.{IsRead, Reads, IsFaultAt}
-use Rattle.krb_json.proofs.ReadLemmas.{fault-read}
+use Rattle.krb_json.proofs.ReadLemmas.{fault-read, fault-here, same-read}
+use Rattle.krb_json.proofs.Fit.{steps, same_ok}
 
 -- ---- items
 -- values, and those that come after them
@@ -169,3 +172,49 @@ pub item-numbers : {A : Type 0} (vs : List (Value A)) (i : ℕ) (d : Value A) �
 item-numbers [] i d short h = absurd (omega arith)
 item-numbers (v ∷ vs) zero d short h = h.0
 item-numbers (v ∷ vs) (suc i) d short h = item-numbers vs i d (omega arith) h.1
+
+-- ---- arrays
+pub empty-view : {A : Type 0} (vs : List (Value A)) → is_empty (items_view vs) ≡ (length vs == 0)
+empty-view [] = refl
+empty-view (v ∷ vs) = sym (eqb-suc-zero (length vs))
+
+module _ {A : Type 0} (empty : Bool) (read : (path : List ℕ) → Json → Result A Fault) (octets_of : List A → List ℕ) (j : Json) (js : Items) (old new : List ℕ) (is : as_array j ≡ Some js) where
+  abbrev of_array : (path : List ℕ) → Option Items → Result (List A) Fault
+  of_array path o = or_fault path NotAnArray o >>= λ items. unless (not empty && is_empty items) path Empty (items_spelled read path 0 items)
+
+  pub array-read : (outcome : Result (Unit {0}) ValueFault) → (not empty && is_empty js) ≡ false → Reads (λ path. items_spelled read path 0 js) octets_of old new outcome → Reads (λ path. of_array path (as_array j)) octets_of old new outcome
+  array-read outcome some r =
+      same-read (λ path. items_spelled read path 0 js) (λ path. of_array path (as_array j)) octets_of old new outcome
+      (λ path. ap (of_array path) is ∙ ap (λ b. unless b path Empty (items_spelled read path 0 js)) some) r
+
+  pub array-empty : (found : ValueFault) → (not empty && is_empty js) ≡ true → IsFaultAt [] Empty found → Reads (λ path. of_array path (as_array j)) octets_of old new (Err found)
+  array-empty found none at =
+      fault-here (λ path. of_array path (as_array j)) octets_of old new Empty found (λ path. ap (of_array path) is ∙ ap (λ b. unless b path Empty (items_spelled read path 0 js)) none) at
+
+-- ---- objects
+there : {A : Type 0} (path : List ℕ) (wrong : Wrong) (o : Option A) (a : A) → or_fault path wrong o ≡ Ok a → o ≡ Some a
+there path wrong None a e = cc e
+there path wrong (Some b) a e = ap Some (same_ok b a e)
+
+-- the members of an object of which the names are right
+pub members-of : (is_field : List ℕ → Bool) (path : List ℕ) (j : Json) (ms : Members) → members_spelled is_field path j ≡ Ok ms → as_object j ≡ Some ms
+members-of is_field path j ms e =
+    let s = steps (or_fault path NotAnObject (as_object j)) (λ own. checked_members is_field path [] own >>= λ _. Ok own) ms e in
+    let t = steps (checked_members is_field path [] s.value) (λ _. Ok s.value) ms s.then in
+    there path NotAnObject (as_object j) s.value s.is ∙ ap Some (same_ok s.value ms t.then)
+
+-- ---- the item at an index of a vector
+module _ {A B : Type 0} (read : (path : List ℕ) → Json → Result B Fault) (octets_of : B → List ℕ) (vs : List (Value A)) (i : ℕ) (v : Value A) (short : i < length vs) (is : v ≡ get_or vs i v) (old mid : List ℕ) (a : AreReadTo read octets_of (items_view vs) (items_view (drop i vs)) i old mid) where
+  first-item : AreReadTo read octets_of (items_view vs) (item (value_view v) (items_view (drop (i + 1) vs))) i old mid
+  first-item =
+      subst (λ rest. AreReadTo read octets_of (items_view vs) rest i old mid)
+      (items-next vs i v short ∙ ap (λ (x : Value A). item (value_view x) (items_view (drop (i + 1) vs))) (sym is)) a
+
+  pub item-read : (now : List ℕ) → IsRead (λ path. read (element_path path i) (value_view v)) octets_of mid now → AreReadTo read octets_of (items_view vs) (items_view (drop (i + 1) vs)) (i + 1) old now
+  item-read now r = one-read read octets_of (items_view vs) (items_view (drop (i + 1) vs)) (value_view v) i old mid now first-item r
+
+  pub item-fault : (older new now : List ℕ) (found : ValueFault) → Reads (λ path. read (element_path path i) (value_view v)) octets_of mid now (Err found) → Reads (λ path. items_spelled read path 0 (items_view vs)) (flat_map octets_of) older new (Err found)
+  item-fault older new now found r = item-stopped read octets_of (items_view vs) (items_view (drop (i + 1) vs)) (value_view v) i old mid older new now found first-item r
+
+  pub item-numbers-at : ItemsHaveNumbers (items_view vs) → HasNumbers (value_view v)
+  item-numbers-at h = subst (λ (x : Value A). HasNumbers (value_view x)) (sym is) (item-numbers vs i v short h)

@@ -10,7 +10,7 @@ ghost use Rattle.krb_json.specs.inner.Reading.{Reads, is_allowed};
 use crate::value_fault::{ValueFault, fault_here, fault_of_member};
 use crate::wrong::Wrong;
 use json::Value;
-use krb_judge::Names;
+use krb_judge::{Field, Names};
 use std::alloc::Global;
 
 /// Which members an object may have.
@@ -22,11 +22,18 @@ pub(crate) enum Allowed {
     Bits,
 }
 
+/// Returns whether one of some fields has a name.
+fn is_one_of(fields: &[Field], name: &str) -> bool
+    ensures { result ≡ list_any (λ field. bytes_eq field.name.now name.now) fields.now }
+{
+    fields.iter().any(|field| field.name == name)
+}
+
 /// Returns whether a type has a field of a name.
 fn is_field(names: Names, name: &str) -> bool
     ensures { result ≡ is_field names name.now }
 {
-    names.fields().iter().any(|field| field.name == name)
+    is_one_of(names.fields(), name)
 }
 
 /// Returns whether an object may have a member of a name.
