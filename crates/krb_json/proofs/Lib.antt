@@ -8,3 +8,10 @@ mod Texts
 mod Messages
 mod Walks
 mod Searches
+mod ReadLemmas
+mod ReadLists
+mod ReadMessages
+mod NumberTexts
+mod ScalarLemmas
+mod Unshown
+mod BitStrings

@@ -143,11 +143,11 @@ texts_differ profile m other i j same =
 
 -- ---- lines
 -- the message of a value of a profile is in the profile, and has the DER of the value
-record IsOfValue (profile : Profile) (k : Kind) (value : Value (kind_term_in profile k)) (m : Message) : Type 0 where
-  in_profile : IsInProfile profile m
-  form : message_der m ≡ der (kind_term_in profile k) value
+pub record IsOfValue (profile : Profile) (k : Kind) (value : Value (kind_term_in profile k)) (m : Message) : Type 0 where
+  pub in_profile : IsInProfile profile m
+  pub form : message_der m ≡ der (kind_term_in profile k) value
 
-value-message : (profile : Profile) (k : Kind) (value : Value (kind_term_in profile k)) → Fits (kind_term_in profile k) value → length (der (kind_term_in profile k) value) < 2 ^ 31 → IsOfValue profile k value (message_of_der (der (kind_term_in profile k) value))
+pub value-message : (profile : Profile) (k : Kind) (value : Value (kind_term_in profile k)) → Fits (kind_term_in profile k) value → length (der (kind_term_in profile k) value) < 2 ^ 31 → IsOfValue profile k value (message_of_der (der (kind_term_in profile k) value))
 value-message profile k value fits short = of (whole_is_message profile (length octets) octets short are (omega arith) whole)
   where
     octets : List ℕ

@@ -6,5 +6,6 @@ pub mod Unsealed
 pub mod AllKinds
 pub mod Lines
 pub mod Laws
+pub mod Reading
 pub mod Examples
 pub mod inner

@@ -1,3 +1,5 @@
 pub mod Sizes
 pub mod Writing
 pub mod Searching
+pub mod Reading
+pub mod Scalars

@@ -11,11 +11,20 @@
 //! it ([`Wrong`]), and [`law`] that these belong together; no call reads JSON yet.
 #![tactic(auto)]
 
+mod heads;
+mod kinds;
 pub mod law;
+mod line_fault;
+mod members;
+mod reading;
+mod scalars;
 mod sealing;
+mod value_fault;
 mod writing;
 mod wrong;
 
+pub use line_fault::{Fault, LineFault};
+pub use reading::read_line;
 pub use sealing::unsealed_path;
 pub use writing::put_text;
 pub use wrong::Wrong;

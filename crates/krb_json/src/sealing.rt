@@ -50,7 +50,7 @@ fn find_in_message(alloc: Global, kind: Kind, octets: &[u8]) -> Result<Option<St
 }
 
 /// Returns a text and one after it.
-fn joined(alloc: Global, front: &str, more: &String) -> Result<String, AllocError>
+pub(crate) fn joined(alloc: Global, front: &str, more: &String) -> Result<String, AllocError>
     ensures { IfOk result (λ text. string_bytes text ≡ front.now ++ string_bytes more.now) }
 {
     let mut text = String::new(alloc);
@@ -60,7 +60,7 @@ fn joined(alloc: Global, front: &str, more: &String) -> Result<String, AllocErro
 }
 
 /// Returns the path of a field, and what follows it, after the path of its SEQUENCE.
-fn after_name(alloc: Global, name: &str, more: &String) -> Result<String, AllocError>
+pub(crate) fn after_name(alloc: Global, name: &str, more: &String) -> Result<String, AllocError>
     ensures { IfOk result (λ text. string_bytes text ≡ codes "." ++ name.now ++ string_bytes more.now) }
 {
     let mut text = String::new(alloc);
@@ -71,7 +71,7 @@ fn after_name(alloc: Global, name: &str, more: &String) -> Result<String, AllocE
 }
 
 /// Returns the path of an item, and what follows it, after the path of its SEQUENCE OF.
-fn after_index(alloc: Global, index: usize, more: &String) -> Result<String, AllocError>
+pub(crate) fn after_index(alloc: Global, index: usize, more: &String) -> Result<String, AllocError>
     ensures { IfOk result (λ text. string_bytes text ≡ codes "[" ++ decimal index ++ codes "]" ++ string_bytes more.now) }
 {
     let mut buffer = Buffer::new();

@@ -150,7 +150,7 @@ fn push_shown(text: &mut Vec<u8>, octet: u8) -> Result<(), AllocError>
 }
 
 /// Returns the text that shows the octets of a string.
-fn shown(alloc: Global, octets: &[u8]) -> Result<Vec<u8>, AllocError>
+pub(crate) fn shown(alloc: Global, octets: &[u8]) -> Result<Vec<u8>, AllocError>
     ensures { IfOk result (λ text. text.items ≡ shown octets.now) }
 {
     let mut text = Vec::with_capacity(alloc, octets.len())?;
