@@ -1,5 +1,5 @@
 -- What octets decide, all of them do, and what the only term decides.
-use Rattle.std.proofs.Common.{◌≡◌, ℕ, suc, ◌<◌, ◌≤◌, ◌==◌, Bool, true, false, List, [], ◌∷◌, length, take, refl, sym, ap, ◌∙◌, take-take, take_all, arith}
+use Rattle.std.proofs.Common.{◌≡◌, ℕ, suc, ◌≤◌, ◌==◌, Bool, true, false, List, [], ◌∷◌, length, take, refl, sym, ap, ◌∙◌, take-take, take_all, arith}
 use Rattle.std.proofs.lemmas.List.{length-take}
 use Rattle.krb_der.specs.Octets.{AreOctets, when}
 use Rattle.krb_der.specs.inner.Numbers.{AreOctets-take}

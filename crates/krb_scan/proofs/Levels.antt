@@ -1,5 +1,5 @@
 -- How many lengths are open at once.
-use Rattle.std.proofs.Common.{◌≡◌, ℕ, zero, suc, ◌+◌, ◌-◌, ◌≤◌, ◌&&◌, ◌==◌, nat_lt, true, refl, max, get_or, List, [], ◌∷◌, length, take, drop, arith, le_trans}
+use Rattle.std.proofs.Common.{◌≡◌, ℕ, zero, suc, ◌+◌, ◌-◌, ◌≤◌, ◌&&◌, ◌==◌, nat_lt, true, refl, get_or, List, [], ◌∷◌, length, take, drop, arith, le_trans}
 use Rattle.krb_der.specs.declared.profile.Profile.{Profile}
 use Rattle.krb_der.specs.declared.why.Why.{Why}
 use Rattle.krb_msg.specs.Basic.{int32}

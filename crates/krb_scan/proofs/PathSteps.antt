@@ -2,9 +2,7 @@
 use Rattle.std.proofs.Common.{◌≡◌, ℕ, ℤ, ◌^◌, ◌+◌, ◌-◌, ◌*◌, ◌<◌, ◌≤◌, List, [], ◌∷◌, ◌++◌, length, refl, sym, ap, ◌∙◌, subst, arith}
 use Rattle.std.specs.Coded.{le_prop, Unit-prop}
 use Rattle.krb_der.specs.Octets.{AreOctets, number}
-use Rattle.krb_der.specs.declared.profile.Profile.{Profile}
 use Rattle.krb_der.specs.declared.verdict.Verdict.{Verdict}
-use Rattle.krb_msg.specs.Grammar.{messages}
 use Rattle.krb_msg.specs.Judgement.{Head, Partial, head}
 use Rattle.krb_msg.specs.Term.{Term}
 use Rattle.krb_scan.specs.Scan as scan

@@ -41,8 +41,8 @@ mod scanner;
 mod tip;
 
 pub use building::build;
-pub use krb_der::{Memory, Refusal, Verdict, Why};
 pub use judging::judge_item;
+pub use krb_der::{Memory, Refusal, Verdict, Why};
 pub use machine::Machine;
 pub use mark::Mark;
 pub use scanned::Scanned;

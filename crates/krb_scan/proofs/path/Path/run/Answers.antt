@@ -1,7 +1,6 @@
 use Rattle.std.proofs.Common.{ℕ, List, sym, ◌∙◌, arith}
 use Rattle.std.proofs.Math.Logic.{∥∥₁_elim}
 use Rattle.std.proofs.Props.{props}
-use Rattle.krb_der.specs.declared.profile.Profile.{Profile}
 use Rattle.krb_der.specs.inner.Numbers.{AreOctets-slice, AreOctets-take}
 use Rattle.krb_msg.specs.Term.{Term}
 use Rattle.krb_scan.specs.inner.Paths.{IsPathOf}

@@ -2,7 +2,6 @@ use Rattle.std.proofs.Common.{ℕ, List, pos, negsuc, ◌≤ℤ◌, ◌<ℤ◌, 
 use Rattle.std.proofs.Math.Logic.{∥∥₁_elim}
 use Rattle.std.proofs.Props.{props}
 use Rattle.std.proofs.lemmas.Int.{to_z-of_z}
-use Rattle.krb_der.specs.declared.profile.Profile.{Profile}
 use Rattle.krb_msg.specs.Nodes.{term_at}
 use Rattle.krb_msg.specs.Term.{Term}
 use Rattle.krb_scan.specs.inner.Outcomes.{LeafReads}
