@@ -1,12 +1,12 @@
 -- The first item of what is left of a container is done if alone it is whole.
-use Rattle.std.proofs.Common.{◌≡◌, ℕ, ◌+◌, ◌-◌, ◌<◌, ◌≤◌, ◌^◌, ◌&&◌, ◌==◌, nat_lt, Bool, true, false, if◌then◌else◌, List, [], ◌∷◌, ◌++◌, length, take, drop, refl, sym, ap, ◌∙◌, take-take, take_all, drop_at, length-drop, ne_eqb, arith}
+use Rattle.std.proofs.Common.{◌≡◌, ℕ, ◌+◌, ◌-◌, ◌<◌, ◌≤◌, ◌^◌, ◌&&◌, ◌==◌, nat_lt, Bool, true, false, if◌then◌else◌, List, ◌∷◌, ◌++◌, length, take, drop, refl, sym, ap, ◌∙◌, take-take, take_all, drop_at, length-drop, ne_eqb, arith}
 use Rattle.std.proofs.lemmas.Bool.{le-ltb}
 use Rattle.krb_der.specs.Octets.{AreOctets, length_octets, when}
 use Rattle.krb_der.specs.inner.Items.{length-length_octets}
 use Rattle.krb_der.specs.declared.why.Why.TheVariants as why
 use Rattle.krb_der.specs.declared.verdict.Verdict.TheVariants as verdict
 use Rattle.krb_msg.specs.Term.{Term, tag_of}
-use Rattle.krb_msg.specs.Judgement.{Outcome, Open, Bad, Done, Head, Got, head, has_size, contents_outcome, item_outcome, term_judgement, verdict_of}
+use Rattle.krb_msg.specs.Judgement.{Outcome, Open, Bad, Done, Got, head, has_size, contents_outcome, item_outcome, term_judgement, verdict_of}
 use Rattle.krb_msg.proofs.Grammars.{whole_outcome}
 use Rattle.krb_msg.proofs.Heads.{IsHead, IsHead-head, head-length_octets}
 use Rattle.krb_msg.proofs.Items.{item_done}

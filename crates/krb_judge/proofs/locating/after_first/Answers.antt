@@ -1,4 +1,4 @@
-use Rattle.std.proofs.Common.{◌∙◌, sym, false, length-drop, arith}
+use Rattle.std.proofs.Common.{false, length-drop, arith}
 use Rattle.krb_msg.specs.Nodes.{term_at}
 use Rattle.krb_msg.proofs.Laws.{done_within}
 use Rattle.krb_msg.proofs.TermsDecided.{item-count, contents-count}

@@ -1,4 +1,4 @@
-use Rattle.std.proofs.Common.{◌+◌, sym, ap, ◌∙◌, arith}
+use Rattle.std.proofs.Common.{◌+◌, sym, ap, ◌∙◌}
 use Rattle.krb_der.specs.inner.Numbers.{AreOctets-slice}
 use Rattle.krb_msg.specs.Judgement.{term_judgement}
 use Rattle.krb_msg.specs.Nodes.{term_at}
