@@ -1,5 +1,6 @@
 -- The field at fault: lemmas of the functions that find it.
-use Rattle.std.proofs.Common.{◌≡◌, ℕ, zero, suc, ◌+◌, ◌-◌, ◌<◌, ◌≤◌, Bool, true, false, List, [], ◌∷◌, length, drop, get_or, refl, ap, ◌∙◌, arith}
+use Rattle.std.proofs.Common.{◌≡◌, ℕ, zero, suc, ◌+◌, ◌-◌, ◌<◌, ◌≤◌, Bool, true, false, List, [], ◌∷◌, length, drop, get_or, add-one, refl, sym, ap, ◌∙◌, arith}
+use Rattle.std.proofs.Math.Seq.{drop-cons}
 use Rattle.krb_msg.specs.Nodes.{nodes, term_at}
 use Rattle.krb_msg.specs.Shape.{depth_of_fields}
 use Rattle.krb_msg.specs.Table.{IsFormOf, with_slot, fields_from}
@@ -14,9 +15,15 @@ use Rattle.krb_judge.specs.declared.locating.Presence.{Presence}
 use Rattle.krb_judge.specs.declared.locating.Presence.TheVariants as presence
 use Rattle.krb_judge.specs.declared.locating.Rest.{Rest}
 use Rattle.krb_judge.specs.declared.locating.names.Names.{Names}
-use Rattle.krb_judge.proofs.Within.{slot_next, slot_shallow}
 
 -- ---- fields
+slot_next : (slots : List Slot) (k : ℕ) (none : Slot) → k < length slots → fields_from nodes (drop k slots) ≡ with_slot nodes (get_or slots k none) (fields_from nodes (drop (k + 1) slots))
+slot_next slots k none h = ap (fields_from nodes) (drop-cons slots k none h ∙ ap (λ j. get_or slots k none ∷ drop j slots) (sym (add-one k)))
+
+slot_shallow : (it : Slot) (fields : Fields) → depth_of_fields fields ≤ depth_of_fields (with_slot nodes it fields)
+slot_shallow (slot.Required node) fields = omega arith
+slot_shallow (slot.Optional node) fields = omega arith
+
 -- whether the field at an index is present
 pub field_presence :
     (slots : List Slot) (index : ℕ) (none : Slot) (rest : Rest) (presence : Presence) (names : Names) (path : List ℕ)

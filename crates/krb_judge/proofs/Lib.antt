@@ -1,4 +1,4 @@
-pub mod Within
+mod Firsts
 pub mod Slices
 pub mod Values
 mod Inside

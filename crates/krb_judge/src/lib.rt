@@ -13,8 +13,8 @@
 //!   `AS-REQ.req-body.nonce`. [`Names`] has the names of the fields of each type, and
 //!   [`message_node`] the row of the grammar's table that is a message's.
 //!
-//! Each call looks at its octets from the first one on: `krb_scan` judges octets as they come, and
-//! `krb_frame` the frames of a stream. No cipher is decrypted, and what a field means is not
+//! Each call looks at its octets from the first one on, by the machine of `krb_scan`, which judges
+//! octets as they come; `krb_frame` judges the frames of a stream. No cipher is decrypted, and what a field means is not
 //! checked. [`judge`], [`read_message`] and [`read_ticket`] allocate nothing.
 //!
 //! `specs/Parses` says what the parsers promise, and [`law`] that each refusal is inside the

@@ -4,12 +4,14 @@
 //! is judged once for each SEQUENCE and SEQUENCE OF round it.
 
 pub(crate) mod field;
+mod head;
 mod kind_index;
 pub(crate) mod names;
 
-ghost use Rattle.std.specs.Prelude.{◌≡◌, ◌^◌, ◌<◌, ◌≤◌, ℕ, List, length, IfOk, IfSome, OnOk, string_bytes};
+ghost use Rattle.std.specs.Prelude.{◌≡◌, ◌^◌, ◌<◌, ◌≤◌, ℕ, List, length, false, IfOk, IfSome, MatchOption, OnOk, string_bytes};
 ghost use Rattle.std.specs.List.{AllByRecursion};
 ghost use Rattle.std.specs.Option.{option_map};
+ghost use Rattle.krb_msg.specs.Judgement.{Done, item_outcome};
 ghost use Rattle.krb_msg.specs.Nodes.{nodes, term_at};
 ghost use Rattle.krb_msg.specs.Shape.{depth, depth_of_fields};
 ghost use Rattle.krb_msg.specs.Table.{IsNode, IsSlot, fields_from, with_slot};
@@ -18,15 +20,14 @@ ghost use Rattle.krb_msg.specs.Views.{kind_term_in};
 ghost use Rattle.krb_judge.specs.Paths.{begin_with, contents_path, element_path, elements_path, field_path, fields_path, first_item, message_path, within};
 ghost use Rattle.krb_judge.specs.inner.Descent.{IsItem, IsInside, IsPresent, IsPresenceFor, IsFaultOf, path_in, path_on, in_contents, in_first, presence_path, fault_path, in_element};
 
-use crate::judging::head::{Head, part, read_head};
-use crate::judging::item;
-use crate::judging::outcome::Outcome;
+use crate::locating::head::{Head, part, read_head};
 use crate::locating::kind_index::index_of;
 use crate::locating::names::Names;
 use itoa::Buffer;
-use krb_der::{Memory, Profile};
+use krb_der::{Memory, Profile, Verdict};
 use krb_msg::Kind;
 use krb_msg::grammar::{Form, LENIENT, STRICT, Slot, form_of, tag_of};
+use krb_scan::judge_item;
 use std::alloc::{AllocError, Global};
 
 /// An item that has a path, in a room that it fills if it is the sole item there.
@@ -204,12 +205,26 @@ fn after_first(node: u16, rest: Rest) -> Option<Rest>
     ensures present { IfSome result IsPresent }
     ensures shorter { IfSome result (λ after. length after.octets.now < length rest.entry.octets.now) }
 {
-    match item(node, rest.room, false, rest.octets) {
-        Outcome::Open | Outcome::Bad { .. } => None,
-        Outcome::Done { count } => Some(Rest {
-            room: rest.room - count,
-            octets: &rest.octets[count as usize..],
-        }),
+    let count = first_count(node, rest.room, rest.octets)?;
+    Some(Rest {
+        room: rest.room - count,
+        octets: &rest.octets[count as usize..],
+    })
+}
+
+/// Returns how many octets the first item has, if it is done: that is if alone it is whole.
+fn first_count(node: u16, room: u32, octets: &[u8]) -> Option<u32>
+    requires known { IsNode node }
+    requires short { room < 2 ^ 31 }
+    ensures { MatchOption result ((count : ℕ) → item_outcome (term_at node) room false octets.now ≡ Done count → ⊥) (λ count. item_outcome (term_at node) room false octets.now ≡ Done count) }
+{
+    let Head::Got { header, size } = read_head(room, octets) else {
+        return None;
+    };
+    let count = header + size;
+    match judge_item(node, count, part(octets, 0, count)) {
+        Verdict::Whole => Some(count),
+        _ => None,
     }
 }
 

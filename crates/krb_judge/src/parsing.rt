@@ -14,12 +14,13 @@ ghost use Rattle.krb_judge.specs.Faults.{parse_fault_text};
 ghost use Rattle.krb_judge.specs.Parses.{refusal_by, refusal_of as refusal_in, ticket_refusal, method_data_refusal, judged_as, IsKnown, AreOf, AreOfTicket, AreOfMethodData, HasNoMessage};
 ghost use Rattle.krb_judge.specs.declared.parsing.ParseFault.TheVariants as fault;
 
-use crate::judging::{judge_in, judge_node};
+use crate::judging::judge_in;
 use krb_der::{Many, Memory, Profile, Refusal, Verdict, Why};
 use krb_msg::grammar::{ROWS, Row};
 use krb_msg::{
     FromView, Message, MessageView, PaData, Ticket, TicketView, View, view_message, view_whole,
 };
+use krb_scan::judge_item;
 use std::alloc::{AllocError, Global};
 use std::error::Error;
 use std::fmt;
@@ -296,6 +297,6 @@ fn verdict_on(expected: Expected, octets: &[u8]) -> Verdict
     let n = octets.len() as u32;
     match expected {
         Expected::Message(profile) => judge_in(profile, n, octets),
-        Expected::Node(node) => judge_node(node, n, octets),
+        Expected::Node(node) => judge_item(node, n, octets),
     }
 }

@@ -1,12 +1,16 @@
 -- How many lengths are open at once.
-use Rattle.std.proofs.Common.{◌≡◌, ℕ, zero, suc, ◌+◌, ◌-◌, ◌≤◌, ◌&&◌, ◌==◌, nat_lt, List, [], ◌∷◌, length, take, drop, arith, le_trans}
+use Rattle.std.proofs.Common.{◌≡◌, ℕ, zero, suc, ◌+◌, ◌-◌, ◌≤◌, ◌&&◌, ◌==◌, nat_lt, true, refl, get_or, List, [], ◌∷◌, length, take, drop, arith, le_trans}
 use Rattle.krb_der.specs.declared.profile.Profile.{Profile}
 use Rattle.krb_der.specs.declared.why.Why.{Why}
-use Rattle.krb_msg.specs.Term.{Term, Fields, Integer, Text, Octets, Time, Bits, Sequence, SequenceOf, Tagged, Application, End, Required, Optional, tag_of}
+use Rattle.krb_msg.specs.Basic.{int32}
 use Rattle.krb_msg.specs.Grammar.{messages}
 use Rattle.krb_msg.proofs.Judged.{messages_nest}
+use Rattle.std.proofs.Math.Dec.{leb}
+use Rattle.std.proofs.lemmas.Bool.{leb-true}
+use Rattle.krb_msg.specs.Term.{Term, Fields, Integer, Text, Octets, Time, Bits, Sequence, SequenceOf, Tagged, Application, End, Required, Optional, tag_of}
 use Rattle.krb_msg.specs.Shape.{depth, depth_of_fields, greatest_depth}
 use Rattle.krb_msg.specs.Judgement.{Outcome, Open, Bad, Done, Head, Partial, Refused, Got, head, has_size}
+use Rattle.krb_msg.specs.Nodes.{nodes, term_in, term_at}
 use Rattle.krb_scan.specs.Scan.{Mark, Expected, Listed, Each, OneOf, Container, Tip, InHead, State, PartScan, Within, Fault, Past, scan_then, limit, sole_in, container_of, with_mark, leaf_outcome, of_leaf, scan_leaf, scan_after_head, begun, between, scan_required, scan_optional, scan_end, scan_each, scan_contents, scan_fields, scan_one_of, scan_message, lengths_at, Answer, Ongoing, Refusing, Whole, answer, scan}
 use Rattle.krb_scan.proofs.Basics.{when_holds}
 
@@ -20,9 +24,6 @@ depth_some (Sequence fields) = omega arith
 depth_some (SequenceOf empty term) = omega arith
 depth_some (Tagged index term) = omega arith
 depth_some (Application number term) = omega arith
-
-messages_depth : (profile : Profile) → greatest_depth (messages profile) ≡ 13
-messages_depth = messages_nest
 
 -- the lengths that are open, and one that is being read
 abbrev pub levels_at : Tip → ℕ → ℕ
@@ -156,11 +157,27 @@ OpenAtMost most (Ongoing state) = levels_of state ≤ most
 OpenAtMost most (Refusing place reason) = Unit {0}
 OpenAtMost most (Whole marks) = Unit {0}
 
--- Never more than thirteen lengths are open.
-pub scan_deep : (profile : Profile) (n : ℕ) (octets : List ℕ) → OpenAtMost 14 (scan (messages profile) n octets)
-scan_deep profile n octets = by_seen (scan_message (messages profile) n octets) (one_of_deep (messages profile) (OneOf (messages profile)) n [] [] 0 n octets 14 (omega (arith, messages_depth profile)))
+-- Never more than thirteen lengths are open, of terms that nest no deeper.
+pub scan_deep : (terms : List Term) → greatest_depth terms ≤ 13 → (n : ℕ) (octets : List ℕ) → OpenAtMost 14 (scan terms n octets)
+scan_deep terms shallow n octets = by_seen (scan_message terms n octets) (one_of_deep terms (OneOf terms) n [] [] 0 n octets 14 (omega (arith, shallow)))
   where
     by_seen : (seen : PartScan) → IsNoDeeper 14 seen → OpenAtMost 14 (answer seen)
     by_seen (Within state) h = h.no_deeper
     by_seen (Fault place reason) h = tt {0}
     by_seen (Past marks place rest) h = tt {0}
+
+pub messages_shallow : (profile : Profile) → greatest_depth (messages profile) ≤ 13
+messages_shallow profile = omega (arith, messages_nest profile)
+
+nodes_nest : leb (greatest_depth nodes) 13 ≡ true
+unfolding nodes
+nodes_nest = refl
+
+at_most : (terms : List Term) (node : ℕ) (absent : Term) (most : ℕ) → greatest_depth terms ≤ most → depth absent ≤ most → depth (get_or terms node absent) ≤ most
+at_most [] node absent most le a = a
+at_most (term ∷ terms) zero absent most le a = omega (arith, le)
+at_most (term ∷ terms) (suc node) absent most le a = at_most terms node absent most (omega (arith, le)) a
+
+pub node_shallow : (node : ℕ) → greatest_depth (term_at node ∷ []) ≤ 13
+unfolding term_in
+node_shallow node = omega (arith, at_most nodes node int32 13 (leb-true (greatest_depth nodes) 13 nodes_nest) (omega arith))

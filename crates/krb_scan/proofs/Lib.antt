@@ -12,6 +12,7 @@ pub mod Partial
 pub mod Room
 pub mod Chunk
 pub mod Levels
+pub mod Decided
 pub mod Walks
 pub mod Containers
 pub mod Marks

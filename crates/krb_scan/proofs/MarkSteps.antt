@@ -12,12 +12,13 @@ use Rattle.krb_der.specs.declared.memory.Memory.{Memory}
 use Rattle.krb_der.specs.declared.verdict.Refusal.{Refusal}
 use Rattle.krb_der.specs.declared.why.Why.{Why}
 use Rattle.krb_msg.specs.Grammar.{messages}
-use Rattle.krb_msg.specs.Judgement.{judgement}
+use Rattle.krb_msg.specs.Term.{Term}
+use Rattle.krb_msg.specs.Judgement.{judgement_by}
 use Rattle.krb_msg.proofs.Grammars.{all_is_decided}
 use Rattle.krb_scan.specs.Scan as scan
 use Rattle.krb_scan.specs.Scan.{Answer, Ongoing, Refusing, Whole, Mark as Marked}
 use Rattle.krb_scan.specs.State.{mark_value}
-use Rattle.krb_scan.specs.Scanned.{Marks, marks_from, marks_before}
+use Rattle.krb_scan.specs.Scanned.{IsScanOf, Marks, marks_by, marks_from, marks_before}
 use Rattle.krb_scan.specs.Machine.{HasScanned, HasMarked}
 use Rattle.krb_scan.specs.inner.Paths.{IsPathOf, Changes, ChangesTo, IsLength}
 use Rattle.krb_scan.specs.declared.event.Event.{Event}
@@ -26,47 +27,48 @@ use Rattle.krb_scan.specs.declared.machine.Machine.{Machine}
 use Rattle.krb_scan.specs.declared.mark.Mark.{Mark}
 use Rattle.krb_scan.proofs.Marks.{length_values}
 use Rattle.krb_scan.proofs.MarkCounts.{marks_are_few}
+use Rattle.krb_scan.proofs.Resume.{run_scan}
 use Rattle.krb_scan.proofs.Room.{open_short}
 use Rattle.krb_scan.proofs.ScannerSteps.{judged, is_path_of, refused_here}
 
 -- an octet that is refused leaves the marks
-pub refused_marks : {profile : Profile} (machine : Machine) (n : ℕ) (octets : List ℕ) (octet : ℕ) → HasScanned profile machine n octets → machine.verdict ≡ verdict.Open → length (octets ++ octet ∷ []) ≤ n → (place : ℕ) (reason : Why) → scan.scan (messages profile) n (octets ++ octet ∷ []) ≡ Refusing place reason → Marks profile n (octets ++ octet ∷ []) ≡ Marks profile n octets
-refused_marks {profile = profile} machine n octets octet at still fits place reason e =
-    let s : IsPathOf profile machine.path octets = is_path_of machine.path machine.verdict n octets at still in
-    let reads : scan.scan (messages profile) n octets ≡ Ongoing s.state = ap (λ k. scan.scan (messages profile) k octets) (sym at.size) ∙ s.reads in
-    let there : place ≡ length octets = refused_here machine.path octets octet place reason s (ap (λ k. scan.scan (messages profile) k (octets ++ octet ∷ [])) at.size ∙ e) in
+pub refused_marks : {terms : List Term} (machine : Machine) (n : ℕ) (octets : List ℕ) (octet : ℕ) → IsScanOf terms machine.path machine.verdict n octets → machine.verdict ≡ verdict.Open → length (octets ++ octet ∷ []) ≤ n → (place : ℕ) (reason : Why) → scan.scan terms n (octets ++ octet ∷ []) ≡ Refusing place reason → marks_by terms n (octets ++ octet ∷ []) ≡ marks_by terms n octets
+refused_marks {terms = terms} machine n octets octet at still fits place reason e =
+    let s : IsPathOf terms machine.path octets = is_path_of machine.path machine.verdict n octets at still in
+    let reads : scan.scan terms n octets ≡ Ongoing s.state = ap (λ k. scan.scan terms k octets) (sym at.size) ∙ s.reads in
+    let there : place ≡ length octets = refused_here machine.path octets octet place reason s (ap (λ k. scan.scan terms k (octets ++ octet ∷ [])) at.size ∙ e) in
     let prefix : take place (octets ++ octet ∷ []) ≡ octets = ap (λ k. take k (octets ++ octet ∷ [])) there ∙ take-append-le (length octets) octets (octet ∷ []) (omega arith) ∙ take_all (length octets) octets (omega arith) in
-    ap (λ given. marks_from given (λ place. scan.scan (messages profile) n (take place (octets ++ octet ∷ [])))) e
-    ∙ ap (λ l. marks_before (scan.scan (messages profile) n l)) prefix ∙ ap marks_before reads
-    ∙ sym (ap (λ given. marks_from given (λ place. scan.scan (messages profile) n (take place octets))) reads)
+    ap (λ given. marks_from given (λ place. scan.scan terms n (take place (octets ++ octet ∷ [])))) e
+    ∙ ap (λ l. marks_before (scan.scan terms n l)) prefix ∙ ap marks_before reads
+    ∙ sym (ap (λ given. marks_from given (λ place. scan.scan terms n (take place octets))) reads)
 
-longer : {profile : Profile} (machine : Machine) (n : ℕ) (octets : List ℕ) (octet : ℕ) → HasScanned profile machine n octets → machine.verdict ≡ verdict.Open → length (octets ++ octet ∷ []) ≤ n
-longer {profile = profile} machine n octets octet at still =
-    let s : IsPathOf profile machine.path octets = is_path_of machine.path machine.verdict n octets at still in
-    omega (arith, length-append octets (octet ∷ []), open_short (messages profile) n octets s.state at.some (ap (λ k. scan.scan (messages profile) k octets) (sym at.size) ∙ s.reads))
+longer : {terms : List Term} (machine : Machine) (n : ℕ) (octets : List ℕ) (octet : ℕ) → IsScanOf terms machine.path machine.verdict n octets → machine.verdict ≡ verdict.Open → length (octets ++ octet ∷ []) ≤ n
+longer {terms = terms} machine n octets octet at still =
+    let s : IsPathOf terms machine.path octets = is_path_of machine.path machine.verdict n octets at still in
+    omega (arith, length-append octets (octet ∷ []), open_short terms n octets s.state at.some (ap (λ k. scan.scan terms k octets) (sym at.size) ∙ s.reads))
 
-pub kept_marks : {profile : Profile} (machine : Machine) (n : ℕ) (octets : List ℕ) (octet : ℕ) (decided : Verdict) (refusal : Refusal) → HasScanned profile machine n octets → machine.verdict ≡ verdict.Open → decided ≡ judgement profile n (octets ++ octet ∷ []) → decided ≡ verdict.Refused refusal → Marks profile n (octets ++ octet ∷ []) ≡ Marks profile n octets
-kept_marks {profile = profile} machine n octets octet decided refusal at still is refused = by_answer (scan.scan (messages profile) n (octets ++ octet ∷ [])) refl
+pub kept_marks : {terms : List Term} (machine : Machine) (n : ℕ) (octets : List ℕ) (octet : ℕ) (decided : Verdict) (refusal : Refusal) → IsScanOf terms machine.path machine.verdict n octets → machine.verdict ≡ verdict.Open → decided ≡ judgement_by terms n (octets ++ octet ∷ []) → decided ≡ verdict.Refused refusal → marks_by terms n (octets ++ octet ∷ []) ≡ marks_by terms n octets
+kept_marks {terms = terms} machine n octets octet decided refusal at still is refused = by_answer (scan.scan terms n (octets ++ octet ∷ [])) refl
   where
-    by_answer : (given : Answer) → scan.scan (messages profile) n (octets ++ octet ∷ []) ≡ given → Marks profile n (octets ++ octet ∷ []) ≡ Marks profile n octets
-    by_answer (Ongoing state) e = let same : verdict.Refused refusal ≡ verdict.Open = sym refused ∙ is ∙ judged profile n (octets ++ octet ∷ []) (Ongoing state) at.some (longer machine n octets octet at still) e in absurd (cc same)
+    by_answer : (given : Answer) → scan.scan terms n (octets ++ octet ∷ []) ≡ given → marks_by terms n (octets ++ octet ∷ []) ≡ marks_by terms n octets
+    by_answer (Ongoing state) e = let same : verdict.Refused refusal ≡ verdict.Open = sym refused ∙ is ∙ judged terms n (octets ++ octet ∷ []) (Ongoing state) at.some (longer machine n octets octet at still) e in absurd (cc same)
     by_answer (Refusing place reason) e = refused_marks machine n octets octet at still (longer machine n octets octet at still) place reason e
-    by_answer (Whole marks) e = let same : verdict.Refused refusal ≡ verdict.Whole = sym refused ∙ is ∙ judged profile n (octets ++ octet ∷ []) (Whole marks) at.some (longer machine n octets octet at still) e in absurd (cc same)
+    by_answer (Whole marks) e = let same : verdict.Refused refusal ≡ verdict.Whole = sym refused ∙ is ∙ judged terms n (octets ++ octet ∷ []) (Whole marks) at.some (longer machine n octets octet at still) e in absurd (cc same)
 
 -- what an event does to the marks by an octet that is not refused
-pub changed_marks : (profile : Profile) (e : Event) (n : ℕ) (octets : List ℕ) (octet : ℕ) (before : List Marked) → ChangesTo e before (scan.scan (messages profile) n (octets ++ octet ∷ [])) →
-    ((place : ℕ) (reason : Why) → scan.scan (messages profile) n (octets ++ octet ∷ []) ≡ Refusing place reason → ⊥) → Changes e before (Marks profile n (octets ++ octet ∷ []))
-changed_marks profile e n octets octet before c not = by_answer (scan.scan (messages profile) n (octets ++ octet ∷ [])) refl c
+pub changed_marks : (terms : List Term) (e : Event) (n : ℕ) (octets : List ℕ) (octet : ℕ) (before : List Marked) → ChangesTo e before (scan.scan terms n (octets ++ octet ∷ [])) →
+    ((place : ℕ) (reason : Why) → scan.scan terms n (octets ++ octet ∷ []) ≡ Refusing place reason → ⊥) → Changes e before (marks_by terms n (octets ++ octet ∷ []))
+changed_marks terms e n octets octet before c not = by_answer (scan.scan terms n (octets ++ octet ∷ [])) refl c
   where
-    by_answer : (given : Answer) → scan.scan (messages profile) n (octets ++ octet ∷ []) ≡ given → ChangesTo e before given → Changes e before (Marks profile n (octets ++ octet ∷ []))
-    by_answer (Ongoing state) f h = subst (Changes e before) (sym (ap (λ given. marks_from given (λ place. scan.scan (messages profile) n (take place (octets ++ octet ∷ [])))) f)) h
-    by_answer (Whole marks) f h = subst (Changes e before) (sym (ap (λ given. marks_from given (λ place. scan.scan (messages profile) n (take place (octets ++ octet ∷ [])))) f)) h
+    by_answer : (given : Answer) → scan.scan terms n (octets ++ octet ∷ []) ≡ given → ChangesTo e before given → Changes e before (marks_by terms n (octets ++ octet ∷ []))
+    by_answer (Ongoing state) f h = subst (Changes e before) (sym (ap (λ given. marks_from given (λ place. scan.scan terms n (take place (octets ++ octet ∷ [])))) f)) h
+    by_answer (Whole marks) f h = subst (Changes e before) (sym (ap (λ given. marks_from given (λ place. scan.scan terms n (take place (octets ++ octet ∷ [])))) f)) h
     by_answer (Refusing place reason) f h = absurd (not place reason f)
 
-pub event_marks : {profile : Profile} (machine : Machine) (e : Event) (n : ℕ) (octets : List ℕ) (octet : ℕ) (decided : Verdict) → HasScanned profile machine n octets → machine.verdict ≡ verdict.Open → decided ≡ judgement profile n (octets ++ octet ∷ []) → ((refusal : Refusal) → decided ≡ verdict.Refused refusal → ⊥) →
-    ChangesTo e (Marks profile n octets) (scan.scan (messages profile) n (octets ++ octet ∷ [])) → Changes e (Marks profile n octets) (Marks profile n (octets ++ octet ∷ []))
-event_marks {profile = profile} machine e n octets octet decided at still is not c =
-    changed_marks profile e n octets octet (Marks profile n octets) c (λ place reason f. not (record { place = place; why = reason }) (is ∙ judged profile n (octets ++ octet ∷ []) (Refusing place reason) at.some (longer machine n octets octet at still) f))
+pub event_marks : {terms : List Term} (machine : Machine) (e : Event) (n : ℕ) (octets : List ℕ) (octet : ℕ) (decided : Verdict) → IsScanOf terms machine.path machine.verdict n octets → machine.verdict ≡ verdict.Open → decided ≡ judgement_by terms n (octets ++ octet ∷ []) → ((refusal : Refusal) → decided ≡ verdict.Refused refusal → ⊥) →
+    ChangesTo e (marks_by terms n octets) (scan.scan terms n (octets ++ octet ∷ [])) → Changes e (marks_by terms n octets) (marks_by terms n (octets ++ octet ∷ []))
+event_marks {terms = terms} machine e n octets octet decided at still is not c =
+    changed_marks terms e n octets octet (marks_by terms n octets) c (λ place reason f. not (record { place = place; why = reason }) (is ∙ judged terms n (octets ++ octet ∷ []) (Refusing place reason) at.some (longer machine n octets octet at still) f))
 
 pub length_more : (e : Event) (before after : List Marked) → IsLength e → Changes e before after → length after ≡ length before + 1
 length_more event.None before after h c = absurd h
@@ -83,6 +85,16 @@ on_err (Err error) f h = f h
 
 abbrev pub SomeMarked : Machine → List Mark → Type 0
 SomeMarked machine marks = ∥ ((octets : List ℕ) × (profile : Profile) × HasMarked profile machine marks machine.path.size octets) ∥₁
+
+none_marked : (profile : Profile) (machine : Machine) (n : ℕ) → HasScanned profile machine n [] → HasMarked profile machine [] n []
+none_marked profile machine n at = record {
+  scanned = at;
+  marks = record { nodes = tt {0}; values = sym (ap (λ given. marks_from given (λ place. scan.scan (messages profile) n (take place []))) (run_scan (messages profile) n [] at.some)) };
+}
+
+pub nothing_marked : (profile : Profile) (machine : Machine) (marks : List Mark) (n : ℕ) → HasScanned profile machine n [] → marks ≡ [] → SomeMarked machine marks
+nothing_marked profile machine marks n at none =
+    ∣ ([], profile, subst (λ k. HasMarked profile machine marks k []) (sym at.size) (subst (λ kept. HasMarked profile machine kept n []) (sym none) (none_marked profile machine n at))) ∣₁
 
 pub some_then : (old new : Machine) (marks changed : List Mark) (more : List ℕ → List ℕ) → SomeMarked old marks → ((profile : Profile) (n : ℕ) (octets : List ℕ) → HasMarked profile old marks n octets → HasMarked profile new changed n (more octets)) → SomeMarked new changed
 some_then old new marks changed more r then = ∥∥₁_map r (λ (k : (octets : List ℕ) × (profile : Profile) × HasMarked profile old marks old.path.size octets).

@@ -2,9 +2,7 @@
 use Rattle.std.proofs.Common.{◌≡◌, ℕ, suc, ℤ, pos, negsuc, ◌+◌, ◌-◌, ◌*◌, ◌<◌, ◌≤◌, ◌^◌, ◌≤ℤ◌, ◌<ℤ◌, Bool, true, false, ◌||◌, nat_lt, nat_le, max, if◌then◌else◌, List, [], ◌∷◌, ◌++◌, length, refl, sym, ap, ◌∙◌, subst, arith, rules, FitsSigned, w64}
 use Rattle.std.proofs.lemmas.Bool.{ltb-false, leb-true, and_parts}
 use Rattle.std.proofs.lemmas.Int.{ints}
-use Rattle.krb_der.specs.declared.profile.Profile.{Profile}
 use Rattle.krb_der.specs.Octets.{AreOctets, number, complement, integer_octets, integer_value}
-use Rattle.krb_msg.specs.Grammar.{messages}
 use Rattle.krb_msg.specs.Term.{Term, Integer, Text, Octets, Time, Bits, Sequence, SequenceOf, Tagged, Application}
 use Rattle.krb_msg.specs.Judgement.{Head, Partial, Refused, Got, Open as OpenOutcome, head, has_size, bits_contents}
 use Rattle.krb_scan.specs.Scan as scan
@@ -34,10 +32,10 @@ use Rattle.krb_scan.proofs.Room.{AnswerIsRoomy, IsNested, IsRoomyTip, limit_with
 use Rattle.krb_scan.proofs.Stable.{IsPartial}
 
 -- the facts of a path that has scanned octets, at this tip
-pub record AtTip (profile : Profile) (path : Path) (octets : List ℕ) (given : Tip) : Type 0 where
+pub record AtTip (terms : List Term) (path : Path) (octets : List ℕ) (given : Tip) : Type 0 where
   pub stack : List Container
   pub marks : List Marked
-  pub reads : scan.scan (messages profile) path.size octets ≡ Ongoing (scan.state_of marks stack given)
+  pub reads : scan.scan terms path.size octets ≡ Ongoing (scan.state_of marks stack given)
   pub containers : AreOpen path.inner path.outer.items stack
   pub reached : IsReached given stack marks
   pub nested : IsNested path.size stack
@@ -49,13 +47,13 @@ pub record AtTip (profile : Profile) (path : Path) (octets : List ℕ) (given : 
   pub short : path.size < 2 ^ 31
   pub tip_is : TipIs path.looked path.tip given
 
-pub at_tip : {profile : Profile} (path : Path) (octets : List ℕ) (s : IsPathOf profile path octets) → AtTip profile path octets s.state.tip
-at_tip {profile = profile} path octets s =
-    let reached : ReachedAnswer (Ongoing s.state) = subst ReachedAnswer s.reads (scan_reached (messages profile) path.size octets s.some) in
-    let roomy : AnswerIsRoomy path.size (Ongoing s.state) = subst (AnswerIsRoomy path.size) s.reads (scan_roomy (messages profile) path.size octets s.some) in
-    let deep : OpenAtMost 14 (Ongoing s.state) = subst (OpenAtMost 14) s.reads (scan_deep profile path.size octets) in
-    let partial : KeepsOctets (Ongoing s.state) = subst KeepsOctets s.reads (scan_octets (messages profile) path.size octets s.some s.are_octets) in
-    let before : length octets < path.size = open_short (messages profile) path.size octets s.state s.some s.reads in
+pub at_tip : {terms : List Term} (path : Path) (octets : List ℕ) (s : IsPathOf terms path octets) → AtTip terms path octets s.state.tip
+at_tip {terms = terms} path octets s =
+    let reached : ReachedAnswer (Ongoing s.state) = subst ReachedAnswer s.reads (scan_reached terms path.size octets s.some) in
+    let roomy : AnswerIsRoomy path.size (Ongoing s.state) = subst (AnswerIsRoomy path.size) s.reads (scan_roomy terms path.size octets s.some) in
+    let deep : OpenAtMost 14 (Ongoing s.state) = subst (OpenAtMost 14) s.reads (scan_deep terms s.shallow path.size octets) in
+    let partial : KeepsOctets (Ongoing s.state) = subst KeepsOctets s.reads (scan_octets terms path.size octets s.some s.are_octets) in
+    let before : length octets < path.size = open_short terms path.size octets s.state s.some s.reads in
     record {
       stack = s.state.stack;
       marks = s.state.marks;
@@ -73,64 +71,64 @@ at_tip {profile = profile} path octets s =
     }
 
 -- one octet more is a step
-pub stepped : {profile : Profile} (path : Path) (octets : List ℕ) (given : Tip) (a : AtTip profile path octets given) (octet : ℕ) → scan.scan (messages profile) path.size (octets ++ octet ∷ []) ≡ step_at given a.stack a.marks octet
-stepped {profile = profile} path octets given a octet = scan_step (messages profile) path.size octets octet a.some ∙ ap (λ answer. go_on answer (λ state. step state octet)) a.reads
+pub stepped : {terms : List Term} (path : Path) (octets : List ℕ) (given : Tip) (a : AtTip terms path octets given) (octet : ℕ) → scan.scan terms path.size (octets ++ octet ∷ []) ≡ step_at given a.stack a.marks octet
+stepped {terms = terms} path octets given a octet = scan_step terms path.size octets octet a.some ∙ ap (λ answer. go_on answer (λ state. step state octet)) a.reads
 
 -- ---- each tip
 
-pub record BetweenAt (profile : Profile) (path : Path) (octets : List ℕ) : Type 0 where
-  pub at : AtTip profile path octets (Between path.looked)
+pub record BetweenAt (terms : List Term) (path : Path) (octets : List ℕ) : Type 0 where
+  pub at : AtTip terms path octets (Between path.looked)
 
-pub record TaggedAt (profile : Profile) (path : Path) (octets : List ℕ) (node : ℕ) : Type 0 where
+pub record TaggedAt (terms : List Term) (path : Path) (octets : List ℕ) (node : ℕ) : Type 0 where
   pub from : ℕ
   pub tag : ℕ
-  pub at : AtTip profile path octets (InHead (term_at node) from (tag ∷ []))
+  pub at : AtTip terms path octets (InHead (term_at node) from (tag ∷ []))
   pub known : IsNode node
   pub looked : path.looked ≡ from + 1
 
-pub record LongAt (profile : Profile) (path : Path) (octets : List ℕ) (node digits seen value : ℕ) : Type 0 where
+pub record LongAt (terms : List Term) (path : Path) (octets : List ℕ) (node digits seen value : ℕ) : Type 0 where
   pub from : ℕ
   pub tag : ℕ
   pub first : ℕ
   pub present : List ℕ
-  pub at : AtTip profile path octets (InHead (term_at node) from (tag ∷ first ∷ present))
+  pub at : AtTip terms path octets (InHead (term_at node) from (tag ∷ first ∷ present))
   pub known : IsNode node
   pub digits_are : digits ≡ first - 0x80
   pub seen_are : seen ≡ length present
   pub value_is : value ≡ number present
   pub looked : path.looked ≡ from + 2 + seen
 
-pub record LeafAt (profile : Profile) (path : Path) (octets : List ℕ) (node start end : ℕ) (value : ℤ) (unused : ℕ) : Type 0 where
+pub record LeafAt (terms : List Term) (path : Path) (octets : List ℕ) (node start end : ℕ) (value : ℤ) (unused : ℕ) : Type 0 where
   pub count : ℕ
   pub present : List ℕ
-  pub at : AtTip profile path octets (InLeaf (term_at node) start count present)
+  pub at : AtTip terms path octets (InLeaf (term_at node) start count present)
   pub known : IsNode node
   pub ends : end ≡ start + count
   pub keeps : KeepsOf (term_at node) value unused present
   pub looked : path.looked ≡ start + length present
 
-pub between_at : {profile : Profile} (path : Path) (octets : List ℕ) → IsPathOf profile path octets → path.tip ≡ tip.Between → BetweenAt profile path octets
-between_at {profile = profile} path octets s e = by_tip s.state.tip (at_tip path octets s) (subst (λ kept. TipIs path.looked kept s.state.tip) e s.holds.tip)
+pub between_at : {terms : List Term} (path : Path) (octets : List ℕ) → IsPathOf terms path octets → path.tip ≡ tip.Between → BetweenAt terms path octets
+between_at {terms = terms} path octets s e = by_tip s.state.tip (at_tip path octets s) (subst (λ kept. TipIs path.looked kept s.state.tip) e s.holds.tip)
   where
-    by_tip : (given : Tip) → AtTip profile path octets given → TipIs path.looked tip.Between given → BetweenAt profile path octets
-    by_tip (Between place) a h = record { at = subst (λ k. AtTip profile path octets (Between k)) (sym h) a }
+    by_tip : (given : Tip) → AtTip terms path octets given → TipIs path.looked tip.Between given → BetweenAt terms path octets
+    by_tip (Between place) a h = record { at = subst (λ k. AtTip terms path octets (Between k)) (sym h) a }
     by_tip (InHead term from present) a h = absurd h
     by_tip (InLeaf term start count present) a h = absurd h
 
-pub tagged_at : {profile : Profile} (path : Path) (octets : List ℕ) (node : ℕ) → IsPathOf profile path octets → path.tip ≡ tip.Tagged node → TaggedAt profile path octets node
-tagged_at {profile = profile} path octets node s e = by_tip s.state.tip (at_tip path octets s) (subst (λ kept. TipIs path.looked kept s.state.tip) e s.holds.tip)
+pub tagged_at : {terms : List Term} (path : Path) (octets : List ℕ) (node : ℕ) → IsPathOf terms path octets → path.tip ≡ tip.Tagged node → TaggedAt terms path octets node
+tagged_at {terms = terms} path octets node s e = by_tip s.state.tip (at_tip path octets s) (subst (λ kept. TipIs path.looked kept s.state.tip) e s.holds.tip)
   where
-    by_tip : (given : Tip) → AtTip profile path octets given → TipIs path.looked (tip.Tagged node) given → TaggedAt profile path octets node
+    by_tip : (given : Tip) → AtTip terms path octets given → TipIs path.looked (tip.Tagged node) given → TaggedAt terms path octets node
     by_tip (Between place) a h = absurd h
     by_tip (InHead term from []) a h = absurd h
-    by_tip (InHead term from (tag ∷ [])) a h = record { from = from; tag = tag; at = subst (λ t. AtTip profile path octets (InHead t from (tag ∷ []))) (sym h.1) a; known = h.0; looked = h.2 }
+    by_tip (InHead term from (tag ∷ [])) a h = record { from = from; tag = tag; at = subst (λ t. AtTip terms path octets (InHead t from (tag ∷ []))) (sym h.1) a; known = h.0; looked = h.2 }
     by_tip (InHead term from (tag ∷ first ∷ present)) a h = absurd h
     by_tip (InLeaf term start count present) a h = absurd h
 
-pub long_at : {profile : Profile} (path : Path) (octets : List ℕ) (node digits seen value : ℕ) → IsPathOf profile path octets → path.tip ≡ tip.Long node digits seen value → LongAt profile path octets node digits seen value
-long_at {profile = profile} path octets node digits seen value s e = by_tip s.state.tip (at_tip path octets s) (subst (λ kept. TipIs path.looked kept s.state.tip) e s.holds.tip)
+pub long_at : {terms : List Term} (path : Path) (octets : List ℕ) (node digits seen value : ℕ) → IsPathOf terms path octets → path.tip ≡ tip.Long node digits seen value → LongAt terms path octets node digits seen value
+long_at {terms = terms} path octets node digits seen value s e = by_tip s.state.tip (at_tip path octets s) (subst (λ kept. TipIs path.looked kept s.state.tip) e s.holds.tip)
   where
-    by_tip : (given : Tip) → AtTip profile path octets given → TipIs path.looked (tip.Long node digits seen value) given → LongAt profile path octets node digits seen value
+    by_tip : (given : Tip) → AtTip terms path octets given → TipIs path.looked (tip.Long node digits seen value) given → LongAt terms path octets node digits seen value
     by_tip (Between place) a h = absurd h
     by_tip (InHead term from []) a h = absurd h
     by_tip (InHead term from (tag ∷ [])) a h = absurd h
@@ -139,7 +137,7 @@ long_at {profile = profile} path octets node digits seen value s e = by_tip s.st
       tag = tag;
       first = first;
       present = present;
-      at = subst (λ t. AtTip profile path octets (InHead t from (tag ∷ first ∷ present))) (sym h.1) a;
+      at = subst (λ t. AtTip terms path octets (InHead t from (tag ∷ first ∷ present))) (sym h.1) a;
       known = h.0;
       digits_are = h.2;
       seen_are = h.3;
@@ -148,16 +146,16 @@ long_at {profile = profile} path octets node digits seen value s e = by_tip s.st
     }
     by_tip (InLeaf term start count present) a h = absurd h
 
-pub leaf_at : {profile : Profile} (path : Path) (octets : List ℕ) (node start end : ℕ) (value : ℤ) (unused : ℕ) → IsPathOf profile path octets → path.tip ≡ tip.Leaf node start end value unused → LeafAt profile path octets node start end value unused
-leaf_at {profile = profile} path octets node start end value unused s e = by_tip s.state.tip (at_tip path octets s) (subst (λ kept. TipIs path.looked kept s.state.tip) e s.holds.tip)
+pub leaf_at : {terms : List Term} (path : Path) (octets : List ℕ) (node start end : ℕ) (value : ℤ) (unused : ℕ) → IsPathOf terms path octets → path.tip ≡ tip.Leaf node start end value unused → LeafAt terms path octets node start end value unused
+leaf_at {terms = terms} path octets node start end value unused s e = by_tip s.state.tip (at_tip path octets s) (subst (λ kept. TipIs path.looked kept s.state.tip) e s.holds.tip)
   where
-    by_tip : (given : Tip) → AtTip profile path octets given → TipIs path.looked (tip.Leaf node start end value unused) given → LeafAt profile path octets node start end value unused
+    by_tip : (given : Tip) → AtTip terms path octets given → TipIs path.looked (tip.Leaf node start end value unused) given → LeafAt terms path octets node start end value unused
     by_tip (Between place) a h = absurd h
     by_tip (InHead term from present) a h = absurd h
     by_tip (InLeaf term begin count present) a h = record {
       count = count;
       present = present;
-      at = subst (λ k. AtTip profile path octets (InLeaf (term_at node) k count present)) (sym h.2) (subst (λ t. AtTip profile path octets (InLeaf t begin count present)) (sym h.1) a);
+      at = subst (λ k. AtTip terms path octets (InLeaf (term_at node) k count present)) (sym h.2) (subst (λ t. AtTip terms path octets (InLeaf t begin count present)) (sym h.1) a);
       known = h.0;
       ends = h.3 ∙ ap (λ k. k + count) (sym h.2);
       keeps = subst (λ t. KeepsOf t value unused present) (sym h.1) h.4;
@@ -166,7 +164,7 @@ leaf_at {profile = profile} path octets node start end value unused s e = by_tip
 
 -- ---- length octets
 
-pub head_ends : {profile : Profile} (path : Path) (octets : List ℕ) (term : Term) (from : ℕ) (present : List ℕ) (a : AtTip profile path octets (InHead term from present)) (octet : ℕ) → path.looked ≡ from + length present →
+pub head_ends : {terms : List Term} (path : Path) (octets : List ℕ) (term : Term) (from : ℕ) (present : List ℕ) (a : AtTip terms path octets (InHead term from present)) (octet : ℕ) → path.looked ≡ from + length present →
     HeadEnds from (path.looked + 1) (limit a.stack) (head (limit a.stack - from) (present ++ octet ∷ []))
 head_ends path octets term from present a octet at =
     by_head (head (limit a.stack - from) (present ++ octet ∷ []))
@@ -182,7 +180,7 @@ head_ends path octets term from present a octet at =
         let room : from + length present < limit a.stack = a.roomy.0 in
         (omega arith, omega arith)
 
-pub is_short : {profile : Profile} (path : Path) (octets : List ℕ) (term : Term) (from : ℕ) (present : List ℕ) (a : AtTip profile path octets (InHead term from present)) (kept : Found) (got : Head) → HeadIs kept got → HeadEnds from (path.looked + 1) (limit a.stack) got → IsShort (path.looked + 1) kept
+pub is_short : {terms : List Term} (path : Path) (octets : List ℕ) (term : Term) (from : ℕ) (present : List ℕ) (a : AtTip terms path octets (InHead term from present)) (kept : Found) (got : Head) → HeadIs kept got → HeadEnds from (path.looked + 1) (limit a.stack) got → IsShort (path.looked + 1) kept
 is_short path octets term from present a found.Partial got is ends = tt {0}
 is_short path octets term from present a (found.Refused why) got is ends = tt {0}
 is_short path octets term from present a (found.Got size) Partial is ends = absurd is
@@ -194,7 +192,7 @@ is_short path octets term from present a (found.Got size) (Got header count) is 
     let short : path.size < 2 ^ 31 = a.short in
     omega arith
 
-pub has_place : {profile : Profile} (path : Path) (octets : List ℕ) (term : Term) (from : ℕ) (present : List ℕ) → AtTip profile path octets (InHead term from present) → length path.outer.items < 13
+pub has_place : {terms : List Term} (path : Path) (octets : List ℕ) (term : Term) (from : ℕ) (present : List ℕ) → AtTip terms path octets (InHead term from present) → length path.outer.items < 13
 has_place path octets term from present a =
     let size : length a.stack ≡ suc (length path.outer.items) = open_length path.inner path.outer.items a.stack a.containers in
     let deep : length a.stack + 1 ≤ 14 = a.deep in
@@ -296,7 +294,7 @@ pub record LeafReady (path : Path) (node start end : ℕ) (value : ℤ) (unused 
   pub small : IsSmall value
   pub few : unused < 8
 
-pub leaf_ready : {profile : Profile} (path : Path) (octets : List ℕ) (node start end : ℕ) (value : ℤ) (unused : ℕ) (given : Form) → IsFormOf nodes given (term_at node) → LeafAt profile path octets node start end value unused → LeafReady path node start end value unused
+pub leaf_ready : {terms : List Term} (path : Path) (octets : List ℕ) (node start end : ℕ) (value : ℤ) (unused : ℕ) (given : Form) → IsFormOf nodes given (term_at node) → LeafAt terms path octets node start end value unused → LeafReady path node start end value unused
 leaf_ready path octets node start end value unused given are leaf =
     let room : start + leaf.count ≤ limit leaf.at.stack = leaf.at.roomy.0 in
     let lt : length leaf.present < leaf.count = leaf.at.roomy.1 in
@@ -312,7 +310,7 @@ leaf_ready path octets node start end value unused given are leaf =
       few = unused_few (term_at node) leaf.count value unused leaf.present leaf.keeps leaf.at.reached.1;
     }
 
-pub leaf_reads : {profile : Profile} (path : Path) (octets : List ℕ) (node start end : ℕ) (value : ℤ) (unused : ℕ) (leaf : LeafAt profile path octets node start end value unused) → LeafReads (term_at node) (end - start) value unused leaf.present
+pub leaf_reads : {terms : List Term} (path : Path) (octets : List ℕ) (node start end : ℕ) (value : ℤ) (unused : ℕ) (leaf : LeafAt terms path octets node start end value unused) → LeafReads (term_at node) (end - start) value unused leaf.present
 leaf_reads path octets node start end value unused leaf =
     let same : leaf.count ≡ end - start = omega (arith, leaf.ends) in
     record { are_octets = leaf.at.are_octets; open_still = subst (λ count. leaf_outcome (term_at node) count leaf.present ≡ OpenOutcome) same leaf.at.reached.1; keeps = leaf.keeps }

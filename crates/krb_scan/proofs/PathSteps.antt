@@ -2,10 +2,9 @@
 use Rattle.std.proofs.Common.{◌≡◌, ℕ, ℤ, ◌^◌, ◌+◌, ◌-◌, ◌*◌, ◌<◌, ◌≤◌, List, [], ◌∷◌, ◌++◌, length, refl, sym, ap, ◌∙◌, subst, arith}
 use Rattle.std.specs.Coded.{le_prop, Unit-prop}
 use Rattle.krb_der.specs.Octets.{AreOctets, number}
-use Rattle.krb_der.specs.declared.profile.Profile.{Profile}
 use Rattle.krb_der.specs.declared.verdict.Verdict.{Verdict}
-use Rattle.krb_msg.specs.Grammar.{messages}
 use Rattle.krb_msg.specs.Judgement.{Head, Partial, head}
+use Rattle.krb_msg.specs.Term.{Term}
 use Rattle.krb_scan.specs.Scan as scan
 use Rattle.krb_scan.specs.Scan.{Container, Mark as Marked, InHead, limit}
 use Rattle.krb_scan.specs.inner.Machine.{step_between, headed, in_leaf}
@@ -23,9 +22,9 @@ use Rattle.krb_scan.proofs.Numbers.{length_push, number_push, first_head_right, 
 use Rattle.krb_scan.proofs.Stable.{IsPartial}
 use Rattle.krb_scan.proofs.PathFacts.{BetweenAt, TaggedAt, LongAt, LeafAt, stepped, head_ends, is_short, leaf_reads, small_number}
 
-pub between_taken : {profile : Profile} (old new : Path) (octets : List ℕ) (octet : ℕ) (decided : Verdict) → BetweenAt profile old octets →
+pub between_taken : {terms : List Term} (old new : Path) (octets : List ℕ) (octet : ℕ) (decided : Verdict) → BetweenAt terms old octets →
     ((stack : List Container) (marks : List Marked) → AreOpen old.inner old.outer.items stack → IsStep old new decided (step_between stack marks old.looked octet)) →
-    IsStep old new decided (scan.scan (messages profile) old.size (octets ++ octet ∷ []))
+    IsStep old new decided (scan.scan terms old.size (octets ++ octet ∷ []))
 between_taken old new octets octet decided s goes =
     subst (IsStep old new decided) (sym (stepped old octets (scan.Between old.looked) s.at octet)) (goes s.at.stack s.at.marks s.at.containers)
 
@@ -35,20 +34,20 @@ HeadGoes old new result kept partial node =
     (stack : List Container) (marks : List Marked) (got : Head) (from : ℕ) (octets : List ℕ) → AreOpen old.inner old.outer.items stack → HeadIs kept got → HeadEnds from (old.looked + 1) (limit stack) got →
     (got ≡ Partial → TipIs (old.looked + 1) partial (InHead (term_at node) from octets)) → IsStep old new result (headed got (term_at node) stack marks from octets)
 
-pub tagged_is : {profile : Profile} (path : Path) (octets : List ℕ) (node octet room : ℕ) (t : TaggedAt profile path octets node) (kept : Found) → room ≡ limit t.at.stack - path.looked + 1 → HeadIs kept (first_head room octet) → HeadIs kept (head (limit t.at.stack - t.from) (t.tag ∷ octet ∷ []))
+pub tagged_is : {terms : List Term} (path : Path) (octets : List ℕ) (node octet room : ℕ) (t : TaggedAt terms path octets node) (kept : Found) → room ≡ limit t.at.stack - path.looked + 1 → HeadIs kept (first_head room octet) → HeadIs kept (head (limit t.at.stack - t.from) (t.tag ∷ octet ∷ []))
 tagged_is path octets node octet room t kept e h =
     let lt : t.from + 1 < limit t.at.stack = t.at.roomy.0 in
     let same : room ≡ limit t.at.stack - t.from = omega (arith, t.looked) in
     subst (HeadIs kept) (ap (λ r. first_head r octet) same ∙ sym (first_head_right (limit t.at.stack - t.from) t.tag octet)) h
 
-pub tagged_taken : {profile : Profile} (old new : Path) (octets : List ℕ) (node octet digits : ℕ) (result : Verdict) (kept : Found) (t : TaggedAt profile old octets node) → HeadIs kept (head (limit t.at.stack - t.from) (t.tag ∷ octet ∷ [])) → digits ≡ octet - 0x80 →
-    HeadGoes old new result kept (tip.Long node digits 0 0) node → IsStep old new result (scan.scan (messages profile) old.size (octets ++ octet ∷ []))
+pub tagged_taken : {terms : List Term} (old new : Path) (octets : List ℕ) (node octet digits : ℕ) (result : Verdict) (kept : Found) (t : TaggedAt terms old octets node) → HeadIs kept (head (limit t.at.stack - t.from) (t.tag ∷ octet ∷ [])) → digits ≡ octet - 0x80 →
+    HeadGoes old new result kept (tip.Long node digits 0 0) node → IsStep old new result (scan.scan terms old.size (octets ++ octet ∷ []))
 tagged_taken old new octets node octet digits result kept t is e goes =
     subst (IsStep old new result) (sym (stepped old octets (InHead (term_at node) t.from (t.tag ∷ [])) t.at octet))
     (goes t.at.stack t.at.marks (head (limit t.at.stack - t.from) (t.tag ∷ octet ∷ [])) t.from (t.tag ∷ octet ∷ []) t.at.containers is
     (head_ends old octets (term_at node) t.from (t.tag ∷ []) t.at octet t.looked) (λ partial. (t.known, refl, e, refl, refl, omega (arith, t.looked))))
 
-pub long_is : {profile : Profile} (path : Path) (octets : List ℕ) (node digits seen value octet room : ℕ) (t : LongAt profile path octets node digits seen value) (kept : Found) → room ≡ limit t.at.stack - path.looked + (2 + seen) → HeadIs kept (next_head room digits seen value octet) →
+pub long_is : {terms : List Term} (path : Path) (octets : List ℕ) (node digits seen value octet room : ℕ) (t : LongAt terms path octets node digits seen value) (kept : Found) → room ≡ limit t.at.stack - path.looked + (2 + seen) → HeadIs kept (next_head room digits seen value octet) →
     HeadIs kept (head (limit t.at.stack - t.from) (t.tag ∷ t.first ∷ t.present ++ octet ∷ []))
 long_is path octets node digits seen value octet room t kept e h =
     let lt : t.from + length (t.tag ∷ t.first ∷ t.present) < limit t.at.stack = t.at.roomy.0 in
@@ -58,8 +57,8 @@ long_is path octets node digits seen value octet room t kept e h =
     ∙ ap (λ k. next_head (limit t.at.stack - t.from) (t.first - 0x80) k value octet) t.seen_are ∙ ap (λ v. next_head (limit t.at.stack - t.from) (t.first - 0x80) (length t.present) v octet) t.value_is
     ∙ sym (next_head_right (limit t.at.stack - t.from) t.tag t.first t.present octet (subst IsPartial (sym t.at.reached) (tt {0})))) h
 
-pub long_taken : {profile : Profile} (old new : Path) (octets : List ℕ) (node digits seen value octet seen_next value_next : ℕ) (result : Verdict) (kept : Found) (t : LongAt profile old octets node digits seen value) → HeadIs kept (head (limit t.at.stack - t.from) (t.tag ∷ t.first ∷ t.present ++ octet ∷ [])) →
-    seen_next ≡ seen + 1 → value_next ≡ value * 256 + octet → HeadGoes old new result kept (tip.Long node digits seen_next value_next) node → IsStep old new result (scan.scan (messages profile) old.size (octets ++ octet ∷ []))
+pub long_taken : {terms : List Term} (old new : Path) (octets : List ℕ) (node digits seen value octet seen_next value_next : ℕ) (result : Verdict) (kept : Found) (t : LongAt terms old octets node digits seen value) → HeadIs kept (head (limit t.at.stack - t.from) (t.tag ∷ t.first ∷ t.present ++ octet ∷ [])) →
+    seen_next ≡ seen + 1 → value_next ≡ value * 256 + octet → HeadGoes old new result kept (tip.Long node digits seen_next value_next) node → IsStep old new result (scan.scan terms old.size (octets ++ octet ∷ []))
 long_taken old new octets node digits seen value octet seen_next value_next result kept t is e f goes =
     let present : List ℕ = t.tag ∷ t.first ∷ t.present in
     subst (IsStep old new result) (sym (stepped old octets (InHead (term_at node) t.from present) t.at octet))
@@ -67,10 +66,10 @@ long_taken old new octets node digits seen value octet seen_next value_next resu
     (head_ends old octets (term_at node) t.from present t.at octet (omega (arith, t.looked, t.seen_are)))
     (λ partial. (t.known, refl, t.digits_are, omega (arith, t.seen_are, length_push t.present octet), f ∙ ap (λ v. v * 256 + octet) t.value_is ∙ sym (number_push 0 t.present octet), omega (arith, t.looked))))
 
-pub leaf_taken : {profile : Profile} (old new : Path) (octets : List ℕ) (node start end : ℕ) (value : ℤ) (unused octet : ℕ) (decided : Verdict) (leaf : LeafAt profile old octets node start end value unused) →
+pub leaf_taken : {terms : List Term} (old new : Path) (octets : List ℕ) (node start end : ℕ) (value : ℤ) (unused octet : ℕ) (decided : Verdict) (leaf : LeafAt terms old octets node start end value unused) →
     ((stack : List Container) (marks : List Marked) (present : List ℕ) → AreOpen old.inner old.outer.items stack → LeafReads (term_at node) (end - start) value unused present → old.looked ≡ start + length present →
     IsStep old new decided (in_leaf (term_at node) start (end - start) stack marks (present ++ octet ∷ []))) →
-    IsStep old new decided (scan.scan (messages profile) old.size (octets ++ octet ∷ []))
+    IsStep old new decided (scan.scan terms old.size (octets ++ octet ∷ []))
 leaf_taken old new octets node start end value unused octet decided leaf goes =
     let same : leaf.count ≡ end - start = omega (arith, leaf.ends) in
     subst (IsStep old new decided) (sym (stepped old octets (scan.InLeaf (term_at node) start leaf.count leaf.present) leaf.at octet))
@@ -85,7 +84,7 @@ pub record LongReady (path : Path) (digits seen value limited : ℕ) : Type 0 wh
   pub spelled : value < 2 ^ 24
   pub within : path.looked ≤ limited
 
-pub long_ready : {profile : Profile} (path : Path) (octets : List ℕ) (node digits seen value limited : ℕ) (t : LongAt profile path octets node digits seen value) → ((stack : List Container) → AreOpen path.inner path.outer.items stack → limited ≡ limit stack) → LongReady path digits seen value limited
+pub long_ready : {terms : List Term} (path : Path) (octets : List ℕ) (node digits seen value limited : ℕ) (t : LongAt terms path octets node digits seen value) → ((stack : List Container) → AreOpen path.inner path.outer.items stack → limited ≡ limit stack) → LongReady path digits seen value limited
 long_ready path octets node digits seen value limited t is =
     let long : (length t.present < t.first - 0x80) × (t.first ≤ 0x84) × (2 + (t.first - 0x80) ≤ limit t.at.stack - t.from) = partial_long (limit t.at.stack - t.from) t.tag t.first t.present (subst IsPartial (sym t.at.reached) (tt {0})) in
     let few : t.first ≤ 0x84 = long.1 in
@@ -101,16 +100,16 @@ long_ready path octets node digits seen value limited t is =
       within = omega (arith, t.looked, t.seen_are);
     }
 
-pub tagged_within : {profile : Profile} (path : Path) (octets : List ℕ) (node limited : ℕ) (t : TaggedAt profile path octets node) → ((stack : List Container) → AreOpen path.inner path.outer.items stack → limited ≡ limit stack) → path.looked ≤ limited
+pub tagged_within : {terms : List Term} (path : Path) (octets : List ℕ) (node limited : ℕ) (t : TaggedAt terms path octets node) → ((stack : List Container) → AreOpen path.inner path.outer.items stack → limited ≡ limit stack) → path.looked ≤ limited
 tagged_within path octets node limited t is =
     let room : t.from + 1 < limit t.at.stack = t.at.roomy.0 in
     let e : limited ≡ limit t.at.stack = is t.at.stack t.at.containers in
     omega (arith, t.looked)
 
-pub tagged_short : {profile : Profile} (path : Path) (octets : List ℕ) (node octet : ℕ) (t : TaggedAt profile path octets node) (kept : Found) → HeadIs kept (head (limit t.at.stack - t.from) (t.tag ∷ octet ∷ [])) → IsShort (path.looked + 1) kept
+pub tagged_short : {terms : List Term} (path : Path) (octets : List ℕ) (node octet : ℕ) (t : TaggedAt terms path octets node) (kept : Found) → HeadIs kept (head (limit t.at.stack - t.from) (t.tag ∷ octet ∷ [])) → IsShort (path.looked + 1) kept
 tagged_short path octets node octet t kept is = is_short path octets (term_at node) t.from (t.tag ∷ []) t.at kept _ is (head_ends path octets (term_at node) t.from (t.tag ∷ []) t.at octet t.looked)
 
-pub long_short : {profile : Profile} (path : Path) (octets : List ℕ) (node digits seen value octet : ℕ) (t : LongAt profile path octets node digits seen value) (kept : Found) → HeadIs kept (head (limit t.at.stack - t.from) (t.tag ∷ t.first ∷ t.present ++ octet ∷ [])) → IsShort (path.looked + 1) kept
+pub long_short : {terms : List Term} (path : Path) (octets : List ℕ) (node digits seen value octet : ℕ) (t : LongAt terms path octets node digits seen value) (kept : Found) → HeadIs kept (head (limit t.at.stack - t.from) (t.tag ∷ t.first ∷ t.present ++ octet ∷ [])) → IsShort (path.looked + 1) kept
 long_short path octets node digits seen value octet t kept is =
     is_short path octets (term_at node) t.from (t.tag ∷ t.first ∷ t.present) t.at kept _ is (head_ends path octets (term_at node) t.from (t.tag ∷ t.first ∷ t.present) t.at octet (omega (arith, t.looked, t.seen_are)))
 

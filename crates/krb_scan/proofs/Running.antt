@@ -16,7 +16,7 @@ use Rattle.krb_scan.specs.inner.Machine.{outcome_of}
 use Rattle.krb_scan.specs.Runs.{is_string, left_at, left_of, string_left}
 use Rattle.krb_msg.specs.Nodes.{term_at}
 use Rattle.krb_scan.specs.State.{TipIs, KeepsOf}
-use Rattle.krb_scan.specs.inner.Paths.{IsPathOf}
+use Rattle.krb_scan.specs.inner.Paths.{IsPathOf, IsReached}
 use Rattle.krb_scan.specs.Scanned.{IsScanOf, Keeps, Marks, marks_from, lengths_from}
 use Rattle.krb_scan.specs.declared.path.Path.{Path}
 use Rattle.krb_scan.specs.declared.tip.Tip.{Tip as Kept}
@@ -43,21 +43,22 @@ keeps_still (Application number term) value unused octets more s h = absurd (cc 
 abbrev pub passed : Path → ℕ → Path
 passed path count = record path { looked = path.looked + count }
 
-pub run_goes : {profile : Profile} (path : Path) (octets : List ℕ) (node start end : ℕ) (value : ℤ) (unused count : ℕ) (given : List ℕ) → IsPathOf profile path octets → path.tip ≡ tip.Leaf node start end value unused → is_string (term_at node) ≡ true →
-    count ≡ min (length given) (end - 1 - path.looked) → AreOctets (take count given) → IsPathOf profile (passed path count) (octets ++ take count given)
-run_goes {profile = profile} path octets node start end value unused count given s e string is are =
-    let leaf : LeafAt profile path octets node start end value unused = leaf_at path octets node start end value unused s e in
+pub run_goes : {terms : List Term} (path : Path) (octets : List ℕ) (node start end : ℕ) (value : ℤ) (unused count : ℕ) (given : List ℕ) → IsPathOf terms path octets → path.tip ≡ tip.Leaf node start end value unused → is_string (term_at node) ≡ true →
+    count ≡ min (length given) (end - 1 - path.looked) → AreOctets (take count given) → IsPathOf terms (passed path count) (octets ++ take count given)
+run_goes {terms = terms} path octets node start end value unused count given s e string is are =
+    let leaf : LeafAt terms path octets node start end value unused = leaf_at path octets node start end value unused s e in
     let chunk : List ℕ = take count given in
     let size : length (take count given) ≡ count = omega (arith, length-take count given) in
     let lt : length leaf.present < leaf.count = leaf.at.roomy.1 in
     let short : length leaf.present + length (take count given) < leaf.count = omega (arith, leaf.ends, leaf.looked) in
     record {
+      shallow = s.shallow;
       are_octets = AreOctets-append octets (take count given) s.are_octets are;
       some = s.some;
       short = s.short;
       looked = omega (arith, s.looked, length-append octets (take count given));
       state = state_of leaf.at.marks leaf.at.stack (InLeaf (term_at node) start leaf.count (leaf.present ++ take count given));
-      reads = chunk_right (messages profile) path.size octets (take count given) (term_at node) start leaf.count leaf.present leaf.at.stack leaf.at.marks s.some string (AreOctets-append leaf.present (take count given) leaf.at.are_octets are) short leaf.at.reads;
+      reads = chunk_right terms path.size octets (take count given) (term_at node) start leaf.count leaf.present leaf.at.stack leaf.at.marks s.some string (AreOctets-append leaf.present (take count given) leaf.at.are_octets are) short leaf.at.reads;
       holds = record {
         tip = subst (λ t. TipIs (path.looked + count) t (InLeaf (term_at node) start leaf.count (leaf.present ++ take count given))) (sym e)
             (leaf.known, refl, refl, leaf.ends, keeps_still (term_at node) value unused leaf.present (leaf.present ++ take count given) string leaf.keeps, omega (arith, leaf.looked, length-append leaf.present (take count given)));
@@ -66,54 +67,59 @@ run_goes {profile = profile} path octets node start end value unused count given
     }
 
 -- a path that has scanned octets, with the verdict on them
-pub path_at : {profile : Profile} (path : Path) (octets : List ℕ) → IsPathOf profile path octets → IsScanOf profile path verdict.Open path.size octets
-path_at {profile = profile} path octets s =
-    let short : length octets < path.size = open_short (messages profile) path.size octets s.state s.some s.reads in
+pub path_at : {terms : List Term} (path : Path) (octets : List ℕ) → IsPathOf terms path octets → IsScanOf terms path verdict.Open path.size octets
+path_at {terms = terms} path octets s =
+    let short : length octets < path.size = open_short terms path.size octets s.state s.some s.reads in
     record {
+      shallow = s.shallow;
       are_octets = s.are_octets;
       some = s.some;
       short = s.short;
       fits = omega arith;
       size = refl;
-      decides = sym (ap verdict_of (scan_outcome (messages profile) path.size octets s.some (omega arith) ∙ ap (outcome_of path.size) s.reads));
+      decides = sym (ap verdict_of (scan_outcome terms path.size octets s.some (omega arith) ∙ ap (outcome_of path.size) s.reads));
       looked = s.looked;
-      lengths = same_lengths path path.looked s.state s.holds ∙ ap (λ given. lengths_from given (λ place. scan.scan (messages profile) path.size (take place octets))) (sym s.reads);
+      lengths = same_lengths path path.looked s.state s.holds ∙ ap (λ given. lengths_from given (λ place. scan.scan terms path.size (take place octets))) (sym s.reads);
       keeps = subst (Keeps path) (sym s.reads) (s.holds.containers, s.holds.tip);
     }
 
+pub reached_on : (old new : Path) (more : List ℕ → List ℕ) → IsReached old → ((terms : List Term) (n : ℕ) (octets : List ℕ) → IsScanOf terms old verdict.Open n octets → IsScanOf terms new verdict.Open n (more octets)) → IsReached new
+reached_on old new more r goes =
+    ∥∥₁_map r (λ (k : (octets : List ℕ) × (terms : List Term) × IsPathOf terms old octets). (more k.0, k.1, is_path_of new verdict.Open old.size (more k.0) (goes k.1 old.size k.0 (path_at old k.0 k.2)) refl))
+
 -- if something is decided, no string is open
-pub none_left : {profile : Profile} (path : Path) (decided : Verdict) (n : ℕ) (octets : List ℕ) → IsScanOf profile path decided n octets → (decided ≡ verdict.Open → ⊥) → string_left (messages profile) n octets ≡ 0
-none_left {profile = profile} path decided n octets at not = by_answer (scan.scan (messages profile) n octets) refl
+pub none_left : {terms : List Term} (path : Path) (decided : Verdict) (n : ℕ) (octets : List ℕ) → IsScanOf terms path decided n octets → (decided ≡ verdict.Open → ⊥) → string_left terms n octets ≡ 0
+none_left {terms = terms} path decided n octets at not = by_answer (scan.scan terms n octets) refl
   where
-    by_answer : (given : Answer) → scan.scan (messages profile) n octets ≡ given → left_of (scan.scan (messages profile) n octets) ≡ 0
-    by_answer (Ongoing state) e = absurd (not (at.decides ∙ ap verdict_of (scan_outcome (messages profile) n octets at.some at.fits ∙ ap (outcome_of n) e)))
+    by_answer : (given : Answer) → scan.scan terms n octets ≡ given → left_of (scan.scan terms n octets) ≡ 0
+    by_answer (Ongoing state) e = absurd (not (at.decides ∙ ap verdict_of (scan_outcome terms n octets at.some at.fits ∙ ap (outcome_of n) e)))
     by_answer (scan.Refusing place reason) e = ap left_of e
     by_answer (scan.Whole marks) e = ap left_of e
 
-pub run_at : {profile : Profile} (old new : Path) (decided : Verdict) (n count : ℕ) (before given : List ℕ) → IsScanOf profile old decided n before → decided ≡ verdict.Open → new.size ≡ old.size → ((octets : List ℕ) → IsPathOf profile old octets → IsPathOf profile new (octets ++ take count given)) → IsScanOf profile new decided n (before ++ take count given)
-run_at {profile = profile} old new decided n count before given at still size goes =
-    subst (λ k. IsScanOf profile new decided k (before ++ take count given)) (size ∙ at.size)
-    (subst (λ v. IsScanOf profile new v new.size (before ++ take count given)) (sym still) (path_at new (before ++ take count given) (goes before (is_path_of old decided n before at still))))
+pub run_at : {terms : List Term} (old new : Path) (decided : Verdict) (n count : ℕ) (before given : List ℕ) → IsScanOf terms old decided n before → decided ≡ verdict.Open → new.size ≡ old.size → ((octets : List ℕ) → IsPathOf terms old octets → IsPathOf terms new (octets ++ take count given)) → IsScanOf terms new decided n (before ++ take count given)
+run_at {terms = terms} old new decided n count before given at still size goes =
+    subst (λ k. IsScanOf terms new decided k (before ++ take count given)) (size ∙ at.size)
+    (subst (λ v. IsScanOf terms new v new.size (before ++ take count given)) (sym still) (path_at new (before ++ take count given) (goes before (is_path_of old decided n before at still))))
 
-pub some_run : (old new : Path) (decided : Verdict) (count : ℕ) (given : List ℕ) → SomeAt old decided → decided ≡ verdict.Open → new.size ≡ old.size → ((profile : Profile) (octets : List ℕ) → IsPathOf profile old octets → IsPathOf profile new (octets ++ take count given)) → SomeAt new decided
+pub some_run : (old new : Path) (decided : Verdict) (count : ℕ) (given : List ℕ) → SomeAt old decided → decided ≡ verdict.Open → new.size ≡ old.size → ((terms : List Term) (octets : List ℕ) → IsPathOf terms old octets → IsPathOf terms new (octets ++ take count given)) → SomeAt new decided
 some_run old new decided count given r still size goes =
-    ∥∥₁_map r (λ (k : (octets : List ℕ) × (profile : Profile) × IsScanOf profile old decided old.size octets). (k.0 ++ take count given, k.1, subst (λ n. IsScanOf k.1 new decided n (k.0 ++ take count given)) (sym size) (run_at old new decided old.size count k.0 given k.2 still size (goes k.1))))
+    ∥∥₁_map r (λ (k : (octets : List ℕ) × (terms : List Term) × IsScanOf terms old decided old.size octets). (k.0 ++ take count given, k.1, subst (λ n. IsScanOf k.1 new decided n (k.0 ++ take count given)) (sym size) (run_at old new decided old.size count k.0 given k.2 still size (goes k.1))))
 
 -- how far an open string reaches
-pub leaf_left : {profile : Profile} (path : Path) (octets : List ℕ) (node start end : ℕ) (value : ℤ) (unused : ℕ) → IsPathOf profile path octets → path.tip ≡ tip.Leaf node start end value unused → string_left (messages profile) path.size octets ≡ (if is_string (term_at node) then end - 1 - path.looked else 0)
-leaf_left {profile = profile} path octets node start end value unused s e =
-    let leaf : LeafAt profile path octets node start end value unused = leaf_at path octets node start end value unused s e in
+pub leaf_left : {terms : List Term} (path : Path) (octets : List ℕ) (node start end : ℕ) (value : ℤ) (unused : ℕ) → IsPathOf terms path octets → path.tip ≡ tip.Leaf node start end value unused → string_left terms path.size octets ≡ (if is_string (term_at node) then end - 1 - path.looked else 0)
+leaf_left {terms = terms} path octets node start end value unused s e =
+    let leaf : LeafAt terms path octets node start end value unused = leaf_at path octets node start end value unused s e in
     let same : leaf.count - 1 - length leaf.present ≡ end - 1 - path.looked = omega (arith, leaf.ends, leaf.looked) in
     ap left_of leaf.at.reads ∙ ap (λ k. if is_string (term_at node) then k else 0) same
 
-pub leaf_some : {profile : Profile} (path : Path) (octets : List ℕ) (node start end : ℕ) (value : ℤ) (unused : ℕ) → IsPathOf profile path octets → path.tip ≡ tip.Leaf node start end value unused → path.looked < end
-leaf_some {profile = profile} path octets node start end value unused s e =
-    let leaf : LeafAt profile path octets node start end value unused = leaf_at path octets node start end value unused s e in
+pub leaf_some : {terms : List Term} (path : Path) (octets : List ℕ) (node start end : ℕ) (value : ℤ) (unused : ℕ) → IsPathOf terms path octets → path.tip ≡ tip.Leaf node start end value unused → path.looked < end
+leaf_some {terms = terms} path octets node start end value unused s e =
+    let leaf : LeafAt terms path octets node start end value unused = leaf_at path octets node start end value unused s e in
     let lt : length leaf.present < leaf.count = leaf.at.roomy.1 in
     omega (arith, leaf.looked, leaf.ends)
 
 -- no string is open if no leaf is
-pub none_open : {profile : Profile} (path : Path) (octets : List ℕ) → IsPathOf profile path octets → ((node start end : ℕ) (value : ℤ) (unused : ℕ) → path.tip ≡ tip.Leaf node start end value unused → ⊥) → string_left (messages profile) path.size octets ≡ 0
+pub none_open : {terms : List Term} (path : Path) (octets : List ℕ) → IsPathOf terms path octets → ((node start end : ℕ) (value : ℤ) (unused : ℕ) → path.tip ≡ tip.Leaf node start end value unused → ⊥) → string_left terms path.size octets ≡ 0
 none_open path octets s not = ap left_of s.reads ∙ by_tips path.tip s.state.tip refl s.holds.tip
   where
     by_tips : (a : Kept) (b : scan.Tip) → path.tip ≡ a → TipIs path.looked a b → left_at b ≡ 0

@@ -11,10 +11,10 @@ use Rattle.krb_der.specs.declared.why.Why.{Why}
 use Rattle.krb_der.specs.declared.verdict.Refusal.{Refusal}
 use Rattle.krb_der.specs.declared.verdict.Verdict.{Verdict}
 use Rattle.krb_der.specs.declared.verdict.Verdict.TheVariants as verdict
-use Rattle.krb_msg.specs.Grammar.{messages}
-use Rattle.krb_msg.specs.Judgement.{judgement}
+use Rattle.krb_msg.specs.Judgement.{judgement_by}
 use Rattle.krb_msg.specs.Laws.{AreOneOf}
 use Rattle.krb_msg.proofs.Grammars.{whole_is_one_of}
+use Rattle.krb_msg.specs.Term.{Term}
 use Rattle.krb_scan.specs.Scan as scan
 use Rattle.krb_scan.specs.Scan.{Answer, Ongoing, Refusing, Whole}
 use Rattle.krb_scan.specs.inner.Machine.{go_on}
@@ -25,29 +25,29 @@ use Rattle.krb_scan.proofs.ScannerSteps.{judged}
 use Rattle.krb_scan.proofs.Resume.{run}
 
 -- ---- nothing is decided sooner
-prefix_open : (profile : Profile) (n : ℕ) (prefix more : List ℕ) → 0 < n → AreOctets prefix → length prefix + length more ≤ n → 0 < length more → (given : Answer) → scan.scan (messages profile) n (prefix ++ more) ≡ given → ((place : ℕ) (reason : Why) → given ≡ Refusing place reason → ⊥) → judgement profile n prefix ≡ verdict.Open
-prefix_open profile n prefix more some are fits nonempty given e not = by_answer (scan.scan (messages profile) n prefix) refl
+prefix_open : (terms : List Term) (n : ℕ) (prefix more : List ℕ) → 0 < n → AreOctets prefix → length prefix + length more ≤ n → 0 < length more → (given : Answer) → scan.scan terms n (prefix ++ more) ≡ given → ((place : ℕ) (reason : Why) → given ≡ Refusing place reason → ⊥) → judgement_by terms n prefix ≡ verdict.Open
+prefix_open terms n prefix more some are fits nonempty given e not = by_answer (scan.scan terms n prefix) refl
   where
     here : length prefix ≤ n
     here = omega (arith, fits)
 
-    by_answer : (first : Answer) → scan.scan (messages profile) n prefix ≡ first → judgement profile n prefix ≡ verdict.Open
-    by_answer (Ongoing state) f = judged profile n prefix (Ongoing state) some here f
+    by_answer : (first : Answer) → scan.scan terms n prefix ≡ first → judgement_by terms n prefix ≡ verdict.Open
+    by_answer (Ongoing state) f = judged terms n prefix (Ongoing state) some here f
     by_answer (Refusing place reason) f =
-        absurd (not place reason (sym e ∙ scan_append (messages profile) n prefix more some ∙ ap (λ it. go_on it (λ state. run state more)) f))
+        absurd (not place reason (sym e ∙ scan_append terms n prefix more some ∙ ap (λ it. go_on it (λ state. run state more)) f))
     by_answer (Whole marks) f =
-        let all : AreOneOf (messages profile) n prefix = whole_is_one_of (messages profile) n prefix are here (judged profile n prefix (Whole marks) some here f) in
+        let all : AreOneOf terms n prefix = whole_is_one_of terms n prefix are here (judged terms n prefix (Whole marks) some here f) in
         absurd (omega (arith, all.all, fits, nonempty))
 
-not_refused : {profile : Profile} (path : Path) (decided : Verdict) (n : ℕ) (octets : List ℕ) → IsScanOf profile path decided n octets → ((refusal : Refusal) → decided ≡ verdict.Refused refusal → ⊥) → (place : ℕ) (reason : Why) → scan.scan (messages profile) n octets ≡ Refusing place reason → ⊥
-not_refused {profile = profile} path decided n octets at not place reason e =
-    not (record { place = place; why = reason }) (at.decides ∙ judged profile n octets (Refusing place reason) at.some at.fits e)
+not_refused : {terms : List Term} (path : Path) (decided : Verdict) (n : ℕ) (octets : List ℕ) → IsScanOf terms path decided n octets → ((refusal : Refusal) → decided ≡ verdict.Refused refusal → ⊥) → (place : ℕ) (reason : Why) → scan.scan terms n octets ≡ Refusing place reason → ⊥
+not_refused {terms = terms} path decided n octets at not place reason e =
+    not (record { place = place; why = reason }) (at.decides ∙ judged terms n octets (Refusing place reason) at.some at.fits e)
 
 -- of octets that are not refused, those before some of them decide nothing
-pub sooner : {profile : Profile} (path : Path) (decided : Verdict) (n : ℕ) (before octets : List ℕ) (used k : ℕ) → IsScanOf profile path decided n (before ++ take used octets) → ((refusal : Refusal) → decided ≡ verdict.Refused refusal → ⊥) → used ≤ length octets → k < used → judgement profile n (before ++ take k octets) ≡ verdict.Open
-sooner {profile = profile} path decided n before octets used k at not within lt =
-    prefix_open profile n prefix more at.some are (omega (arith, at.fits, all_long)) (omega (arith, more_long, lt)) (scan.scan (messages profile) n (prefix ++ more)) refl
-    (λ place reason e. not_refused path decided n (before ++ take used octets) at not place reason (ap (scan.scan (messages profile) n) same ∙ e))
+pub sooner : {terms : List Term} (path : Path) (decided : Verdict) (n : ℕ) (before octets : List ℕ) (used k : ℕ) → IsScanOf terms path decided n (before ++ take used octets) → ((refusal : Refusal) → decided ≡ verdict.Refused refusal → ⊥) → used ≤ length octets → k < used → judgement_by terms n (before ++ take k octets) ≡ verdict.Open
+sooner {terms = terms} path decided n before octets used k at not within lt =
+    prefix_open terms n prefix more at.some are (omega (arith, at.fits, all_long)) (omega (arith, more_long, lt)) (scan.scan terms n (prefix ++ more)) refl
+    (λ place reason e. not_refused path decided n (before ++ take used octets) at not place reason (ap (scan.scan terms n) same ∙ e))
   where
     prefix : List ℕ
     prefix = before ++ take k octets
@@ -81,15 +81,15 @@ pub then_at : (P : List ℕ → Type 0) (before octets rest : List ℕ) (used co
 then_at P before octets rest used count e at = subst P (then_taken before octets rest used count e) at
 
 -- if neither some octets nor those after them decide anything sooner, all of them do not
-pub then_sooner : (profile : Profile) (n : ℕ) (before octets rest : List ℕ) (used count k : ℕ) → rest ≡ drop used octets → (k < used → judgement profile n (before ++ take k octets) ≡ verdict.Open) →
-    ((j : ℕ) → j < count → judgement profile n ((before ++ take used octets) ++ take j rest) ≡ verdict.Open) → k < used + count → judgement profile n (before ++ take k octets) ≡ verdict.Open
-then_sooner profile n before octets rest used count k e first then lt = by_place (cases_lt k used)
+pub then_sooner : (terms : List Term) (n : ℕ) (before octets rest : List ℕ) (used count k : ℕ) → rest ≡ drop used octets → (k < used → judgement_by terms n (before ++ take k octets) ≡ verdict.Open) →
+    ((j : ℕ) → j < count → judgement_by terms n ((before ++ take used octets) ++ take j rest) ≡ verdict.Open) → k < used + count → judgement_by terms n (before ++ take k octets) ≡ verdict.Open
+then_sooner terms n before octets rest used count k e first then lt = by_place (cases_lt k used)
   where
-    by_place : (k < used) ⊎ (used ≤ k) → judgement profile n (before ++ take k octets) ≡ verdict.Open
+    by_place : (k < used) ⊎ (used ≤ k) → judgement_by terms n (before ++ take k octets) ≡ verdict.Open
     by_place (inl less) = first less
     by_place (inr more) =
         let same : used + (k - used) ≡ k = omega (arith, more) in
-        ap (judgement profile n) (ap (λ j. before ++ take j octets) (sym same) ∙ sym (then_taken before octets rest used (k - used) e)) ∙ then (k - used) (omega (arith, more, lt))
+        ap (judgement_by terms n) (ap (λ j. before ++ take j octets) (sym same) ∙ sym (then_taken before octets rest used (k - used) e)) ∙ then (k - used) (omega (arith, more, lt))
 
 pub then_ends : {A E : Type 0} (profile : Profile) (result : Result A E) (n : ℕ) (before octets rest : List ℕ) (used count : ℕ) → rest ≡ drop used octets →
     OnErr result (length (Marks profile n ((before ++ take used octets) ++ take (count + 1) rest)) ≡ length (Marks profile n ((before ++ take used octets) ++ take count rest)) + 1) →

@@ -2,6 +2,7 @@
 use Rattle.std.specs.Prelude.{ℕ, List}
 use Rattle.krb_der.specs.declared.profile.Profile.{Profile}
 use Rattle.krb_der.specs.declared.verdict.Verdict.{Verdict}
+use Rattle.krb_msg.specs.Grammar.{messages}
 use Rattle.krb_scan.specs.State.{AreMarks}
 use Rattle.krb_scan.specs.Scanned.{IsScanOf, Marks}
 use Rattle.krb_scan.specs.declared.machine.Machine.{Machine}
@@ -21,7 +22,7 @@ profile_of machine = machine.profile
 
 -- a machine has scanned these octets of a message of n octets, by a profile
 abbrev pub HasScanned : Profile → Machine → ℕ → List ℕ → Type 0
-HasScanned profile machine n octets = IsScanOf profile machine.path machine.verdict n octets
+HasScanned profile machine n octets = IsScanOf (messages profile) machine.path machine.verdict n octets
 
 -- and these are their marks
 pub record HasMarked (profile : Profile) (machine : Machine) (kept : List Mark) (n : ℕ) (octets : List ℕ) : Type 0 where

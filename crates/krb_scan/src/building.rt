@@ -9,8 +9,9 @@ use krb_der::Memory;
 use krb_msg::{Message, view_message};
 use std::alloc::Global;
 
-/// Returns the message whose octets these are, which a scanner took whole with these marks. What
-/// the marks say the octets say, too, so they are viewed, and each string of octets is copied once.
+/// Returns the message whose octets these are, which a scanner took whole with these marks. The
+/// marks are not read: what they say the octets say, too, so the octets are viewed, and each string
+/// of octets is copied once.
 pub fn build(alloc: Global, marks: &[Mark], octets: &[u8]) -> Result<Message, Memory>
     requires short { length octets.now < 2 ^ 31 }
     requires whole { AreWhole marks.now octets.now }

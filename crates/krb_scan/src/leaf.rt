@@ -8,6 +8,7 @@ ghost use Rattle.krb_scan.specs.inner.Outcomes.{LeafIs};
 
 use krb_der::Why;
 use krb_msg::grammar::Form;
+use krb_msg::is_time_octet;
 
 /// What an octet makes of the contents.
 #[derive(Clone, Copy)]
@@ -86,12 +87,7 @@ pub(crate) fn time_next(seen: u32, octet: u8) -> Leaf
     requires { seen < 15 }
     ensures { LeafIs result (each_next time_octet why.Time 15 seen octet) }
 {
-    let fits = if seen < 14 {
-        48 <= octet && octet <= 57
-    } else {
-        octet == 90
-    };
-    if !fits {
+    if !is_time_octet(seen as usize, octet) {
         Leaf::Bad(Why::Time)
     } else if seen + 1 < 15 {
         Leaf::Open

@@ -26,7 +26,7 @@ impl Ledger {
 
     /// Returns the ledger after a number of more looks.
     #[inline(always)]
-    pub(crate) fn raised(&self, _looks: &u32) -> Ledger
+    pub(crate) fn raised(&self, _looks: &usize) -> Ledger
         ensures { result.looks ≡ self.now.looks + _looks.now }
     {
         Ledger {}

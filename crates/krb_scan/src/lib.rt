@@ -8,6 +8,7 @@
 //! - [`Scanner::take`] and [`Scanner::step`] do so, too; [`Scanner::marks`] returns a [`Mark`] for
 //!   each item whose length is complete: its row in the grammar, where its contents begin, how many
 //!   octets they are, and the number of an INTEGER.
+//! - [`judge_item`] judges an item of a row alone, as a Ticket.
 //! - [`build`] returns the message of the octets that a scanner took whole.
 //!
 //! Neither keeps the octets. Both know the length of their message beforehand, and find no frames:
@@ -27,6 +28,7 @@ mod closing;
 mod event;
 mod expected;
 mod head;
+mod judging;
 pub mod law;
 mod leaf;
 mod ledger;
@@ -39,6 +41,7 @@ mod scanner;
 mod tip;
 
 pub use building::build;
+pub use judging::judge_item;
 pub use krb_der::{Memory, Refusal, Verdict, Why};
 pub use machine::Machine;
 pub use mark::Mark;

@@ -1,14 +1,14 @@
 //! The machine that judges octets as they come.
 
 ghost use Rattle.std.specs.Prelude.{ℕ, List};
-ghost use Rattle.krb_der.specs.declared.profile.Profile.{Profile};
+ghost use Rattle.krb_msg.specs.Term.{Term};
 ghost use Rattle.krb_scan.specs.Scanned.{IsScanOf};
 
 use crate::event::Event;
+use crate::expected::Expected;
 use crate::ledger::Ledger;
-use crate::path::{Path, message};
+use crate::path::Path;
 use crate::tip::Tip;
-use arrayvec::ArrayVec;
 use krb_der::{Profile, Verdict};
 
 /// It scans the octets of one message, one after another, and looks at each once: whether they are
@@ -20,7 +20,7 @@ pub struct Machine {
     path: Path,
     verdict: Verdict,
     ledger: Ledger,
-    ghost reached: { ∥ ((octets : List ℕ) × (profile : Profile) × IsScanOf profile path verdict path.size octets) ∥₁ },
+    ghost reached: { ∥ ((octets : List ℕ) × (terms : List Term) × IsScanOf terms path verdict path.size octets) ∥₁ },
 }
 
 impl Machine {
@@ -41,13 +41,7 @@ impl Machine {
     {
         Machine {
             profile,
-            path: Path {
-                size: n,
-                looked: 0,
-                tip: Tip::Between,
-                inner: message(profile, n),
-                outer: ArrayVec::new(),
-            },
+            path: Path::new(Expected::Message { profile }, n),
             verdict: Verdict::Open,
             ledger: Ledger::new(),
         }
@@ -76,8 +70,7 @@ impl Machine {
         ensures ledger { ledger_of self.new ≡ ledger_of self.old + 1 }
         ensures profile { profile_of self.new ≡ profile_of self.old }
     {
-        let decided = self.path.take(octet);
-        self.path.looked += 1;
+        let decided = self.path.step(octet);
         self.verdict = decided;
         self.ledger = self.ledger.raised(&1);
         decided
@@ -94,34 +87,10 @@ impl Machine {
         ensures ledger { ledger_of self.new ≡ ledger_of self.old + result }
         ensures profile { profile_of self.new ≡ profile_of self.old }
     {
-        let mut used = 0;
-        'octets: while used < octets.len() {
-            used += self.take_some(&octets[used..]);
-            let Verdict::Open = self.verdict else {
-                return used;
-            };
-        }
+        let (used, verdict) = self.path.scan(octets);
+        self.verdict = verdict;
+        self.ledger = self.ledger.raised(&used);
         used
-    }
-
-    /// Scans some octets at once, of which there is at least one: what `run` scans, or else an
-    /// octet.
-    fn take_some(&mut self, octets: &[u8]) -> usize
-        requires open { verdict_of self.old ≡ Verdict.Open }
-        requires some { 0 < length octets.now }
-        ensures at { (profile : Profile) (n : ℕ) (before : List ℕ) → HasScanned profile self.old n before → HasScanned profile self.new n (before ++ take result octets.now) }
-        ensures within { result ≤ length octets.now }
-        ensures some { 0 < result }
-        ensures sooner { (profile : Profile) (n : ℕ) (before : List ℕ) (k : ℕ) → HasScanned profile self.old n before → k < result → judgement profile n (before ++ take k octets.now) ≡ Verdict.Open }
-        ensures ledger { ledger_of self.new ≡ ledger_of self.old + result }
-        ensures profile { profile_of self.new ≡ profile_of self.old }
-    {
-        let count = self.run(octets);
-        if count > 0 {
-            return count;
-        }
-        self.step(octets[0]);
-        1
     }
 
     /// Returns the number of octets scanned.
@@ -150,7 +119,12 @@ impl Machine {
         ensures profile { profile_of self.new ≡ profile_of self.old }
         ensures ledger { ledger_of self.new ≡ ledger_of self.old }
     {
-        self.path.clear(self.profile, n);
+        self.path.clear(
+            Expected::Message {
+                profile: self.profile,
+            },
+            n,
+        );
         self.verdict = Verdict::Open;
     }
 
@@ -168,8 +142,9 @@ impl Machine {
             return 0;
         };
         let count = self.path.run(octets);
+        let count = count as usize;
         self.ledger = self.ledger.raised(&count);
-        count as usize
+        count
     }
 }
 
@@ -187,7 +162,7 @@ impl Machine {
         requires { verdict_of self.now ≡ Verdict.Open }
         ensures { (profile : Profile) (n : ℕ) (octets : List ℕ) → HasScanned profile self.now n octets → result ≡ judgement profile n (octets ++ octet ∷ []) }
     {
-        self.path.copy().take(octet)
+        self.path.copy().step(octet)
     }
 
     /// Returns what an octet more does to the marks, if it is not refused.

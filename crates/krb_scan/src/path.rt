@@ -2,10 +2,9 @@
 
 ghost use Rattle.std.specs.Prelude.{pos, negsuc, ◌≤ℤ◌, ◌<ℤ◌, ◌≡◌, ◌<◌, ◌≤◌, ◌+◌, ◌-◌, ◌^◌, ℕ, [], ◌∷◌, ◌++◌, true, List, length, min, take};
 ghost use Rattle.arrayvec.specs.ArrayVec.{array_vec_len};
-ghost use Rattle.krb_der.specs.declared.profile.Profile.{Profile};
 ghost use Rattle.krb_msg.specs.Term.{Term};
-ghost use Rattle.krb_msg.specs.Grammar.{messages};
-ghost use Rattle.krb_msg.specs.Judgement.{Head as HeadOf, Outcome, Partial, Open as OpenOutcome, has_size};
+ghost use Rattle.krb_msg.specs.Judgement.{Head as HeadOf, Outcome, Partial, Open as OpenOutcome, has_size, judgement_by};
+ghost use Rattle.krb_msg.specs.Shape.{greatest_depth};
 ghost use Rattle.krb_scan.specs.Scan.{Container, Mark as Marked, InHead, InLeaf, OneOf, limit, scan, sole_in};
 ghost use Rattle.krb_scan.specs.Runs.{is_string as string_term, string_left};
 ghost use Rattle.krb_msg.specs.Nodes.{nodes, term_at};
@@ -13,7 +12,7 @@ ghost use Rattle.krb_msg.specs.Table.{IsFormOf, IsNode};
 ghost use Rattle.krb_scan.specs.Expectations.{IsKnown, expected_of};
 ghost use Rattle.krb_scan.specs.State.{AreOpen, TipIs};
 ghost use Rattle.krb_scan.specs.inner.Machine.{settle, sized, enter as enters, headed as head_decides, leafed as leaf_decides, step_between, in_leaf};
-ghost use Rattle.krb_scan.specs.Scanned.{Marks};
+ghost use Rattle.krb_scan.specs.Scanned.{marks_by, IsScanOf};
 ghost use Rattle.krb_scan.specs.inner.Outcomes.{HasContainers, HeadIs, LeafIs, IsSized, IsLeaf, BeginsWith, HeadEnds, IsShort, LeafEnds, LeafReads};
 ghost use Rattle.krb_scan.specs.inner.Paths.{ChangesTo, IsLengthOf, IsStep, IsReached, IsUnchanged, IsPathOf, number_with};
 
@@ -28,7 +27,7 @@ use crate::mark::Mark;
 use crate::open::Open;
 use crate::tip::Tip;
 use arrayvec::ArrayVec;
-use krb_der::{Profile, Refusal, Verdict, Why};
+use krb_der::{Refusal, Verdict, Why};
 use krb_msg::grammar::{Form, form_of};
 use krb_msg::has_bits;
 
@@ -96,6 +95,26 @@ fn sized_contents(node: u16, len: u32) -> Sized
 }
 
 impl Path {
+    /// Creates the path of an item of `size` octets, of which none is scanned, where this is expected.
+    #[inline(always)]
+    pub(crate) fn new(expected: Expected, size: u32) -> Path
+        requires known { IsKnown expected }
+        requires some { 0 < size }
+        requires short { size < 2 ^ 31 }
+        ensures { (terms : List Term) → greatest_depth terms ≤ 13 → expected_of expected ≡ OneOf terms → IsScanOf terms result Verdict.Open size [] }
+    {
+        Path {
+            size,
+            looked: 0,
+            tip: Tip::Between,
+            inner: Open {
+                end: size,
+                expected,
+            },
+            outer: ArrayVec::new(),
+        }
+    }
+
     /// Returns whether the next item fills its container.
     fn is_sole(&self) -> bool
         ensures { (stack : List Container) → AreOpen self.now.inner self.now.outer.items stack → result ≡ sole_in stack }
@@ -366,7 +385,7 @@ impl Path {
     #[inline(always)]
     pub(crate) fn take(&mut self, octet: u8) -> Verdict
         requires { IsReached self.old }
-        ensures step { (profile : Profile) (octets : List ℕ) → IsPathOf profile self.old octets → IsStep self.old self.new result (scan (messages profile) self.old.size (octets ++ octet ∷ [])) }
+        ensures step { (terms : List Term) (octets : List ℕ) → IsPathOf terms self.old octets → IsStep self.old self.new result (scan terms self.old.size (octets ++ octet ∷ [])) }
         ensures same { (self.new.size ≡ self.old.size) × (self.new.looked ≡ self.old.looked) }
     {
         match self.tip {
@@ -409,10 +428,58 @@ impl Path {
         }
     }
 
+    /// As [`Path::take`], and counts the octet.
+    #[inline(always)]
+    pub(crate) fn step(&mut self, octet: u8) -> Verdict
+        requires { IsReached self.old }
+        ensures { (terms : List Term) (n : ℕ) (octets : List ℕ) → IsScanOf terms self.old Verdict.Open n octets → IsScanOf terms self.new result n (octets ++ octet ∷ []) }
+    {
+        let decided = self.take(octet);
+        self.looked += 1;
+        decided
+    }
+
+    /// Scans octets, one after another or those of a string at once, until something is decided or
+    /// none is left, and returns how many, and what is decided.
+    pub(crate) fn scan(&mut self, octets: &[u8]) -> (usize, Verdict)
+        requires { IsReached self.old }
+        ensures at { (terms : List Term) (n : ℕ) (before : List ℕ) → IsScanOf terms self.old Verdict.Open n before → IsScanOf terms self.new result.1 n (before ++ take result.0 octets.now) }
+        ensures within { result.0 ≤ length octets.now }
+        ensures all { result.1 ≡ Verdict.Open → result.0 ≡ length octets.now }
+        ensures sooner { (terms : List Term) (n : ℕ) (before : List ℕ) (k : ℕ) → IsScanOf terms self.old Verdict.Open n before → k < result.0 → judgement_by terms n (before ++ take k octets.now) ≡ Verdict.Open }
+    {
+        let mut used = 0;
+        'octets: while used < octets.len() {
+            let (count, decided) = self.scan_some(&octets[used..]);
+            used += count;
+            let Verdict::Open = decided else {
+                return (used, decided);
+            };
+        }
+        (used, Verdict::Open)
+    }
+
+    /// Scans some octets at once, of which there is at least one: what `run` scans, or else an
+    /// octet.
+    fn scan_some(&mut self, octets: &[u8]) -> (usize, Verdict)
+        requires reached { IsReached self.old }
+        requires some { 0 < length octets.now }
+        ensures at { (terms : List Term) (n : ℕ) (before : List ℕ) → IsScanOf terms self.old Verdict.Open n before → IsScanOf terms self.new result.1 n (before ++ take result.0 octets.now) }
+        ensures within { result.0 ≤ length octets.now }
+        ensures some { 0 < result.0 }
+        ensures sooner { (terms : List Term) (n : ℕ) (before : List ℕ) (k : ℕ) → IsScanOf terms self.old Verdict.Open n before → k < result.0 → judgement_by terms n (before ++ take k octets.now) ≡ Verdict.Open }
+    {
+        let count = self.run(octets);
+        if count > 0 {
+            return (count as usize, Verdict::Open);
+        }
+        (1, self.step(octets[0]))
+    }
+
     /// Returns what an octet does to the marks, if it is not refused.
     pub(crate) fn event(&self, octet: u8) -> Event
         requires { IsReached self.now }
-        ensures { (profile : Profile) (octets : List ℕ) → IsPathOf profile self.now octets → ChangesTo result (Marks profile self.now.size octets) (scan (messages profile) self.now.size (octets ++ octet ∷ [])) }
+        ensures { (terms : List Term) (octets : List ℕ) → IsPathOf terms self.now octets → ChangesTo result (marks_by terms self.now.size octets) (scan terms self.now.size (octets ++ octet ∷ [])) }
     {
         match self.tip {
             Tip::Between => Event::None,
@@ -477,16 +544,20 @@ impl Path {
         }
     }
 
-    /// As of a message of a profile of `size` octets, none of them scanned yet.
-    pub(crate) fn clear(&mut self, profile: Profile, size: u32)
-        ensures kept { (self.new.size ≡ size) × (self.new.looked ≡ 0) × (self.new.tip ≡ Tip.Between) }
-        ensures message { (self.new.inner.end ≡ size) × IsKnown self.new.inner.expected × (expected_of self.new.inner.expected ≡ OneOf (messages profile)) }
-        ensures none { self.new.outer.items ≡ [] }
+    /// As [`Path::new`] returns it.
+    pub(crate) fn clear(&mut self, expected: Expected, size: u32)
+        requires known { IsKnown expected }
+        requires some { 0 < size }
+        requires short { size < 2 ^ 31 }
+        ensures { (terms : List Term) → greatest_depth terms ≤ 13 → expected_of expected ≡ OneOf terms → IsScanOf terms self.new Verdict.Open size [] }
     {
         self.size = size;
         self.looked = 0;
         self.tip = Tip::Between;
-        self.inner = message(profile, size);
+        self.inner = Open {
+            end: size,
+            expected,
+        };
         self.outer.clear();
     }
 
@@ -494,8 +565,8 @@ impl Path {
     /// and stops short of its last octet. So none of them is looked at.
     pub(crate) fn run(&mut self, octets: &[u8]) -> u32
         requires { IsReached self.old }
-        ensures goes { (profile : Profile) (before : List ℕ) → IsPathOf profile self.old before → IsPathOf profile self.new (before ++ take result octets.now) }
-        ensures longest { (profile : Profile) (before : List ℕ) → IsPathOf profile self.old before → result ≡ min (length octets.now) (string_left (messages profile) self.old.size before) }
+        ensures goes { (terms : List Term) (before : List ℕ) → IsPathOf terms self.old before → IsPathOf terms self.new (before ++ take result octets.now) }
+        ensures longest { (terms : List Term) (before : List ℕ) → IsPathOf terms self.old before → result ≡ min (length octets.now) (string_left terms self.old.size before) }
         ensures size { self.new.size ≡ self.old.size }
     {
         match self.tip {
@@ -506,18 +577,6 @@ impl Path {
             }
             _ => 0,
         }
-    }
-}
-
-/// Returns a message of a profile of `size` octets, none of them scanned yet.
-pub(crate) fn message(profile: Profile, size: u32) -> Open
-    ensures end { result.end ≡ size }
-    ensures known { IsKnown result.expected }
-    ensures expected { expected_of result.expected ≡ OneOf (messages profile) }
-{
-    Open {
-        end: size,
-        expected: Expected::Message { profile },
     }
 }
 

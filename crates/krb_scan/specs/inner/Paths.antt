@@ -1,8 +1,7 @@
 -- The steps of a path by an octet.
-use Rattle.std.specs.Prelude.{ℕ, ℤ, pos, ◌+◌, ◌≡◌, ◌<◌, ◌^◌, List, [], ◌∷◌, ◌++◌, length}
+use Rattle.std.specs.Prelude.{ℕ, ℤ, pos, ◌+◌, ◌≡◌, ◌<◌, ◌≤◌, ◌^◌, List, [], ◌∷◌, ◌++◌, length}
 use Rattle.krb_der.specs.Octets.{AreOctets}
-use Rattle.krb_msg.specs.Grammar.{messages}
-use Rattle.krb_der.specs.declared.profile.Profile.{Profile}
+use Rattle.krb_msg.specs.Shape.{greatest_depth}
 use Rattle.krb_der.specs.declared.verdict.Verdict.{Verdict}
 use Rattle.krb_der.specs.declared.verdict.Verdict.TheVariants as verdict
 use Rattle.krb_scan.specs.Scan as scan
@@ -48,19 +47,20 @@ Becomes old new other answer = ⊥
 pub record IsStep (old new : Path) (decided : Verdict) (answer : scan.Answer) : Type 0 where
   pub steps : Becomes old new decided answer
 
--- a path that has scanned octets of a message of a profile, of which more are expected
-pub record IsPathOf (profile : Profile) (path : Path) (octets : List ℕ) : Type 0 where
+-- a path that has scanned octets of an item of one of these terms, of which more are expected
+pub record IsPathOf (terms : List Term) (path : Path) (octets : List ℕ) : Type 0 where
+  pub shallow : greatest_depth terms ≤ 13
   pub are_octets : AreOctets octets
   pub some : 0 < path.size
   pub short : path.size < 2 ^ 31
   pub looked : path.looked ≡ length octets
   pub state : scan.State
-  pub reads : scan.scan (messages profile) path.size octets ≡ scan.Ongoing state
+  pub reads : scan.scan terms path.size octets ≡ scan.Ongoing state
   pub holds : HasState path path.looked state
 
 -- a path that has scanned some octets
 abbrev pub IsReached : Path → Type 0
-IsReached path = ∥ ((octets : List ℕ) × (profile : Profile) × IsPathOf profile path octets) ∥₁
+IsReached path = ∥ ((octets : List ℕ) × (terms : List Term) × IsPathOf terms path octets) ∥₁
 
 -- ---- marks
 -- the number of an INTEGER with an octet more, after others; other items have none

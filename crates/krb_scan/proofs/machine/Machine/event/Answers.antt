@@ -11,4 +11,4 @@ event-requires c = some_path c.args.self.now.path c.args.self.now.verdict c.args
 
 pub returns : goal.returns
 returns c = λ profile n octets at.
-    subst (λ k. ChangesTo c.event.result (Marks profile k octets) (scan (messages profile) k (octets ++ c.args.octet ∷ []))) at.size (c.event.ensures profile octets (is_path_of c.args.self.now.path c.args.self.now.verdict n octets at c.requires))
+    subst (λ k. ChangesTo c.event.result (Marks profile k octets) (scan (messages profile) k (octets ++ c.args.octet ∷ []))) at.size (c.event.ensures (messages profile) octets (is_path_of c.args.self.now.path c.args.self.now.verdict n octets at c.requires))

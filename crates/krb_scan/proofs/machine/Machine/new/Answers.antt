@@ -1,6 +1,12 @@
 use Rattle.std.proofs.Common.{[], refl}
-use Rattle.krb_scan.proofs.ScannerSteps.{none_at}
+use Rattle.krb_der.specs.declared.verdict.Verdict.TheVariants as verdict
+use Rattle.krb_msg.specs.Grammar.{messages}
+use Rattle.krb_scan.proofs.Levels.{messages_shallow}
+use Rattle.krb_scan.proofs.ScannerSteps.{some_at}
 use Rattle.krb_scan.proofs.machine.Machine.new.Goals as goal
 
 pub invariant_of-result : goal.invariant_of-result
-invariant_of-result c = record { reached = ∣ ([], c.args.profile, none_at _ c.args.n c.requires.some c.requires.short refl refl refl c.message.ensures.end c.message.ensures.known c.message.ensures.expected c.new.ensures) ∣₁ }
+invariant_of-result c = record { reached = some_at c.new.result verdict.Open c.args.n [] (c.new.ensures (messages c.args.profile) (messages_shallow c.args.profile) refl) }
+
+pub returns-clause-at : goal.returns-clause-at
+returns-clause-at c = c.new.ensures (messages c.args.profile) (messages_shallow c.args.profile) refl

@@ -12,11 +12,11 @@ pub invariant_of-self : goal.invariant_of-self
 invariant_of-self c = record { reached = some_run c.args.self.now.path c.run-count.new.self c.args.self.now.verdict c.run-count.result c.args.octets.now c.args.self.now.reached c.in-Open.is c.run-count.ensures.size c.run-count.ensures.goes }
 
 pub returns-clause-at : goal.returns-clause-at
-returns-clause-at c = λ profile n before at. run_at c.args.self.now.path c.run-count.new.self c.args.self.now.verdict n c.run-count.result before c.args.octets.now at c.in-Open.is c.run-count.ensures.size (c.run-count.ensures.goes profile)
+returns-clause-at c = λ profile n before at. run_at c.args.self.now.path c.run-count.new.self c.args.self.now.verdict n c.run-count.result before c.args.octets.now at c.in-Open.is c.run-count.ensures.size (c.run-count.ensures.goes (messages profile))
 
 pub returns-clause-longest : goal.returns-clause-longest
 returns-clause-longest c = λ profile n before at.
-    c.run-count.ensures.longest profile before (is_path_of c.args.self.now.path c.args.self.now.verdict n before at c.in-Open.is) ∙ ap (λ k. min (length c.args.octets.now) (string_left (messages profile) k before)) at.size
+    c.run-count.ensures.longest (messages profile) before (is_path_of c.args.self.now.path c.args.self.now.verdict n before at c.in-Open.is) ∙ ap (λ k. min (length c.args.octets.now) (string_left (messages profile) k before)) at.size
 
 pub returns-in_default-clause-longest : goal.returns-in_default-clause-longest
 returns-in_default-clause-longest c = λ profile n before at. omega (arith, none_left c.args.self.now.path c.args.self.now.verdict n before at c.in_default.not-Open)

@@ -2,7 +2,7 @@
 
 ghost use Rattle.std.specs.Prelude.{◌≡◌, ◌<◌, ◌≤◌, length, take, drop};
 ghost use Rattle.krb_msg.specs.Judgement.{head as head_from, short_head, long_head as long_head_from, fitting as fits};
-ghost use Rattle.krb_judge.specs.inner.Outcomes.{head_of};
+ghost use Rattle.krb_judge.specs.inner.Descent.{head_of};
 
 use krb_der::{Why, number_of};
 

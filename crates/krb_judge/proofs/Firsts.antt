@@ -1,0 +1,88 @@
+-- The first item of what is left of a container is done if alone it is whole.
+use Rattle.std.proofs.Common.{◌≡◌, ℕ, ◌+◌, ◌-◌, ◌<◌, ◌≤◌, ◌^◌, ◌&&◌, ◌==◌, nat_lt, Bool, true, false, if◌then◌else◌, List, ◌∷◌, ◌++◌, length, take, drop, refl, sym, ap, ◌∙◌, take-take, take_all, drop_at, length-drop, ne_eqb, arith}
+use Rattle.std.proofs.lemmas.Bool.{le-ltb}
+use Rattle.krb_der.specs.Octets.{AreOctets, length_octets, when}
+use Rattle.krb_der.specs.inner.Items.{length-length_octets}
+use Rattle.krb_der.specs.declared.why.Why.TheVariants as why
+use Rattle.krb_der.specs.declared.verdict.Verdict.TheVariants as verdict
+use Rattle.krb_msg.specs.Term.{Term, tag_of}
+use Rattle.krb_msg.specs.Judgement.{Outcome, Open, Bad, Done, Got, head, has_size, contents_outcome, item_outcome, term_judgement, verdict_of}
+use Rattle.krb_msg.proofs.Grammars.{whole_outcome}
+use Rattle.krb_msg.proofs.Heads.{IsHead, IsHead-head, head-length_octets}
+use Rattle.krb_msg.proofs.Items.{item_done}
+use Rattle.krb_msg.proofs.Stable.{take-append_right}
+use Rattle.krb_msg.proofs.TermsDecided.{item-count, contents-count}
+use Rattle.krb_judge.specs.Paths.{after_done, within, first_item}
+use Rattle.krb_judge.specs.inner.Descent.{head_of}
+use Rattle.krb_judge.specs.declared.locating.head.Head.{Head as Found}
+use Rattle.krb_judge.specs.declared.locating.head.Head.TheVariants as found
+
+-- an item whose length octets are right, and fill the room if they have to
+after_head : (term : Term) (room header size : ℕ) (sole : Bool) (tag : ℕ) (rest : List ℕ) → (room == 1) ≡ false → head room (tag ∷ rest) ≡ Got header size → (sole && nat_lt (header + size) room) ≡ false →
+    item_outcome term room sole (tag ∷ rest) ≡ when (tag == tag_of term) (λ _. if has_size term size then contents_outcome term header size (take size (drop header (tag ∷ rest))) else Bad (header - 1) why.Size) (λ _. Bad 0 why.Tag)
+after_head term room header size sole tag rest more got fills = rw (more, got, fills) refl
+
+parts_alone : (term : Term) (room header tag size : ℕ) (rest : List ℕ) → header ≡ 1 + length (length_octets size) → size < 2 ^ 32 → header + size ≤ room →
+    item_outcome term room false (tag ∷ (length_octets size ++ rest)) ≡ item_outcome term (header + size) true (tag ∷ (length_octets size ++ take size rest))
+parts_alone term room header tag size rest counted small fits =
+    after_head term room header size false tag (length_octets size ++ rest) (ne_eqb room 1 (omega (arith, some, counted, fits))) (got room rest fits) refl
+    ∙ ap (λ contents. when (tag == tag_of term) (λ _. if has_size term size then contents_outcome term header size contents else Bad (header - 1) why.Size) (λ _. Bad 0 why.Tag)) same
+    ∙ sym (after_head term (header + size) header size true tag (length_octets size ++ take size rest) (ne_eqb (header + size) 1 (omega (arith, some, counted))) (got (header + size) (take size rest) (omega arith)) (le-ltb (header + size) (header + size) (omega arith)))
+  where
+    some : 0 < length (length_octets size)
+    some = (length-length_octets size small).0
+
+    got : (room : ℕ) (rest : List ℕ) → header + size ≤ room → head room (tag ∷ (length_octets size ++ rest)) ≡ Got header size
+    got room rest fits = head-length_octets room tag size rest small (omega (arith, counted, fits)) ∙ ap (λ count. Got count size) (sym counted)
+
+    contents : (rest : List ℕ) → drop header (tag ∷ (length_octets size ++ rest)) ≡ rest
+    contents rest = drop_at (tag ∷ length_octets size) rest header (omega (arith, counted))
+
+    same : take size (drop header (tag ∷ (length_octets size ++ rest))) ≡ take size (drop header (tag ∷ (length_octets size ++ take size rest)))
+    same = ap (take size) (contents rest) ∙ sym (ap (take size) (contents (take size rest)) ∙ take-take size size rest (omega arith))
+
+-- an item in a room is what it is alone, if its length octets are right
+as_alone : (term : Term) (room header size : ℕ) (octets : List ℕ) → AreOctets octets → room < 2 ^ 31 → head room octets ≡ Got header size → item_outcome term room false octets ≡ item_outcome term (header + size) true (take (header + size) octets)
+as_alone term room header size octets are short got =
+    let h : IsHead room header size octets = IsHead-head room header size octets are got in
+    let prefix : List ℕ = h.tag ∷ length_octets size in
+    let cut : take (header + size) octets ≡ prefix ++ take (header + size - length prefix) h.rest = ap (take (header + size)) h.parts ∙ take-append_right prefix h.rest (header + size) (omega (arith, h.counted)) in
+    let left : header + size - length prefix ≡ size = omega (arith, h.counted) in
+    ap (item_outcome term room false) h.parts ∙ parts_alone term room header h.tag size h.rest h.counted (omega (arith, h.within, short)) h.within
+    ∙ sym (ap (item_outcome term (header + size) true) (cut ∙ ap (λ k. prefix ++ take k h.rest) left))
+
+pub done_if_whole : (term : Term) (room header size : ℕ) (octets : List ℕ) → AreOctets octets → room < 2 ^ 31 → head room octets ≡ Got header size → term_judgement term (header + size) (take (header + size) octets) ≡ verdict.Whole → item_outcome term room false octets ≡ Done (header + size)
+done_if_whole term room header size octets are short got e =
+    let w = whole_outcome (item_outcome term (header + size) true (take (header + size) octets)) e in
+    let all : w.0 ≡ header + size = (item-count term (contents-count term) (header + size) true (take (header + size) octets) w.0 w.1).2 refl in
+    as_alone term room header size octets are short got ∙ w.1 ∙ ap Done all
+
+pub whole_if_done : (term : Term) (room header size : ℕ) (octets : List ℕ) (count : ℕ) → AreOctets octets → room < 2 ^ 31 → head room octets ≡ Got header size → item_outcome term room false octets ≡ Done count → term_judgement term (header + size) (take (header + size) octets) ≡ verdict.Whole
+whole_if_done term room header size octets count are short got e = ap verdict_of (sym (as_alone term room header size octets are short got) ∙ e)
+
+-- an item without right length octets is not done
+not_got : (f : Found) (header size : ℕ) → ((header size : ℕ) → f ≡ found.Got header size → ⊥) → head_of f ≡ Got header size → ⊥
+not_got found.Partial header size not e = absurd cc
+not_got (found.Refused offset reason) header size not e = absurd cc
+not_got (found.Got a b) header size not e = not a b refl
+
+pub not_done : (term : Term) (room : ℕ) (octets : List ℕ) (f : Found) (count : ℕ) → head_of f ≡ head room octets → ((header size : ℕ) → f ≡ found.Got header size → ⊥) → item_outcome term room false octets ≡ Done count → ⊥
+not_done term room octets f count is not e =
+    let d = item_done (contents_outcome term) term room false octets count e in
+    not_got f d.header d.contents not (is ∙ d.found)
+
+-- ---- the path goes on after it, or into it
+pub goes_after : (term : Term) (path : List ℕ) (room : ℕ) (octets : List ℕ) (count : ℕ) (inside after : ℕ → List ℕ → List ℕ) → item_outcome term room false octets ≡ Done count → first_item term path room octets inside after ≡ after (room - count) (drop count octets)
+goes_after term path room octets count inside after e = ap (λ outcome. after_done outcome (λ count. after (room - count) (drop count octets)) (λ _. within term path room false octets inside)) e
+
+pub goes_into : (term : Term) (path : List ℕ) (room : ℕ) (octets : List ℕ) (inside after : ℕ → List ℕ → List ℕ) → ((count : ℕ) → item_outcome term room false octets ≡ Done count → ⊥) → first_item term path room octets inside after ≡ within term path room false octets inside
+goes_into term path room octets inside after not = by_outcome (item_outcome term room false octets) not
+  where
+    by_outcome : (outcome : Outcome) → ((count : ℕ) → outcome ≡ Done count → ⊥) → after_done outcome (λ count. after (room - count) (drop count octets)) (λ _. within term path room false octets inside) ≡ within term path room false octets inside
+    by_outcome Open n = refl
+    by_outcome (Bad offset reason) n = refl
+    by_outcome (Done count) n = absurd (n count refl)
+
+-- a slice from a place on
+pub rest_taken : (octets : List ℕ) (count : ℕ) → take (length octets - count) (drop count octets) ≡ drop count octets
+rest_taken octets count = take_all (length octets - count) (drop count octets) (omega (arith, length-drop count octets))

@@ -1,0 +1,6 @@
+use Rattle.std.proofs.Common.{refl}
+use Rattle.krb_scan.proofs.ScannerSteps.{none_at}
+use Rattle.krb_scan.proofs.path.Path.clear.Goals as goal
+
+pub returns : goal.returns
+returns c = λ terms shallow expected. none_at _ c.args.size shallow c.requires.some c.requires.short refl refl refl refl c.requires.known expected c.clear.ensures
