@@ -1,6 +1,6 @@
 -- What is read of a line, as the message that it spells or its first fault.
 use Rattle.std.proofs.Common.{◌≡◌, ℕ, ◌+◌, ◌<◌, ◌≤◌, List, [], ◌∷◌, ◌++◌, length, get_or, append-nil, Bool, true, false, Option, Some, None, Result, Ok, Err, refl, sym, ◌∙◌, ap, subst, arith}
-use Rattle.std.specs.Prelude.{nat_lt, string_bytes, if◌then◌else◌, IfOk, IfErr}
+use Rattle.std.specs.Prelude.{nat_lt, string_bytes, if◌then◌else◌, IfOk, IfErr, vec_len}
 use Rattle.std.specs.Borrow.{Bor}
 use Rattle.std.specs.Global.{Vec}
 use Rattle.std.specs.Str.{IsUtf8, is_utf8}
@@ -15,7 +15,9 @@ use Rattle.krb_msg.specs.Term.{Term, Value, Fits, der}
 use Rattle.krb_msg.specs.Views.{kind_name, kind_term_in, message_of_der}
 use Rattle.krb_msg.specs.declared.message.Kind.{Kind}
 use Rattle.krb_msg.specs.declared.message.Message.{Message}
+use Rattle.krb_msg.specs.Nodes.{term_at}
 use Rattle.krb_judge.specs.FieldNames.{names_of_kind}
+use Rattle.krb_judge.specs.declared.locating.names.Names.{Names}
 use Rattle.krb_json.specs.declared.wrong.Wrong.{Wrong}
 use Rattle.krb_json.specs.declared.wrong.Wrong.TheVariants.{Longer}
 use Rattle.krb_json.specs.declared.line_fault.Fault as found
@@ -61,6 +63,24 @@ module _ (profile : Profile) (limit : ℕ) (kind : Kind) (j : Json) where
 
   pub message-fault : (it : found.Fault) → Reads (λ path. spelled (kind_term_in profile kind) (names_of_kind kind) path j) (der (kind_term_in profile kind)) [] [] (Err (At it)) → in_line (message_spelled profile limit kind j) ≡ in_line (fault {A = Message} (kind_name kind ++ string_bytes it.path) it.wrong)
   message-fault it r = ap (λ x. in_line (x >>= checked)) (r (kind_name kind))
+
+  -- by the node of the messages of the kind
+  pub message-at : (node : ℕ) (names : Names) (none octets : List ℕ) → term_at node ≡ kind_term_in profile kind → names ≡ names_of_kind kind → none ≡ [] → IsRead (λ path. spelled (term_at node) names path j) (der (term_at node)) none octets → IsMessageRead octets
+  message-at node names none octets termed named is r =
+      subst (λ t. IsRead (λ path. spelled t (names_of_kind kind) path j) (der t) [] octets) termed
+      (subst (λ n. IsRead (λ path. spelled (term_at node) n path j) (der (term_at node)) [] octets) named
+      (subst (λ l. IsRead (λ path. spelled (term_at node) names path j) (der (term_at node)) l octets) is r))
+
+  pub message-returned : (octets : Vec ℕ) (r : Result (Vec ℕ) LineFault) → limit < 2147483648 → vec_len octets ≡ length octets.items → IsMessageRead octets.items → IfOk r (λ same. (same.items ≡ octets.items) × (vec_len octets ≤ limit)) → IfErr r (λ found. (limit < vec_len octets) × IsFaultOf (in_line (fault {A = Message} (kind_name kind) (Longer limit))) found) → ReadsLine (in_line (message_spelled profile limit kind j)) r
+  message-returned octets (Ok same) small len r ok err =
+      subst (AreSpelled (in_line (message_spelled profile limit kind j))) (sym ok.0) (message-read octets.items small r (omega (arith, ok.1, len)))
+  message-returned octets (Err found) small len r ok err =
+      subst (λ s. IsFaultOf s found) (sym (message-long octets.items r (omega (arith, err.0, len)))) err.1
+
+  pub fault-returned : (node : ℕ) (names : Names) (old new : List ℕ) (it : found.Fault) (read : LineFault) → term_at node ≡ kind_term_in profile kind → names ≡ names_of_kind kind → Reads (λ path. spelled (term_at node) names path j) (der (term_at node)) old new (Err (At it)) → IsFaultOf (in_line (fault {A = Message} (kind_name kind ++ string_bytes it.path) it.wrong)) read → IsFaultOf (in_line (message_spelled profile limit kind j)) read
+  fault-returned node names old new it read termed named r at =
+      subst (λ s. IsFaultOf s read)
+      (sym (message-fault it (subst (λ t. Reads (λ path. spelled t (names_of_kind kind) path j) (der t) [] [] (Err (At it))) termed (subst (λ n. Reads (λ path. spelled (term_at node) n path j) (der (term_at node)) [] [] (Err (At it))) named r)))) at
 
 -- ---- the sole member of an object
 module _ {A : Type 0} where
