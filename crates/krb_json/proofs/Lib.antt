@@ -15,3 +15,4 @@ mod NumberTexts
 mod ScalarLemmas
 mod Unshown
 mod BitStrings
+mod SoleMembers

@@ -65,9 +65,10 @@ fn sole_member<'v, 'a>(value: &'v Value<'a>) -> Option<(&'a str, &'v Value<'a>)>
     let Value::Object(members) = value else {
         return None;
     };
-    let [member] = members.as_slice() else {
+    if members.len() != 1 {
         return None;
-    };
+    }
+    let member = &members[0];
     Some((member.0, &member.1))
 }
 
