@@ -15,4 +15,3 @@ mod NumberTexts
 mod ScalarLemmas
 mod Unshown
 mod BitStrings
-mod SoleMembers
