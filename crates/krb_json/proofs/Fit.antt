@@ -64,7 +64,7 @@ integer-fits low high path j value e =
     let s = steps (or_fault path _ (as_number j)) (number_spelled low high path) value e in
     number-fits low high path s.value value s.then
 
-neither : (a b : Bool) → (a || b) ≡ false → (a ≡ false) × (b ≡ false)
+pub neither : (a b : Bool) → (a || b) ≡ false → (a ≡ false) × (b ≡ false)
 neither true b e = cc e
 neither false b e = (refl, e)
 
@@ -99,7 +99,7 @@ octets-fit path j value e =
     let s = steps (or_fault path _ (as_str j)) (λ text. decoded path (decode_of text)) value e in
     octets-of value (decode_of-ok s.value value (decoded-ok path (decode_of s.value) value s.then)).3
 
-time-shape : (digits : ℕ) (octets : List ℕ) → is_time_from digits octets ≡ true → IsTimeFrom digits octets
+pub time-shape : (digits : ℕ) (octets : List ℕ) → is_time_from digits octets ≡ true → IsTimeFrom digits octets
 time-shape zero [] e = cc e
 time-shape zero (last ∷ []) e = eqb-true last 90 e
 time-shape zero (last ∷ next ∷ octets) e = cc e

@@ -11,3 +11,7 @@ mod Searches
 mod ReadLemmas
 mod ReadLists
 mod ReadMessages
+mod NumberTexts
+mod ScalarLemmas
+mod Unshown
+mod BitStrings

@@ -2,3 +2,4 @@ pub mod Sizes
 pub mod Writing
 pub mod Searching
 pub mod Reading
+pub mod Scalars
