@@ -14,6 +14,7 @@ ghost use Rattle.krb_msg.specs.Term.{SequenceOf, Sequence, der, der_of_fields};
 ghost use Rattle.krb_msg.specs.Views.{kind_name};
 ghost use Rattle.krb_msg.specs.declared.message.Message.{Message};
 ghost use Rattle.krb_msg.specs.inner.Values.{contents};
+ghost use Rattle.krb_json.specs.declared.wrong.Wrong.TheVariants.{Longer};
 ghost use Rattle.krb_json.specs.Faults.{fault};
 ghost use Rattle.krb_json.specs.Lines.{in_line, kind_named, line_spells, message_spelled, sole_member, value_spells};
 ghost use Rattle.krb_json.specs.Reading.{AreSpelled, IsFaultOf};
@@ -65,9 +66,10 @@ fn sole_member<'v, 'a>(value: &'v Value<'a>) -> Option<(&'a str, &'v Value<'a>)>
     let Value::Object(members) = value else {
         return None;
     };
-    let [member] = members.as_slice() else {
+    if members.len() != 1 {
         return None;
-    };
+    }
+    let member = &members[0];
     Some((member.0, &member.1))
 }
 
@@ -121,7 +123,7 @@ fn read_message(
 
 /// Returns the fault of a path that follows the name of a kind.
 fn fault_in(alloc: Global, kind: Kind, path: &String, wrong: Wrong) -> LineFault
-    ensures { IsFaultOf (in_line (fault {Message} (kind_name kind ++ string_bytes path.now) wrong)) result }
+    ensures { IsFaultOf (in_line (fault {A = Message} (kind_name kind ++ string_bytes path.now) wrong)) result }
 {
     match joined(alloc, kind.name(), path) {
         Ok(path) => LineFault::At(Fault { path, wrong }),
@@ -132,7 +134,7 @@ fn fault_in(alloc: Global, kind: Kind, path: &String, wrong: Wrong) -> LineFault
 /// Returns octets, if they are no more than a limit.
 fn within(alloc: Global, limit: u32, kind: Kind, octets: Vec<u8>) -> Result<Vec<u8>, LineFault>
     ensures octets { IfOk result (λ same. (same.items ≡ octets.items) × (vec_len octets ≤ limit)) }
-    ensures fault { IfErr result (λ fault. (limit < vec_len octets) × IsFaultOf (in_line (fault {Message} (kind_name kind) (Longer limit))) fault) }
+    ensures fault { IfErr result (λ found. (limit < vec_len octets) × IsFaultOf (in_line (fault {A = Message} (kind_name kind) (Longer limit))) found) }
 {
     if octets.len() <= limit as usize {
         return Ok(octets);
