@@ -6,13 +6,12 @@ use Rattle.krb_der.specs.inner.Items.{length-length_octets}
 use Rattle.krb_der.specs.declared.why.Why.TheVariants as why
 use Rattle.krb_der.specs.declared.verdict.Verdict.TheVariants as verdict
 use Rattle.krb_msg.specs.Term.{Term, tag_of}
-use Rattle.krb_msg.specs.Judgement.{Outcome, Open, Bad, Done, Got, head, has_size, contents_outcome, item_outcome, term_judgement, verdict_of}
+use Rattle.krb_msg.specs.Judgement.{Bad, Done, Got, head, has_size, contents_outcome, item_outcome, term_judgement, verdict_of}
 use Rattle.krb_msg.proofs.Grammars.{whole_outcome}
 use Rattle.krb_msg.proofs.Heads.{IsHead, IsHead-head, head-length_octets}
 use Rattle.krb_msg.proofs.Items.{item_done}
 use Rattle.krb_msg.proofs.Stable.{take-append_right}
 use Rattle.krb_msg.proofs.TermsDecided.{item-count, contents-count}
-use Rattle.krb_judge.specs.Paths.{after_done, within, first_item}
 use Rattle.krb_judge.specs.inner.Descent.{head_of}
 use Rattle.krb_judge.specs.declared.locating.head.Head.{Head as Found}
 use Rattle.krb_judge.specs.declared.locating.head.Head.TheVariants as found
@@ -70,18 +69,6 @@ pub not_done : (term : Term) (room : ℕ) (octets : List ℕ) (f : Found) (count
 not_done term room octets f count is not e =
     let d = item_done (contents_outcome term) term room false octets count e in
     not_got f d.header d.contents not (is ∙ d.found)
-
--- ---- the path goes on after it, or into it
-pub goes_after : (term : Term) (path : List ℕ) (room : ℕ) (octets : List ℕ) (count : ℕ) (inside after : ℕ → List ℕ → List ℕ) → item_outcome term room false octets ≡ Done count → first_item term path room octets inside after ≡ after (room - count) (drop count octets)
-goes_after term path room octets count inside after e = ap (λ outcome. after_done outcome (λ count. after (room - count) (drop count octets)) (λ _. within term path room false octets inside)) e
-
-pub goes_into : (term : Term) (path : List ℕ) (room : ℕ) (octets : List ℕ) (inside after : ℕ → List ℕ → List ℕ) → ((count : ℕ) → item_outcome term room false octets ≡ Done count → ⊥) → first_item term path room octets inside after ≡ within term path room false octets inside
-goes_into term path room octets inside after not = by_outcome (item_outcome term room false octets) not
-  where
-    by_outcome : (outcome : Outcome) → ((count : ℕ) → outcome ≡ Done count → ⊥) → after_done outcome (λ count. after (room - count) (drop count octets)) (λ _. within term path room false octets inside) ≡ within term path room false octets inside
-    by_outcome Open n = refl
-    by_outcome (Bad offset reason) n = refl
-    by_outcome (Done count) n = absurd (n count refl)
 
 -- a slice from a place on
 pub rest_taken : (octets : List ℕ) (count : ℕ) → take (length octets - count) (drop count octets) ≡ drop count octets
