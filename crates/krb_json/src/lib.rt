@@ -3,12 +3,14 @@
 //!
 //! - [`put_text`] appends the JSON of a message to octets, from its DER. The text determines the
 //!   message wholly, and so has its sealed octets, too.
+//! - [`read_line`] returns the DER of the message that a line spells, or the line's first fault
+//!   ([`LineFault`]). Members may come in any order; what `put_text` writes comes back.
 //! - [`unsealed_path`] returns where a message has an EncryptedData of encryption type 0, which
 //!   seals nothing. Look there before you show a text: a KRB-CRED may have session keys in it.
 //!
 //! No cipher is opened, and nothing that is octets for RFC 4120 is looked into. `specs/Objects` has
 //! the JSON of a value, `specs/Spelled` the value that a JSON value spells, or what is wrong with
-//! it ([`Wrong`]), and [`law`] that these belong together; no call reads JSON yet.
+//! it ([`Wrong`]), and [`law`] that these belong together.
 #![tactic(auto)]
 
 mod heads;
