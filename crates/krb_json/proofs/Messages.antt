@@ -24,7 +24,6 @@ use Rattle.krb_msg.specs.Views.{message_of_der}
 use Rattle.krb_msg.specs.Term.{Term, Fields, Integer, Text, Octets, Time, Bits, Sequence, SequenceOf, Tagged, Application, End, Required, Optional, Value, Values, Fits, der}
 use Rattle.krb_msg.specs.Views.{kind_of, kind_name, kind_term, kind_term_in, message_value, message_value_in, message_der, IsInProfile}
 use Rattle.krb_msg.specs.declared.message.Kind.{Kind}
-use Rattle.krb_msg.specs.declared.message.Kind.TheVariants as kind
 use Rattle.krb_msg.specs.declared.message.Message.{Message}
 use Rattle.krb_msg.proofs.Judged.{message_der_in, messages_are_grammar, whole_is_message}
 use Rattle.krb_msg.proofs.KindLaws.{kind_is_one_of}

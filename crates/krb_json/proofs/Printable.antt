@@ -18,10 +18,8 @@ use Rattle.krb_der.specs.Octets.{AreOctets}
 use Rattle.krb_der.specs.Scalars.{IsTimeFrom}
 use Rattle.krb_msg.specs.Views.{kind_name}
 use Rattle.krb_msg.specs.declared.message.Kind.{Kind}
-use Rattle.krb_msg.specs.declared.message.Kind.TheVariants as kind
 use Rattle.krb_judge.specs.FieldNames.{fields_of, field_at, no_field}
 use Rattle.krb_judge.specs.declared.locating.names.Names.{Names}
-use Rattle.krb_judge.specs.declared.locating.names.Names.TheVariants as names
 use Rattle.krb_json.specs.Spelling.{shown_octet, shown}
 use Rattle.krb_json.proofs.KindTexts.{is_printable, all-kinds, all-names}
 

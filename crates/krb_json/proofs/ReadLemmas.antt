@@ -1,12 +1,12 @@
 -- What functions return that read values, put together.
-use Rattle.std.proofs.Common.{◌≡◌, ℕ, ℤ, pos, negsuc, max, inl, inr, to_z, of_z, w64, ◌<◌, ◌+◌, ◌-◌, ◌≤◌, List, [], ◌∷◌, ◌++◌, length, take, drop, get_or, append_assoc, append-nil, Bool, true, false, not, ◌&&◌, Option, Some, None, Result, Ok, Err, refl, sym, ◌∙◌, ap, ap₂, subst, arith}
+use Rattle.std.proofs.Common.{◌≡◌, ℕ, ℤ, pos, negsuc, inl, inr, to_z, of_z, w64, ◌<◌, ◌+◌, ◌-◌, ◌≤◌, List, [], ◌∷◌, ◌++◌, length, take, drop, get_or, append_assoc, append-nil, Bool, Some, None, Result, Ok, Err, refl, sym, ◌∙◌, ap, ap₂, subst, arith}
 use Rattle.std.specs.Prelude.{codes, decimal, string_bytes}
 use Rattle.std.specs.Int.RustNames.{FitsSigned}
 use Rattle.std.specs.Borrow.{Bor}
 use Rattle.std.specs.List.{flat_map, AllByRecursion}
 use Rattle.std.proofs.Math.Seq.{take-append_seam, drop-append_seam}
-use Rattle.json.specs.Json.{Json, Items, Members}
-use Rattle.json.specs.Find.{as_array, get_member}
+use Rattle.json.specs.Json.{Json, Members}
+use Rattle.json.specs.Find.{get_member}
 use Rattle.std.proofs.lemmas.Bool.{cases_lt}
 use Rattle.std.proofs.lemmas.Int.{to_z-of_z, fits_signed_from_abs}
 use Rattle.krb_der.specs.Octets.{item, integer_octets, spelled as spelled_octets}
@@ -17,7 +17,7 @@ use Rattle.krb_msg.specs.Table.{IsFormOf, IsSlot, fields_from, with_slot}
 use Rattle.krb_msg.specs.declared.grammar.Form.TheVariants as form
 use Rattle.krb_msg.specs.declared.grammar.Slot.{Slot}
 use Rattle.krb_msg.specs.declared.grammar.Slot.TheVariants as slot
-use Rattle.krb_msg.specs.Term.{Term, Fields, Integer, Text, Octets, Time, Bits, Sequence, SequenceOf, Tagged, Application, End, Required, Optional, Value, tag_of, der, der_of_fields, octets_of_option}
+use Rattle.krb_msg.specs.Term.{Term, Fields, Integer, Text, Octets, Time, Bits, Sequence, SequenceOf, Tagged, Application, Value, tag_of, der, der_of_fields, octets_of_option}
 use Rattle.krb_msg.specs.inner.Values.{contents, der_is}
 use Rattle.krb_judge.specs.Named.{Named}
 use Rattle.krb_judge.specs.FieldNames.{field_at}
@@ -28,7 +28,7 @@ use Rattle.krb_json.specs.declared.wrong.Wrong.TheVariants.{Missing}
 use Rattle.krb_json.specs.declared.value_fault.ValueFault.{ValueFault}
 use Rattle.krb_json.specs.declared.value_fault.ValueFault.TheVariants.{At, Memory}
 use Rattle.krb_json.specs.Faults.{Fault, fault, ◌>>=◌}
-use Rattle.krb_json.specs.Spelled.{or_fault, unless, integer_spelled, text_spelled, octets_spelled, time_spelled, bits_spelled, required, optional, if_there, spelled, fields_spelled, items_spelled}
+use Rattle.krb_json.specs.Spelled.{or_fault, integer_spelled, text_spelled, octets_spelled, time_spelled, bits_spelled, required, optional, if_there, spelled, fields_spelled}
 use Rattle.krb_json.specs.inner.Sizes.{size, size_of_fields}
 use Rattle.krb_json.specs.inner.Writing.{slot_node}
 use Rattle.krb_json.specs.inner.Reading.{IsRead, Reads, ReadsField, ReadsFields, IsFaultAt, IsUnder}

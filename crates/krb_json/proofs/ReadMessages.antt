@@ -1,6 +1,6 @@
 -- What is read of a line, as the message that it spells or its first fault.
-use Rattle.std.proofs.Common.{◌≡◌, ℕ, ◌+◌, ◌<◌, ◌≤◌, List, [], ◌∷◌, ◌++◌, length, get_or, append-nil, Bool, true, false, Option, Some, None, Result, Ok, Err, refl, sym, ◌∙◌, ap, subst, arith}
-use Rattle.std.specs.Prelude.{nat_lt, string_bytes, if◌then◌else◌, IfOk, IfErr, vec_len}
+use Rattle.std.proofs.Common.{◌≡◌, ℕ, ◌<◌, ◌≤◌, List, [], ◌∷◌, ◌++◌, length, get_or, Bool, true, false, Some, None, Result, Ok, Err, refl, sym, ◌∙◌, ap, subst, arith}
+use Rattle.std.specs.Prelude.{string_bytes, if◌then◌else◌, IfOk, IfErr, vec_len}
 use Rattle.std.specs.Borrow.{Bor}
 use Rattle.std.specs.Global.{Vec}
 use Rattle.std.specs.Str.{IsUtf8, is_utf8}
@@ -11,18 +11,17 @@ use Rattle.json.specs.Tree.{HasNumbers, MembersHaveNumbers}
 use Rattle.json.specs.Value.{value_view, members_view}
 use Rattle.json.specs.declared.value.Value.{Value as JsonValue}
 use Rattle.krb_der.specs.declared.profile.Profile.{Profile}
-use Rattle.krb_msg.specs.Term.{Term, Value, Fits, der}
+use Rattle.krb_msg.specs.Term.{Term, Value, der}
 use Rattle.krb_msg.specs.Views.{kind_name, kind_term_in, message_of_der}
 use Rattle.krb_msg.specs.declared.message.Kind.{Kind}
 use Rattle.krb_msg.specs.declared.message.Message.{Message}
 use Rattle.krb_msg.specs.Nodes.{term_at}
 use Rattle.krb_judge.specs.FieldNames.{names_of_kind}
 use Rattle.krb_judge.specs.declared.locating.names.Names.{Names}
-use Rattle.krb_json.specs.declared.wrong.Wrong.{Wrong}
 use Rattle.krb_json.specs.declared.wrong.Wrong.TheVariants.{Longer}
 use Rattle.krb_json.specs.declared.line_fault.Fault as found
 use Rattle.krb_json.specs.declared.line_fault.LineFault.{LineFault}
-use Rattle.krb_json.specs.declared.value_fault.ValueFault.TheVariants.{At, Memory}
+use Rattle.krb_json.specs.declared.value_fault.ValueFault.TheVariants.{At}
 use Rattle.krb_json.specs.Faults.{Fault, fault, ◌>>=◌}
 use Rattle.krb_json.specs.Lines as lines
 use Rattle.krb_json.specs.Lines.{in_line, message_spelled, within, sole_member, value_of_line}

@@ -11,7 +11,6 @@ use Rattle.krb_msg.specs.Term.{der}
 use Rattle.krb_msg.specs.Views.{message_of_der}
 use Rattle.krb_msg.specs.Views.{kind_name, kind_term_in}
 use Rattle.krb_msg.specs.declared.message.Kind.{Kind}
-use Rattle.krb_msg.specs.declared.message.Kind.TheVariants as kind
 use Rattle.krb_msg.specs.declared.message.Message.{Message}
 use Rattle.krb_judge.specs.FieldNames.{names_of_kind}
 use Rattle.krb_json.specs.AllKinds.{kinds}

@@ -1,4 +1,4 @@
-use Rattle.std.proofs.Common.{◌+◌, ◌-◌, length, take, drop, [], Some, not, ◌&&◌, ◌==◌, sym, ap, subst, ◌∙◌, arith, rules}
+use Rattle.std.proofs.Common.{[], Some, not, ◌&&◌, ◌==◌, sym, ap, subst, ◌∙◌, arith}
 use Rattle.std.specs.List.{flat_map}
 use Rattle.std.proofs.lemmas.Result.{err_from_is_err_and}
 use Rattle.json.specs.Find.{as_array}

@@ -1,4 +1,4 @@
-use Rattle.std.proofs.Common.{Some, ap, sym, subst, ◌∙◌, arith}
+use Rattle.std.proofs.Common.{ap, sym, subst, ◌∙◌, arith}
 use Rattle.std.specs.Option.{option_and_then}
 use Rattle.json.specs.Find.{as_object}
 use Rattle.json.specs.Tree.{HasNumbers}
