@@ -1,5 +1,5 @@
 -- How a datagram is found among those that are kept: by its place among the places of all, which are in the order of what fragments have in common.
-use Rattle.std.specs.Prelude.{◌≡◌, ℕ, ◌+◌, ◌<◌, ◌≤◌, nat_eq, true, None, Some, Ok, Err, Result, List, length, map, slice_index}
+use Rattle.std.specs.Prelude.{◌≡◌, ℕ, ◌-◌, ◌<◌, ◌≤◌, nat_eq, nat_lt, if◌then◌else◌, true, None, Some, Ok, Err, Result, List, length, map, slice_index}
 use Rattle.std.specs.List.{list_any, slice_index_or}
 use Rattle.std.specs.declared.cmp.Ordering.{Ordering}
 use Rattle.std.specs.declared.cmp.Ordering.TheVariants.{Less, Greater}
@@ -41,3 +41,7 @@ IsIndexed datagrams = IsIndex datagrams.places.items (pending_in datagrams)
 abbrev pub IsFound : Result ℕ ℕ → Original → List ℕ → List Pending → Type 0
 IsFound (Ok at) original places pending = (at < length places) × (index_of original pending ≡ Some (slice_index places at))
 IsFound (Err at) original places pending = IsGap at original places pending
+
+-- the place that a datagram has after that at another place was removed
+abbrev pub place_without : ℕ → ℕ → ℕ
+place_without removed place = if nat_lt removed place then place - 1 else place
