@@ -1,6 +1,6 @@
 -- The places of datagrams, in the order of what their fragments have in common.
-use Rattle.std.proofs.Common.{rules, ◌≡◌, ℕ, ◌+◌, ◌-◌, ◌<◌, ◌≤◌, zero, suc, nat_eq, nat_lt, if◌then◌else◌, ◌⊎◌, inl, inr, Bool, true, false, not, ◌||◌, Option, Some, None, Result, Ok, Err, List, [], ◌∷◌, ◌++◌, length, map, get_or, refl, sym, ap, subst, ◌∙◌, arith}
-use Rattle.std.specs.Prelude.{Box}
+use Rattle.std.proofs.Common.{rules, ◌≡◌, ℕ, ◌+◌, ◌-◌, ◌<◌, ◌≤◌, zero, suc, nat_eq, nat_lt, if◌then◌else◌, ◌⊎◌, inl, inr, Bool, true, false, not, ◌||◌, Option, Some, None, Result, Ok, Err, List, [], ◌∷◌, ◌++◌, length, map, take, drop, set, get_or, refl, sym, ap, subst, ◌∙◌, arith}
+use Rattle.std.specs.Prelude.{Box, slice_get}
 use Rattle.std.specs.Bool.{◌==◌}
 use Rattle.std.specs.List.{insert, remove, list_any, position, position_or_len}
 use Rattle.std.specs.List.Sorted.{IsSortedBy, IsBinarySearchResult, IsSearchInRange}
@@ -11,7 +11,7 @@ use Rattle.std.specs.declared.cmp.Ordering.TheVariants.{Less, Equal, Greater}
 use Rattle.std.proofs.lemmas.Bool.{cases_lt, true≢false, eqb-true, eq-eqb}
 use Rattle.std.proofs.lemmas.Bool.Decides.{nat_tests}
 use Rattle.std.proofs.lemmas.Cmp.{alike_right, tied_itself}
-use Rattle.std.proofs.lemmas.List.{get_or_append_left, get_or-map, length-map}
+use Rattle.std.proofs.lemmas.List.{get_or_append_left, get_or-map, length-map, length-set, get_or-set_same, get_or-set_other, set-get_or, map-append, take-map}
 use Rattle.std.proofs.lemmas.List.Sorted.{searchable_from_sorted}
 use Rattle.std.proofs.lemmas.List.Sums.{position_or_len_is}
 use Rattle.std.proofs.lemmas.List.Edits.{get_or-insert_below, get_or-insert_at, get_or-insert_above, get_or-remove_below, get_or-remove_above, length-insert, length-remove}
@@ -19,9 +19,11 @@ use Rattle.std.proofs.lemmas.Grind.{common_steps}
 use Rattle.krb_packet.specs.contracts.contents.OriginalPartialEq.TheImpl as partial
 use Rattle.krb_packet.specs.contracts.contents.OriginalOrd.TheImpl.Laws as laws
 use Rattle.krb_packet.specs.declared.contents.Original.{Original}
+use Rattle.krb_packet.specs.Table.{Table}
 use Rattle.krb_packet.specs.declared.fragments.Pending.{Pending}
-use Rattle.krb_packet.specs.Fragments.{same_original, no_fragments_of, index_of, whole_of}
-use Rattle.krb_packet.specs.inner.Places.{original_cmp, IsIndex, IsGap, IsFound, place_without}
+use Rattle.krb_packet.specs.declared.fragments.Reassembled.{Reassembled}
+use Rattle.krb_packet.specs.Fragments.{same_original, no_fragments_of, plus, index_of, whole_of, without_first, with_datagram, finished}
+use Rattle.krb_packet.specs.inner.Places.{original_cmp, IsIndex, IsGap, IsFound, fewer_than, place_without}
 
 -- ---- the order
 
@@ -51,7 +53,7 @@ tied one other third equal = sym (alike_right laws.total-law other third one equ
 
 -- ---- places
 
-by_default : {X : Type 0} (xs : List X) (k : ℕ) (d e : X) → k < length xs → get_or xs k d ≡ get_or xs k e
+pub by_default : {X : Type 0} (xs : List X) (k : ℕ) (d e : X) → k < length xs → get_or xs k d ≡ get_or xs k e
 by_default [] k d e within = absurd (omega (arith, within))
 by_default (x ∷ xs) zero d e within = refl
 by_default (x ∷ xs) (suc k) d e within = by_default xs k d e (omega (arith, within))
@@ -409,3 +411,129 @@ searched places others pending original (Err at) index same range result =
     let d = no_fragments_of original in
     let point = (rw same at result) (searchable_from_sorted laws.total-law (λ (place : ℕ). (get_or pending place d).original) places original (sorted places pending index d)) in
     not_found places pending index original at (omega (arith, range, ap length same)) (λ i before. point.0 i 0 (omega arith) before) (λ i from inside. point.1 i 0 from inside)
+
+-- ---- boxes
+
+drop-map : {X Y : Type 0} (f : X → Y) (n : ℕ) (xs : List X) → drop n (map f xs) ≡ map f (drop n xs)
+drop-map f zero xs = refl
+drop-map f (suc n) [] = refl
+drop-map f (suc n) (x ∷ xs) = drop-map f n xs
+
+pub map-remove : {X Y : Type 0} (f : X → Y) (xs : List X) (k : ℕ) → map f (remove xs k) ≡ remove (map f xs) k
+map-remove f xs k = map-append f (take k xs) (drop (suc k) xs) ∙ rw (take-map f k xs, drop-map f (suc k) xs) refl
+
+pub pushed_index : (places others : List ℕ) (boxes more : List (Box Pending Global)) (at place : ℕ) (box : Box Pending Global) (one : Pending) → IsIndex places (map (λ one. one.value) boxes) → IsGap at one.original places (map (λ one. one.value) boxes) → whole_of one ≡ None → place ≡ length boxes → others ≡ insert places at place → more ≡ boxes ++ box ∷ [] → box.value ≡ one → IsIndex others (map (λ one. one.value) more)
+pushed_index places others boxes more at place box one index gap whole is_place is_others is_more is_one =
+    let size : place ≡ length (map (λ (one : Box Pending Global). one.value) boxes) = omega (arith, is_place, length-map boxes (λ (one : Box Pending Global). one.value)) in
+    let all : map (λ (one : Box Pending Global). one.value) more ≡ map (λ (one : Box Pending Global). one.value) boxes ++ one ∷ [] = ap (λ (b : List (Box Pending Global)). map (λ (one : Box Pending Global). one.value) b) is_more ∙ map-append (λ (one : Box Pending Global). one.value) boxes (box ∷ []) ∙ ap (λ (p : Pending). map (λ (one : Box Pending Global). one.value) boxes ++ p ∷ []) is_one in
+    rw (is_others, size, all) (pushed places (map (λ one. one.value) boxes) index at one gap whole)
+
+some_of : (xs : List Pending) (k : ℕ) → k < length xs → Pending
+some_of [] k within = absurd (omega (arith, within))
+some_of (x ∷ xs) k within = x
+
+pub removed_index : (places others : List ℕ) (pending left : List Pending) (at place : ℕ) → IsIndex places pending → at < length places → place ≡ get_or places at 0 → others ≡ map (place_without place) (remove places at) → left ≡ remove pending place → IsIndex others left
+removed_index places others pending left at place index within is_place is_others is_left_of =
+    rw (is_others, is_left_of, is_place) (is_left places pending index at within (some_of pending (get_or places at 0) (index.within at within)))
+
+pub whole_again : (n : ℕ) (xs items : List ℕ) → length xs ≡ n → length items ≡ n → take n (xs ++ drop (length xs) items) ≡ xs
+whole_again n xs items of_xs of_items = grind (arith, common_steps, of_xs, of_items)
+
+-- ---- a datagram that goes on
+
+apart_or : (k place : ℕ) → (k ≡ place → ⊥) ⊎ (place ≡ k)
+apart_or k place = elim (cases_lt k place) [
+  | inl before ↦ inl (λ same. omega (arith, before, same))
+  | inr from ↦ elim (cases_lt place k) [
+    | inl after ↦ inl (λ same. omega (arith, after, same))
+    | inr upto ↦ inr (omega (arith, from, upto))
+  ]
+]
+
+pub set_index : (places : List ℕ) (pending : List Pending) (place : ℕ) (one : Pending) → IsIndex places pending → place < length pending → ((d : Pending) → one.original ≡ (get_or pending place d).original) → whole_of one ≡ None → IsIndex places (set pending place one)
+set_index places pending place one index there same whole = record {
+  within = λ i inside. omega (arith, index.within i inside, length-set pending place one);
+  ordered = λ i j d upto inside. less_as (original_at (get_or places i 0) d (apart_or (get_or places i 0) place)) (original_at (get_or places j 0) d (apart_or (get_or places j 0) place)) (index.ordered i j d upto inside);
+  complete = λ k inside. index.complete k (omega (arith, inside, length-set pending place one));
+  «open» = λ k d inside. elim (apart_or k place) [
+    | inl other ↦ ap whole_of (get_or-set_other pending place k one d other) ∙ index.«open» k d (omega (arith, inside, length-set pending place one))
+    | inr e ↦ subst (λ (n : ℕ). whole_of (get_or (set pending place one) n d) ≡ None) e (ap whole_of (get_or-set_same pending place one d there) ∙ whole)
+  ];
+}
+  where
+    less_as : {a b x y : Original} → a ≡ x → b ≡ y → original_cmp x y ≡ Less → original_cmp a b ≡ Less
+    less_as e f less = rw (e, f) less
+    original_at : (k : ℕ) (d : Pending) → (k ≡ place → ⊥) ⊎ (place ≡ k) → (get_or (set pending place one) k d).original ≡ (get_or pending k d).original
+    original_at k d (inl differs) = ap (λ (p : Pending). p.original) (get_or-set_other pending place k one d differs)
+    original_at k d (inr e) = subst (λ (n : ℕ). (get_or (set pending place one) n d).original ≡ (get_or pending n d).original) e (ap (λ (p : Pending). p.original) (get_or-set_same pending place one d there) ∙ same d)
+
+pub boxes_set : (boxes : List (Box Pending Global)) (place : ℕ) (box : Box Pending Global) → map (λ one. one.value) (set boxes place box) ≡ set (map (λ one. one.value) boxes) place box.value
+boxes_set [] place box = refl
+boxes_set (first ∷ boxes) zero box = refl
+boxes_set (first ∷ boxes) (suc place) box = ap (λ (xs : List Pending). first.value ∷ xs) (boxes_set boxes place box)
+
+pub set_same : (pending : List Pending) (place : ℕ) (one : Pending) → one ≡ get_or pending place one → set pending place one ≡ pending
+set_same pending place one same = ap (λ (p : Pending). set pending place p) same ∙ set-get_or pending place one
+
+got : (xs : List Pending) (k : ℕ) (d : Pending) → k < length xs → get_or xs k d ≡ d → slice_get xs k ≡ Some d
+got [] k d within is = absurd (omega (arith, within))
+got (x ∷ xs) zero d within is = ap Some is
+got (x ∷ xs) (suc k) d within is = got xs k d (omega (arith, within)) is
+
+pub finished_none : (pending : List Pending) (given_up place : ℕ) (one : Pending) → place < length pending → whole_of one ≡ None → finished (record { pending = set pending place one; given_up = given_up }, place) ≡ (None, record { pending = set pending place one; given_up = given_up })
+finished_none pending given_up place one there whole = rw (got (set pending place one) place one (omega (arith, there, length-set pending place one)) (get_or-set_same pending place one one there), whole) refl
+
+pub finished_some : (pending : List Pending) (given_up place : ℕ) (one : Pending) (whole : Reassembled) → place < length pending → whole_of one ≡ Some whole → finished (record { pending = set pending place one; given_up = given_up }, place) ≡ (Some whole, record { pending = remove pending place; given_up = given_up })
+finished_some pending given_up place one whole there is = rw (got (set pending place one) place one (omega (arith, there, length-set pending place one)) (get_or-set_same pending place one one there), is) (ap (λ (xs : List Pending). (Some whole, record { pending = xs; given_up = given_up })) (remove-set pending place one there))
+  where
+    remove-set : (xs : List Pending) (k : ℕ) (x : Pending) → k < length xs → remove (set xs k x) k ≡ remove xs k
+    remove-set xs k x within = grind (arith, common_steps, within)
+
+-- ---- the datagram that began first
+
+first_at : (first : Pending) (later : List Pending) → index_of first.original (first ∷ later) ≡ Some 0
+first_at first later = position_is (λ other. same_original other.original first.original) (first ∷ later) 0 first (omega arith) (same_is first.original first.original ∙ ap is_eq (tied_itself laws.total-law first.original)) (λ k before. absurd (omega (arith, before)))
+
+pub first_there : (pending : List Pending) (original : Original) → 0 < length pending → ((d : Pending) → original ≡ (get_or pending 0 d).original) → index_of original pending ≡ Some 0
+first_there [] original some same = absurd (omega (arith, some))
+first_there (first ∷ later) original some same = subst (λ (o : Original). index_of o (first ∷ later) ≡ Some 0) (sym (same first)) (first_at first later)
+
+pub first_given_up : (pending left : List Pending) (original : Original) (place given_up count : ℕ) (one : Pending) → 0 < length pending → ((d : Pending) → original ≡ (get_or pending 0 d).original) → index_of original pending ≡ Some place → one ≡ get_or pending place one → left ≡ remove pending place → count ≡ plus given_up one.count → (let table : Table = record { pending = left; given_up = count } in table) ≡ without_first pending given_up
+first_given_up [] left original place given_up count one some same at is is_left_of counted = absurd (omega (arith, some))
+first_given_up (first ∷ later) left original place given_up count one some same at is is_left_of counted =
+    let zero_at : place ≡ 0 = cc (first_there (first ∷ later) original some same) in
+    let its : one ≡ first = is ∙ ap (λ (n : ℕ). get_or (first ∷ later) n one) zero_at in
+    let rest_of : left ≡ later = is_left_of ∙ ap (λ (n : ℕ). remove (first ∷ later) n) zero_at in
+    rw (rest_of, counted, its) refl
+
+-- ---- a datagram that begins
+
+last_of : (xs : List Pending) (one : Pending) → slice_get (xs ++ one ∷ []) (length (xs ++ one ∷ []) - 1) ≡ Some one
+last_of xs one = got (xs ++ one ∷ []) (length (xs ++ one ∷ []) - 1) one (omega (arith, length_push xs one)) (ap (λ (n : ℕ). get_or (xs ++ one ∷ []) n one) (omega (arith, length_push xs one)) ∙ last_push xs one one)
+
+without_last : (xs : List Pending) (one : Pending) → remove (xs ++ one ∷ []) (length (xs ++ one ∷ []) - 1) ≡ xs
+without_last xs one = grind (arith, common_steps)
+
+pub begun_whole : (pending : List Pending) (given_up : ℕ) (one : Pending) (whole : Reassembled) → whole_of one ≡ Some whole → (let table : Table = record { pending = pending; given_up = given_up } in finished (with_datagram table one, length (with_datagram table one).pending - 1)) ≡ (Some whole, fewer_than 1024 (record { pending = pending; given_up = given_up }))
+begun_whole [] given_up one whole is = rw is refl
+begun_whole (first ∷ later) given_up one whole is = by (nat_lt (length (first ∷ later)) 1024) refl
+  where
+    by : (b : Bool) → nat_lt (length (first ∷ later)) 1024 ≡ b → (let table : Table = record { pending = first ∷ later; given_up = given_up } in finished (with_datagram table one, length (with_datagram table one).pending - 1)) ≡ (Some whole, fewer_than 1024 (record { pending = first ∷ later; given_up = given_up }))
+    by true few =
+        let fits : nat_lt 1024 (length (first ∷ later ++ one ∷ [])) ≡ false = grind (arith, nat_tests, few, length_push (first ∷ later) one) in
+        rw (few, fits, last_of (first ∷ later) one, is) (ap (λ (xs : List Pending). (Some whole, record { pending = xs; given_up = given_up })) (without_last (first ∷ later) one))
+    by false many =
+        let over : nat_lt 1024 (length (first ∷ later ++ one ∷ [])) ≡ true = grind (arith, nat_tests, many, length_push (first ∷ later) one) in
+        rw (many, over, last_of later one, is) (ap (λ (xs : List Pending). (Some whole, record { pending = xs; given_up = plus given_up first.count })) (without_last later one))
+
+pub begun_kept : (pending : List Pending) (given_up : ℕ) (one : Pending) → whole_of one ≡ None → (let table : Table = record { pending = pending; given_up = given_up } in finished (with_datagram table one, length (with_datagram table one).pending - 1)) ≡ (None, fewer_than 1025 (record { pending = pending ++ one ∷ []; given_up = given_up }))
+begun_kept [] given_up one is = rw is refl
+begun_kept (first ∷ later) given_up one is = by (nat_lt 1024 (length (first ∷ later ++ one ∷ []))) refl
+  where
+    by : (b : Bool) → nat_lt 1024 (length (first ∷ later ++ one ∷ [])) ≡ b → (let table : Table = record { pending = first ∷ later; given_up = given_up } in finished (with_datagram table one, length (with_datagram table one).pending - 1)) ≡ (None, fewer_than 1025 (record { pending = first ∷ later ++ one ∷ []; given_up = given_up }))
+    by true over =
+        let many : nat_lt (length (first ∷ later ++ one ∷ [])) 1025 ≡ false = grind (arith, nat_tests, over) in
+        rw (over, many, last_of later one, is) refl
+    by false fits =
+        let few : nat_lt (length (first ∷ later ++ one ∷ [])) 1025 ≡ true = grind (arith, nat_tests, fits) in
+        rw (fits, few, last_of (first ∷ later) one, is) refl

@@ -3,7 +3,7 @@
 ghost use Rattle.std.specs.Prelude.{◌≡◌, ◌++◌, ◌<◌, None, Some, Err, [], ◌∷◌, length, map, remove, slice_index, if◌then◌else◌, is_some, IfOk, OnErr, OnOk};
 ghost use Rattle.std.specs.List.{slice_index_or};
 ghost use Rattle.krb_packet.specs.Fragments.{no_fragments, no_fragments_of, whole_of, with_fragment_at, without_first, finished, step, unread};
-ghost use Rattle.krb_packet.specs.inner.Places.{IsFound, IsGap, IsIndexed, original_cmp, pending_in, place_without, table_of};
+ghost use Rattle.krb_packet.specs.inner.Places.{IsFound, IsGap, IsIndexed, fewer_than, original_cmp, pending_in, place_without, table_of};
 
 use crate::contents::{Fragment, Original};
 use crate::fragments::{Pending, Reassembled};
@@ -112,6 +112,18 @@ impl Datagrams {
         }
     }
 
+    /// Gives up the datagram that began first, if there are `many` or more.
+    fn keep_fewer_than(&mut self, many: usize)
+        requires index { IsIndexed self.old }
+        requires some { 0 < many }
+        ensures fewer { table_of self.new ≡ fewer_than many (table_of self.old) }
+        ensures index { IsIndexed self.new }
+    {
+        if self.pending.len() >= many {
+            self.give_up_first();
+        }
+    }
+
     /// Adds a fragment of a datagram whose place is at an index of the places. Out of memory,
     /// nothing changes.
     fn go_on(
@@ -128,11 +140,13 @@ impl Datagrams {
         ensures memory { OnErr result (table_of self.new ≡ table_of self.old) }
     {
         let place = self.places[at];
-        let whole = self.pending[place].take(alloc, fragment)?;
-        if whole.is_some() {
-            self.remove(at);
+        match self.pending[place].take(alloc, fragment)? {
+            Some(whole) => {
+                self.remove(at);
+                Ok(Some(whole))
+            }
+            None => Ok(None),
         }
-        Ok(whole)
     }
 
     /// Begins a datagram with a fragment, whose place comes to `at` among the places; if it is
@@ -151,18 +165,17 @@ impl Datagrams {
         ensures memory { OnErr result (table_of self.new ≡ table_of self.old) }
     {
         let mut pending = Pending::new(alloc, fragment.original);
-        let whole = pending.take(alloc, fragment)?;
-        if whole.is_some() {
-            if self.pending.len() >= MOST_DATAGRAMS {
-                self.give_up_first();
+        match pending.take(alloc, fragment)? {
+            Some(whole) => {
+                self.keep_fewer_than(MOST_DATAGRAMS);
+                Ok(Some(whole))
             }
-            return Ok(whole);
+            None => {
+                self.push(alloc, at, pending)?;
+                self.keep_fewer_than(MOST_DATAGRAMS + 1);
+                Ok(None)
+            }
         }
-        self.push(alloc, at, pending)?;
-        if self.pending.len() > MOST_DATAGRAMS {
-            self.give_up_first();
-        }
-        Ok(None)
     }
 
     /// Adds a fragment, and returns the whole datagram if that is completed by it. Out of memory,

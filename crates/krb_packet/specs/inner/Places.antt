@@ -7,7 +7,7 @@ use Rattle.krb_packet.specs.contracts.contents.OriginalOrd.TheImpl as order
 use Rattle.krb_packet.specs.declared.contents.Original.{Original}
 use Rattle.krb_packet.specs.declared.fragments.Pending.{Pending}
 use Rattle.krb_packet.specs.declared.datagrams.Datagrams.{Datagrams}
-use Rattle.krb_packet.specs.Fragments.{index_of, whole_of}
+use Rattle.krb_packet.specs.Fragments.{index_of, whole_of, without_first}
 use Rattle.krb_packet.specs.Table.{Table}
 
 abbrev pub original_cmp : Original → Original → Ordering
@@ -45,3 +45,7 @@ IsFound (Err at) original places pending = IsGap at original places pending
 -- the place that a datagram has after that at another place was removed
 abbrev pub place_without : ℕ → ℕ → ℕ
 place_without removed place = if nat_lt removed place then place - 1 else place
+
+-- the table without the datagram that began first, if there are this many or more
+abbrev pub fewer_than : ℕ → Table → Table
+fewer_than many table = if nat_lt (length table.pending) many then table else without_first table.pending table.given_up
