@@ -1,7 +1,7 @@
 -- The places of datagrams, in the order of what their fragments have in common.
 use Rattle.std.proofs.Common.{rules, ◌≡◌, ℕ, ◌+◌, ◌-◌, ◌<◌, ◌≤◌, zero, suc, nat_eq, nat_lt, if◌then◌else◌, ◌⊎◌, inl, inr, Bool, true, false, not, ◌||◌, Option, Some, None, Result, Ok, Err, List, [], ◌∷◌, ◌++◌, length, map, take, drop, set, get_or, refl, sym, ap, subst, ◌∙◌, arith}
 use Rattle.std.specs.Prelude.{Box, slice_get}
-use Rattle.std.specs.Bool.{◌==◌}
+use Rattle.std.specs.Result.{OnErr}
 use Rattle.std.specs.List.{insert, remove, list_any, position, position_or_len}
 use Rattle.std.specs.List.Sorted.{IsSortedBy, IsBinarySearchResult, IsSearchInRange}
 use Rattle.std.specs.Ordering.{eq_by_cmp, is_lt, is_eq, ordering_reverse}
@@ -537,3 +537,15 @@ begun_kept (first ∷ later) given_up one is = by (nat_lt 1024 (length (first �
     by false fits =
         let few : nat_lt (length (first ∷ later ++ one ∷ [])) 1025 ≡ true = grind (arith, nat_tests, fits) in
         rw (fits, few, last_of (first ∷ later) one, is) refl
+
+-- ---- a datagram in its box
+
+pub held : (boxes : List (Box Pending Global)) (place : ℕ) (box : Box Pending Global) (one e : Pending) → place < length (map (λ (b : Box Pending Global). b.value) boxes) → box ≡ get_or boxes place box → one ≡ box.value → one ≡ get_or (map (λ b. b.value) boxes) place e
+held boxes place box one e within is_box is_one = is_one ∙ ap (λ (b : Box Pending Global). b.value) is_box ∙ sym (boxed boxes place box e (omega (arith, within, length-map boxes (λ (b : Box Pending Global). b.value))))
+
+pub set_in : (boxes : List (Box Pending Global)) (at place : ℕ) (box : Box Pending Global) → at ≡ place → map (λ b. b.value) (set boxes at box) ≡ set (map (λ b. b.value) boxes) place box.value
+set_in boxes at place box same = boxes_set boxes at box ∙ ap (λ (n : ℕ). set (map (λ b. b.value) boxes) n box.value) same
+
+pub on_err : {T E : Type 0} (result : Result T E) (P : Type 0) → P → OnErr result P
+on_err (Ok value) P is = tt
+on_err (Err error) P is = is
