@@ -97,10 +97,10 @@ any_at (place ∷ places) k (suc i) within is = by (nat_eq k place) (any_at plac
 module _ (places : List ℕ) (pending : List Pending) (index : IsIndex places pending) where
   pub sorted : (d : Pending) → IsSortedBy (λ a b. is_lt (original_cmp (get_or pending a d).original (get_or pending b d).original)) places
   sorted d = λ k e low within.
-    let less = index.ordered k (k + 1) d (omega arith) within in
-    let here : get_or places k e ≡ get_or places k 0 = by_default places k e 0 (omega (arith, within)) in
-    let next : get_or places (k + 1) e ≡ get_or places (k + 1) 0 = by_default places (k + 1) e 0 within in
-    rw (here, next) (ap is_lt (after_less (get_or pending (get_or places k 0) d).original (get_or pending (get_or places (k + 1) 0) d).original less))
+      let less = index.ordered k (k + 1) d (omega arith) within in
+      let here : get_or places k e ≡ get_or places k 0 = by_default places k e 0 (omega (arith, within)) in
+      let next : get_or places (k + 1) e ≡ get_or places (k + 1) 0 = by_default places (k + 1) e 0 within in
+      rw (here, next) (ap is_lt (after_less (get_or pending (get_or places k 0) d).original (get_or pending (get_or places (k + 1) 0) d).original less))
 
   distinct : (d : Pending) (i j : ℕ) → i < length places → j < length places → get_or places i 0 ≡ get_or places j 0 → i ≡ j
   distinct d i j i_within j_within same = elim (cases_lt i j) [
@@ -125,6 +125,7 @@ module _ (places : List ℕ) (pending : List Pending) (index : IsIndex places pe
     where
       place : ℕ
       place = get_or places at 0
+
       other : (k : ℕ) → k < length pending → (k ≡ place → ⊥) → same_original (get_or pending k d).original original ≡ false
       other k inside differs =
           let here = at_index places k (index.complete k inside) in
@@ -144,8 +145,8 @@ module _ (places : List ℕ) (pending : List Pending) (index : IsIndex places pe
   pub not_found : (original : Original) (at : ℕ) → at ≤ length places → ((i : ℕ) → i < at → original_cmp (get_or pending (get_or places i 0) (no_fragments_of original)).original original ≡ Less) → ((i : ℕ) → at ≤ i → i < length places → original_cmp (get_or pending (get_or places i 0) (no_fragments_of original)).original original ≡ Greater) → IsGap at original places pending
   not_found original at within less greater = record {
     none = position_none (λ other. same_original other.original original) pending (no_fragments_of original) (λ k inside.
-      let here = at_index places k (index.complete k inside) in
-      subst (λ (n : ℕ). same_original (get_or pending n (no_fragments_of original)).original original ≡ false) here.is (by here.index here.within (cases_lt here.index at)));
+        let here = at_index places k (index.complete k inside) in
+        subst (λ (n : ℕ). same_original (get_or pending n (no_fragments_of original)).original original ≡ false) here.is (by here.index here.within (cases_lt here.index at)));
     within = within;
     before = λ i d before. subst (λ (p : Pending). original_cmp p.original original ≡ Less) (by_default pending (get_or places i 0) (no_fragments_of original) d (index.within i (omega (arith, within, before)))) (less i before);
     from = λ i d from inside. subst (λ (p : Pending). original_cmp p.original original ≡ Greater) (by_default pending (get_or places i 0) (no_fragments_of original) d (index.within i inside)) (greater i from inside);
@@ -463,6 +464,7 @@ set_index places pending place one index there same whole = record {
   where
     less_as : {a b x y : Original} → a ≡ x → b ≡ y → original_cmp x y ≡ Less → original_cmp a b ≡ Less
     less_as e f less = rw (e, f) less
+
     original_at : (k : ℕ) (d : Pending) → (k ≡ place → ⊥) ⊎ (place ≡ k) → (get_or (set pending place one) k d).original ≡ (get_or pending k d).original
     original_at k d (inl differs) = ap (λ (p : Pending). p.original) (get_or-set_other pending place k one d differs)
     original_at k d (inr e) = subst (λ (n : ℕ). (get_or (set pending place one) n d).original ≡ (get_or pending n d).original) e (ap (λ (p : Pending). p.original) (get_or-set_same pending place one d there) ∙ same d)
