@@ -101,10 +101,13 @@ follows_more octets from piece (first ∷ others) begins some are apart follows 
   where
     here : are_apart piece.span first.span ≡ true
     here = grind (arith, nat_tests)
+
     there : list_all (λ other. are_apart piece.span other.span) others ≡ true
     there = grind (arith, nat_tests)
+
     sizes : first.span.start ≤ first.span.end
     sizes = omega (arith, are.0.size)
+
     by : (b : Bool) → is_before first.span piece.span ≡ b → (first.span.end ≤ piece.span.start → Follows first.span.end (with_piece piece others)) → Follows from (when b (λ _. first ∷ with_piece piece others) (λ _. piece ∷ first ∷ others))
     by true before later = (follows.0, later (before_ends first.span piece.span sizes some here before))
     by false before later = (begins, (after_begins first.span piece.span sizes some here before, follows.1))
@@ -239,6 +242,7 @@ is_of octets fragment piece = record {
   where
     taken_length : (xs : List ℕ) (at n : ℕ) → at + n ≤ length xs → length (take n (drop at xs)) ≡ n
     taken_length xs at n within = grind (arith, common_steps)
+
     taken_at : (xs : List ℕ) (at n k : ℕ) → at + n ≤ length xs → k < n → get_or (take n (drop at xs)) k 0 ≡ get_or xs (at + k) 0
     taken_at xs at n k within here = grind (arith, common_steps)
 

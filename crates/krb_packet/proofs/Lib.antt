@@ -4,6 +4,7 @@ pub mod Gathering
 pub mod Heads
 pub mod PacketHeads
 pub mod Pieces
+pub mod Places
 pub mod Options
 pub mod Parsing
 pub mod Skipping

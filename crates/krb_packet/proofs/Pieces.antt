@@ -118,6 +118,7 @@ all_apart octets parts span place some are is before after = all_all (λ part. a
         let order = are.ordered k (place - 1) d far (omega (arith, is.within)) in
         let begins = before_starts (get_or parts (place - 1) d).span span (is.before (place - 1) d (omega arith)) in
         omega (arith, order.ends, begins)
+
     far_after : (k : ℕ) (d : Part) → place < k → k < length parts → span.end ≤ (get_or parts k d).span.start
     far_after k d far within =
         let order = are.ordered place k d far within in
@@ -198,6 +199,7 @@ joined_more octets parts k d within =
   where
     append-nil : (xs : List ℕ) → xs ++ [] ≡ xs
     append-nil xs = grind (arith, common_steps)
+
     take-more : (xs : List Part) (n : ℕ) (e : Part) → n < length xs → take (n + 1) xs ≡ take n xs ++ get_or xs n e ∷ []
     take-more xs n e inside = grind (arith, common_steps)
 
@@ -232,11 +234,11 @@ kept_parts octets new parts place part are few within begins ends before after =
     | inl earlier ↦ rw (get_or-insert_below parts place part d k earlier within) (more (get_or parts k d) (are.within k d (omega arith)))
     | inr from ↦ elim (cases_lt place k) [
       | inl later ↦
-        let e : (k - 1) + 1 ≡ k = omega arith in
-        subst (λ (n : ℕ). IsWithin (octets ++ new) (get_or (insert parts place part) n d)) e (rw (get_or-insert_above parts place part d (k - 1) (omega arith) within) (more (get_or parts (k - 1) d) (are.within (k - 1) d (omega (arith, length-insert parts place part within)))))
+          let e : (k - 1) + 1 ≡ k = omega arith in
+          subst (λ (n : ℕ). IsWithin (octets ++ new) (get_or (insert parts place part) n d)) e (rw (get_or-insert_above parts place part d (k - 1) (omega arith) within) (more (get_or parts (k - 1) d) (are.within (k - 1) d (omega (arith, length-insert parts place part within)))))
       | inr same ↦
-        let e : place ≡ k = omega arith in
-        subst (λ (n : ℕ). IsWithin (octets ++ new) (get_or (insert parts place part) n d)) e (rw (get_or-insert_at parts place part d within) its)
+          let e : place ≡ k = omega arith in
+          subst (λ (n : ℕ). IsWithin (octets ++ new) (get_or (insert parts place part) n d)) e (rw (get_or-insert_at parts place part d within) its)
     ]
   ];
   ordered = λ j k d upto inside. order j k d upto (omega (arith, length-insert parts place part within, inside)) (cases_lt j place) (cases_lt k place) (cases_lt place j) (cases_lt place k);
@@ -244,21 +246,28 @@ kept_parts octets new parts place part are few within begins ends before after =
   where
     more : (one : Part) → IsWithin octets one → IsWithin (octets ++ new) one
     more one is = record { size = is.size; came = omega (arith, length-append octets new, is.came) }
+
     its : IsWithin (octets ++ new) part
     its = record { size = omega (arith, ends); came = omega (arith, length-append octets new, ends, begins) }
+
     at : ℕ → Part → Span
     at n d = (get_or (insert parts place part) n d).span
+
     below : (n : ℕ) (d : Part) → n < place → at n d ≡ (get_or parts n d).span
     below n d earlier = ap (λ (p : Part). p.span) (get_or-insert_below parts place part d n earlier within)
+
     here : (n : ℕ) (d : Part) → n ≡ place → at n d ≡ part.span
     here n d same = ap (λ (m : ℕ). at m d) same ∙ ap (λ (p : Part). p.span) (get_or-insert_at parts place part d within)
+
     above : (n : ℕ) (d : Part) → place < n → at n d ≡ (get_or parts (n - 1) d).span
     above n d later =
         let e : (n - 1) + 1 ≡ n = omega arith in
         let is : at ((n - 1) + 1) d ≡ (get_or parts (n - 1) d).span = ap (λ (p : Part). p.span) (get_or-insert_above parts place part d (n - 1) (omega arith) within) in
         subst (λ (m : ℕ). at m d ≡ (get_or parts (n - 1) d).span) e is
+
     both : (j k : ℕ) (d : Part) (one other : Span) → at j d ≡ one → at k d ≡ other → Precedes one other → Precedes (at j d) (at k d)
     both j k d one other i o p = rw (i, o) p
+
     order : (j k : ℕ) (d : Part) → j < k → k < length parts + 1 → (j < place) ⊎ (place ≤ j) → (k < place) ⊎ (place ≤ k) → (place < j) ⊎ (j ≤ place) → (place < k) ⊎ (k ≤ place) → Precedes (at j d) (at k d)
     order j k d upto inside (inl j_before) (inl k_before) j_after k_after = both j k d _ _ (below j d j_before) (below k d k_before) (are.ordered j k d upto (omega arith))
     order j k d upto inside (inl j_before) (inr k_from) j_after (inl k_after) = both j k d _ _ (below j d j_before) (above k d k_after) (are.ordered j (k - 1) d (omega arith) (omega arith))
@@ -281,19 +290,24 @@ is_new octets parts all fragment place are pieces is sound end differs fit = rec
   where
     part : Piece → Part
     part piece = record { span = piece.span; begin = 0 }
+
     spanned : (k : ℕ) (d : Piece) → k < length parts → (get_or (map (piece_in octets) parts) k d).span ≡ (get_or parts k (part d)).span
     spanned k d inside = rw (get_or-map (piece_in octets) parts k (part d) d inside) refl
+
     apart : list_all (λ part. are_apart (span_of fragment) part.span) parts ≡ true
     apart =
         let all_of : list_all (λ piece. are_apart (span_of fragment) piece.span) all.pieces ≡ true = grind (arith, nat_tests, fit) in
         sym (list_all-map (λ piece. are_apart (span_of fragment) piece.span) (piece_in octets) parts) ∙ (rw pieces at all_of)
+
     first : (k : ℕ) (d : Piece) → k < place → Precedes (get_or parts k (part d)).span (span_of fragment)
     first k d earlier = record {
       before = is.before k (part d) earlier;
       ends = apart_ends (get_or parts k (part d)).span (span_of fragment) (are.within k (part d) (omega (arith, is.within))).size (omega arith) (all_at (λ part. are_apart (span_of fragment) part.span) parts k (part d) apart (omega (arith, is.within))) (is.before k (part d) earlier);
     }
+
     any_at : (k : ℕ) (d : Piece) → k < length parts → same_span (span_of fragment) (get_or parts k (part d)).span ≡ false
     any_at k d inside = by_false (same_span (span_of fragment) (get_or parts k (part d)).span) (λ same. true≢false (sym (list_any_at (λ part. same_span (span_of fragment) part.span) parts k (part d) inside same) ∙ differs))
+
     later : (k : ℕ) (d : Piece) → place ≤ k → k < length parts → Precedes (span_of fragment) (get_or parts k (part d)).span
     later k d from inside = record {
       before = not_before_is_after (get_or parts k (part d)).span (span_of fragment) (is.from k (part d) from inside) (any_at k d inside);
@@ -308,8 +322,10 @@ after_keep octets more parts others all fragment place part are pieces count new
   where
     within : place ≤ length parts
     within = omega (arith, new.within, ap length pieces, length-map parts (piece_in octets))
+
     ends : part.span.end ≡ part.span.start + length fragment.payload.octets
     ends = rw span refl
+
     spanned : (k : ℕ) (d : Part) → k < length parts → (get_or all.pieces k (piece_in octets d)).span ≡ (get_or parts k d).span
     spanned k d inside = rw pieces (ap (λ (p : Piece). p.span) (get_or-map (piece_in octets) parts k d (piece_in octets d) inside))
 
@@ -334,8 +350,10 @@ no_fit_there octets parts all fragment place part pieces within at same differs 
   where
     none_in : part.span.end - part.span.start ≡ 0 → length (octets_in octets part) ≡ 0
     none_in empty = rw empty refl
+
     size : part.span.end - part.span.start ≡ length fragment.payload.octets
     size = grind (arith, nat_tests, same)
+
     some : (span_of fragment).start < (span_of fragment).end
     some = elim (cases_lt 0 (length fragment.payload.octets)) [
       | inl there ↦ omega arith
@@ -384,6 +402,7 @@ within_take octets parts front n are few is k d within =
   where
     length_take : (xs : List Part) (n : ℕ) → n ≤ length xs → length (take n xs) ≡ n
     length_take xs n few = grind (arith, common_steps)
+
     get_or_take : (xs : List Part) (n k : ℕ) (d : Part) → n ≤ length xs → k < n → get_or (take n xs) k d ≡ get_or xs k d
     get_or_take xs n k d few within = grind (arith, common_steps)
 
@@ -394,6 +413,7 @@ within_drop octets parts back n are few is k d within =
   where
     length_drop : (xs : List Part) (n : ℕ) → n ≤ length xs → length (drop n xs) + n ≡ length xs
     length_drop xs n few = grind (arith, common_steps)
+
     get_or_drop : (xs : List Part) (n k : ℕ) (d : Part) → get_or (drop n xs) k d ≡ get_or xs (n + k) d
     get_or_drop xs n k d = grind (arith, common_steps)
 

@@ -119,8 +119,7 @@ impl Span {
     {
         self.start < other.start
             || self.start == other.start
-                && (self.end < other.end
-                    || self.end == other.end && !self.is_last && other.is_last)
+                && (self.end < other.end || self.end == other.end && !self.is_last && other.is_last)
     }
 }
 
@@ -242,7 +241,8 @@ impl Assembly {
     {
         let Span { end, is_last, .. } = span_of(fragment);
         (self.is_ended | is_last)
-            & (self.octets.len() + fragment.payload.octets().len() == usize::from(self.reach.max(end)))
+            & (self.octets.len() + fragment.payload.octets().len()
+                == usize::from(self.reach.max(end)))
     }
 
     /// Returns the protocol of the fragment at offset 0, with a new one.

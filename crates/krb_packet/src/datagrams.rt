@@ -1,9 +1,9 @@
 //! Datagrams that are put together, found by what their fragments have in common.
 
-ghost use Rattle.std.specs.Prelude.{◌≡◌, ◌++◌, ◌<◌, None, Some, Err, [], ◌∷◌, length, remove, slice_index, if◌then◌else◌, is_some, IfOk, OnErr, OnOk};
+ghost use Rattle.std.specs.Prelude.{◌≡◌, ◌++◌, ◌<◌, None, Some, Err, [], ◌∷◌, length, map, remove, slice_index, if◌then◌else◌, is_some, IfOk, OnErr, OnOk};
 ghost use Rattle.std.specs.List.{slice_index_or};
-ghost use Rattle.krb_packet.specs.Fragments.{no_fragments, whole_of, with_fragment_at, without_first, finished, step, unread};
-ghost use Rattle.krb_packet.specs.inner.Places.{IsFound, IsGap, IsIndexed, pending_in, table_of};
+ghost use Rattle.krb_packet.specs.Fragments.{no_fragments, no_fragments_of, whole_of, with_fragment_at, without_first, finished, step, unread};
+ghost use Rattle.krb_packet.specs.inner.Places.{IsFound, IsGap, IsIndexed, fewer_than, original_cmp, pending_in, place_without, table_of};
 
 use crate::contents::{Fragment, Original};
 use crate::fragments::{Pending, Reassembled};
@@ -25,6 +25,17 @@ pub struct Datagrams {
     given_up: u64,
 }
 
+/// Lowers places after that of a datagram that is removed.
+fn lower(places: &mut [usize], removed: usize)
+    ensures { places.new ≡ map (place_without removed) places.old }
+{
+    for place in places.iter_mut() {
+        if *place > removed {
+            *place -= 1;
+        }
+    }
+}
+
 impl Datagrams {
     /// Creates a table of no datagrams.
     pub(crate) fn new(alloc: Global) -> Datagrams
@@ -38,16 +49,23 @@ impl Datagrams {
         }
     }
 
+    /// Compares the datagram at a place with another one. If there is none, they are equal.
+    fn compare(&self, place: usize, original: &Original) -> Ordering
+        ensures { result ≡ original_cmp (slice_index_or (pending_in self.now) place (no_fragments_of original.now)).original original.now }
+    {
+        match self.pending.get(place) {
+            Some(pending) => pending.original.cmp(original),
+            None => Ordering::Equal,
+        }
+    }
+
     /// Returns where among the places is that of a datagram, or where it would be.
     fn search(&self, original: &Original) -> Result<usize, usize>
         requires { IsIndexed self.now }
         ensures { IsFound result original.now self.now.places.items (pending_in self.now) }
     {
         self.places
-            .binary_search_by(|place| match self.pending.get(*place) {
-                Some(pending) => pending.original.cmp(original),
-                None => Ordering::Equal,
-            })
+            .binary_search_by(|place| self.compare(*place, original))
     }
 
     /// Adds a datagram, whose place comes to `at` among the places. Out of memory, nothing changes.
@@ -76,11 +94,7 @@ impl Datagrams {
         ensures index { IsIndexed self.new }
     {
         let place = self.places.remove(at);
-        for other in self.places.iter_mut() {
-            if *other > place {
-                *other -= 1;
-            }
-        }
+        lower(&mut self.places, place);
         self.pending.remove(place)
     }
 
@@ -95,6 +109,18 @@ impl Datagrams {
         if let Ok(at) = self.search(&original) {
             let first = self.remove(at);
             self.given_up = self.given_up.saturating_add(first.count);
+        }
+    }
+
+    /// Gives up the datagram that began first, if there are `many` or more.
+    fn keep_fewer_than(&mut self, many: usize)
+        requires index { IsIndexed self.old }
+        requires some { 0 < many }
+        ensures fewer { table_of self.new ≡ fewer_than many (table_of self.old) }
+        ensures index { IsIndexed self.new }
+    {
+        if self.pending.len() >= many {
+            self.give_up_first();
         }
     }
 
@@ -114,11 +140,13 @@ impl Datagrams {
         ensures memory { OnErr result (table_of self.new ≡ table_of self.old) }
     {
         let place = self.places[at];
-        let whole = self.pending[place].take(alloc, fragment)?;
-        if whole.is_some() {
-            self.remove(at);
+        match self.pending[place].take(alloc, fragment)? {
+            Some(whole) => {
+                self.remove(at);
+                Ok(Some(whole))
+            }
+            None => Ok(None),
         }
-        Ok(whole)
     }
 
     /// Begins a datagram with a fragment, whose place comes to `at` among the places; if it is
@@ -137,18 +165,17 @@ impl Datagrams {
         ensures memory { OnErr result (table_of self.new ≡ table_of self.old) }
     {
         let mut pending = Pending::new(alloc, fragment.original);
-        let whole = pending.take(alloc, fragment)?;
-        if whole.is_some() {
-            if self.pending.len() >= MOST_DATAGRAMS {
-                self.give_up_first();
+        match pending.take(alloc, fragment)? {
+            Some(whole) => {
+                self.keep_fewer_than(MOST_DATAGRAMS);
+                Ok(Some(whole))
             }
-            return Ok(whole);
+            None => {
+                self.push(alloc, at, pending)?;
+                self.keep_fewer_than(MOST_DATAGRAMS + 1);
+                Ok(None)
+            }
         }
-        self.push(alloc, at, pending)?;
-        if self.pending.len() > MOST_DATAGRAMS {
-            self.give_up_first();
-        }
-        Ok(None)
     }
 
     /// Adds a fragment, and returns the whole datagram if that is completed by it. Out of memory,

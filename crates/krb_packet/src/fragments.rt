@@ -84,7 +84,11 @@ impl Pending {
 
     /// Adds a fragment of the datagram, which is not whole. If it completes the datagram, that is
     /// returned, and what is kept of it stays as it was. So it does out of memory.
-    pub(crate) fn take(&mut self, alloc: Global, fragment: &Fragment<'_>) -> Result<Option<Reassembled>, Memory>
+    pub(crate) fn take(
+        &mut self,
+        alloc: Global,
+        fragment: &Fragment<'_>,
+    ) -> Result<Option<Reassembled>, Memory>
         requires open { whole_of self.old ≡ None }
         ensures whole { IfOk result (λ whole. whole ≡ whole_of (pending_with fragment.now self.old)) }
         ensures kept { IfOk result (λ whole. self.new ≡ (if is_some whole then self.old else pending_with fragment.now self.old)) }

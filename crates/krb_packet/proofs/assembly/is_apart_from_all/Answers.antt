@@ -11,11 +11,11 @@ returns c = λ octets are.
     let last : length c.args.parts.now ≤ c.args.place → c.is_apart_from.result ≡ true = λ none. search rules in
     elim c.match-checked_sub.branch [
       | in-Some w ↦
-        let some : 0 < c.args.place = search rules in
-        let before : (d : Part) → 0 < c.args.place → c.match-checked_sub.before ≡ are_apart c.args.span (get_or c.args.parts.now (c.args.place - 1) d).span = λ d within. search rules in
-        apart_is octets c.args.parts.now c.args.span c.args.place c.match-checked_sub.before c.is_apart_from.result c.requires.some are c.requires.place before (λ none. absurd (omega (arith, some, none))) after last
+          let some : 0 < c.args.place = search rules in
+          let before : (d : Part) → 0 < c.args.place → c.match-checked_sub.before ≡ are_apart c.args.span (get_or c.args.parts.now (c.args.place - 1) d).span = λ d within. search rules in
+          apart_is octets c.args.parts.now c.args.span c.args.place c.match-checked_sub.before c.is_apart_from.result c.requires.some are c.requires.place before (λ none. absurd (omega (arith, some, none))) after last
       | in-None w ↦
-        let none : c.args.place ≡ 0 = search rules in
-        let first : c.match-checked_sub.before ≡ true = search rules in
-        apart_is octets c.args.parts.now c.args.span c.args.place c.match-checked_sub.before c.is_apart_from.result c.requires.some are c.requires.place (λ d within. absurd (omega (arith, none, within))) (λ _. first) after last
+          let none : c.args.place ≡ 0 = search rules in
+          let first : c.match-checked_sub.before ≡ true = search rules in
+          apart_is octets c.args.parts.now c.args.span c.args.place c.match-checked_sub.before c.is_apart_from.result c.requires.some are c.requires.place (λ d within. absurd (omega (arith, none, within))) (λ _. first) after last
     ]
