@@ -5,7 +5,7 @@ use Rattle.krb_capture.specs.Rests.{Lists}
 use Rattle.krb_capture.specs.Found.{and_more}
 use Rattle.krb_capture.specs.declared.capture.Capture.{Capture}
 use Rattle.krb_text.specs.declared.capture.CaptureCounts.{CaptureCounts}
-use Rattle.krb_capture.proofs.Following.{lists-whole}
+use Rattle.krb_capture.proofs.Following.{lists-whole, passed-over}
 use Rattle.krb_packet.specs.declared.contents.Contents.TheVariants as contents
 use Rattle.krb_capture.proofs.capture.Capture.take_whole.Goals as goal
 
@@ -40,4 +40,7 @@ returns-in-Unread c = λ settings progress h.
     (ap (λ w. w.text) c.count_unread.ensures ∙ sym (append-nil c.args.self.now.listing.text)))
 
 pub returns-in-Fragment : goal.returns-in-Fragment
-returns-in-Fragment c = ?
+returns-in-Fragment c = λ settings progress h.
+    let text = c.args.self.now.listing.text in
+    subst (λ t. Lists c.args.self.now settings (and_counted t) None text text) (sym (passed-over settings c.args.contents.now progress c.in-Fragment.is))
+    (lists-whole c.args.self.now settings (and_counted (nothing_in progress)) text text (record { port = h.port; form = h.form; fragments = h.fragments; table = h.table; last = h.last; counts = h.counts }) (sym (append-nil text)))

@@ -1,4 +1,4 @@
-use Rattle.std.proofs.Common.{refl, sym, ap, subst}
+use Rattle.std.proofs.Common.{Some, refl, sym, ap, subst}
 use Rattle.krb_capture.specs.Captures.{over_tcp}
 use Rattle.krb_capture.specs.Directions.{in_flow, kept}
 use Rattle.krb_capture.specs.Rests.{HoldsBut, RepresentsBut}
@@ -20,7 +20,7 @@ returns-in_ok-new-in-Some c = λ limit table sent due left h known r.
       none = c.requires;
       known = known;
       left = left;
-      represents = subst (λ o. RepresentsBut c.args.last.sending.value limit sent o left) c.in-Some.is r;
+      represents = subst (λ o. RepresentsBut c.args.last.sending.value limit sent (Some o) left) (sym c.in-Some.left-is) (subst (λ o. RepresentsBut c.args.last.sending.value limit sent o left) c.in-Some.is r);
       table_is = refl;
       is = refl;
     })
