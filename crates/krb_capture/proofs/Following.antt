@@ -1,8 +1,11 @@
 -- What a capture keeps after what is found is listed.
-use Rattle.std.proofs.Common.{◌≡◌, ℕ, List, [], ◌∷◌, ◌++◌, Option, Some, None, Box, refl, sym, ◌∙◌, ap, subst, append_assoc, append-nil}
+use Rattle.std.proofs.Common.{◌≡◌, ◌⊎◌, inl, inr, ℕ, List, [], ◌∷◌, ◌++◌, Option, Some, None, Box, refl, sym, ◌∙◌, ap, subst, append_assoc, append-nil}
 use Rattle.std.specs.declared.alloc.Global.{Global}
 use Rattle.krb_packet.specs.Fragments.{unread}
+use Rattle.krb_packet.specs.declared.contents.Contents.{Contents}
+use Rattle.krb_packet.specs.declared.contents.Contents.TheVariants as kinds
 use Rattle.krb_packet.specs.declared.contents.Datagram.{Datagram}
+use Rattle.krb_packet.specs.declared.contents.Fragment.{Fragment}
 use Rattle.krb_packet.specs.declared.contents.Segment.{Segment}
 use Rattle.krb_file.specs.declared.fault.FileWhy.{FileWhy}
 use Rattle.krb_text.specs.Captures.{capture_end_line, capture_refused_line}
@@ -10,7 +13,7 @@ use Rattle.krb_text.specs.declared.capture.CaptureCounts.{CaptureCounts}
 use Rattle.krb_text.specs.declared.form.Form.{Form}
 use Rattle.krb_text.specs.declared.origin.Origin.{Origin}
 use Rattle.krb_text.specs.declared.origin.Transport.TheVariants as transports
-use Rattle.krb_capture.specs.Captures.{Finding, HasFollowed, Progress, Settings, Taken, all_counts, and_counted, counted_each, datagram_taken, end_taken, end_text, refusal_text, lines_of, over_tcp, over_udp, segment_taken, with_each}
+use Rattle.krb_capture.specs.Captures.{Finding, HasFollowed, Progress, Settings, Taken, all_counts, and_counted, contents_taken, nothing_in, whole_taken, counted_each, datagram_taken, end_taken, end_text, refusal_text, lines_of, over_tcp, over_udp, segment_taken, with_each}
 use Rattle.krb_capture.specs.Datagrams.{datagram_found}
 use Rattle.krb_capture.specs.Directions.{HoldsTable, Table, followed, last_of}
 use Rattle.krb_capture.specs.Flows.{origin_of, service_of}
@@ -86,6 +89,19 @@ lists-some old new settings progress table rest found h f p g l = record {
         ∙ ap (λ x. counted_each found x) h.counts;
   };
 }
+
+-- what is all there, or nothing that can be listed
+pub contents-whole : (settings : Settings) (contents : Contents) (progress : Progress) → ((fragment : Fragment) → contents ≡ kinds.Fragment fragment → ⊥) → contents_taken settings contents progress ≡ whole_taken settings contents progress
+contents-whole settings (kinds.Datagram datagram) progress n = refl
+contents-whole settings (kinds.Segment segment) progress n = refl
+contents-whole settings (kinds.Fragment fragment) progress n = absurd (n fragment refl)
+contents-whole settings kinds.Other progress n = refl
+contents-whole settings (kinds.UnreadBetween ends) progress n = refl
+contents-whole settings kinds.Unread progress n = refl
+
+pub passed-over : (settings : Settings) (contents : Contents) (progress : Progress) → ((fragment : Fragment) × (contents ≡ kinds.Fragment fragment)) ⊎ (contents ≡ kinds.Other) → whole_taken settings contents progress ≡ nothing_in progress
+passed-over settings contents progress (inl e) = ap (λ x. whole_taken settings x progress) e.1
+passed-over settings contents progress (inr e) = ap (λ x. whole_taken settings x progress) e
 
 -- what is found with a segment
 pub segment-lists : (old new : Capture) (settings : Settings) (progress : Progress) (service : Service) (segment : Segment) (rest : Option (Box Rest Global)) → HasFollowed old settings progress → service_of old.port segment.source segment.target ≡ Some service → Follows new.directions settings.limit (followed settings.limit old.last.packet service segment progress.table).table old.last rest (over_tcp old.last (followed settings.limit old.last.packet service segment progress.table).found) old.listing new.listing → new.port ≡ old.port → new.fragments ≡ old.fragments → new.last ≡ old.last → Lists new settings (and_counted (segment_taken settings.limit (service_of settings.port segment.source segment.target) segment progress)) rest old.listing.text new.listing.text

@@ -12,6 +12,9 @@ use Rattle.krb_capture.specs.declared.frames.Frames.{Frames}
 use Rattle.krb_capture.proofs.Extends.{found-none, took-append, took-none}
 use Rattle.krb_capture.proofs.Found.{with_all-append}
 
+abbrev pub unlisted : Option End → List ℕ → Unlisted
+unlisted end octets = record { octets = octets; end = end }
+
 -- ---- the first octets were taken
 module _ (origin : Origin) (old mid : Frames) (limit : ℕ) (stream xs ys : List ℕ) (end : Option End) (l0 l1 : Written) (t : Took old limit stream) (u : Took mid limit (stream ++ xs)) (s : service_of mid ≡ service_of old) (h : l1 ≡ with_all origin (found_with (service_of old) limit stream xs) l0) where
   abbrev pub all : Unlisted
@@ -20,10 +23,10 @@ module _ (origin : Origin) (old mid : Frames) (limit : ℕ) (stream xs ys : List
   abbrev pub others : Unlisted
   others = record { octets = ys; end = end }
 
-  first : List Found
+  abbrev first : List Found
   first = found_with (service_of old) limit stream xs
 
-  later : List Found
+  abbrev later : List Found
   later = unlisted_found (service_of mid) limit (stream ++ xs) others
 
   split : unlisted_found (service_of old) limit stream all ≡ first ++ later
@@ -35,18 +38,17 @@ module _ (origin : Origin) (old mid : Frames) (limit : ℕ) (stream xs ys : List
 
   -- and the others are left
   pub takes-first : Takes old mid limit stream all (Some others) origin l0 l1
-  unfolding first later split
   takes-first = record {
     listed = first;
     left = later;
     parts = split;
     written = h;
+    service = s;
     took = record { stream = stream ++ xs; parts = append_assoc stream xs ys; took = u; is = refl };
   }
 
   -- or there are none
   pub takes-last : (l2 : Written) → ys ≡ [] → l2 ≡ with_all origin (end_if (service_of mid) limit (stream ++ xs) end) l1 → Takes old mid limit stream all None origin l0 l2
-  unfolding first later split
   takes-last l2 none e = record {
     listed = first ++ end_if (service_of mid) limit (stream ++ xs) end;
     left = [];
@@ -56,16 +58,17 @@ module _ (origin : Origin) (old mid : Frames) (limit : ℕ) (stream xs ys : List
         ∙ ap (λ z. first ++ end_if (service_of mid) limit z end) (ap (λ z. (stream ++ xs) ++ z) none ∙ append-nil (stream ++ xs))
         ∙ sym (append-nil (first ++ end_if (service_of mid) limit (stream ++ xs) end));
     written = e ∙ ap (λ l. with_all origin (end_if (service_of mid) limit (stream ++ xs) end) l) h ∙ sym (with_all-append origin first (end_if (service_of mid) limit (stream ++ xs) end) l0);
+    service = s;
     took = (subst (Took mid limit) (ap (λ z. stream ++ z) (sym (append-nil xs) ∙ ap (λ z. xs ++ z) (sym none))) u, refl);
   }
 
   -- or some of the others were taken, too
   pub takes-more : (new : Frames) (rest : Option Unlisted) (l2 : Written) → Takes mid new limit (stream ++ xs) others rest origin l1 l2 → Takes old new limit stream all rest origin l0 l2
-  unfolding first later split
   takes-more new rest l2 m = record {
     listed = first ++ m.listed;
     left = m.left;
     parts = split ∙ ap (λ z. first ++ z) m.parts ∙ sym (append_assoc first m.listed m.left);
     written = m.written ∙ ap (λ l. with_all origin m.listed l) h ∙ sym (with_all-append origin first m.listed l0);
+    service = m.service ∙ s;
     took = subst (λ z. TookSome new limit z rest m.left) (append_assoc stream xs ys) m.took;
   }

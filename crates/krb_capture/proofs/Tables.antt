@@ -191,6 +191,19 @@ began-first segment = by segment.rst segment.syn (nat_lt 0 segment.payload.size)
     by false false true er es en b = rw (er, es, en) refl
     by false false false er es en b = absurd (no-true b)
 
+and-false : (b : Bool) → (b && false) ≡ false
+and-false true = refl
+and-false false = refl
+
+not-begun : (had : Had) (segment : Segment) → begins segment ≡ false → (step_of (states.Ended had) segment).began ≡ false
+not-begun had segment = by segment.rst segment.syn (nat_lt 0 segment.payload.size) refl refl refl
+  where
+    by : (r s n : Bool) → segment.rst ≡ r → segment.syn ≡ s → nat_lt 0 segment.payload.size ≡ n → (not r && (s || n)) ≡ false → (step_of (states.Ended had) segment).began ≡ false
+    by true s n er es en b = rw er refl
+    by false true n er es en b = absurd cc
+    by false false true er es en b = absurd cc
+    by false false false er es en b = rw (er, es, en, and-false _) refl
+
 pub represents-begun : (one : Sending) (limit limit' : ℕ) (flow flow' : Flow) (service : Service) (state : State) → Represents one limit (sent_from flow service state) → limit ≡ limit' → flow ≡ flow' → Represents one limit' (sent_from flow' service state)
 represents-begun one limit limit' flow flow' service state s l f =
     subst (λ x. Represents one limit' (sent_from x service state)) f (subst (λ x. Represents one x (sent_from flow service state)) l s)
@@ -239,6 +252,14 @@ module _ (limit packet : ℕ) (service : Service) (segment : Segment) (table : T
   -- one that ended, by what is kept of it
   pub ended-begins : (number : ℕ) (gone : Gone) → (step_of (states.Ended gone.had) segment).began ≡ true → of_ended limit packet number (Some gone) service segment table ≡ begun_again number gone.had
   ended-begins number gone b = ap (λ x. if x then begun_again number gone.had else nothing_found table) b
+
+  -- neither a SYN nor data
+  pub ended-stays : (number : ℕ) (gone : Gone) → (step_of (states.Ended gone.had) segment).began ≡ false → of_ended limit packet number (Some gone) service segment table ≡ nothing_found table
+  ended-stays number gone b = ap (λ x. if x then begun_again number gone.had else nothing_found table) b
+
+  pub ended-passed : (number : ℕ) (found : Option Gone) → begins segment ≡ false → of_ended limit packet number found service segment table ≡ nothing_found table
+  ended-passed number None b = refl
+  ended-passed number (Some gone) b = ended-stays number gone (not-begun gone.had segment b)
 
 -- ---- the last direction, by its flow
 pub same-lookup : (f g : Flow) (es : List (Flow × ℕ)) → eq_by_cmp flow_cmp f g ≡ true → lookup (is_at (flow_cmp f)) es ≡ lookup (is_at (flow_cmp g)) es

@@ -64,6 +64,11 @@ kept flow number step sent table = record {
   ended = ended_with step.ended number flow table.ended;
 }
 
+-- what a direction came to that is not kept, by what it had if it ended
+abbrev pub state_after : Option Had → State
+state_after None = states.Fresh
+state_after (Some had) = states.Ended had
+
 -- one that came to a state and begins, with the packet
 abbrev pub begun : ℕ → ℕ → Service → State → Segment → Table → Followed
 begun limit packet service state segment table =

@@ -39,6 +39,7 @@ pub record Takes (old new : Frames) (limit : ℕ) (stream : List ℕ) (octets : 
   pub left : List Found
   pub parts : unlisted_found (service_of old) limit stream octets ≡ listed ++ left
   pub written : after ≡ with_all origin listed before
+  pub service : service_of new ≡ service_of old
   pub took : TookSome new limit (stream ++ octets.octets) rest left
 
 -- ---- one direction

@@ -56,7 +56,11 @@ impl Capture {
 
     /// Takes the next packet, and appends the records that are due with it to a text. Out of
     /// memory, the text may have some of them.
-    pub fn take(&mut self, packet: &Packet, text: &mut TextBuffer) -> Result<Option<Box<Rest>>, Memory>
+    pub fn take(
+        &mut self,
+        packet: &Packet,
+        text: &mut TextBuffer,
+    ) -> Result<Option<Box<Rest>>, Memory>
         ensures listed { IfOk result (λ rest. (settings : Settings) (progress : Progress) → HasFollowed self.old settings progress → Lists self.new settings (packet_taken settings packet.now progress) rest text.old text.new) }
         ensures failed { OnErr result (self.new.has_failed ≡ true) }
         ensures again { self.old.has_failed ≡ true → IsErr result × (self.new ≡ self.old) × (text.new ≡ text.old) }
@@ -104,7 +108,11 @@ impl Capture {
     }
 
     /// Takes the next packet, and appends the records that are due with it to a text.
-    fn take_packet(&mut self, packet: &Packet, text: &mut TextBuffer) -> Result<Option<Box<Rest>>, Memory>
+    fn take_packet(
+        &mut self,
+        packet: &Packet,
+        text: &mut TextBuffer,
+    ) -> Result<Option<Box<Rest>>, Memory>
         ensures { IfOk result (λ rest. (settings : Settings) (progress : Progress) → HasFollowed self.old settings progress → Lists self.new settings (packet_taken settings packet.now progress) rest text.old text.new) }
     {
         self.listing.swap_text(text);

@@ -5,7 +5,7 @@ ghost use Rattle.std.specs.BTreeMap.{insert_entry, is_at};
 ghost use Rattle.std.specs.Map.{lookup};
 ghost use Rattle.std.specs.Ordering.{eq_by_cmp, nat_cmp};
 ghost use Rattle.krb_capture.specs.Captures.{Finding, over_tcp, with_each};
-ghost use Rattle.krb_capture.specs.Directions.{HoldsMaps, HoldsTable, IsKnown, Table, begins, begun, flow_cmp, flow_of, followed, gone_on, in_flow, kept, last_of, no_directions, of_ended, of_known, with_room, without};
+ghost use Rattle.krb_capture.specs.Directions.{HoldsMaps, HoldsTable, IsKnown, Table, begins, begun, flow_cmp, flow_of, followed, gone_on, in_flow, kept, last_of, no_directions, of_ended, of_known, state_after, with_room, without};
 ghost use Rattle.krb_capture.specs.Found.{Found};
 ghost use Rattle.krb_capture.specs.Rests.{Follows, HoldsBut, HoldsSome, RepresentsBut};
 ghost use Rattle.krb_capture.specs.Sending.{Sent, Represents, step_of};
@@ -78,6 +78,16 @@ fn begins(segment: &Segment<'_>) -> bool
     ensures { result ≡ begins segment.now }
 {
     !segment.rst & (segment.syn | (segment.payload.size() > 0))
+}
+
+/// Returns a direction of which nothing came, or that ended and had this.
+fn direction_after(had: Option<Had>) -> Direction
+    ensures { result.state ≡ state_after had }
+{
+    match had {
+        None => Direction::new(),
+        Some(had) => Direction::ended(had),
+    }
 }
 
 /// Returns the flow by which a direction is found after a step: its own if it began with that.
@@ -170,7 +180,7 @@ impl Directions {
             Some(number) => self.take_known(flow, number, segment, service, due, listing),
             None if begins(segment) => {
                 self.make_room(due, listing)?;
-                self.begin(flow, Direction::new(), segment, service, due, listing)
+                self.begin(flow, None, segment, service, due, listing)
             }
             None => Ok(None),
         }
@@ -220,6 +230,9 @@ impl Directions {
         requires none { self.old.last ≡ None }
         ensures { IfOk result (λ rest. (limit : ℕ) (table : Table) → HoldsMaps self.old limit table → Follows self.new limit (of_ended limit due.packet number (lookup (is_at (nat_cmp number)) table.ended) service segment.now table).table due rest (over_tcp due (of_ended limit due.packet number (lookup (is_at (nat_cmp number)) table.ended) service segment.now table).found) listing.old listing.new) }
     {
+        if !begins(segment) {
+            return Ok(None);
+        }
         let Some(gone) = self.ended.get(&number).copied() else {
             return Ok(None);
         };
@@ -227,8 +240,7 @@ impl Directions {
             return Ok(None);
         }
         self.ended.remove(&number);
-        let direction = Direction::ended(gone.had);
-        self.begin(flow, direction, segment, service, due, listing)
+        self.begin(flow, Some(gone.had), segment, service, due, listing)
     }
 
     /// Takes a segment of a direction that has not ended, which is not in the table meanwhile.
@@ -253,21 +265,22 @@ impl Directions {
         self.keep_or_wait(flow, kept, stepped)
     }
 
-    /// Begins a direction of a flow that has none in the table.
+    /// Begins a direction of a flow that has none in the table. If one ended, it had this.
     fn begin(
         &mut self,
         flow: Flow,
-        direction: Direction,
+        had: Option<Had>,
         segment: &Segment<'_>,
         service: Service,
         due: Due,
         listing: &mut Listing,
     ) -> Result<Option<Box<Rest>>, Memory>
         requires of_segment { flow ≡ flow_of segment.now }
-        requires begins { (step_of direction.state segment.now).began ≡ true }
+        requires begins { (step_of (state_after had) segment.now).began ≡ true }
         requires none { self.old.last ≡ None }
-        ensures { IfOk result (λ rest. (limit : ℕ) (table : Table) → HoldsMaps self.old limit table → Follows self.new limit (begun limit due.packet service direction.state segment.now table).table due rest (over_tcp due (begun limit due.packet service direction.state segment.now table).found) listing.old listing.new) }
+        ensures { IfOk result (λ rest. (limit : ℕ) (table : Table) → HoldsMaps self.old limit table → Follows self.new limit (begun limit due.packet service (state_after had) segment.now table).table due rest (over_tcp due (begun limit due.packet service (state_after had) segment.now table).found) listing.old listing.new) }
     {
+        let direction = direction_after(had);
         let mut sending = Sending::new(self.alloc, self.limit, flow, service, direction);
         let stepped = sending.take(segment, due, &mut self.waited, listing)?;
         let kept = Last {

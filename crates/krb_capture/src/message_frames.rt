@@ -1,6 +1,6 @@
 //! Frames whose contents are messages of Kerberos.
 
-ghost use Rattle.std.specs.Prelude.{◌≡◌, ◌+◌, ◌≤◌, ℕ, false, List, [], ◌++◌, length, take, IfOk, IfSome, OnOk, string_bytes};
+ghost use Rattle.std.specs.Prelude.{◌≡◌, ◌+◌, ◌≤◌, ℕ, true, false, None, List, [], ◌++◌, length, take, IfOk, IfSome, OnOk, string_bytes};
 ghost use Rattle.std.specs.Option.{option_map};
 ghost use Rattle.krb_text.specs.Refusals.{path_in};
 ghost use Rattle.krb_frame.specs.declared.decoder.Status.TheVariants as status;
@@ -94,14 +94,7 @@ impl MessageFrames {
         ensures few { IfOk result (λ rest. kept + length rest.now ≤ length octets.now) }
         ensures listed { IfOk result (λ rest. ListsNext self.old self.new octets.now rest.now origin.now listing.old listing.new) }
     {
-        match list_frames(
-            &mut self.decoder,
-            self.limit,
-            kept,
-            octets,
-            origin,
-            listing,
-        )? {
+        match list_frames(&mut self.decoder, self.limit, kept, octets, origin, listing)? {
             Listed::All => Ok(&[]),
             Listed::Before(part) => {
                 self.part = Some(Part::new(self.alloc, self.limit, part)?);

@@ -28,14 +28,20 @@ pub(crate) struct Step {
     pub(crate) ended: Option<Had>,
 }
 
-/// Octets of a segment, or that waited for it, whose frames are still to be listed.
+/// Octets, and how many of them were taken.
 #[derive(Drop)]
-pub(crate) struct Unlisted {
+struct Copied {
     octets: Vec<u8>,
-    /// How many of them were taken.
     taken: usize,
     /// How the direction ends after them, if it does.
     end: Option<End>,
+}
+
+/// Octets of a segment, or that waited for it, whose frames are still to be listed. It is small,
+/// since there are none after most segments.
+#[derive(Drop)]
+pub(crate) struct Unlisted {
+    copied: Box<Copied>,
 }
 
 impl Model for Unlisted {
@@ -44,9 +50,9 @@ impl Model for Unlisted {
 
     ghost Value = { Unlisted };
 
-    ghost view = { λ left. record { octets = drop left.taken left.octets.items; end = left.end } };
+    ghost view = { λ left. record { octets = drop left.copied.value.taken left.copied.value.octets.items; end = left.copied.value.end } };
 
-    ghost invariant = { λ left. left.taken ≤ length left.octets.items };
+    ghost invariant = { λ left. left.copied.value.taken ≤ length left.copied.value.octets.items };
 }
 
 impl Unlisted {
@@ -59,13 +65,16 @@ impl Unlisted {
     ) -> Result<Unlisted, Memory>
         ensures { IfOk result (λ left. left ≡ record { octets = octets.now ++ others.now; end = end }) }
     {
-        let mut copied = Vec::new(alloc);
-        copied.extend_from_slice(octets)?;
-        copied.extend_from_slice(others)?;
-        Ok(Unlisted {
-            octets: copied,
+        let mut all = Vec::new(alloc);
+        all.extend_from_slice(octets)?;
+        all.extend_from_slice(others)?;
+        let copied = Copied {
+            octets: all,
             taken: 0,
             end,
+        };
+        Ok(Unlisted {
+            copied: Box::new(alloc, copied)?,
         })
     }
 
@@ -73,14 +82,14 @@ impl Unlisted {
     fn octets(&self) -> &[u8]
         ensures { result.now ≡ self.now.octets }
     {
-        &self.octets[self.taken..]
+        &self.copied.octets[self.copied.taken..]
     }
 
     /// Returns how the direction ends after them, if it does.
     fn end(&self) -> Option<End>
         ensures { result ≡ self.now.end }
     {
-        self.end
+        self.copied.end
     }
 
     /// Passes over the first octets, which were taken.
@@ -88,7 +97,7 @@ impl Unlisted {
         requires { count ≤ length self.old.octets }
         ensures { self.new ≡ record self.old { octets = drop count self.old.octets } }
     {
-        self.taken += count;
+        self.copied.taken += count;
     }
 }
 
@@ -194,7 +203,6 @@ impl Sending {
         listing: &mut Listing,
     ) -> Result<Option<Unlisted>, Memory>
         ensures same { self.new ≡ record self.old { frames = self.new.frames } }
-        ensures service { OnOk result (service_of self.new.frames ≡ service_of self.old.frames) }
         ensures found { IfOk result (λ rest. (limit : ℕ) (stream : List ℕ) → Took self.old.frames limit stream → Takes self.old.frames self.new.frames limit stream (record { octets = octets.now ++ others.now; end = end }) rest origin.now listing.old listing.new) }
     {
         let count = self.frames.take(octets, origin, listing)?;
@@ -214,7 +222,6 @@ impl Sending {
         listing: &mut Listing,
     ) -> Result<Option<Unlisted>, Memory>
         ensures same { self.new ≡ record self.old { frames = self.new.frames } }
-        ensures service { OnOk result (service_of self.new.frames ≡ service_of self.old.frames) }
         ensures found { IfOk result (λ rest. (limit : ℕ) (stream : List ℕ) → Took self.old.frames limit stream → Takes self.old.frames self.new.frames limit stream left rest origin.now listing.old listing.new) }
     {
         let count = self.frames.take(left.octets(), origin, listing)?;

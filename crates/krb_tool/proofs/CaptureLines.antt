@@ -1,5 +1,6 @@
 -- The records of a capture, one packet after another.
-use Rattle.std.proofs.Common.{◌≡◌, ℕ, suc, List, [], ◌∷◌, ◌++◌, length, drop, Option, Some, None, Result, Ok, Err, IfOk, refl, sym, ◌∙◌, ap, subst, arith, append_assoc, length-append, drop_of_length-le, drop_at}
+use Rattle.std.proofs.Common.{◌≡◌, ℕ, suc, List, [], ◌∷◌, ◌++◌, length, drop, Option, Some, None, Box, Result, Ok, Err, IfOk, refl, sym, ◌∙◌, ap, subst, arith, append_assoc, length-append, drop_of_length-le, drop_at}
+use Rattle.std.specs.declared.alloc.Global.{Global}
 use Rattle.krb_file.specs.declared.fault.FileFault.{FileFault}
 use Rattle.krb_file.specs.declared.fault.FileFault.TheVariants as faults
 use Rattle.krb_packet.specs.Captures.{packets}
@@ -9,10 +10,13 @@ use Rattle.krb_packet.specs.declared.fault.CaptureFault.{CaptureFault}
 use Rattle.krb_packet.specs.declared.field.CaptureField.{CaptureField}
 use Rattle.krb_packet.specs.declared.packet.Packet.{Packet}
 use Rattle.krb_text.specs.declared.form.Form.{Form}
-use Rattle.krb_capture.specs.Captures.{HasFollowed, Progress, Settings, at_first, lines_of, packet_taken}
+use Rattle.krb_capture.specs.Captures.{Finding, HasFollowed, Progress, Settings, at_first, counted_each, lines_of, packet_taken}
+use Rattle.krb_capture.specs.Found.{found_line}
+use Rattle.krb_capture.specs.Rests.{HasFollowedBut, Lists}
 use Rattle.krb_capture.specs.declared.capture.Capture.{Capture}
+use Rattle.krb_capture.specs.declared.directions.Rest.{Rest}
 use Rattle.krb_tool.specs.Captures.{capture_listing, listing_from}
-use Rattle.krb_tool.specs.Files.{RecordListing}
+use Rattle.krb_tool.specs.Files.{RecordListing, after_line}
 use Rattle.krb_tool.specs.declared.run.RunEnd.{RunEnd}
 use Rattle.krb_tool.specs.declared.run.RunEnd.TheVariants as run
 use Rattle.krb_tool.specs.declared.run.RunFault.{RunFault}
@@ -37,53 +41,124 @@ ended_so IsLeft before after (Some x) end left last e a l n f =
     let x' : x ≡ end = cc in
     (a ∙ ap (λ y. before ++ y.last) (sym l), ap (λ y. y.lines) l ∙ n, x' ∙ sym f ∙ ap (λ y. y.end) (sym l))
 
-module _ (form : Form) (old new : PacketsModel) (was now : Capture) (count : ℕ) (left : RecordListing) (before after : List ℕ) (is_left : IsCaptureLeft old was form count left) where
+lines-append : (form : Form) (xs ys : List Finding) → lines_of form (xs ++ ys) ≡ lines_of form xs ++ lines_of form ys
+lines-append form [] ys = refl
+lines-append form (x ∷ xs) ys = ap (λ l. found_line form x.0 x.1 ++ l) (lines-append form xs ys) ∙ sym (append_assoc (found_line form x.0 x.1) (lines_of form xs) (lines_of form ys))
+
+-- some lines, and others after them
+after_both : (form : Form) (found listed others : List Finding) (left : RecordListing) → found ≡ listed ++ others → after_line (lines_of form found) left ≡ after_line (lines_of form listed) (after_line (lines_of form others) left)
+after_both form found listed others left e =
+    ap (λ l. after_line l left) (ap (lines_of form) e ∙ lines-append form listed others)
+    ∙ ap (λ l. record left { lines = l }) (append_assoc (lines_of form listed) (lines_of form others) left.lines)
+
+-- what is left of the last packet
+pub rest_added : (form : Form) (model : PacketsModel) (was now : Capture) (rest : Box Rest Global) (next : Option (Box Rest Global)) (left : RecordListing) (before after : List ℕ) → IsCaptureLeft model was (Some rest) form left → ((settings : Settings) (progress : Progress) (found : List Finding) → HasFollowedBut was settings progress (Some rest) found → Lists now settings (record { found = found; progress = progress }) next before after) → AddsLine (IsCaptureLeft model now next form) left before after (Ok None)
+rest_added form model was now rest next left before after is_left goes_on =
+    let lists = goes_on is_left.settings is_left.progress is_left.found is_left.followed in
+    let others = listing_from is_left.settings (drop is_left.count (packets is_left.file).packets) (packets is_left.file).refusal is_left.progress in (
+      lines_of is_left.settings.form lists.listed,
+      after_line (lines_of is_left.settings.form lists.left) others,
+      lists.text,
+      is_left.is ∙ after_both is_left.settings.form is_left.found lists.listed lists.left others lists.parts,
+      record {
+        file = is_left.file;
+        count = is_left.count;
+        settings = is_left.settings;
+        progress = is_left.progress;
+        found = lists.left;
+        reads = is_left.reads;
+        followed = lists.followed;
+        form_is = is_left.form_is;
+        is = refl;
+      },
+    )
+
+-- nothing is left of the last packet
+record AreFollowed (model : PacketsModel) (capture : Capture) (form : Form) (left : RecordListing) : Type 0 where
+  file : List ℕ
+  count : ℕ
+  settings : Settings
+  progress : Progress
+  reads : Reads model file count
+  followed : HasFollowed capture settings progress
+  form_is : form ≡ settings.form
+  is : left ≡ listing_from settings (drop count (packets file).packets) (packets file).refusal progress
+
+are_followed : (model : PacketsModel) (capture : Capture) (rest : Option (Box Rest Global)) (form : Form) (left : RecordListing) → rest ≡ None → IsCaptureLeft model capture rest form left → AreFollowed model capture form left
+are_followed model capture (Some rest) form left e l = absurd cc
+are_followed model capture None form left e l = record {
+  file = l.file;
+  count = l.count;
+  settings = l.settings;
+  progress = l.progress;
+  reads = l.reads;
+  followed = record {
+    port = l.followed.port;
+    form = l.followed.form;
+    fragments = l.followed.fragments;
+    table = l.followed.table.0;
+    last = l.followed.last;
+    counts = sym (ap (λ found. counted_each found capture.listing.counts) l.followed.table.1) ∙ l.followed.counts;
+  };
+  form_is = l.form_is;
+  is = l.is ∙ ap (λ found. after_line (lines_of l.settings.form found) (listing_from l.settings (drop l.count (packets l.file).packets) (packets l.file).refusal l.progress)) l.followed.table.1;
+}
+
+module _ (form : Form) (old new : PacketsModel) (was now : Capture) (rest : Option (Box Rest Global)) (none : rest ≡ None) (left : RecordListing) (before after : List ℕ) (given_left : IsCaptureLeft old was rest form left) where
+  is_left : AreFollowed old was form left
+  is_left = are_followed old was rest form left none given_left
+
   abbrev found : List Packet
   found = (packets is_left.file).packets
 
   abbrev refusal : Option Refusal
   refusal = (packets is_left.file).refusal
 
-  pub packet_added : (packet : Packet) → Promises old (Ok (Some packet)) new → ((settings : Settings) (progress : Progress) → HasFollowed was settings progress → HasFollowed now settings (packet_taken settings packet progress).progress) → ((settings : Settings) (progress : Progress) → HasFollowed was settings progress → after ≡ before ++ lines_of settings.form (packet_taken settings packet progress).found) → AddsLine (IsCaptureLeft new now form (suc count)) left before after (Ok None)
-  packet_added packet promises followed listed =
+  pub packet_added : (packet : Packet) (next : Option (Box Rest Global)) → Promises old (Ok (Some packet)) new → ((settings : Settings) (progress : Progress) → HasFollowed was settings progress → Lists now settings (packet_taken settings packet progress) next before after) → AddsLine (IsCaptureLeft new now next form) left before after (Ok None)
+  packet_added packet next promises lists =
+      let count = is_left.count in
       let given = promises is_left.file count is_left.reads in
       let taken = packet_taken is_left.settings packet is_left.progress in
+      let listed = lists is_left.settings is_left.progress is_left.followed in
+      let others = listing_from is_left.settings given.0.suffix refusal taken.progress in
       let first = here found given.0.prefix given.0.suffix packet count given.0.counted given.0.parts in
       let rest = there found given.0.prefix given.0.suffix packet count given.0.counted given.0.parts in (
-        lines_of is_left.settings.form taken.found,
-        listing_from is_left.settings given.0.suffix refusal taken.progress,
-        listed is_left.settings is_left.progress is_left.followed,
-        is_left.is ∙ ap (λ xs. listing_from is_left.settings xs refusal is_left.progress) first,
+        lines_of is_left.settings.form listed.listed,
+        after_line (lines_of is_left.settings.form listed.left) others,
+        listed.text,
+        is_left.is ∙ ap (λ xs. listing_from is_left.settings xs refusal is_left.progress) first ∙ after_both is_left.settings.form taken.found listed.listed listed.left others listed.parts,
         record {
           file = is_left.file;
+          count = suc count;
           settings = is_left.settings;
           progress = taken.progress;
+          found = listed.left;
           reads = given.1;
-          followed = followed is_left.settings is_left.progress is_left.followed;
+          followed = listed.followed;
           form_is = is_left.form_is;
-          is = ap (λ xs. listing_from is_left.settings xs refusal taken.progress) (sym rest);
+          is = ap (λ xs. after_line (lines_of is_left.settings.form listed.left) (listing_from is_left.settings xs refusal taken.progress)) (sym rest);
         },
       )
 
   -- no packet is left
-  none_left : length found ≡ count → (end : Option Refusal) → refusal ≡ end → left ≡ listing_from is_left.settings [] end is_left.progress
+  none_left : length found ≡ is_left.count → (end : Option Refusal) → refusal ≡ end → left ≡ listing_from is_left.settings [] end is_left.progress
   none_left counted end e =
       is_left.is
-      ∙ ap (λ xs. listing_from is_left.settings xs refusal is_left.progress) (drop_of_length-le found {i = count} (omega (arith, counted)))
+      ∙ ap (λ xs. listing_from is_left.settings xs refusal is_left.progress) (drop_of_length-le found {i = is_left.count} (omega (arith, counted)))
       ∙ ap (λ x. listing_from is_left.settings [] x is_left.progress) e
 
-  pub end_added : (r : Result (Option RunEnd) RunFault) → Promises old (Ok None) new → IfOk r (AddsCaptureEnd was before after) → AddsLine (IsCaptureLeft new now form (suc count)) left before after r
-  end_added (Err e) promises adds = tt
-  end_added (Ok ended) promises adds =
-      let given = promises is_left.file count is_left.reads in
+  pub end_added : (IsLeft : RecordListing → Type 0) (r : Result (Option RunEnd) RunFault) → Promises old (Ok None) new → IfOk r (AddsCaptureEnd was before after) → AddsLine IsLeft left before after r
+  end_added IsLeft (Err e) promises adds = tt
+  end_added IsLeft (Ok ended) promises adds =
+      let given = promises is_left.file is_left.count is_left.reads in
       let last = none_left given.counted None given.is in
       let added = adds is_left.settings is_left.progress is_left.followed in
-      ended_so (IsCaptureLeft new now form (suc count)) before after ended _ left (listing_from is_left.settings [] None is_left.progress) added.0 added.1 last refl refl
+      ended_so IsLeft before after ended _ left (listing_from is_left.settings [] None is_left.progress) added.0 added.1 last refl refl
 
   -- after which nothing is left
   pub refusal_added : (IsLeft : RecordListing → Type 0) (fault : CaptureFault) (r : Result (Option RunEnd) RunFault) → Promises old (Err fault) new → IfOk r (AddsFileRefusal fault.fault fault.field was form before after) → AddsLine IsLeft left before after r
   refusal_added IsLeft fault (Err e) promises adds = tt
-  refusal_added IsLeft fault (Ok ended) promises adds = by fault.fault fault.field (promises is_left.file count is_left.reads) adds
+  refusal_added IsLeft fault (Ok ended) promises adds = by fault.fault fault.field (promises is_left.file is_left.count is_left.reads) adds
     where
       by : (file_fault : FileFault) (field : CaptureField) → ReturnsNext is_left.file count (Err (record { fault = file_fault; field = field })) new → AddsFileRefusal file_fault field was form before after ended → AddsLine IsLeft left before after (Ok ended)
       by faults.Read field given adds = absurd adds
@@ -95,6 +170,16 @@ module _ (form : Form) (old new : PacketsModel) (was now : Capture) (count : ℕ
           ended_so IsLeft before after ended run.Refused left (listing_from is_left.settings [] refused is_left.progress) added.0 added.1 last refl refl
 
 -- before the first packet
-pub all_left : (settings : Settings) (file : List ℕ) (model : PacketsModel) (capture : Capture) → Reads model file 0 → HasFollowed capture settings at_first → IsCaptureLeft model capture settings.form 0 (capture_listing settings file)
+pub all_left : (settings : Settings) (file : List ℕ) (model : PacketsModel) (capture : Capture) → Reads model file 0 → HasFollowed capture settings at_first → IsCaptureLeft model capture None settings.form (capture_listing settings file)
 unfolding capture_listing
-all_left settings file model capture reads followed = record { file = file; settings = settings; progress = at_first; reads = reads; followed = followed; form_is = refl; is = refl }
+all_left settings file model capture reads h = record {
+  file = file;
+  count = 0;
+  settings = settings;
+  progress = at_first;
+  found = [];
+  reads = reads;
+  followed = record { port = h.port; form = h.form; fragments = h.fragments; table = (h.table, refl); last = h.last; counts = h.counts };
+  form_is = refl;
+  is = refl;
+}

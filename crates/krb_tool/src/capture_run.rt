@@ -83,7 +83,7 @@ impl<R: Read> CaptureLines<'_, R> {
 }
 
 impl<R: Read> RecordLines for CaptureLines<'_, R> {
-    ghost IsLeft = { λ lines. IsCaptureLeft lines.packets lines.capture lines.form };
+    ghost IsLeft = { λ lines _ left. IsCaptureLeft lines.packets lines.capture lines.rest lines.form left };
 
     fn put_next(
         &mut self,

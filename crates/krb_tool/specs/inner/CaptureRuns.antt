@@ -1,5 +1,6 @@
 -- What the parts of a run on a capture promise each other.
-use Rattle.std.specs.Prelude.{ℕ, ◌≡◌, List, ◌++◌, drop, Option, Some}
+use Rattle.std.specs.Prelude.{ℕ, ◌≡◌, List, ◌++◌, drop, Option, Some, None, Box}
+use Rattle.std.specs.declared.alloc.Global.{Global}
 use Rattle.krb_file.specs.declared.fault.FileFault.{FileFault}
 use Rattle.krb_file.specs.declared.fault.FileFault.TheVariants as faults
 use Rattle.krb_packet.specs.Captures.{packets}
@@ -7,23 +8,26 @@ use Rattle.krb_packet.specs.FieldNames.{capture_field_text}
 use Rattle.krb_packet.specs.Streaming.{PacketsModel, Reads}
 use Rattle.krb_packet.specs.declared.field.CaptureField.{CaptureField}
 use Rattle.krb_text.specs.declared.form.Form.{Form}
-use Rattle.krb_capture.specs.Captures.{HasFollowed, Progress, Settings, end_text, refusal_text}
+use Rattle.krb_capture.specs.Captures.{Finding, HasFollowed, Progress, Settings, end_text, lines_of, refusal_text}
+use Rattle.krb_capture.specs.Rests.{HasFollowedBut}
 use Rattle.krb_capture.specs.declared.capture.Capture.{Capture}
+use Rattle.krb_capture.specs.declared.directions.Rest.{Rest}
 use Rattle.krb_tool.specs.Captures.{capture_run_end, listing_from}
-use Rattle.krb_tool.specs.Files.{RecordListing}
+use Rattle.krb_tool.specs.Files.{RecordListing, after_line}
 use Rattle.krb_tool.specs.declared.run.RunEnd.{RunEnd}
 use Rattle.krb_tool.specs.declared.run.RunEnd.TheVariants as run
-use Rattle.std.specs.Prelude.{None}
 
--- A reader returned the first `count` packets of a file, they were followed, and this is left of its listing.
-pub record IsCaptureLeft (model : PacketsModel) (capture : Capture) (form : Form) (count : ℕ) (left : RecordListing) : Type 0 where
+-- A reader returned the first packets of a file, they were followed, but for findings of the last one, and this is left of its listing.
+pub record IsCaptureLeft (model : PacketsModel) (capture : Capture) (rest : Option (Box Rest Global)) (form : Form) (left : RecordListing) : Type 0 where
   pub file : List ℕ
+  pub count : ℕ
   pub settings : Settings
   pub progress : Progress
+  pub found : List Finding
   pub reads : Reads model file count
-  pub followed : HasFollowed capture settings progress
+  pub followed : HasFollowedBut capture settings progress rest found
   pub form_is : form ≡ settings.form
-  pub is : left ≡ listing_from settings (drop count (packets file).packets) (packets file).refusal progress
+  pub is : left ≡ after_line (lines_of settings.form found) (listing_from settings (drop count (packets file).packets) (packets file).refusal progress)
 
 -- the records of the end were added
 abbrev pub AddsCaptureEnd : Capture → List ℕ → List ℕ → Option RunEnd → Type 0

@@ -15,7 +15,7 @@ loop-passed-preserved c =
 pub loop-passed-smaller : goal.loop-passed-smaller
 loop-passed-smaller c = passed_shorter c.args.decoder.now c.loop-passed.rest.now c.in-Some.passed c.in-Some.ensures.passes
 
-pub returns-then : goal.returns-then
-returns-then c =
+pub returns-then-is_empty-is_full : goal.returns-then-is_empty-is_full
+returns-then-is_empty-is_full c =
     prefix-both c.args.decoder.now c.args.decoder.now c.args.decoder.now c.args.octets.now c.loop-passed.rest.now c.in-Some.passed.rest.now c.args.origin.now c.args.listing.now c.loop-passed.listing c.put_message.new.self c.loop-passed.invariant
     (prefix-passed c.args.decoder.now c.loop-passed.rest.now c.in-Some.passed c.args.origin.now c.loop-passed.listing c.put_message.new.self c.in-Some.ensures.passes c.in_ok-put_message.ensures)

@@ -1,8 +1,8 @@
 use Rattle.std.proofs.Common.{refl, sym, ◌∙◌, ap, subst}
 use Rattle.std.proofs.lemmas.Result.{IfOk-weaker}
-use Rattle.krb_capture.specs.Directions.{flow_of, kept}
+use Rattle.krb_capture.specs.Directions.{flow_of, kept, state_after}
 use Rattle.krb_capture.specs.Rests.{RepresentsBut}
-use Rattle.krb_capture.specs.Sending.{after_segment, segment_found, sent_from, step_of}
+use Rattle.krb_capture.specs.Sending.{Represents, after_segment, segment_found, sent_from, step_of}
 use Rattle.krb_capture.proofs.Follows.{follows-kept, kept-same}
 use Rattle.krb_capture.proofs.Tables.{known-begun, represents-begun}
 use Rattle.krb_capture.proofs.directions.Directions.begin.Goals as goal
@@ -11,10 +11,11 @@ pub returns : goal.returns
 returns c = IfOk-weaker c.keep_or_wait.result _ _
     (λ rest k limit table h.
     let flow = flow_of c.args.segment.now in
-    let fresh = sent_from flow c.args.service c.args.direction.state in
+    let fresh = sent_from flow c.args.service (state_after c.args.had) in
     let sent = after_segment fresh c.args.segment.now in
     let stepped = c.in_ok-stepped.stepped in
-    let represents = represents-begun c.new-sending.result c.args.self.now.limit limit c.args.flow flow c.args.service c.args.direction.state c.new-sending.ensures h.limit_is c.requires.of_segment in
+    let made = represents-begun c.new-sending.result c.args.self.now.limit limit c.args.flow flow c.args.service c.direction_after-direction.result.state c.new-sending.ensures h.limit_is c.requires.of_segment in
+    let represents = subst (λ s. Represents c.new-sending.result limit (sent_from flow c.args.service s)) c.direction_after-direction.ensures made in
     let sends = c.in_ok-stepped.ensures.found limit fresh represents in
     let step = c.in_ok-stepped.ensures.step ∙ ap (λ s. step_of s c.args.segment.now) represents.state in
     follows-kept c.keep_or_wait.new.self limit c.args.due rest c.take.new.self sent (kept flow c.args.due.packet (step_of fresh.state c.args.segment.now) sent table) stepped.left c.new-sending.result.flow (segment_found limit fresh c.args.segment.now) c.args.listing.now c.take.new.listing represents.flow sends

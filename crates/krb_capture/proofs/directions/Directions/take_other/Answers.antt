@@ -25,8 +25,7 @@ returns-in_ok-make_room-in-None c = IfOk-weaker c.begin.result _ _
     let after = begun limit c.args.due.packet c.args.service states.Fresh c.args.segment.now room.table in
     subst (λ f. Follows c.begin.new.self limit f.table c.args.due rest (over_tcp c.args.due f.found) c.args.listing.now c.begin.new.listing) (sym (followed-begins limit c.args.due.packet c.args.service c.args.segment.now table e (sym c.begins.ensures ∙ c.if-begins.true)))
     (follows-after c.begin.new.self limit c.args.due rest room.found after c.args.listing.now c.make_room.new.listing c.begin.new.listing (c.in_ok-make_room-in-None.ensures.found limit table h)
-    (subst (λ s. Follows c.begin.new.self limit (begun limit c.args.due.packet c.args.service s c.args.segment.now room.table).table c.args.due rest (over_tcp c.args.due (begun limit c.args.due.packet c.args.service s c.args.segment.now room.table).found) c.make_room.new.listing c.begin.new.listing) c.new.ensures
-    (k limit room.table (c.in_ok-make_room-in-None.ensures.table limit table h)))))
+    (k limit room.table (c.in_ok-make_room-in-None.ensures.table limit table h))))
     c.begin.ensures
 
 pub returns-in-None-2 : goal.returns-in-None-2

@@ -1,5 +1,7 @@
 use Rattle.std.proofs.Common.{List, ℕ, ◌++◌, sym, ◌∙◌, ap, subst}
 use Rattle.krb_flow.specs.Directions.{Outcome, outcome_of, step}
+use Rattle.krb_text.specs.declared.origin.Transport.TheVariants as transports
+use Rattle.krb_capture.specs.Flows.{origin_of}
 use Rattle.krb_capture.specs.Rests.{RepresentsBut, Sends, Takes, TookSome}
 use Rattle.krb_capture.specs.Sending.{after_segment, outcome_found, segment_found, stream_at}
 use Rattle.krb_capture.specs.Taken.{Took}
@@ -27,11 +29,11 @@ returns-clause-found c = λ limit sent s.
       limit_is = ap (λ x. x.limit) same ∙ ap (λ x. x.limit) began;
       flow = ap (λ x. x.flow) same ∙ ap (λ x. x.flow) began ∙ s.flow;
       service = ap (λ x. x.service) same ∙ ap (λ x. x.service) began ∙ s.service;
-      frames = c.in_ok-left.ensures.service ∙ c.in_ok-begin.ensures.service (s.frames ∙ sym s.service) ∙ s.service;
+      frames = takes.service ∙ c.in_ok-begin.ensures.service (s.frames ∙ sym s.service) ∙ s.service;
       state = ap (λ x. x.direction.state) same ∙ ap (λ x. x.direction.state) began ∙ c.in_ok-taken.ensures.state ∙ ap (λ st. (step st c.args.segment.now).1) s.state;
       took = subst (λ o. TookSome c.list.new.self.frames n (stream_at o.begins sent.stream ++ o.octets) rest listed.left) outcome listed.took;
     } in
-    subst (λ n. Sends c.list.new.self n (after_segment sent c.args.segment.now) rest _ (segment_found n sent c.args.segment.now) c.args.listing.now c.list.new.listing) s.limit_is
+    subst (λ n. Sends c.list.new.self n (after_segment sent c.args.segment.now) rest (origin_of c.args.due transports.Tcp c.args.self.now.flow.source c.args.self.now.flow.target) (segment_found n sent c.args.segment.now) c.args.listing.now c.list.new.listing) s.limit_is
     (subst (λ o. Sends c.list.new.self n (after_segment sent c.args.segment.now) rest o (segment_found n sent c.args.segment.now) c.args.listing.now c.list.new.listing) c.over_tcp-origin.ensures
     (record {
       listed = listed.listed;
