@@ -3,7 +3,8 @@
 ghost use Rattle.std.specs.Prelude.{◌≡◌, ◌++◌, ◌<◌, None, Some, Err, [], ◌∷◌, length, map, remove, slice_index, if◌then◌else◌, is_some, IfOk, OnErr, OnOk};
 ghost use Rattle.std.specs.List.{slice_index_or};
 ghost use Rattle.krb_packet.specs.Fragments.{no_fragments, no_fragments_of, whole_of, with_fragment_at, without_first, finished, step, unread};
-ghost use Rattle.krb_packet.specs.inner.Places.{IsFound, IsGap, IsIndexed, fewer_than, original_cmp, pending_in, place_without, table_of};
+ghost use Rattle.krb_packet.specs.Table.{pending_in, table_of};
+ghost use Rattle.krb_packet.specs.inner.Places.{IsFound, IsGap, IsIndexed, fewer_than, original_cmp, place_without};
 
 use crate::contents::{Fragment, Original};
 use crate::fragments::{Pending, Reassembled};

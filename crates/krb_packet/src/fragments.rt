@@ -50,8 +50,8 @@ pub struct Fragments {
 }
 
 impl Model for Fragments {
-    ghost use Rattle.krb_packet.specs.Table.{Table};
-    ghost use Rattle.krb_packet.specs.inner.Places.{IsIndexed, table_of};
+    ghost use Rattle.krb_packet.specs.Table.{Table, table_of};
+    ghost use Rattle.krb_packet.specs.inner.Places.{IsIndexed};
 
     ghost Value = { Table };
 

@@ -1,5 +1,5 @@
 -- How a datagram is found among those that are kept: by its place among the places of all, which are in the order of what fragments have in common.
-use Rattle.std.specs.Prelude.{◌≡◌, ℕ, ◌-◌, ◌<◌, ◌≤◌, nat_eq, nat_lt, if◌then◌else◌, true, None, Some, Ok, Err, Result, List, length, map, slice_index}
+use Rattle.std.specs.Prelude.{◌≡◌, ℕ, ◌-◌, ◌<◌, ◌≤◌, nat_eq, nat_lt, if◌then◌else◌, true, None, Some, Ok, Err, Result, List, length, slice_index}
 use Rattle.std.specs.List.{list_any, slice_index_or}
 use Rattle.std.specs.declared.cmp.Ordering.{Ordering}
 use Rattle.std.specs.declared.cmp.Ordering.TheVariants.{Less, Greater}
@@ -8,17 +8,10 @@ use Rattle.krb_packet.specs.declared.contents.Original.{Original}
 use Rattle.krb_packet.specs.declared.fragments.Pending.{Pending}
 use Rattle.krb_packet.specs.declared.datagrams.Datagrams.{Datagrams}
 use Rattle.krb_packet.specs.Fragments.{index_of, whole_of, without_first}
-use Rattle.krb_packet.specs.Table.{Table}
+use Rattle.krb_packet.specs.Table.{Table, pending_in}
 
 abbrev pub original_cmp : Original → Original → Ordering
 original_cmp = order.ghosts.cmp
-
--- the datagrams, in the order in which they began
-abbrev pub pending_in : Datagrams → List Pending
-pending_in datagrams = map (λ one. one.value) datagrams.pending.items
-
-abbrev pub table_of : Datagrams → Table
-table_of datagrams = record { pending = pending_in datagrams; given_up = datagrams.given_up }
 
 -- places of datagrams, each of which is at one, and none of which is whole
 pub record IsIndex (places : List ℕ) (pending : List Pending) : Type 0 where

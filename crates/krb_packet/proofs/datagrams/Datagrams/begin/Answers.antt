@@ -1,8 +1,8 @@
 use Rattle.std.proofs.Common.{◌≡◌, Some, None, ◌++◌, [], ◌∷◌, List, sym, ap, ◌∙◌, rules}
-use Rattle.krb_packet.specs.Table.{Table}
+use Rattle.krb_packet.specs.Table.{Table, pending_in}
 use Rattle.krb_packet.specs.Fragments.{no_fragments_of, pending_with, whole_of}
 use Rattle.krb_packet.specs.declared.fragments.Pending.{Pending}
-use Rattle.krb_packet.specs.inner.Places.{fewer_than, pending_in}
+use Rattle.krb_packet.specs.inner.Places.{fewer_than}
 use Rattle.krb_packet.proofs.Places.{begun_kept, begun_whole}
 use Rattle.krb_packet.proofs.datagrams.Datagrams.begin.Goals as goal
 

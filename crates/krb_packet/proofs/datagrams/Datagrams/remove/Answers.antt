@@ -1,6 +1,7 @@
 use Rattle.std.proofs.Common.{◌≡◌, ◌++◌, length, map, take, drop, get_or, refl, sym, ap, ◌∙◌, rules}
 use Rattle.std.specs.List.{remove}
-use Rattle.krb_packet.specs.inner.Places.{pending_in, place_without}
+use Rattle.krb_packet.specs.Table.{pending_in}
+use Rattle.krb_packet.specs.inner.Places.{place_without}
 use Rattle.krb_packet.proofs.Places.{by_default, map-remove, removed_index, whole_again}
 use Rattle.krb_packet.proofs.datagrams.Datagrams.remove.Goals as goal
 

@@ -1,7 +1,8 @@
 use Rattle.std.proofs.Common.{get_or, arith, rules}
 use Rattle.std.proofs.lemmas.Fn.{always_returns_same}
 use Rattle.krb_packet.specs.Fragments.{no_fragments_of}
-use Rattle.krb_packet.specs.inner.Places.{original_cmp, pending_in}
+use Rattle.krb_packet.specs.Table.{pending_in}
+use Rattle.krb_packet.specs.inner.Places.{original_cmp}
 use Rattle.krb_packet.proofs.Places.{searched}
 use Rattle.krb_packet.proofs.datagrams.Datagrams.search.Goals as goal
 
