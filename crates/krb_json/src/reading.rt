@@ -53,6 +53,7 @@ pub fn read_line(
     match Value::from_slice(alloc, line, &mut scratch) {
         Ok(value) => read_object(alloc, profile, limit, &value),
         Err(Error::Invalid) => Err(LineFault::NotJson),
+        // Of the other errors only want of memory comes.
         Err(_) => Err(LineFault::Memory),
     }
 }
