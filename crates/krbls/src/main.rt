@@ -21,8 +21,7 @@ ghost use Rattle.krb_words.specs.Sources.{path_of};
 mod ends;
 
 use crate::ends::{put_decode_end, put_encode_end};
-use krb_list::FileName;
-use krb_text::TextBuffer;
+use krb_text::{FileName, TextBuffer};
 use krb_tool::{
     Form, Limit, ListSource, Profile, RunEnd, RunFault, run_capture, run_ccache_in, run_decode,
     run_decode_unframed, run_encode, run_encode_unframed, run_keytab_in, run_message_in,
