@@ -54,8 +54,10 @@ impl Capture {
         }
     }
 
-    /// Takes the next packet, and appends the records that are due with it to a text. Out of
-    /// memory, the text may have some of them.
+    /// Takes the next packet, and appends the records that are due with it to a text, until that
+    /// has 64 KiB. Returns what is left of the packet then, with which [`go_on`](Capture::go_on)
+    /// goes on before anything else is called. Out of memory, the text may have some of the
+    /// records.
     pub fn take(
         &mut self,
         packet: &Packet,
@@ -73,7 +75,9 @@ impl Capture {
         taken
     }
 
-    /// Goes on with a packet whose records were not all listed, and appends others to a text.
+    /// Goes on with what is left of the last packet, and appends the next records to a text, until
+    /// that has 64 KiB: the caller writes and clears it before, or nothing is appended. Returns what
+    /// is left then. Out of memory, the text may have some of the records.
     pub fn go_on(
         &mut self,
         rest: Box<Rest>,

@@ -3,7 +3,8 @@
 //!
 //! The main calls:
 //!
-//! - [`Capture::take`] takes the next packet of a capture, and lists what is found with it.
+//! - [`Capture::take`] takes the next packet of a capture, and lists what is found with it. If that
+//!   is much, [`Capture::go_on`] lists what is left of it, step by step.
 //! - [`Capture::finish`] lists what is found at the end of the file, and the totals.
 //! - [`Capture::refuse`] lists the refusal of the file itself, and the totals.
 //!

@@ -160,7 +160,7 @@ module _ (form : Form) (old new : PacketsModel) (was now : Capture) (rest : Opti
   refusal_added IsLeft fault (Err e) promises adds = tt
   refusal_added IsLeft fault (Ok ended) promises adds = by fault.fault fault.field (promises is_left.file is_left.count is_left.reads) adds
     where
-      by : (file_fault : FileFault) (field : CaptureField) → ReturnsNext is_left.file count (Err (record { fault = file_fault; field = field })) new → AddsFileRefusal file_fault field was form before after ended → AddsLine IsLeft left before after (Ok ended)
+      by : (file_fault : FileFault) (field : CaptureField) → ReturnsNext is_left.file is_left.count (Err (record { fault = file_fault; field = field })) new → AddsFileRefusal file_fault field was form before after ended → AddsLine IsLeft left before after (Ok ended)
       by faults.Read field given adds = absurd adds
       by faults.Memory field given adds = absurd adds
       by (faults.Refused place why unnamed) field given adds =
