@@ -17,7 +17,7 @@ use krb_judge::{ParseFault, judge, parse, read_ticket};
 use krb_keytab::{Next, Record, Records};
 use krb_list::{Form, TextBuffer, message_line, principal_text};
 use krb_msg::{ApRep, EncodeFault, EncryptedData, Kind, Message, PrincipalName, encode};
-use krb_packet::Packets;
+use krb_packet::{Packet, Packets};
 use krb_registry::{Registry, name_of};
 use krb_scan::Scanner;
 use krb_tool::{DecodeEnd, EncodeEnd, run_decode, run_encode, run_keytab, status};
@@ -190,6 +190,25 @@ fn etype_name(number: i64) -> &'static str {
     name_of(Registry::EncryptionTypes, number).unwrap_or("-")
 }
 
+/// Appends the records that are due with a packet.
+fn put_packet(
+    capture: &mut Capture,
+    packet: &Packet,
+    text: &mut TextBuffer,
+    records: &mut Vec<u8>,
+) -> Result<(), Memory> {
+    let mut rest = capture.take(packet, text)?;
+    for _ in 0..u64::MAX {
+        records.extend_from_slice(text.octets())?;
+        text.clear();
+        match rest {
+            Some(left) => rest = capture.go_on(left, text)?,
+            None => break,
+        }
+    }
+    Ok(())
+}
+
 /// Appends the records of a capture, as `krbls capture` prints them, and returns whether nothing of
 /// it is refused, lost or unread.
 fn put_capture(
@@ -197,11 +216,12 @@ fn put_capture(
     packets: &mut Packets<&[u8]>,
     capture: &mut Capture,
     text: &mut TextBuffer,
+    records: &mut Vec<u8>,
 ) -> Result<bool, FileFault> {
     for _ in 0..u64::MAX {
         match packets.next_packet(alloc) {
             Ok(Some(packet)) => {
-                if capture.take(&packet, text).is_err() {
+                if put_packet(capture, &packet, text, records).is_err() {
                     return Err(FileFault::Memory);
                 }
                 packets.give_back(packet);
@@ -214,15 +234,17 @@ fn put_capture(
 }
 
 /// Returns the records of a capture.
-fn capture_records(alloc: Global, file: &[u8]) -> Result<String, FileFault> {
+fn capture_records(alloc: Global, file: &[u8]) -> Result<Vec<u8>, FileFault> {
     let mut packets = Packets::new(file);
     let mut capture = Capture::new(alloc, Form::Lines, Limit::DEFAULT, 88);
     let mut text = TextBuffer::new(alloc);
-    let clean = put_capture(alloc, &mut packets, &mut capture, &mut text);
+    let mut records = Vec::new(alloc);
+    let clean = put_capture(alloc, &mut packets, &mut capture, &mut text, &mut records);
     drop(capture);
     drop(packets);
     clean?;
-    Ok(text.into_string())
+    records.extend_from_slice(text.octets())?;
+    Ok(records)
 }
 
 /// Returns what `krbls keytab` prints of a file, and its status.
@@ -350,7 +372,8 @@ fn show_files(rt: &HostRuntime) -> Result<()> {
     println!(rt; "credentials: {count}")?;
     let (text, status) = listed(alloc, KEYTAB);
     println!(rt; "{} octets of lines, status {status}", text.len())?;
-    print!(rt; "{}", capture_records(alloc, CAPTURE)?)?;
+    let records = capture_records(alloc, CAPTURE)?;
+    print!(rt; "{}", str::from_utf8(records.as_slice())?)?;
     Ok(())
 }
 

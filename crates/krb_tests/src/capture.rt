@@ -3,10 +3,11 @@
 
 use crate::examples::octets_of;
 use krb_capture::Capture;
+use krb_der::Memory;
 use krb_file::FileFault;
 use krb_frame::Limit;
 use krb_list::{Form, TextBuffer};
-use krb_packet::Packets;
+use krb_packet::{Packet, Packets};
 use std::alloc::Global;
 use std::test::Fail;
 
@@ -57,7 +58,9 @@ fn put_records(
             Ok(Some(packet)) => {
                 let taken = capture.take(&packet, text);
                 packets.give_back(packet);
-                taken?;
+                if taken?.is_some() {
+                    return Err(Fail::from("records that are left"));
+                }
             }
             Ok(None) => return Ok(capture.finish(text)?),
             Err(fault) => {
@@ -92,5 +95,52 @@ fn captures_are_listed(rt: HostRuntime) -> Result<(), Fail> {
         assert!(rt; text.octets() == lines.as_bytes());
         assert_eq!(rt; is_clean, *clean);
     }
+    Ok(())
+}
+
+/// The headers of a packet of a pcap with the octets of `FRAMES` frames: of the file, the packet,
+/// IPv4 and TCP. The segment begins its direction.
+const HEADERS: &str =
+    "D4C3B2A1020004000000000000000000FFFF00006500000081436D3805000000C80F0000C80F000045000FC800010000400600007F0000017F0000019C40005800000001000000005010FFFF00000000";
+
+/// How many frames without octets the packet has.
+const FRAMES: usize = 1000;
+
+/// How many octets of text the steps over the packet leave: the record of the direction's
+/// beginning, of 87 octets, and of 607 frames, each of 108, with the last of which the text has 64
+/// KiB; and the records of the other 393.
+const STEPS: [usize; 2] = [65643, 42444];
+
+/// Returns how many octets of text each step over the packet leaves.
+fn step_sizes(alloc: Global, packet: &Packet, text: &mut TextBuffer) -> Result<Vec<usize>, Memory> {
+    let mut capture = Capture::new(alloc, Form::Lines, Limit::DEFAULT, 88);
+    let mut sizes = Vec::new(alloc);
+    let mut rest = capture.take(packet, text)?;
+    for _ in 0..8 {
+        sizes.push(text.octets().len())?;
+        match rest {
+            Some(left) => {
+                text.clear();
+                rest = capture.go_on(left, text)?;
+            }
+            None => break,
+        }
+    }
+    Ok(sizes)
+}
+
+#[test]
+fn records_are_made_step_by_step(rt: HostRuntime) -> Result<(), Fail> {
+    let alloc = rt.alloc();
+    let mut octets = octets_of(alloc, HEADERS)?;
+    octets.resize(octets.len() + 4 * FRAMES, 0)?;
+    let mut packets = Packets::new(octets.as_slice());
+    let Ok(Some(packet)) = packets.next_packet(alloc) else {
+        return Err(Fail::from("no packet"));
+    };
+    let mut text = TextBuffer::new(alloc);
+    let sizes = step_sizes(alloc, &packet, &mut text)?;
+    assert!(rt; sizes.as_slice() == STEPS);
+    assert!(rt; text.octets().ends_with(b"refused place=3 why=3 Empty\n"));
     Ok(())
 }

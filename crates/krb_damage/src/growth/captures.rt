@@ -53,10 +53,12 @@ fn put_records(
     for _ in 0..16 {
         match packets.next_packet(alloc) {
             Ok(Some(packet)) => {
-                if capture.take(&packet, text).is_err() {
-                    return ended(capture.take(&packet, text).is_err());
+                match capture.take(&packet, text) {
+                    Ok(None) => packets.give_back(packet),
+                    // no packet here has so many records
+                    Ok(Some(_rest)) => return Outcome::Wrong,
+                    Err(_) => return ended(capture.take(&packet, text).is_err()),
                 }
-                packets.give_back(packet);
             }
             Ok(None) => {
                 if capture.finish(text).is_err() {
