@@ -140,7 +140,7 @@ fn records_are_made_step_by_step(rt: HostRuntime) -> Result<(), Fail> {
     };
     let mut text = TextBuffer::new(alloc);
     let sizes = step_sizes(alloc, &packet, &mut text)?;
-    assert!(rt; sizes.as_slice() == STEPS);
+    assert!(rt; sizes.as_slice() == STEPS.as_slice());
     assert!(rt; text.octets().ends_with(b"refused place=3 why=3 Empty\n"));
     Ok(())
 }

@@ -23,3 +23,4 @@ pub mod DecodedFrames
 pub mod DecodedPieces
 pub mod SourceLineParts
 pub mod EncodedLines
+pub mod WholeRuns

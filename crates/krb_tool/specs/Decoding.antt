@@ -1,17 +1,19 @@
 -- The lines of the messages of a stream, up to its end, to what is refused, or to a message with something that is not sealed.
-use Rattle.std.specs.Prelude.{ℕ, ◌+◌, ◌≡◌, List, [], ◌∷◌, ◌++◌, length, Option, Some, None, string_bytes}
+use Rattle.std.specs.Prelude.{ℕ, ◌+◌, ◌≡◌, ◌≤◌, nat_lt, List, [], ◌∷◌, ◌++◌, length, Option, Some, None, string_bytes}
 use Rattle.std.specs.Option.{option_map}
+use Rattle.krb_der.specs.Octets.{when}
 use Rattle.krb_der.specs.declared.profile.Profile.{Profile}
 use Rattle.krb_der.specs.declared.verdict.Refusal.{Refusal}
-use Rattle.krb_der.specs.declared.why.Why.TheVariants.{Truncated}
+use Rattle.krb_der.specs.declared.why.Why.TheVariants.{Truncated, TooLong}
 use Rattle.krb_msg.specs.Grammar.{messages}
 use Rattle.krb_msg.specs.Stream.{End, Boundary, Within, Refused, Frames, frames}
 use Rattle.krb_msg.specs.Views.{message_of_der}
+use Rattle.krb_judge.specs.Parses.{refusal_of}
 use Rattle.krb_json.specs.Lines.{line_of}
 use Rattle.krb_json.specs.Unsealed.{unsealed_in}
 use Rattle.krb_tool.specs.Conversions.{Converted, after_text, Converts, ConvertsInPart}
 use Rattle.krb_tool.specs.Listing.{IsNotRefused}
-use Rattle.krb_tool.specs.Paths.{found_path}
+use Rattle.krb_tool.specs.Paths.{found_path, refused_path}
 use Rattle.krb_tool.specs.declared.decode_run.DecodeEnd.{DecodeEnd}
 use Rattle.krb_tool.specs.declared.decode_run.DecodeEnd.TheVariants as ends
 
@@ -50,6 +52,17 @@ frames_decoded profile found stream = lines_after 0 found.contents (ending_at (l
 unfoldable pub decoded : Profile → (limit : ℕ) → (stream : List ℕ) → Converted Ending
 decoded profile limit stream = frames_decoded profile (frames (messages profile) limit stream) stream
 
+-- ---- all of a source is one message
+abbrev pub message_decoded : Profile → List ℕ → Option Refusal → Converted Ending
+message_decoded profile octets None = line_and 1 octets (unsealed_in (message_of_der octets)) (record { text = []; end = All })
+message_decoded profile octets (Some refusal) = record { text = []; end = Refusing 0 refusal (refused_path profile octets refusal) }
+
+-- of octets that are at most n
+unfoldable pub decoded_whole : Profile → (limit : ℕ) → List ℕ → Converted Ending
+decoded_whole profile limit octets =
+    when (nat_lt limit (length octets)) (λ _. record { text = []; end = Refusing 0 (record { place = 0; why = TooLong }) None })
+    (λ _. message_decoded profile octets (refusal_of profile octets))
+
 -- ---- what a run does
 abbrev pub AllAreSealed : (contents : List (List ℕ)) → Type 0
 AllAreSealed [] = Unit {0}
@@ -65,3 +78,11 @@ Decodes profile limit had left written_before written_after ended = Converts (de
 
 abbrev pub FailsToDecode : Profile → ℕ → (had left written_before written_after : Option (List ℕ)) → Type 0
 FailsToDecode profile limit had left written_before written_after = ConvertsInPart (decoded profile limit) had left written_before written_after
+
+-- all is read, or one octet more than a message may have
+pub record DecodesWhole (profile : Profile) (limit : ℕ) (had left written_before written_after : Option (List ℕ)) (ended : DecodeEnd) : Type 0 where
+  pub converts : Converts (decoded_whole profile limit) (λ read. length read ≤ limit) had left written_before written_after (ending_of ended)
+  pub few : length converts.read ≤ limit + 1
+
+abbrev pub FailsToDecodeWhole : Profile → ℕ → (had left written_before written_after : Option (List ℕ)) → Type 0
+FailsToDecodeWhole profile limit had left written_before written_after = ConvertsInPart (decoded_whole profile limit) had left written_before written_after

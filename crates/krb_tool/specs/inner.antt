@@ -9,3 +9,4 @@ pub mod CaptureRuns
 pub mod Conversions
 pub mod JsonLines
 pub mod EncodedLines
+pub mod WholeRuns

@@ -1,6 +1,6 @@
 //! The messages of a stream as lines of JSON.
 
-ghost use Rattle.std.specs.Prelude.{◌≡◌, ◌+◌, ◌<◌, ◌≤◌, ◌^◌, length, IfErr, IfOk, OnOk, IsSome, None};
+ghost use Rattle.std.specs.Prelude.{◌≡◌, ◌+◌, ◌<◌, ◌≤◌, ◌^◌, length, [], IfErr, IfOk, OnOk, IsSome, None};
 ghost use Rattle.std.specs.Option.{option_map};
 ghost use Rattle.krb_der.specs.declared.verdict.Verdict.TheVariants.{Whole};
 ghost use Rattle.krb_msg.specs.Grammar.{messages};
@@ -34,17 +34,43 @@ const LENGTH_OCTETS: usize = 4;
 #[derive(Drop)]
 pub(crate) struct JsonLines {
     alloc: Global,
-    text: Vec<u8>,
+    pub(crate) text: Vec<u8>,
     messages: u64,
-    unsealed: Option<String>,
+    pub(crate) unsealed: Option<String>,
 }
 
 impl JsonLines {
-    /// Adds the line of the message whose DER octets are, and returns true. If it is not sealed it
-    /// has no line: keeps the path and returns false.
+    /// Creates no lines.
+    pub(crate) fn new(alloc: Global) -> JsonLines
+        ensures text { result.text.items ≡ [] }
+        ensures messages { result.messages ≡ 0 }
+        ensures none { result.unsealed ≡ None }
+    {
+        JsonLines {
+            alloc,
+            text: Vec::new(alloc),
+            messages: 0,
+            unsealed: None,
+        }
+    }
+
+    /// Adds the line of the message that octets are judged to be, or keeps the path if it is not
+    /// sealed, as [`put_message`](JsonLines::put_message) does.
     fn put(&mut self, octets: &[u8]) -> Result<bool, RunFault>
         requires short { length octets.now < 2 ^ 31 }
         requires whole { judgement Profile.Lenient (length octets.now) octets.now ≡ Whole }
+        requires few { self.old.messages + 1 < 2 ^ 64 }
+        ensures put { IfOk result (PutsLine octets.now self.old self.new) }
+        ensures fault { IfErr result (λ e. e ≡ fault.Memory) }
+    {
+        self.put_message(octets)
+    }
+
+    /// Adds the line of the message whose DER octets are, and returns true. If it is not sealed it
+    /// has no line: keeps the path and returns false.
+    pub(crate) fn put_message(&mut self, octets: &[u8]) -> Result<bool, RunFault>
+        requires short { length octets.now < 2 ^ 31 }
+        requires message { IsOfMessage octets.now }
         requires few { self.old.messages + 1 < 2 ^ 64 }
         ensures put { IfOk result (PutsLine octets.now self.old self.new) }
         ensures fault { IfErr result (λ e. e ≡ fault.Memory) }
@@ -164,12 +190,7 @@ impl ListStream for JsonLister {
         JsonLister {
             alloc,
             decoder: Decoder::with_profile(alloc, request.limit, request.profile),
-            lines: JsonLines {
-                alloc,
-                text: Vec::new(alloc),
-                messages: 0,
-                unsealed: None,
-            },
+            lines: JsonLines::new(alloc),
         }
     }
 

@@ -64,8 +64,8 @@ impl JsonReader {
         ensures fault { IfErr result (λ e. e ≡ fault.Memory) }
     {
         let is_read = self.take_line()?;
-        self.line.clear();
         self.lines += 1;
+        self.line.clear();
         Ok(is_read)
     }
 

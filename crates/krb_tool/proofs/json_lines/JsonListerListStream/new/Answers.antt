@@ -18,10 +18,10 @@ returns c =
         contents = [];
         decoded = subst (λ p. HasDecoded (messages p) c.with_profile.result [] []) (sym profile) c.with_profile.ensures.decoded;
         sealed = tt;
-        lines = c.new.ensures.items;
-        counted = refl;
-        none = refl;
+        lines = c.new.ensures.text;
+        counted = c.new.ensures.messages;
+        none = c.new.ensures.none;
       };
       waits = ap (λ d. status_of (messages d.profile) d) nothing ∙ more-nothing (messages c.args.request.profile) c.args.request.profile c.args.request.limit _ _;
-      few = omega arith;
+      few = omega (arith, c.new.ensures.messages);
     })
