@@ -23,12 +23,13 @@ use Rattle.krb_tool.specs.Lines.{refused_line}
 use Rattle.krb_der.specs.declared.profile.Profile.{Profile}
 use Rattle.krb_tool.specs.Paths.{frame_path}
 use Rattle.krb_tool.specs.GoingOn.{Listed, Whole, Faulty, entry_of, messages_in, refused_in, lines_after, EndsUnknown}
-use Rattle.krb_tool.specs.inner.Pieces.{request_of, IsWaiting, IsFed, Goes, TakesPiece}
+use Rattle.krb_tool.specs.inner.Pieces.{request_of, IsFed, Goes, TakesPiece}
 use Rattle.krb_tool.specs.inner.CountingListers.{HasCounted, CountsReady, CountsLine, CountsRefused, SkipsRefused, counting}
 use Rattle.krb_tool.specs.declared.going_on.CountingLister.{CountingLister}
 use Rattle.krb_tool.proofs.KnownLengths.{known_last, whole_known, refused_known}
 use Rattle.krb_tool.proofs.Pieces.{IsFed-used, IsFed-frame}
-use Rattle.krb_tool.proofs.Listings.{is_status, is_borrowed, some_used-by, memory_ready, memory_more, memory_refused, more_ready, cleared_is, cleared_waits, contents_is, same_request}
+use Rattle.krb_tool.proofs.DecoderResults.{is_status, is_borrowed, some_used-by, memory_ready, memory_more, memory_refused, more_ready, cleared_is, cleared_waits}
+use Rattle.krb_tool.proofs.Listings.{contents_is, same_request}
 
 pub more_refused : (refusal : Refusal) → status.More ≡ status.Refused refusal → ⊥
 more_refused refusal e = cc
@@ -100,7 +101,7 @@ module _ (old new : CountingLister) (piece : List ℕ) (fed : Fed) (f : FeedsAft
   fed_all : fed.status ≡ status.More → fed.used ≡ length piece
   fed_all e = omega (arith, f.first, f.others.all e, length-drop old.decoder.skipped piece)
 
-  pub fed_some : (answer : Status) → IsWaiting counting old → fed.status ≡ answer → (status.More ≡ answer → ⊥) → (status.Memory ≡ answer → ⊥) → 0 < fed.used
+  pub fed_some : (answer : Status) → counting.IsWaiting old → fed.status ≡ answer → (status.More ≡ answer → ⊥) → (status.Memory ≡ answer → ⊥) → 0 < fed.used
   fed_some answer w e differs never =
       let s : 0 < fed.used - min old.decoder.skipped (length piece) = some_used-by old.decoder.current.profile old.decoder.current new.decoder.current (drop old.decoder.skipped piece) (without (min old.decoder.skipped (length piece)) fed) answer f.others w e differs never in
       omega (arith, s)
@@ -141,7 +142,7 @@ module _ (old new : CountingLister) (piece : List ℕ) (fed : Fed) (f : FeedsAft
     TakesPiece-unknown refusal e n = taken false (refusal, status_is (status.Refused refusal) e (memory_refused refusal), n)
 
     -- a frame is ready, and is listed
-    pub IsFed-ready : (next : CountingLister) → IsWaiting counting old → fed.status ≡ status.Ready → CountsReady new next → IsFed counting old piece (drop fed.used piece) next
+    pub IsFed-ready : (next : CountingLister) → counting.IsWaiting old → fed.status ≡ status.Ready → CountsReady new next → IsFed counting old piece (drop fed.used piece) next
     IsFed-ready next w e l =
         let cleared = cleared_is new.decoder.current.profile new.decoder.current next.decoder.current l.contents l.cleared.clears l.is_ready in
         let profile : next.decoder.current.profile ≡ new.decoder.current.profile = ap (λ d. d.profile) cleared in
@@ -155,7 +156,7 @@ module _ (old new : CountingLister) (piece : List ℕ) (fed : Fed) (f : FeedsAft
         (subst (λ o. GoesOn (messages new.decoder.current.profile) next.decoder (stream ++ take fed.used piece) (map entry_of u.listed ++ Contents o ∷ [])) (sym l.form) (l.cleared.goes_on (stream ++ take fed.used piece) l.contents (map entry_of u.listed) u.goes_on l.is_ready)))
 
     -- a frame is refused, and is skipped
-    pub IsFed-refused : (next : CountingLister) (refusal : Refusal) → IsWaiting counting old → fed.status ≡ status.Refused refusal → CountsRefused new refusal next → IsFed counting old piece (drop fed.used piece) next
+    pub IsFed-refused : (next : CountingLister) (refusal : Refusal) → counting.IsWaiting old → fed.status ≡ status.Refused refusal → CountsRefused new refusal next → IsFed counting old piece (drop fed.used piece) next
     IsFed-refused next refusal w e l =
         let left = skipped_is new next refusal l in
         let rest = some_rest (rest_to_come (messages new.decoder.current.profile) new.decoder.current) l.skipped.is_known in
@@ -181,7 +182,7 @@ module _ (old new : CountingLister) (octets : List ℕ) (passed : Passed) (p : P
       (subst (λ o. GoesOn (messages old.decoder.current.profile) old.decoder grown (map entry_of h.listed ++ Contents o ∷ [])) (contents_is passed)
       (p.goes_on stream (map entry_of h.listed) h.goes_on)))
 
-  pub IsFed-passed : IsWaiting counting old → IsFed counting old octets passed.rest.now new
+  pub IsFed-passed : counting.IsWaiting old → IsFed counting old octets passed.rest.now new
   IsFed-passed w =
       IsFed-frame counting old new octets (contents_of passed) passed.rest.now p.passes.parts
       (λ i. request_of (l.same_form i) (l.same_decoder i).current)

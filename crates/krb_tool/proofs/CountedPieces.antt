@@ -16,11 +16,12 @@ use Rattle.krb_text.specs.declared.form.Form.{Form}
 use Rattle.krb_tool.specs.Lines.{refused_line, counted_end_line}
 use Rattle.krb_tool.specs.Paths.{frame_path}
 use Rattle.krb_tool.specs.GoingOn.{Listed, Faulty, entry_of, messages_in, refused_in, lines_after, IsCountedListing, counted_run_end, EndsUnknown, StopsInPiece, ListsAll, AreCountedLines}
-use Rattle.krb_tool.specs.inner.Streams.{Request, Taken, with_piece, Begins, IsLast, MayFinish, EndsListing, ListsBy}
+use Rattle.krb_tool.specs.inner.Streams.{Taken, with_piece, Begins, IsLast, MayFinish, EndsListing, ListsBy}
 use Rattle.krb_tool.specs.inner.Pieces.{TakesPiece, WaitsAfter, IsLastOf, listing_of}
 use Rattle.krb_tool.specs.inner.CountingListers.{HasCounted, last_listed, last_of, PutsCount, PutsLast, CountsEnd, IsUnknownAfter, counting, counting_rules}
 use Rattle.krb_tool.specs.declared.going_on.CountingLister.{CountingLister}
 use Rattle.krb_tool.specs.declared.run.RunEnd.{RunEnd}
+use Rattle.krb_tool.specs.declared.stream_run.Request.{Request}
 use Rattle.krb_tool.specs.Listing.{IsNotRefused}
 use Rattle.krb_tool.proofs.KnownLengths.{known_last}
 use Rattle.krb_tool.proofs.CountedListings.{messages_in-append, refused_in-append, lines_after-append}

@@ -1,7 +1,9 @@
+pub mod DecoderResults
 pub mod Listings
 pub mod Transfers
 pub mod StreamRuns
 pub mod Pieces
+pub mod LastFrames
 pub mod ListedPieces
 pub mod Files
 pub mod Messages
@@ -16,3 +18,9 @@ pub mod SourceRuns
 mod FaultPaths
 pub mod FilePaths
 mod CaptureLines
+pub mod ConversionRuns
+pub mod DecodedFrames
+pub mod DecodedPieces
+pub mod SourceLineParts
+pub mod EncodedLines
+pub mod WholeRuns

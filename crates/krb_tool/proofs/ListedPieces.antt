@@ -12,15 +12,18 @@ use Rattle.krb_frame.specs.GoingOn.{after_contents}
 use Rattle.krb_frame.specs.Decoded.{after_frames, frames_size}
 use Rattle.krb_frame.specs.declared.decoder.Status.TheVariants as status
 use Rattle.krb_frame.proofs.Ends.{none_found, refused_end, found_of, refusal_ends}
+use Rattle.krb_tool.proofs.LastFrames.{more_not_refused, path-at}
+use Rattle.krb_tool.proofs.DecoderResults.{more_ready}
 use Rattle.krb_tool.specs.Lines.{message_line}
 use Rattle.krb_tool.specs.Lines.{end_line}
 use Rattle.krb_tool.specs.Paths.{frame_path, last_octets, end_path}
 use Rattle.krb_tool.specs.Listing.{end_of, run_end, AllIsRead, IsNotRefused, StopsInPiece, Lists, AreLines}
-use Rattle.krb_tool.specs.inner.Streams.{Request, Taken, with_piece, Begins, EndsListing, ListsBy}
+use Rattle.krb_tool.specs.inner.Streams.{Taken, with_piece, Begins, EndsListing, ListsBy}
 use Rattle.krb_tool.specs.inner.Pieces.{TakesPiece, WaitsAfter, IsLastOf}
 use Rattle.krb_tool.specs.inner.Listers.{HasListed, AddsEnd, IsRefusedAfter, stopping, stopping_rules}
 use Rattle.krb_tool.specs.declared.listing.Lister.{Lister}
 use Rattle.krb_tool.specs.declared.run.RunEnd.{RunEnd}
+use Rattle.krb_tool.specs.declared.stream_run.Request.{Request}
 
 -- the frames of a stream by what a lister was asked for
 abbrev frames_of : Lister → List ℕ → Frames
@@ -33,15 +36,6 @@ frames-listed : (lister : Lister) (stream written : List ℕ) (h : HasListed lis
 frames-listed lister stream written h = found_of (messages lister.decoder.profile) lister.decoder stream (map message_der h.messages) h.decoded
 
 -- ---- while more is awaited
-more_ready : status.More ≡ status.Ready → ⊥
-more_ready e = cc
-
-more_not_refused : (contents : List (List ℕ)) (end : End) → status_at contents end ≡ status.More → IsNotRefused end
-more_not_refused contents Boundary e = tt
-more_not_refused contents (Within present) e = tt
-more_not_refused [] (Refused place reason) e = absurd cc
-more_not_refused (first ∷ others) (Refused place reason) e = absurd cc
-
 module _ (lister : Lister) (taken : Taken) (w : WaitsAfter stopping lister taken) where
   found_read : frames_of lister taken.octets ≡ after_frames (map message_der w.listed.messages) (current_of lister)
   found_read = frames-listed lister taken.octets taken.written w.listed
@@ -75,30 +69,6 @@ module _ (lister : Lister) (taken : Taken) (w : WaitsAfter stopping lister taken
         };
       }
 
--- ---- the field at fault
--- the octets of the last frame are those that its decoder holds, of which octets that were not used may come after
-last-octets : (octets more : List ℕ) (end : End) → AreOfOne octets [] end → (IsNotRefused end → more ≡ []) → last_octets end (octets ++ more) ≡ octets
-last-octets octets more Boundary one none = sym one
-last-octets octets more (Within present) one none = ap (λ l. octets ++ l) (none tt) ∙ append-nil octets
-last-octets octets more (Refused place reason) one none = take_at octets more (place + 1) one
-
--- after the frames that were cleared come the octets that a decoder holds, and then those that were not used
-path-is : (lister : Lister) (stream written more : List ℕ) (h : HasListed lister stream written) → frames_of lister (stream ++ more) ≡ frames_of lister stream → (current_of lister).contents ≡ [] → (IsNotRefused (current_of lister).end → more ≡ []) → end_path lister.decoder.profile lister.decoder.limit (stream ++ more) ≡ frame_path lister.decoder.profile lister.decoder.octets
-path-is lister stream written more h same none rest =
-    let profile : Profile = lister.decoder.profile in
-    let octets : List ℕ = lister.decoder.octets in
-    let cleared : List (List ℕ) = map message_der h.messages in
-    let before : List ℕ = h.decoded.last.before in
-    let read : frames_of lister (stream ++ more) ≡ after_frames cleared (current_of lister) = same ∙ frames-listed lister stream written h in
-    let contents : (frames_of lister (stream ++ more)).contents ≡ cleared = ap (λ f. f.contents) read ∙ ap (λ c. cleared ++ c) none ∙ append-nil cleared in
-    let after : after_contents (frames_of lister (stream ++ more)) (stream ++ more) ≡ octets ++ more =
-    ap (λ c. drop (frames_size c) (stream ++ more)) contents
-    ∙ ap (λ s. drop (frames_size cleared) (s ++ more)) h.decoded.last.parts
-    ∙ ap (drop (frames_size cleared)) (append_assoc before octets more)
-    ∙ drop_at before (octets ++ more) (frames_size cleared) h.decoded.counted in
-    ap₂ (λ e l. frame_path profile (last_octets e l)) (ap (λ f. f.end) read) after
-    ∙ ap (frame_path profile) (last-octets octets more (current_of lister).end (subst (λ c. AreOfOne octets c (current_of lister).end) none h.decoded.one) rest)
-
 -- ---- the end
 -- No piece follows. What was read has the frames of a stream that is listed, of which the lister has none.
 record IsDone (lister : Lister) (taken : Taken) (left : Option (List ℕ)) : Type 0 where
@@ -123,7 +93,7 @@ done lister taken left (inl (w, a)) = record {
   none = none_ready lister taken w;
   path =
       ap (end_path lister.decoder.profile lister.decoder.limit) (sym (append-nil taken.octets))
-      ∙ path-is lister taken.octets taken.written [] w.listed (ap (frames_of lister) (append-nil taken.octets)) (none_ready lister taken w) (λ n. refl);
+      ∙ path-at lister.decoder taken.octets [] (map message_der w.listed.messages) w.listed.decoded (ap (frames_of lister) (append-nil taken.octets)) (none_ready lister taken w) (λ n. refl);
   all_read = all_is_read (current_of lister).end left (not_refused lister taken w) a;
   stops = record { prefix = taken.octets; piece = []; parts = sym (append-nil taken.octets); goes_on = goes_on lister taken w; short = omega arith };
 }
@@ -134,7 +104,7 @@ done lister taken left (inr r) = record {
   none = r.none;
   path =
       ap (end_path lister.decoder.profile lister.decoder.limit) r.parts
-      ∙ path-is lister r.stream taken.written r.rest r.listed (ap (frames_of lister) (sym r.parts) ∙ r.same_frames) r.none (λ n. absurd (subst IsNotRefused r.end n));
+      ∙ path-at lister.decoder r.stream r.rest (map message_der r.listed.messages) r.listed.decoded (ap (frames_of lister) (sym r.parts) ∙ r.same_frames) r.none (λ n. absurd (subst IsNotRefused r.end n));
   all_read = subst (λ x. AllIsRead x left) (sym r.end) tt;
   stops = r.stops;
 }

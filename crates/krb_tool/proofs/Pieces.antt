@@ -7,9 +7,8 @@ use Rattle.krb_frame.specs.Decoding.{Decoding}
 use Rattle.krb_frame.specs.Frame.{framed}
 use Rattle.krb_frame.specs.Passes.{Passes, contents_of}
 use Rattle.krb_frame.specs.declared.pass.Passed.{Passed}
-use Rattle.krb_tool.specs.inner.Streams.{Request, Taken, with_piece, Begins, GoesOn, IsNew, AcceptsPiece, Feeds, Clears, IsLast, EndsListing, Finishes}
-use Rattle.krb_tool.specs.inner.Pieces.{Kind, IsWaiting, IsFed, Goes, TakesPiece, WaitsAfter, IsLastOf, listing_of}
-use Rattle.krb_tool.specs.declared.run.RunEnd.{RunEnd}
+use Rattle.krb_tool.specs.inner.Streams.{Taken, with_piece, Begins, GoesOn, IsNew, AcceptsPiece, Feeds, Clears, IsLast, EndsListing, Finishes}
+use Rattle.krb_tool.specs.inner.Pieces.{Kind, IsFed, Goes, TakesPiece, WaitsAfter, IsLastOf, listing_of}
 
 -- the octets used so far, and some more
 pub together : (piece rest stream : List ℕ) (used : ℕ) → rest ≡ drop (length piece - length rest) piece → (stream ++ take (length piece - length rest) piece) ++ take used rest ≡ stream ++ take (length piece - length rest + used) piece
@@ -22,10 +21,10 @@ together piece rest stream used e =
 pub passed_shorter : {messages : List Term} {decoding : Decoding} {octets : List ℕ} {passed : Passed} → Passes messages decoding octets passed → length passed.rest.now < length octets
 passed_shorter {passed = passed} p = omega (arith, ap length p.parts, length-append (framed (contents_of passed)) passed.rest.now)
 
-module _ {L : Type 0} (kind : Kind L) where
+module _ {L Q E : Type 0} (kind : Kind L Q E) where
   -- ---- a piece, as far as it was used
   -- some octets were used
-  pub IsFed-used : (old new : L) (piece : List ℕ) (used : ℕ) → used ≤ length piece → kind.request new ≡ kind.request old → IsWaiting kind new → kind.count new ≤ kind.count old + used → ((stream written : List ℕ) → kind.HasListed old stream written → kind.HasListed new (stream ++ take used piece) written) → IsFed kind old piece (drop used piece) new
+  pub IsFed-used : (old new : L) (piece : List ℕ) (used : ℕ) → used ≤ length piece → kind.request new ≡ kind.request old → kind.IsWaiting new → kind.count new ≤ kind.count old + used → ((stream written : List ℕ) → kind.HasListed old stream written → kind.HasListed new (stream ++ take used piece) written) → IsFed kind old piece (drop used piece) new
   IsFed-used old new piece used within same waits few listed =
       let left : length piece - length (drop used piece) ≡ used = omega (arith, length-drop used piece) in
       record {
@@ -38,7 +37,7 @@ module _ {L : Type 0} (kind : Kind L) where
       }
 
   -- those of a frame, which is listed
-  pub IsFed-frame : (old new : L) (octets contents rest : List ℕ) → octets ≡ framed contents ++ rest → kind.request new ≡ kind.request old → IsWaiting kind new → kind.count new ≡ kind.count old + 1 → ((stream written : List ℕ) → kind.HasListed old stream written → kind.HasListed new (stream ++ framed contents) written) → IsFed kind old octets rest new
+  pub IsFed-frame : (old new : L) (octets contents rest : List ℕ) → octets ≡ framed contents ++ rest → kind.request new ≡ kind.request old → kind.IsWaiting new → kind.count new ≡ kind.count old + 1 → ((stream written : List ℕ) → kind.HasListed old stream written → kind.HasListed new (stream ++ framed contents) written) → IsFed kind old octets rest new
   IsFed-frame old new octets contents rest parts same waits one listed =
       let size : length octets ≡ length (framed contents) + length rest = ap length parts ∙ length-append (framed contents) rest in
       let prefix : take (length (framed contents)) octets ≡ framed contents = ap (take (length (framed contents))) parts ∙ take_at (framed contents) rest (length (framed contents)) refl in
@@ -48,7 +47,7 @@ module _ {L : Type 0} (kind : Kind L) where
       (λ stream written h. subst (λ f. kind.HasListed new (stream ++ f) written) (sym prefix) (listed stream written h)))
 
   -- none was used
-  pub IsFed-start : (lister : L) (piece : List ℕ) → IsWaiting kind lister → IsFed kind lister piece piece lister
+  pub IsFed-start : (lister : L) (piece : List ℕ) → kind.IsWaiting lister → IsFed kind lister piece piece lister
   IsFed-start lister piece w =
       let none : length piece - length piece ≡ 0 = omega arith in
       record {
@@ -98,7 +97,7 @@ module _ {L : Type 0} (kind : Kind L) where
     }
 
   -- ---- a lister that accepts a piece
-  pub may_wait : {lister : L} → AcceptsPiece (listing_of kind lister) → IsWaiting kind lister
+  pub may_wait : {lister : L} → AcceptsPiece (listing_of kind lister) → kind.IsWaiting lister
   may_wait m = m.waits.1.waits
 
   -- the frames of a piece can be counted, and one more after some of its octets
@@ -111,7 +110,7 @@ module _ {L : Type 0} (kind : Kind L) where
   -- ---- a lister of a stream
   module _ (begins : (lister : L) (taken : Taken) → WaitsAfter kind lister taken → Begins (kind.rules (kind.request lister)) taken (kind.text lister)) where
     -- nothing came yet
-    pub IsNew-made : {lister : L} {request : Request} → kind.request lister ≡ request → WaitsAfter kind lister (record { pieces = 0; octets = []; written = [] }) → IsNew (kind.rules request) request (listing_of kind lister)
+    pub IsNew-made : {lister : L} {request : Q} → kind.request lister ≡ request → WaitsAfter kind lister (record { pieces = 0; octets = []; written = [] }) → IsNew (kind.rules request) request (listing_of kind lister)
     IsNew-made {lister = lister} {request = request} e w =
         let start : Taken = record { pieces = 0; octets = []; written = [] } in
         record { waits = record { waits = (e, w); begins = subst (λ r. Begins (kind.rules r) start (kind.text lister)) e (begins lister start w) } }
@@ -126,7 +125,7 @@ module _ {L : Type 0} (kind : Kind L) where
         }
 
     module _ (stops : (old new : L) (piece : List ℕ) (taken : Taken) → length piece ≤ 65536 → WaitsAfter kind old taken → TakesPiece kind old piece new false → kind.Stops new (with_piece taken piece) × (kind.rules (kind.request new)).AreLines (taken.octets ++ piece) (taken.written ++ kind.text new)) where
-      goes_on_after : {old new : L} {piece : List ℕ} (goes_on : Bool) (request : Request) (taken : Taken) → length piece ≤ 65536 → kind.request old ≡ request → WaitsAfter kind old taken → TakesPiece kind old piece new goes_on → GoesOn goes_on (kind.rules request) request (with_piece taken piece) (listing_of kind new)
+      goes_on_after : {old new : L} {piece : List ℕ} (goes_on : Bool) (request : Q) (taken : Taken) → length piece ≤ 65536 → kind.request old ≡ request → WaitsAfter kind old taken → TakesPiece kind old piece new goes_on → GoesOn goes_on (kind.rules request) request (with_piece taken piece) (listing_of kind new)
       goes_on_after {new = new} {piece = piece} true request taken short e w f =
           let n = waits_on taken short w f in
           record { waits = (f.same ∙ e, n); begins = subst (λ r. Begins (kind.rules r) (with_piece taken piece) (kind.text new)) (f.same ∙ e) (begins new (with_piece taken piece) n) }
@@ -138,24 +137,30 @@ module _ {L : Type 0} (kind : Kind L) where
       pub Feeds-made : {old new : L} {piece : List ℕ} {goes_on : Bool} → length piece ≤ 65536 → TakesPiece kind old piece new goes_on → Feeds kind.rules (listing_of kind old) piece (listing_of kind new) goes_on
       Feeds-made {goes_on = goes_on} short f = λ request taken w. goes_on_after goes_on request taken short w.0 w.1 f
 
+  -- a piece came, and the lister accepts none after it
+  pub Feeds-stopped : {old new : L} {piece : List ℕ} → kind.request new ≡ kind.request old → ((taken : Taken) → WaitsAfter kind old taken → kind.Stops new (with_piece taken piece) × (kind.rules (kind.request new)).AreLines (taken.octets ++ piece) (taken.written ++ kind.text new)) → Feeds kind.rules (listing_of kind old) piece (listing_of kind new) false
+  Feeds-stopped {new = new} {piece = piece} same stops = λ request taken w.
+      let n = stops taken w.1 in
+      record { stops = (same ∙ w.0, n.0); lines = subst (λ r. (kind.rules r).AreLines (taken.octets ++ piece) (taken.written ++ kind.text new)) (same ∙ w.0) n.1 }
+
   -- the lines were written
-  pub Clears-made : {old new : L} → kind.text new ≡ [] → kind.request new ≡ kind.request old → kind.decoding new ≡ kind.decoding old → kind.count new ≡ kind.count old → ((stream written : List ℕ) → kind.HasListed old stream written → kind.HasListed new stream (written ++ kind.text old)) → Clears (listing_of kind old) (listing_of kind new)
-  Clears-made {old = old} {new = new} none same decoding count listed = record {
+  pub Clears-made : {old new : L} → kind.text new ≡ [] → kind.request new ≡ kind.request old → (kind.IsWaiting old → kind.IsWaiting new) → kind.count new ≡ kind.count old → ((stream written : List ℕ) → kind.HasListed old stream written → kind.HasListed new stream (written ++ kind.text old)) → Clears (listing_of kind old) (listing_of kind new)
+  Clears-made {old = old} {new = new} none same waits count listed = record {
     none = none;
     waits = λ request taken w. (
       same ∙ w.0,
       record {
         listed = listed taken.octets taken.written w.1.listed;
-        waits = rw (same, decoding) w.1.waits;
+        waits = waits w.1.waits;
         few = omega (arith, w.1.few, count);
       },
     );
   }
 
   -- the lines of the end were added
-  pub Finishes-made : (old new : L) (ended : RunEnd) → ((taken : Taken) (left : Option (List ℕ)) → IsLastOf kind old taken left → EndsListing (kind.rules (kind.request old)) taken.octets (taken.written ++ kind.text new) left ended) → Finishes kind.rules (listing_of kind old) (listing_of kind new) ended
+  pub Finishes-made : (old new : L) (ended : E) → ((taken : Taken) (left : Option (List ℕ)) → IsLastOf kind old taken left → EndsListing (kind.rules (kind.request old)) taken.octets (taken.written ++ kind.text new) left ended) → Finishes kind.rules (listing_of kind old) (listing_of kind new) ended
   Finishes-made old new ended made = λ request taken left last. by request taken left last
     where
-      by : (request : Request) (taken : Taken) (left : Option (List ℕ)) → IsLast (listing_of kind old) request taken left → EndsListing (kind.rules request) taken.octets (taken.written ++ kind.text new) left ended
+      by : (request : Q) (taken : Taken) (left : Option (List ℕ)) → IsLast (listing_of kind old) request taken left → EndsListing (kind.rules request) taken.octets (taken.written ++ kind.text new) left ended
       by request taken left (inl (w, a)) = subst (λ r. EndsListing (kind.rules r) taken.octets (taken.written ++ kind.text new) left ended) w.0 (made taken left (inl (w.1, a)))
       by request taken left (inr s) = subst (λ r. EndsListing (kind.rules r) taken.octets (taken.written ++ kind.text new) left ended) s.0 (made taken left (inr s.1))

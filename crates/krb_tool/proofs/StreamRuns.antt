@@ -6,9 +6,8 @@ use Rattle.std.proofs.KnownBytes.{Consumes-nil, Consumes-trans, Consumes-kept, A
 use Rattle.krb_tool.specs.Faults.{IsRead, IsWrite}
 use Rattle.krb_tool.specs.Files.{AppendsPrefix}
 use Rattle.krb_tool.specs.Listing.{WritesPrefix}
-use Rattle.krb_tool.specs.inner.Streams.{Request, Rules, with_piece, with_lines, Listing, IsNew, AcceptsPiece, Feeds, Clears, MayFinish, Finishes, FailsBy, Runs, IsOver, RunsOn, Reads, FailsToRead, ListsBy}
+use Rattle.krb_tool.specs.inner.Streams.{Rules, with_piece, with_lines, Listing, IsNew, AcceptsPiece, Feeds, Clears, MayFinish, Finishes, FailsBy, Runs, IsOver, RunsOn, Reads, FailsToRead, ListsBy}
 use Rattle.krb_tool.specs.inner.Transfers.{ReturnsOctets}
-use Rattle.krb_tool.specs.declared.run.RunEnd.{RunEnd}
 use Rattle.krb_tool.specs.declared.run.RunFault.{RunFault}
 use Rattle.krb_tool.specs.declared.run.RunFault.TheVariants as fault
 
@@ -34,18 +33,18 @@ AppendsPrefix-longer written_before written_after text more f = record {
 }
 
 -- ---- which fault it is
-failed-memory : {T : Type 0} (r : Result T RunFault) (rules : Rules) (had left written_before written_after : Option (List ℕ)) → IfErr r (λ e. e ≡ fault.Memory) → WritesPrefix rules.AreLines had left written_before written_after → IfErr r (FailsBy rules had left written_before written_after)
+failed-memory : {T E : Type 0} (r : Result T RunFault) (rules : Rules E) (had left written_before written_after : Option (List ℕ)) → IfErr r (λ e. e ≡ fault.Memory) → WritesPrefix rules.AreLines had left written_before written_after → IfErr r (FailsBy rules had left written_before written_after)
 failed-memory (Ok x) rules had left written_before written_after is p = tt
 failed-memory (Err e) rules had left written_before written_after is p = subst (FailsBy rules had left written_before written_after) (sym is) p
 
-failed-write : {T : Type 0} (r : Result T RunFault) (rules : Rules) (had left written_before written_after : Option (List ℕ)) → IfErr r IsWrite → WritesPrefix rules.IsListing had left written_before written_after → IfErr r (FailsBy rules had left written_before written_after)
+failed-write : {T E : Type 0} (r : Result T RunFault) (rules : Rules E) (had left written_before written_after : Option (List ℕ)) → IfErr r IsWrite → WritesPrefix rules.IsListing had left written_before written_after → IfErr r (FailsBy rules had left written_before written_after)
 failed-write (Ok x) rules had left written_before written_after is p = tt
 failed-write (Err (fault.Write e)) rules had left written_before written_after is p = p
 failed-write (Err (fault.Read e)) rules had left written_before written_after is p = absurd is
 failed-write (Err fault.Memory) rules had left written_before written_after is p = absurd is
 
 -- ---- lines that are written in part
-lines_prefix : (rules : Rules) (had left written_before written_after : Option (List ℕ)) (octets written text : List ℕ) → Consumes had left octets → Appends written_before written_after written → rules.AreLines octets (written ++ text) → WritesPrefix rules.AreLines had left written_before written_after
+lines_prefix : {E : Type 0} (rules : Rules E) (had left written_before written_after : Option (List ℕ)) (octets written text : List ℕ) → Consumes had left octets → Appends written_before written_after written → rules.AreLines octets (written ++ text) → WritesPrefix rules.AreLines had left written_before written_after
 lines_prefix rules had left written_before written_after octets written text taken added lines = record {
   read = octets;
   text = written ++ text;
@@ -55,9 +54,9 @@ lines_prefix rules had left written_before written_after octets written text tak
 }
 
 -- ---- a piece is read
-module _ (rules : Request → Rules) (left left' : Option (List ℕ)) (asks asks' room : ℕ) (piece : List ℕ) (old : Listing) (given : ReturnsOctets left left' piece room) (counted : asks' ≡ asks + 1) where
+module _ {Q E : Type 0} (rules : Q → Rules E) (left left' : Option (List ℕ)) (asks asks' room : ℕ) (piece : List ℕ) (old : Listing Q) (given : ReturnsOctets left left' piece room) (counted : asks' ≡ asks + 1) where
   -- the lister took it
-  pub Reads-fed : (new : Listing) (goes_on : Bool) → Feeds rules old piece new goes_on → Reads rules left asks old left' asks' new goes_on
+  pub Reads-fed : (new : Listing Q) (goes_on : Bool) → Feeds rules old piece new goes_on → Reads rules left asks old left' asks' new goes_on
   Reads-fed new true fed = λ request had written_before written_after r. record {
     come = with_piece r.come piece;
     taken = Consumes-trans had left left' r.come.octets piece r.taken given.taken;
@@ -94,7 +93,7 @@ module _ (rules : Request → Rules) (left left' : Option (List ℕ)) (asks asks
       lines_prefix (rules request) had left' written_before written_after (r.come.octets ++ piece) r.come.written old.text (Consumes-trans had left left' r.come.octets piece r.taken given.taken) r.added (r.waits.begins.lines piece))
 
 -- a read failed
-pub FailsToRead-asked : {T : Type 0} (r : Result T RunFault) (rules : Request → Rules) (left left' : Option (List ℕ)) (asks : ℕ) (lister : Listing) → IfErr r IsRead → Keeps left left' → IfErr r (FailsToRead rules left asks lister left')
+pub FailsToRead-asked : {T Q E : Type 0} (r : Result T RunFault) (rules : Q → Rules E) (left left' : Option (List ℕ)) (asks : ℕ) (lister : Listing Q) → IfErr r IsRead → Keeps left left' → IfErr r (FailsToRead rules left asks lister left')
 FailsToRead-asked (Ok x) rules left left' asks lister is kept = tt
 FailsToRead-asked (Err (fault.Read e)) rules left left' asks lister is kept = λ request had written_before written_after r.
     lines_prefix (rules request) had left' written_before written_after (r.come.octets ++ []) r.come.written lister.text (subst (Consumes had left') (sym (append-nil r.come.octets)) (Consumes-kept had left left' r.come.octets r.taken kept)) r.added (r.waits.begins.lines [])
@@ -102,7 +101,7 @@ FailsToRead-asked (Err (fault.Write e)) rules left left' asks lister is kept = a
 FailsToRead-asked (Err fault.Memory) rules left left' asks lister is kept = absurd is
 
 -- ---- the lines of pieces are written
-module _ {rules : Rules} {request : Request} {had left written_before written_after : Option (List ℕ)} {asks : ℕ} {lister : Listing} where
+module _ {Q E : Type 0} {rules : Rules E} {request : Q} {had left written_before written_after : Option (List ℕ)} {asks : ℕ} {lister : Listing Q} where
   pub runs_on : (goes_on : Bool) → goes_on ≡ true → RunsOn goes_on rules request had left written_before written_after asks lister → Runs rules request had left written_before written_after asks lister
   runs_on true e r = r
   runs_on false e r = absurd cc
@@ -115,7 +114,7 @@ module _ {rules : Rules} {request : Request} {had left written_before written_af
   AcceptsPiece-runs r few = record { request = request; taken = r.come; waits = r.waits.waits; few = omega (arith, r.pieces) }
 
   -- the lines were written
-  pub Runs-written : (written_after' : Option (List ℕ)) (new : Listing) → Runs rules request had left written_before written_after asks lister → Appends written_after written_after' lister.text → Clears lister new → Runs rules request had left written_before written_after' asks new
+  pub Runs-written : (written_after' : Option (List ℕ)) (new : Listing Q) → Runs rules request had left written_before written_after asks lister → Appends written_after written_after' lister.text → Clears lister new → Runs rules request had left written_before written_after' asks new
   Runs-written written_after' new r a o =
       let same : r.come.written ++ lister.text ≡ (r.come.written ++ lister.text) ++ new.text = sym (append-nil (r.come.written ++ lister.text)) ∙ ap (λ t. (r.come.written ++ lister.text) ++ t) (sym o.none) in
       record {
@@ -154,9 +153,9 @@ module _ {rules : Rules} {request : Request} {had left written_before written_af
   Fails-ended r over is = failed-memory r rules had left written_before written_after is (lines_prefix rules had left written_before written_after over.come.octets over.come.written lister.text over.taken over.added over.lines)
 
 -- the lines of the end
-module _ (rules : Request → Rules) {request : Request} {had left written_before written_after : Option (List ℕ)} {asks : ℕ} {lister : Listing} where
+module _ {Q E : Type 0} (rules : Q → Rules E) {request : Q} {had left written_before written_after : Option (List ℕ)} {asks : ℕ} {lister : Listing Q} where
   -- they were written
-  pub Lists-made : (written_after' : Option (List ℕ)) (new : Listing) (ended : RunEnd) → IsOver (rules request) request had left written_before written_after asks lister → Finishes rules lister new ended → Appends written_after written_after' new.text → ListsBy (rules request) had left written_before written_after' ended
+  pub Lists-made : (written_after' : Option (List ℕ)) (new : Listing Q) (ended : E) → IsOver (rules request) request had left written_before written_after asks lister → Finishes rules lister new ended → Appends written_after written_after' new.text → ListsBy (rules request) had left written_before written_after' ended
   Lists-made written_after' new ended r f a = record {
     read = r.come.octets;
     written = r.come.written ++ new.text;
@@ -166,14 +165,14 @@ module _ (rules : Request → Rules) {request : Request} {had left written_befor
   }
 
   -- they were to be written
-  pub Fails-last : {T : Type 0} (r : Result T RunFault) (written_after' : Option (List ℕ)) (new : Listing) (ended : RunEnd) → IsOver (rules request) request had left written_before written_after asks lister → Finishes rules lister new ended → IfErr r IsWrite → AppendsPrefix written_after written_after' new.text → IfErr r (FailsBy (rules request) had left written_before written_after')
+  pub Fails-last : {T : Type 0} (r : Result T RunFault) (written_after' : Option (List ℕ)) (new : Listing Q) (ended : E) → IsOver (rules request) request had left written_before written_after asks lister → Finishes rules lister new ended → IfErr r IsWrite → AppendsPrefix written_after written_after' new.text → IfErr r (FailsBy (rules request) had left written_before written_after')
   Fails-last r written_after' new ended over f is prefix =
       let e = f request over.come left over.last in
       failed-write r (rules request) had left written_before written_after' is
       (record { read = over.come.octets; text = over.come.written ++ new.text; taken = over.taken; is_text = e.listing; added = AppendsPrefix-after written_before written_after written_after' over.come.written new.text over.added prefix })
 
 -- ---- nothing was read
-module _ (rules : Rules) (request : Request) (had written_before : Option (List ℕ)) (lister : Listing) (new : IsNew rules request lister) where
+module _ {Q E : Type 0} (rules : Rules E) (request : Q) (had written_before : Option (List ℕ)) (lister : Listing Q) (new : IsNew rules request lister) where
   pub Runs-start : (asks : ℕ) → asks ≡ 0 → Runs rules request had had written_before written_before asks lister
   Runs-start asks none = record {
     come = record { pieces = 0; octets = []; written = [] };

@@ -9,3 +9,6 @@ pub mod Sources
 pub mod inner
 pub mod Laws
 pub mod Captures
+pub mod Conversions
+pub mod Decoding
+pub mod Encoding

@@ -6,3 +6,7 @@ pub mod Transfers
 pub mod FileRuns
 pub mod RecordRuns
 pub mod CaptureRuns
+pub mod Conversions
+pub mod JsonLines
+pub mod EncodedLines
+pub mod WholeRuns

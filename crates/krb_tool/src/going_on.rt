@@ -12,7 +12,7 @@ ghost use Rattle.krb_tool.specs.inner.CountingListers.{CountsReady, CountsLine, 
 
 use crate::fault_path::{frame_path, put_refused_frame};
 use crate::run::{RunEnd, RunFault};
-use crate::stream_run::{ListStream, list_all};
+use crate::stream_run::{ListStream, Request, list_all};
 use crate::transfer::Asked;
 use krb_der::{Profile, Refusal};
 use krb_frame::{Decoder, Limit, SkippingDecoder, Status};
@@ -38,7 +38,12 @@ pub fn run_stream_going_on<R: Read, W: Write>(
     ensures fault { IfErr result (FailsAll form profile limit (R.remaining reader.old) (R.remaining reader.new) (W.contents writer.old) (W.contents writer.new)) }
 {
     let mut asked = Asked::new(reader);
-    list_all::<CountingLister, _, _>(alloc, form, profile, &mut asked, writer, limit)
+    let request = Request {
+        form,
+        profile,
+        limit,
+    };
+    list_all::<CountingLister, _, _>(alloc, request, &mut asked, writer)
 }
 
 /// A lister of a stream that goes on after refusals: what allocates for it, its decoder, the form
@@ -139,16 +144,20 @@ impl CountingLister {
 }
 
 impl ListStream for CountingLister {
+    type Request = Request;
+
+    type End = RunEnd;
+
     ghost rules = { counting.rules };
 
     ghost listing = { listing_of counting };
 
-    fn new(alloc: Global, form: Form, profile: Profile, limit: Limit) -> CountingLister {
-        let decoder = Decoder::with_profile(alloc, limit, profile);
+    fn new(alloc: Global, request: Request) -> CountingLister {
+        let decoder = Decoder::with_profile(alloc, request.limit, request.profile);
         CountingLister {
             alloc,
             decoder: SkippingDecoder::new(decoder),
-            form,
+            form: request.form,
             text: TextBuffer::new(alloc),
             messages: 0,
             refused: 0,

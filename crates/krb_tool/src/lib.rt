@@ -1,5 +1,6 @@
 //! What `krbls` does, over any reader and writer: it lists octets, a record for each message,
-//! record or credential, and then the record of the end, or of what is refused and at which place.
+//! record or credential, and then the record of the end, or of what is refused and at which place;
+//! and it decodes messages to lines of JSON, and encodes these.
 //!
 //! The main calls:
 //!
@@ -7,6 +8,9 @@
 //!   [`run_keytab`] a keytab and [`run_ccache`] a credential cache. [`run_stream_in`] and its like
 //!   take the form of the records ([`Form`]) and the profile of messages ([`Profile`]);
 //!   [`run_stream_going_on`] goes on after refusals.
+//! - [`run_decode`] writes framed messages as lines of JSON, and [`run_encode`] the messages that
+//!   such lines spell as frames; [`run_decode_unframed`] and [`run_encode_unframed`] do so for one
+//!   message without its length.
 //! - [`list_octets`] returns the line of a message that is in memory.
 //! - [`run_sources`] lists several sources one after another, each by what a [`ListSource`] does;
 //!   [`run_sources_unnamed`] does so without their names.
@@ -17,10 +21,14 @@
 #![tactic(auto)]
 
 mod capture_run;
+mod decode_run;
+mod encode_run;
 mod fault_path;
 mod file_path;
 mod file_run;
 mod going_on;
+mod json_lines;
+mod json_reader;
 pub mod law;
 mod listing;
 mod message_run;
@@ -29,8 +37,11 @@ mod run;
 mod sources;
 mod stream_run;
 mod transfer;
+mod whole_run;
 
 pub use capture_run::run_capture;
+pub use decode_run::{DecodeEnd, run_decode};
+pub use encode_run::{EncodeEnd, run_encode, run_encode_unframed};
 pub use file_run::FileText;
 pub use going_on::run_stream_going_on;
 pub use krb_der::Profile;
@@ -40,3 +51,4 @@ pub use message_run::{list_octets, run_message, run_message_in};
 pub use record_run::{run_ccache, run_ccache_in, run_keytab, run_keytab_in};
 pub use run::{RunEnd, RunFault, run_stream, run_stream_in, status};
 pub use sources::{ListSource, run_sources, run_sources_unnamed};
+pub use whole_run::run_decode_unframed;

@@ -11,9 +11,8 @@ ghost use Rattle.krb_tool.specs.inner.Listers.{ListsReady, AddsLine, AddsEnd, st
 
 use crate::fault_path::{frame_path, put_refused_frame};
 use crate::run::{RunEnd, RunFault};
-use crate::stream_run::ListStream;
-use krb_der::Profile;
-use krb_frame::{Decoder, Limit, Status};
+use crate::stream_run::{ListStream, Request};
+use krb_frame::{Decoder, Status};
 use krb_msg::MessageView;
 use krb_text::{Form, TextBuffer, put_message_view, put_stream_end};
 use std::alloc::Global;
@@ -94,15 +93,19 @@ impl Lister {
 }
 
 impl ListStream for Lister {
+    type Request = Request;
+
+    type End = RunEnd;
+
     ghost rules = { stopping.rules };
 
     ghost listing = { listing_of stopping };
 
-    fn new(alloc: Global, form: Form, profile: Profile, limit: Limit) -> Lister {
+    fn new(alloc: Global, request: Request) -> Lister {
         Lister {
             alloc,
-            decoder: Decoder::with_profile(alloc, limit, profile),
-            form,
+            decoder: Decoder::with_profile(alloc, request.limit, request.profile),
+            form: request.form,
             text: TextBuffer::new(alloc),
             messages: 0,
         }

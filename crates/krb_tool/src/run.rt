@@ -5,7 +5,7 @@ ghost use Rattle.krb_tool.specs.Listing.{Lists, Fails, status_of};
 ghost use Rattle.krb_tool.specs.declared.run.RunFault.TheVariants as fault;
 
 use crate::listing::Lister;
-use crate::stream_run::list_all;
+use crate::stream_run::{Request, list_all};
 use crate::transfer::Asked;
 use krb_der::{Memory, Profile};
 use krb_frame::Limit;
@@ -109,5 +109,10 @@ pub fn run_stream_in<R: Read, W: Write>(
     ensures fault { IfErr result (Fails form profile limit (R.remaining reader.old) (R.remaining reader.new) (W.contents writer.old) (W.contents writer.new)) }
 {
     let mut asked = Asked::new(reader);
-    list_all::<Lister, _, _>(alloc, form, profile, &mut asked, writer, limit)
+    let request = Request {
+        form,
+        profile,
+        limit,
+    };
+    list_all::<Lister, _, _>(alloc, request, &mut asked, writer)
 }

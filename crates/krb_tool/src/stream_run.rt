@@ -2,9 +2,9 @@
 
 ghost use Rattle.std.specs.Prelude.{◌≡◌, ◌+◌, ◌^◌, ◌≤◌, length, IsTrue, IfErr, IfOk, OnOk};
 ghost use Rattle.krb_tool.specs.declared.transfer.ReaderState.TheVariants as reader;
-ghost use Rattle.krb_tool.specs.inner.Streams.{Request, Rules, Listing, IsNew, AcceptsPiece, Feeds, Clears, MayFinish, Finishes, ListsBy, FailsBy, Reads, FailsToRead};
+ghost use Rattle.krb_tool.specs.inner.Streams.{Rules, Listing, IsNew, AcceptsPiece, Feeds, Clears, MayFinish, Finishes, ListsBy, FailsBy, Reads, FailsToRead};
 
-use crate::run::{PIECE_OCTETS, RunEnd, RunFault};
+use crate::run::{PIECE_OCTETS, RunFault};
 use crate::transfer::{Asked, write_all};
 use krb_der::Profile;
 use krb_frame::Limit;
@@ -12,17 +12,32 @@ use krb_text::Form;
 use std::alloc::Global;
 use std::io::{Read, Write};
 
+/// What a listing is asked for: its form, the profile of the messages, and the greatest length of a
+/// frame.
+#[derive(Drop)]
+pub(crate) struct Request {
+    pub form: Form,
+    pub profile: Profile,
+    pub limit: Limit,
+}
+
 /// A lister of a stream whose octets come in pieces.
 pub(crate) trait ListStream: Drop {
+    /// What it is asked for.
+    type Request;
+
+    /// How a run over it ends.
+    type End: Drop;
+
     /// What is written of the octets of a stream.
-    ghost rules: { Request → Rules };
+    ghost rules: { Self.Request → Rules Self.End };
 
     /// What contracts see of it.
-    ghost listing: { Self → Listing };
+    ghost listing: { Self → Listing Self.Request };
 
     /// Returns the lister of a stream of which nothing came yet.
-    fn new(alloc: Global, form: Form, profile: Profile, limit: Limit) -> Self
-        ensures { let request : Request = record { form = form; profile = profile; limit = limit } in IsNew (rules request) request (listing result) };
+    fn new(alloc: Global, request: Self::Request) -> Self
+        ensures { IsNew (rules request) request (listing result) };
 
     /// Takes the next piece of the stream, adds the lines of its frames, and returns whether the
     /// stream goes on.
@@ -41,7 +56,7 @@ pub(crate) trait ListStream: Drop {
         ensures { Clears (listing self.old) (listing self.new) };
 
     /// Adds the lines of the end, and returns how the run ends.
-    fn finish(&mut self) -> Result<RunEnd, RunFault>
+    fn finish(&mut self) -> Result<Self::End, RunFault>
         requires { MayFinish (listing self.old) }
         ensures finished { IfOk result (Finishes rules (listing self.old) (listing self.new)) }
         ensures fault { IfErr result (λ e. e ≡ RunFault.Memory) };
@@ -74,20 +89,18 @@ fn feed_next<L: ListStream, R: Read>(
 /// again.
 pub(crate) fn list_all<L: ListStream, R: Read, W: Write>(
     alloc: Global,
-    form: Form,
-    profile: Profile,
+    request: L::Request,
     asked: &mut Asked<'_, R>,
     writer: &mut W,
-    limit: Limit,
-) -> Result<RunEnd, RunFault>
+) -> Result<L::End, RunFault>
     requires none { asked.old.made ≡ 0 }
     requires open { asked.old.state ≡ reader.Open }
     ensures same_reader { asked.new.reader.ghost_name ≡ asked.old.reader.ghost_name }
-    ensures listed { IfOk result (ListsBy (L.rules (record { form = form; profile = profile; limit = limit })) (R.remaining asked.old.reader.now) (R.remaining asked.new.reader.now) (W.contents writer.old) (W.contents writer.new)) }
-    ensures fault { IfErr result (FailsBy (L.rules (record { form = form; profile = profile; limit = limit })) (R.remaining asked.old.reader.now) (R.remaining asked.new.reader.now) (W.contents writer.old) (W.contents writer.new)) }
+    ensures listed { IfOk result (ListsBy (L.rules request) (R.remaining asked.old.reader.now) (R.remaining asked.new.reader.now) (W.contents writer.old) (W.contents writer.new)) }
+    ensures fault { IfErr result (FailsBy (L.rules request) (R.remaining asked.old.reader.now) (R.remaining asked.new.reader.now) (W.contents writer.old) (W.contents writer.new)) }
     ensures asks { asked.new.made ≤ 2 ^ 40 }
 {
-    let mut lister = L::new(alloc, form, profile, limit);
+    let mut lister = L::new(alloc, request);
     let mut buffer = vec![in alloc; 0u8; PIECE_OCTETS]?;
     'pieces: while feed_next(&mut lister, asked, buffer.as_mut_slice())? {
         write_all(writer, lister.text())?;

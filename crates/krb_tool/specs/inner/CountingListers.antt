@@ -15,10 +15,11 @@ use Rattle.krb_tool.specs.Lines.{message_line}
 use Rattle.krb_tool.specs.Lines.{refused_line, counted_end_line}
 use Rattle.krb_tool.specs.Paths.{frame_path}
 use Rattle.krb_tool.specs.GoingOn.{Listed, Faulty, entry_of, messages_in, refused_in, lines_after, IsCountedListing, AreCountedLines, EndsUnknown, StopsInPiece, counted_run_end}
-use Rattle.krb_tool.specs.inner.Streams.{Request, Rules, Taken}
-use Rattle.krb_tool.specs.inner.Pieces.{request_of, Kind}
+use Rattle.krb_tool.specs.inner.Streams.{Rules, Taken}
+use Rattle.krb_tool.specs.inner.Pieces.{request_of, NeedsMore, Kind}
 use Rattle.krb_tool.specs.declared.going_on.CountingLister.{CountingLister}
 use Rattle.krb_tool.specs.declared.run.RunEnd.{RunEnd}
+use Rattle.krb_tool.specs.declared.stream_run.Request.{Request}
 
 -- The frames of a stream that were cleared or skipped are listed. Their lines are in what was written and then in the text, and they are counted.
 pub record HasCounted (lister : CountingLister) (stream written : List ℕ) : Type 0 where
@@ -106,21 +107,21 @@ pub record EndsAfter (profile : Profile) (limit : ℕ) (octets : List ℕ) (list
   pub all_read : IsAtEnd left ⊎ EndsUnknown (entries (grammar profile) limit octets)
   pub stops : StopsInPiece profile limit octets
 
-abbrev pub counting_rules : Request → Rules
+abbrev pub counting_rules : Request → Rules RunEnd
 counting_rules request = record {
   IsListing = IsCountedListing request.form request.profile request.limit;
   AreLines = AreCountedLines request.form request.profile request.limit;
   Ends = λ octets text listing left ended. EndsAfter request.profile request.limit octets listing.found left ended;
 }
 
-abbrev pub counting : Kind CountingLister
+abbrev pub counting : Kind CountingLister Request RunEnd
 counting = record {
   rules = counting_rules;
   request = λ lister. request_of lister.form lister.decoder.current;
-  decoding = λ lister. lister.decoder.current;
   text = λ lister. lister.text;
   count = λ lister. lister.messages + lister.refused;
   HasListed = HasCounted;
+  IsWaiting = λ lister. NeedsMore lister.decoder.current;
   IsRefused = λ lister. (refusal : Refusal) × (status_of (grammar lister.decoder.current.profile) lister.decoder.current ≡ status.Refused refusal) × (rest_to_come (grammar lister.decoder.current.profile) lister.decoder.current ≡ None);
   Stops = IsUnknownAfter;
 }

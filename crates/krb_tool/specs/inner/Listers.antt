@@ -15,10 +15,11 @@ use Rattle.krb_tool.specs.Lines.{message_line}
 use Rattle.krb_tool.specs.Lines.{end_line}
 use Rattle.krb_tool.specs.Paths.{frame_path}
 use Rattle.krb_tool.specs.Listing.{end_of, run_end, IsListing, AllIsRead, StopsInPiece, AreLines}
-use Rattle.krb_tool.specs.inner.Streams.{Request, Rules, Taken}
-use Rattle.krb_tool.specs.inner.Pieces.{request_of, Kind}
+use Rattle.krb_tool.specs.inner.Streams.{Rules, Taken}
+use Rattle.krb_tool.specs.inner.Pieces.{request_of, NeedsMore, Kind}
 use Rattle.krb_tool.specs.declared.listing.Lister.{Lister}
 use Rattle.krb_tool.specs.declared.run.RunEnd.{RunEnd}
+use Rattle.krb_tool.specs.declared.stream_run.Request.{Request}
 
 -- The frames that the decoder cleared of a stream are messages. Their lines are in what was written and then in the text, and they are counted.
 pub record HasListed (lister : Lister) (stream written : List ℕ) : Type 0 where
@@ -69,21 +70,21 @@ pub record EndsAt (profile : Profile) (limit : ℕ) (octets : List ℕ) (left : 
   pub all_read : AllIsRead (end_of profile limit octets) left
   pub stops : StopsInPiece profile limit octets
 
-abbrev pub stopping_rules : Request → Rules
+abbrev pub stopping_rules : Request → Rules RunEnd
 stopping_rules request = record {
   IsListing = IsListing request.form request.profile request.limit;
   AreLines = AreLines request.form request.profile request.limit;
   Ends = λ octets text listing left ended. EndsAt request.profile request.limit octets left ended;
 }
 
-abbrev pub stopping : Kind Lister
+abbrev pub stopping : Kind Lister Request RunEnd
 stopping = record {
   rules = stopping_rules;
   request = λ lister. request_of lister.form lister.decoder;
-  decoding = λ lister. lister.decoder;
   text = λ lister. lister.text;
   count = λ lister. lister.messages;
   HasListed = HasListed;
+  IsWaiting = λ lister. NeedsMore lister.decoder;
   IsRefused = λ lister. (refusal : Refusal) × (status_of (grammar lister.decoder.profile) lister.decoder ≡ status.Refused refusal);
   Stops = IsRefusedAfter;
 }

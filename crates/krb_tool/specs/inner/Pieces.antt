@@ -5,47 +5,49 @@ use Rattle.krb_msg.specs.Grammar.{messages}
 use Rattle.krb_frame.specs.Decoding.{Decoding, status_of}
 use Rattle.krb_frame.specs.declared.decoder.Status.TheVariants as status
 use Rattle.krb_text.specs.declared.form.Form.{Form}
-use Rattle.krb_tool.specs.inner.Streams.{Request, Rules, Taken, Listing}
+use Rattle.krb_tool.specs.declared.stream_run.Request.{Request}
+use Rattle.krb_tool.specs.inner.Streams.{Rules, Taken, Listing}
 
 -- what the lister of a decoder was asked for
 abbrev pub request_of : Form → Decoding → Request
 request_of form decoding = record { form = form; profile = decoding.profile; limit = decoding.limit }
 
--- What is known of the listers of a kind.
-pub record Kind (L : Type 0) : Type 1 where
-  pub rules : Request → Rules
-  -- what a lister was asked for, its decoder, its lines that are not written yet, and how many frames it has listed
-  pub request : L → Request
-  pub decoding : L → Decoding
+-- a decoder needs more octets
+abbrev pub NeedsMore : Decoding → Type 0
+NeedsMore decoding = status_of (messages decoding.profile) decoding ≡ status.More
+
+-- What is known of the listers of a kind, and of how their runs end.
+pub record Kind (L Q E : Type 0) : Type 1 where
+  pub rules : Q → Rules E
+  -- what a lister was asked for, its lines that are not written yet, and how many frames, or how much else, it has listed
+  pub request : L → Q
   pub text : L → List ℕ
   pub count : L → ℕ
   -- The frames that its decoder cleared of a stream are listed. Their lines are those that were written and then its own.
   pub HasListed : L → List ℕ → List ℕ → Type 0
+  -- it needs more octets
+  pub IsWaiting : L → Type 0
   -- it looks at no octet more
   pub IsRefused : L → Type 0
   -- and what came then
   pub Stops : L → Taken → Type 0
 
--- more octets are needed
-abbrev pub IsWaiting : {L : Type 0} → Kind L → L → Type 0
-IsWaiting kind lister = status_of (messages (kind.request lister).profile) (kind.decoding lister) ≡ status.More
-
 -- A piece came, of which this rest is not used yet, and the frames that are whole are listed.
-pub record IsFed {L : Type 0} (kind : Kind L) (initial : L) (piece rest : List ℕ) (now : L) : Type 0 where
+pub record IsFed {L Q E : Type 0} (kind : Kind L Q E) (initial : L) (piece rest : List ℕ) (now : L) : Type 0 where
   pub place : rest ≡ drop (length piece - length rest) piece
   pub within : length rest ≤ length piece
   pub same : kind.request now ≡ kind.request initial
-  pub waits : IsWaiting kind now
+  pub waits : kind.IsWaiting now
   pub few : kind.count now + length rest ≤ kind.count initial + length piece
   pub listed : (stream written : List ℕ) → kind.HasListed initial stream written → kind.HasListed now (stream ++ take (length piece - length rest) piece) written
 
 -- if the stream goes on all octets of a piece were used, and else it is refused
-abbrev pub Goes : {L : Type 0} → Kind L → L → ℕ → ℕ → Bool → Type 0
-Goes kind lister size used true = (used ≡ size) × IsWaiting kind lister
+abbrev pub Goes : {L Q E : Type 0} → Kind L Q E → L → ℕ → ℕ → Bool → Type 0
+Goes kind lister size used true = (used ≡ size) × kind.IsWaiting lister
 Goes kind lister size used false = kind.IsRefused lister
 
 -- a piece came, and the frames that are whole now are listed
-pub record TakesPiece {L : Type 0} (kind : Kind L) (old : L) (piece : List ℕ) (new : L) (goes_on : Bool) : Type 0 where
+pub record TakesPiece {L Q E : Type 0} (kind : Kind L Q E) (old : L) (piece : List ℕ) (new : L) (goes_on : Bool) : Type 0 where
   pub used : ℕ
   pub within : used ≤ length piece
   pub same : kind.request new ≡ kind.request old
@@ -55,15 +57,15 @@ pub record TakesPiece {L : Type 0} (kind : Kind L) (old : L) (piece : List ℕ) 
 
 -- ---- a lister of a stream
 -- it waits for a piece after these
-pub record WaitsAfter {L : Type 0} (kind : Kind L) (lister : L) (taken : Taken) : Type 0 where
+pub record WaitsAfter {L Q E : Type 0} (kind : Kind L Q E) (lister : L) (taken : Taken) : Type 0 where
   pub listed : kind.HasListed lister taken.octets taken.written
-  pub waits : IsWaiting kind lister
+  pub waits : kind.IsWaiting lister
   pub few : kind.count lister ≤ 65536 * taken.pieces
 
-abbrev pub IsLastOf : {L : Type 0} → Kind L → L → Taken → Option (List ℕ) → Type 0
+abbrev pub IsLastOf : {L Q E : Type 0} → Kind L Q E → L → Taken → Option (List ℕ) → Type 0
 IsLastOf kind lister taken left = (WaitsAfter kind lister taken × IsAtEnd left) ⊎ kind.Stops lister taken
 
-abbrev pub listing_of : {L : Type 0} → Kind L → L → Listing
+abbrev pub listing_of : {L Q E : Type 0} → Kind L Q E → L → Listing Q
 listing_of kind lister = record {
   text = kind.text lister;
   Waits = λ request taken. (kind.request lister ≡ request) × WaitsAfter kind lister taken;

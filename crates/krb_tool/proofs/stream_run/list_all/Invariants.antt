@@ -1,6 +1,6 @@
 use Rattle.std.proofs.Common.{◌≡◌, ◌-◌, ◌^◌, vec_len}
 use Rattle.krb_tool.specs.declared.transfer.ReaderState.TheVariants as reader
-use Rattle.krb_tool.specs.inner.Streams.{Request, Runs}
+use Rattle.krb_tool.specs.inner.Streams.{Runs}
 use Rattle.krb_tool.proofs.stream_run.list_all.Given as goal
 
 abbrev pub invariant-pieces : goal.invariant-pieces
@@ -8,7 +8,7 @@ invariant-pieces g l = record {
   size : vec_len l.buffer ≡ 65536;
   opens : l.asked.state ≡ reader.Open;
   same_reader : l.asked.reader.ghost_name ≡ l.initial.asked.reader.ghost_name;
-  runs : let request : Request = record { form = l.fn.form; profile = l.fn.profile; limit = l.fn.limit } in Runs (g.L.ListStream.rules request) request (g.R.Read.remaining l.initial.asked.reader.now) (g.R.Read.remaining l.asked.reader.now) (g.W.Write.contents l.initial.writer) (g.W.Write.contents l.writer) l.asked.made (g.L.ListStream.listing l.lister);
+  runs : Runs (g.L.ListStream.rules l.fn.request) l.fn.request (g.R.Read.remaining l.initial.asked.reader.now) (g.R.Read.remaining l.asked.reader.now) (g.W.Write.contents l.initial.writer) (g.W.Write.contents l.writer) l.asked.made (g.L.ListStream.listing l.lister);
 }
 
 abbrev pub decreases-pieces : goal.decreases-pieces

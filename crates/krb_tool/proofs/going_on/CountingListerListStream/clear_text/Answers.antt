@@ -5,7 +5,7 @@ use Rattle.krb_tool.proofs.going_on.CountingListerListStream.clear_text.Goals as
 
 pub returns : goal.returns
 returns c =
-    Clears-made counting c.clear.ensures refl refl refl
+    Clears-made counting c.clear.ensures refl (λ w. w) refl
     (λ stream written h. record {
       listed = h.listed;
       goes_on = h.goes_on;

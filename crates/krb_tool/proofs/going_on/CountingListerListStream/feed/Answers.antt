@@ -6,7 +6,7 @@ use Rattle.krb_tool.specs.inner.Pieces.{listing_of}
 use Rattle.krb_tool.specs.inner.CountingListers.{counting, counting_rules}
 use Rattle.krb_tool.specs.declared.going_on.CountingLister.{CountingLister}
 use Rattle.krb_tool.proofs.Pieces.{IsFed-start, IsFed-both, TakesPiece-both, may_wait, few_left, one_more, Feeds-made}
-use Rattle.krb_tool.proofs.Listings.{memory_ready, memory_refused, more_ready}
+use Rattle.krb_tool.proofs.DecoderResults.{memory_ready, memory_refused, more_ready}
 use Rattle.krb_tool.proofs.CountedListings.{fed_within, fed_some, TakesPiece-more, TakesPiece-unknown, IsFed-ready, IsFed-refused, more_refused, skipped-none, skipped-one}
 use Rattle.krb_tool.proofs.CountedPieces.{Begins-waits, stops-unknown}
 use Rattle.krb_tool.proofs.going_on.CountingListerListStream.feed.Goals as goal

@@ -14,7 +14,7 @@ pub returns : goal.returns
 returns c =
     let nothing = c.with_profile-decoder.ensures.nothing in
     let same : c.new.result.current ≡ c.with_profile-decoder.result = ap (λ s. s.current) c.new.ensures.decoder in
-    IsNew-made counting Begins-waits (ap (request_of c.args.form) (same ∙ nothing))
+    IsNew-made counting Begins-waits (ap (request_of c.args.request.form) (same ∙ nothing))
     (record {
       listed = record {
         listed = [];
@@ -24,6 +24,6 @@ returns c =
         messages = refl;
         refused = refl;
       };
-      waits = ap (λ d. status_of (messages d.profile) d) (same ∙ nothing) ∙ more-nothing (messages c.args.profile) c.args.profile c.args.limit _ _;
+      waits = ap (λ d. status_of (messages d.profile) d) (same ∙ nothing) ∙ more-nothing (messages c.args.request.profile) c.args.request.profile c.args.request.limit _ _;
       few = omega arith;
     })

@@ -5,7 +5,7 @@ use Rattle.krb_tool.proofs.listing.ListerListStream.clear_text.Goals as goal
 
 pub returns : goal.returns
 returns c =
-    Clears-made stopping c.clear.ensures refl refl refl
+    Clears-made stopping c.clear.ensures refl (λ w. w) refl
     (λ stream written h. record {
       messages = h.messages;
       decoded = h.decoded;

@@ -3,7 +3,8 @@ use Rattle.std.proofs.lemmas.List.{take_rest}
 use Rattle.krb_tool.specs.inner.Listers.{stopping}
 use Rattle.krb_tool.specs.declared.listing.Lister.{Lister}
 use Rattle.krb_tool.proofs.Pieces.{IsFed-start, IsFed-both, TakesPiece-both, may_wait, few_left, one_more, Feeds-made}
-use Rattle.krb_tool.proofs.Listings.{TakesPiece-more, TakesPiece-refused, IsFed-ready, some_used}
+use Rattle.krb_tool.proofs.Listings.{TakesPiece-more, TakesPiece-refused, IsFed-ready}
+use Rattle.krb_tool.proofs.DecoderResults.{some_used}
 use Rattle.krb_tool.proofs.ListedPieces.{Begins-waits, stops-refused}
 use Rattle.krb_tool.proofs.listing.ListerListStream.feed.Goals as goal
 

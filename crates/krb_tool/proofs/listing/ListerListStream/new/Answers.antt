@@ -12,10 +12,10 @@ use Rattle.krb_tool.proofs.listing.ListerListStream.new.Goals as goal
 pub returns : goal.returns
 returns c =
     let nothing = c.with_profile.ensures.nothing in
-    let profile : c.with_profile.result.profile ≡ c.args.profile = ap (λ d. d.profile) nothing in
-    IsNew-made stopping Begins-waits (ap (request_of c.args.form) nothing)
+    let profile : c.with_profile.result.profile ≡ c.args.request.profile = ap (λ d. d.profile) nothing in
+    IsNew-made stopping Begins-waits (ap (request_of c.args.request.form) nothing)
     (record {
       listed = record { messages = []; decoded = subst (λ p. HasDecoded (messages p) c.with_profile.result [] []) (sym profile) c.with_profile.ensures.decoded; lines = c.new.ensures; counted = refl };
-      waits = ap (λ d. status_of (messages d.profile) d) nothing ∙ more-nothing (messages c.args.profile) c.args.profile c.args.limit _ _;
+      waits = ap (λ d. status_of (messages d.profile) d) nothing ∙ more-nothing (messages c.args.request.profile) c.args.request.profile c.args.request.limit _ _;
       few = omega arith;
     })

@@ -1,0 +1,172 @@
+-- The lines of a text that comes in pieces.
+use Rattle.std.proofs.Common.{◌≡◌, ℕ, suc, ◌+◌, ◌<◌, ◌≤◌, Bool, true, false, cond, List, [], ◌∷◌, ◌++◌, length, get_or, take, drop, Option, Some, None, refl, sym, ◌∙◌, ap, subst, arith, append_assoc, append-nil, add-one, length-take}
+use Rattle.std.specs.Prelude.{◌==◌}
+use Rattle.std.specs.List.{All, position, position_or_len, slice_split, onto_first}
+use Rattle.std.proofs.Math.Seq.{take-suc}
+use Rattle.std.proofs.lemmas.Bool.Decides.{nat_tests}
+use Rattle.std.proofs.lemmas.Grind.{common_steps}
+use Rattle.std.proofs.lemmas.List.{get_or-take}
+use Rattle.std.proofs.lemmas.List.Quantifiers.{position-Some}
+use Rattle.std.proofs.lemmas.List.Splits.{slice_split_none, slice_split_at}
+use Rattle.std.proofs.lemmas.List.Sums.{fails_before_first}
+use Rattle.krb_tool.specs.Encoding.{parts, without_empty_last, lines_of, ended_of}
+
+-- ---- the parts of two texts
+-- the last part, which goes on with the first of others
+onto_last : List ℕ → List (List ℕ) → List (List ℕ)
+onto_last last [] = last ∷ []
+onto_last last (first ∷ others) = (last ++ first) ∷ others
+
+join : List (List ℕ) → List (List ℕ) → List (List ℕ)
+join [] second = second
+join (last ∷ []) second = onto_last last second
+join (first ∷ next ∷ others) second = first ∷ join (next ∷ others) second
+
+-- there is a part
+record HasPart (found : List (List ℕ)) : Type 0 where
+  first : List ℕ
+  others : List (List ℕ)
+  is : found ≡ first ∷ others
+
+some_first : (octet : ℕ) (found : List (List ℕ)) (b : Bool) → HasPart found → HasPart (cond b ([] ∷ found) (onto_first octet found))
+some_first octet found true p = record { first = []; others = found; is = refl }
+some_first octet found false p = record { first = octet ∷ p.first; others = p.others; is = ap (onto_first octet) p.is }
+
+some_part : (text : List ℕ) → HasPart (parts text)
+some_part [] = record { first = []; others = []; is = refl }
+some_part (octet ∷ text) = some_first octet (parts text) (octet == 10) (some_part text)
+
+onto_nothing : (second : List (List ℕ)) → HasPart second → second ≡ onto_last [] second
+unfolding onto_last
+onto_nothing second p = p.is ∙ sym (ap (onto_last []) p.is)
+
+join_octet : (octet : ℕ) (b : Bool) (first : List ℕ) (others second : List (List ℕ)) → cond b ([] ∷ join (first ∷ others) second) (onto_first octet (join (first ∷ others) second)) ≡ join (cond b ([] ∷ first ∷ others) (onto_first octet (first ∷ others))) second
+unfolding join onto_last
+join_octet octet true first others second = refl
+join_octet octet false first [] [] = refl
+join_octet octet false first [] (next ∷ second) = refl
+join_octet octet false first (next ∷ others) second = refl
+
+parts-append : (text more : List ℕ) → parts (text ++ more) ≡ join (parts text) (parts more)
+unfolding join
+parts-append [] more = onto_nothing (parts more) (some_part more)
+parts-append (octet ∷ text) more =
+    let p = some_part text in
+    ap (λ found. cond (octet == 10) ([] ∷ found) (onto_first octet found)) (parts-append text more)
+    ∙ ap (λ found. cond (octet == 10) ([] ∷ join found (parts more)) (onto_first octet (join found (parts more)))) p.is
+    ∙ join_octet octet (octet == 10) p.first p.others (parts more)
+    ∙ ap (λ found. join (cond (octet == 10) ([] ∷ found) (onto_first octet found)) (parts more)) (sym p.is)
+
+join_ended : (ended : List (List ℕ)) (last : List ℕ) (second : List (List ℕ)) → join (ended ++ last ∷ []) second ≡ ended ++ onto_last last second
+unfolding join
+join_ended [] last second = refl
+join_ended (first ∷ []) last second = refl
+join_ended (first ∷ next ∷ ended) last second = ap (λ l. first ∷ l) (join_ended (next ∷ ended) last second)
+
+-- ---- lines
+pub ended_of-last : (ended : List (List ℕ)) (last : List ℕ) → ended_of (ended ++ last ∷ []) ≡ ended
+ended_of-last [] last = refl
+ended_of-last (first ∷ []) last = refl
+ended_of-last (first ∷ next ∷ ended) last = ap (λ l. first ∷ l) (ended_of-last (next ∷ ended) last)
+
+ended_of-first : (first next : List ℕ) (others : List (List ℕ)) → ended_of (first ∷ next ∷ others) ≡ first ∷ ended_of (next ∷ others)
+ended_of-first first next others = refl
+
+pub ended_of-line : (ended : List (List ℕ)) (line next : List ℕ) (others : List (List ℕ)) → ended_of (ended ++ line ∷ next ∷ others) ≡ ended ++ line ∷ ended_of (next ∷ others)
+ended_of-line [] line next others = refl
+ended_of-line (first ∷ []) line next others = refl
+ended_of-line (first ∷ second ∷ ended) line next others = ap (λ l. first ∷ l) (ended_of-line (second ∷ ended) line next others)
+
+keeps_first : (first next : List ℕ) (others : List (List ℕ)) → without_empty_last (first ∷ next ∷ others) ≡ first ∷ without_empty_last (next ∷ others)
+keeps_first [] next others = refl
+keeps_first (octet ∷ first) next others = refl
+
+-- only the last part may be no line
+pub lines-from : (ended : List (List ℕ)) (first : List ℕ) (others : List (List ℕ)) → without_empty_last (ended ++ first ∷ others) ≡ ended ++ without_empty_last (first ∷ others)
+lines-from [] first others = refl
+lines-from (line ∷ []) first others = keeps_first line first others
+lines-from (line ∷ next ∷ ended) first others = keeps_first line next (ended ++ first ∷ others) ∙ ap (λ l. line ∷ l) (lines-from (next ∷ ended) first others)
+
+pub lines-empty : (ended : List (List ℕ)) → without_empty_last (ended ++ [] ∷ []) ≡ ended
+lines-empty ended = lines-from ended [] [] ∙ append-nil ended
+
+keeps_last : (last : List ℕ) → (last ≡ [] → ⊥) → without_empty_last (last ∷ []) ≡ last ∷ []
+keeps_last [] some = absurd (some refl)
+keeps_last (octet ∷ last) some = refl
+
+pub lines-last : (ended : List (List ℕ)) (last : List ℕ) → (last ≡ [] → ⊥) → without_empty_last (ended ++ last ∷ []) ≡ ended ++ last ∷ []
+lines-last ended last some = lines-from ended last [] ∙ ap (λ l. ended ++ l) (keeps_last last some)
+
+pub lines-line : (ended : List (List ℕ)) (line next : List ℕ) (others : List (List ℕ)) → without_empty_last (ended ++ line ∷ next ∷ others) ≡ ended ++ line ∷ without_empty_last (next ∷ others)
+lines-line ended line next others = lines-from ended line (next ∷ others) ∙ ap (λ l. ended ++ l) (keeps_first line next others)
+
+-- ---- a text whose lines have ended, but for the last
+module _ (text : List ℕ) (ended : List (List ℕ)) (last : List ℕ) (all : parts text ≡ ended ++ last ∷ []) where
+  parts_more : (more : List ℕ) → parts (text ++ more) ≡ ended ++ onto_last last (parts more)
+  parts_more more = parts-append text more ∙ ap (λ found. join found (parts more)) all ∙ join_ended ended last (parts more)
+
+  -- whatever comes
+  pub lines-more : (more : List ℕ) → (others : List (List ℕ)) × (lines_of (text ++ more) ≡ ended ++ others)
+  unfolding onto_last
+  lines-more more =
+      let p = some_part more in
+      let is : parts (text ++ more) ≡ ended ++ (last ++ p.first) ∷ p.others = parts_more more ∙ ap (λ found. ended ++ onto_last last found) p.is in
+      (without_empty_last ((last ++ p.first) ∷ p.others), ap without_empty_last is ∙ lines-from ended (last ++ p.first) p.others)
+
+  -- more octets of the line came
+  pub parts_grow : (more : List ℕ) → parts more ≡ more ∷ [] → parts (text ++ more) ≡ ended ++ (last ++ more) ∷ []
+  unfolding onto_last
+  parts_grow more e = parts_more more ∙ ap (λ found. ended ++ onto_last last found) e
+
+  -- the line ended
+  pub parts_end : (more : List ℕ) → parts (more ++ 10 ∷ []) ≡ more ∷ [] ∷ [] → parts (text ++ (more ++ 10 ∷ [])) ≡ (ended ++ (last ++ more) ∷ []) ++ [] ∷ []
+  unfolding onto_last
+  parts_end more e = parts_more (more ++ 10 ∷ []) ∙ ap (λ found. ended ++ onto_last last found) e ∙ sym (append_assoc ended ((last ++ more) ∷ []) ([] ∷ []))
+
+-- A text has lines that ended, a line, and what comes after it.
+pub record HasLine (text : List ℕ) (ended : List (List ℕ)) (line : List ℕ) : Type 0 where
+  pub next : List ℕ
+  pub others : List (List ℕ)
+  pub is : parts text ≡ ended ++ line ∷ next ∷ others
+
+-- whatever comes after a line that ended
+pub line_stays : (text : List ℕ) (ended : List (List ℕ)) (line : List ℕ) (more : List ℕ) → parts text ≡ (ended ++ line ∷ []) ++ [] ∷ [] → HasLine (text ++ more) ended line
+unfolding onto_last
+line_stays text ended line more all =
+    let p = some_part more in
+    record {
+      next = p.first;
+      others = p.others;
+      is = parts_more text (ended ++ line ∷ []) [] all more ∙ ap (λ found. (ended ++ line ∷ []) ++ onto_last [] found) p.is ∙ append_assoc ended (line ∷ []) (p.first ∷ p.others);
+    }
+
+-- ---- the first line feed
+-- A text has a line of so many octets, which ends.
+pub record HasFirst (text : List ℕ) (size : ℕ) : Type 0 where
+  pub within : size < length text
+  pub line : take (size + 1) text ≡ take size text ++ 10 ∷ []
+  pub alone : parts (take size text ++ 10 ∷ []) ≡ take size text ∷ [] ∷ []
+
+is_ten : (octet : ℕ) → (octet == 10) ≡ true → octet ≡ 10
+is_ten octet e = grind (arith, nat_tests)
+
+pub first_line : (text : List ℕ) (size : ℕ) → position (λ octet. octet == 10) text ≡ Some size → HasFirst text size
+first_line text size e =
+    let found = position-Some (λ octet. octet == 10) text size 0 e in
+    let none : All (λ octet. (octet == 10) ≡ false) (take size text) = λ k d l.
+    let below : k < size = omega (arith, l, length-take size text) in
+    subst (λ octet. (octet == 10) ≡ false) (sym (get_or-take size text k d below)) ((position-Some (λ octet. octet == 10) text size d e).2 k below) in
+    record {
+      within = found.0;
+      line = ap (λ n. take n text) (add-one size) ∙ take-suc text size 0 found.0 ∙ ap (λ octet. take size text ++ octet ∷ []) (is_ten (get_or text size 0) found.1);
+      alone = slice_split_at (λ octet. octet == 10) (take size text) 10 [] none refl;
+    }
+
+none_before : (text : List ℕ) → position (λ octet. octet == 10) text ≡ None → length text ≤ position_or_len (λ octet. octet == 10) text
+none_before text e = grind (arith, common_steps)
+
+-- no line ends
+pub no_line : (text : List ℕ) → position (λ octet. octet == 10) text ≡ None → parts text ≡ text ∷ []
+no_line text e =
+    let before = none_before text e in
+    slice_split_none (λ octet. octet == 10) text (λ k d l. fails_before_first (λ octet. octet == 10) text k d (omega (arith, l, before)))
