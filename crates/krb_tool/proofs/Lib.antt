@@ -24,3 +24,4 @@ pub mod DecodedPieces
 pub mod SourceLineParts
 pub mod EncodedLines
 pub mod WholeRuns
+mod RoundTrips

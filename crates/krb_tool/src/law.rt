@@ -1,7 +1,8 @@
-//! Laws of listings. Each is the contract of a function that does nothing.
-ghost use Rattle.krb_tool.specs.Laws.{UpgradeIsListedAlike};
+//! Laws of listings and of conversions. Each is the contract of a function that does nothing.
+ghost use Rattle.krb_tool.specs.Laws.{DecodedComesBack, UpgradeIsListedAlike};
 
 use krb_ccache::law::upgrade_holds_the_same;
+use krb_json::law::{texts_are_json, texts_come_back};
 
 /// A cache of version 3 that is listed without a refusal has the listing of what
 /// [`write`](krb_ccache::write) returns of its [`upgrade`](krb_ccache::upgrade).
@@ -9,4 +10,15 @@ pub fn upgrade_is_listed_alike()
     ensures { UpgradeIsListedAlike }
 {
     upgrade_holds_the_same();
+}
+
+/// A stream all of which [`run_decode`](crate::run_decode) decodes comes back octet for octet when
+/// [`run_encode`](crate::run_encode) encodes the lines, by the same profile and limit; and so does
+/// a message by [`run_decode_unframed`](crate::run_decode_unframed) and
+/// [`run_encode_unframed`](crate::run_encode_unframed).
+pub fn decoded_comes_back()
+    ensures { DecodedComesBack }
+{
+    texts_are_json();
+    texts_come_back();
 }
