@@ -13,13 +13,8 @@ pub fn upgrade_is_listed_alike()
 }
 
 /// A stream all of which [`run_decode`](crate::run_decode) decodes comes back octet for octet when
-<<<<<<< HEAD
-/// [`run_encode`](crate::run_encode) encodes the lines, by the same profile and limit; and so does a
-/// message by [`run_decode_unframed`](crate::run_decode_unframed) and
-=======
 /// [`run_encode`](crate::run_encode) encodes the lines, by the same profile and limit; and so does
 /// a message by [`run_decode_unframed`](crate::run_decode_unframed) and
->>>>>>> 97a77957e96e1806a70a47cda3e3c1739ecedad4
 /// [`run_encode_unframed`](crate::run_encode_unframed).
 pub fn decoded_comes_back()
     ensures { DecodedComesBack }
