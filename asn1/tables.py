@@ -61,17 +61,40 @@ def basic_rows(module):
         yield list_row(field), f"{'OptionalItems' if field.optional else 'Items'}, {item_row(field.part)}"
 
 
+def tagged_row(field, name):
+    """The row of a field of the type or message of that name: its type in its tag."""
+    return f"{row_of(field, name)}At{field.index}"
+
+
+def number_of(it):
+    """The application number of a type or message, if it has one."""
+    return it.number if isinstance(it, Message) else it.application
+
+
 def own_rows(name, it):
     """The rows of a type, or of a message of it, each with what it is."""
-    number = name.number if isinstance(name, Message) else it.application
-    fields = [name.rust + field.row for field in it.fields]
-    slots = ", ".join(f"{'Optional' if field.optional else 'Required'} {row}" for field, row in zip(it.fields, fields))
+    number = number_of(name)
+    slots = ", ".join(f"{'Optional' if field.optional else 'Required'} {tagged_row(field, name.rust)}" for field in it.fields)
     inside = name.rust
     if number is not None:
         inside = f"{name.rust}Fields"
         yield name.rust, f"Application, {number}, {inside}"
     yield inside, f"Sequence, {slots}"
-    for field, row in zip(it.fields, fields):
+
+
+def tagged(module, are_left):
+    """The fields that have a row, each once by its row, with the name of its type: lists that may be left out, or all others."""
+    found = {}
+    for name, it in judged(module):
+        for field in it.fields:
+            if (field.is_list and field.optional) == are_left:
+                found.setdefault(tagged_row(field, name.rust), (field, name))
+    return found
+
+
+def tagged_rows(module):
+    """Rows of the types of fields in their tags, each with what it is."""
+    for row, (field, name) in (tagged(module, False) | tagged(module, True)).items():
         yield row, f"Tagged, {field.index}, {row_of(field, name.rust)}"
 
 
@@ -80,6 +103,7 @@ def groups(module):
     yield "basic types, and lists of one type", list(basic_rows(module))
     for name, it in judged(module):
         yield name.name, list(own_rows(name, it))
+    yield "types in the tags of fields", list(tagged_rows(module))
 
 
 def table_file(module):
@@ -88,6 +112,16 @@ def table_file(module):
     rows = "".join(f"    // {title}\n" + "".join(f"    ({form}),\n" for _, form in rows) for title, rows in groups(module))
     count = count_of_rows(module)
     return fill("table.rt", messages_of(module), names=names, rows=rows, count=count, both=2 * count, choices=len(module.messages))
+
+
+def tagged_terms(module, are_left):
+    """The terms of fields in their tags, in the order of their rows."""
+    for field, name in tagged(module, are_left).values():
+        yield f"Tagged {field.index} {fixed_term(field, name) if field.is_fixed else term_of(field.type)}"
+
+
+def fixed_term(field, name):
+    return "version" if field.type.values == (5,) else f"(exactly {number_of(name)})"
 
 
 def terms_file(module):
@@ -102,6 +136,8 @@ def terms_file(module):
         basic=filled(basics + ["version"] + numbers + [term for optional, term in lists if not optional]),
         left=" ∷ ".join(term for optional, term in lists if optional),
         sequences=filled(names),
+        tagged=filled(list(tagged_terms(module, False))),
+        tagged_lists=" ∷ ".join(tagged_terms(module, True)),
     )
 
 

@@ -4,20 +4,13 @@ use Rattle.std.specs.List.{flat_map}
 use Rattle.krb_der.specs.declared.profile.Profile.{Profile}
 use Rattle.krb_der.specs.declared.profile.Profile.TheVariants.{Lenient, Strict}
 use Rattle.krb_msg.specs.Profiles.{profile_term}
-use Rattle.krb_msg.specs.Term.{Term, Fields, Sequence, Application, End, Required, Optional}
+use Rattle.krb_msg.specs.Term.{Term, Application}
 use Rattle.krb_msg.specs.Basic.{int32}
-use Rattle.krb_msg.specs.Rows.{basic_terms, optional_lists, sequence_terms}
+use Rattle.krb_msg.specs.Rows.{basic_terms, optional_lists, sequence_terms, tagged_terms, optional_tagged_lists}
 
--- the terms of fields, in order
-abbrev pub fields_of : Fields → List Term
-fields_of End = []
-fields_of (Required term fields) = term ∷ fields_of fields
-fields_of (Optional term fields) = term ∷ fields_of fields
-
--- a term, the SEQUENCE in its tag, and the tags of its fields
+-- a term, and the SEQUENCE in its tag
 abbrev pub own : Term → List Term
 own (Application number term) = Application number term ∷ own term
-own (Sequence fields) = Sequence fields ∷ fields_of fields
 own term = term ∷ []
 
 -- the terms of a profile. The lists of addresses, of Tickets and of PA-DATA are in fields that are OPTIONAL, but for the Tickets of a KRB-CRED
@@ -26,6 +19,8 @@ profile_nodes profile =
     map (profile_term profile false) basic_terms
     ++ map (profile_term profile true) optional_lists
     ++ flat_map (λ term. own (profile_term profile false term)) sequence_terms
+    ++ map (profile_term profile false) tagged_terms
+    ++ map (profile_term profile true) optional_tagged_lists
 
 -- those of the lenient profile, and then those of the strict one
 unfoldable pub nodes : List Term

@@ -1,11 +1,9 @@
 -- The rows of the table of the grammar, each as that of a term. The terms of a table are a list, in the order of its rows.
-use Rattle.std.specs.Prelude.{ℕ, ◌≡◌, ◌<◌, ◌≤◌, true, List, [], ◌∷◌, length, max, Option, Some, None}
+use Rattle.std.specs.Prelude.{ℕ, ◌≡◌, ◌<◌, ◌≤◌, true, List, [], ◌∷◌, length, max}
 use Rattle.std.specs.List.{AllByRecursion}
 use Rattle.krb_der.specs.Octets.{integer_octets}
-use Rattle.krb_der.specs.declared.why.Why.TheVariants as why
 use Rattle.krb_msg.specs.Term.{Term, Fields, Integer, Text, Octets, Time, Bits, Sequence, SequenceOf, Tagged, Application, End, Required, Optional, tag_of}
-use Rattle.krb_msg.specs.Judgement.{Bad, item_outcome, message_outcome}
-use Rattle.krb_msg.specs.Nodes.{term_in, term_at}
+use Rattle.krb_msg.specs.Nodes.{term_in}
 use Rattle.krb_msg.specs.declared.grammar.Node.{Node}
 use Rattle.krb_msg.specs.declared.grammar.Form.{Form}
 use Rattle.krb_msg.specs.declared.grammar.Form.TheVariants as form
@@ -53,8 +51,3 @@ abbrev pub RowsAre : List Term → List Node → List Term → Type 0
 RowsAre terms [] [] = Unit {0}
 RowsAre terms (row ∷ rows) (term ∷ others) = IsRowOf terms row term × RowsAre terms rows others
 RowsAre terms rows others = ⊥
-
--- the node of the message that an identifier octet chooses among these, if it chooses one
-abbrev pub IsMessageOf : List Term → ℕ → Option ℕ → Type 0
-IsMessageOf messages tag None = (room : ℕ) (octets : List ℕ) → message_outcome messages room (tag ∷ octets) ≡ Bad 0 why.Tag
-IsMessageOf messages tag (Some node) = IsNode node × ((room : ℕ) (octets : List ℕ) → message_outcome messages room (tag ∷ octets) ≡ item_outcome (term_at node) room true (tag ∷ octets))

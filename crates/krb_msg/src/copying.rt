@@ -19,8 +19,8 @@ pub trait FromView<'a>: View<'a> + Drop {
     /// The value of the view.
     ghost copied: { Self.Of → Self };
 
-    /// Returns the value of the view. Nothing is judged again, and each string of octets is copied
-    /// once.
+    /// Returns the value of the view. The items of a list are viewed once more, each as it is
+    /// copied; each string of octets is copied once.
     fn from_view(alloc: Global, seen: &Self::Of) -> Result<Self, Memory>
         requires fits { Fits Self.View.term (Self.View.value seen.now) }
         requires lists { Self.View.Lists seen.now }

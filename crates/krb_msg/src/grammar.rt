@@ -1,11 +1,10 @@
 //! The grammar of `specs/Grammar` as a table, from which octets are judged.
 
 ghost use Rattle.std.specs.Prelude.{◌≡◌, length, map};
-ghost use Rattle.std.specs.List.{AllByRecursion};
 ghost use Rattle.krb_msg.specs.Term.{tag_of as term_tag};
 ghost use Rattle.krb_msg.specs.Grammar.{messages};
 ghost use Rattle.krb_msg.specs.Nodes.{nodes, term_at};
-ghost use Rattle.krb_msg.specs.Table.{IsNode, IsRowOf, RowsAre, IsFormOf, IsMessageOf};
+ghost use Rattle.krb_msg.specs.Table.{IsNode, IsRowOf, RowsAre, IsFormOf};
 
 use krb_der::Profile;
 
@@ -147,27 +146,4 @@ pub fn form_of(node: u16) -> Form
     ensures { IsFormOf nodes result (term_at node) }
 {
     row_at(node).form
-}
-
-/// Returns the node of the message of a profile that begins with an identifier octet.
-pub fn message_of(profile: Profile, tag: u8) -> Option<u16>
-    ensures { IsMessageOf (messages profile) tag result }
-{
-    match profile {
-        Profile::Lenient => message_among(&LENIENT, tag),
-        Profile::Strict => message_among(&STRICT, tag),
-    }
-}
-
-/// Returns the node of the message that begins with an identifier octet, of those of some nodes.
-fn message_among(chosen: &[u16], tag: u8) -> Option<u16>
-    requires { AllByRecursion IsNode chosen.now }
-    ensures { IsMessageOf (map term_at chosen.now) tag result }
-{
-    for node in chosen {
-        if tag_of(*node) == tag {
-            return Some(*node);
-        }
-    }
-    None
 }

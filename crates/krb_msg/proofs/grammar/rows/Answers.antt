@@ -7,4 +7,4 @@ use Rattle.krb_msg.proofs.grammar.rows.Goals as goal
 pub returns : goal.returns
 unfolding nodes term_in
 returns c =
-    twenty (search rules) (twenty (search rules) (twenty (search rules) (twenty (search rules) (twenty (search rules) (twenty (search rules) (twenty (search rules) (twenty (search rules) (twenty (search rules) (twenty (search rules) (twenty (search rules) (twenty (search rules) (twenty (search rules) (search rules)))))))))))))
+    twenty (search rules) (twenty (search rules) (twenty (search rules) (twenty (search rules) (twenty (search rules) (twenty (search rules) (twenty (search rules) (twenty (search rules) (twenty (search rules) (twenty (search rules) (twenty (search rules) (search rules)))))))))))
