@@ -87,7 +87,7 @@ pub use notes::{Notes, is_strict, is_strict_view};
 pub use pa_data::{PaData, PaDataView};
 pub use principal_name::{PrincipalName, PrincipalNameView};
 pub use ticket::{Ticket, TicketView};
-pub use view::head::first_item;
+pub use view::head::{first_item, first_length};
 pub use view::items::{ItemsView, next_item};
 pub use view::scalars::FlagsView;
 pub use view::view_whole;

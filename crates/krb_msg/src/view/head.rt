@@ -130,9 +130,10 @@ fn split(octets: &[u8], size: usize) -> Option<(&[u8], &[u8])>
     }
 }
 
-/// Returns a length, by its first octet and those after it, and what follows it.
+/// Returns the length of contents (X.690, 8.1.3 and 10.1), by its first octet and those after it, and
+/// what follows it. There is none if the octets spell no length below 2^31 in the shortest way.
 #[inline(always)]
-fn first_length(first: u8, octets: &[u8]) -> Option<(usize, &[u8])>
+pub fn first_length(first: u8, octets: &[u8]) -> Option<(usize, &[u8])>
     ensures { MatchOption result (HasNoLength (first ∷ octets.now)) (λ (size, rest). first ∷ octets.now ≡ length_octets size ++ rest.now) }
 {
     if first < 0x80 {
