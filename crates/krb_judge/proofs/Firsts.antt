@@ -1,20 +1,18 @@
 -- The first item of what is left of a container is done if alone it is whole.
-use Rattle.std.proofs.Common.{◌≡◌, ℕ, ◌+◌, ◌-◌, ◌<◌, ◌≤◌, ◌^◌, ◌&&◌, ◌==◌, nat_lt, Bool, true, false, if◌then◌else◌, List, ◌∷◌, ◌++◌, length, take, drop, refl, sym, ap, ◌∙◌, take-take, take_all, drop_at, length-drop, ne_eqb, arith}
+use Rattle.std.proofs.Common.{◌≡◌, ℕ, ◌+◌, ◌-◌, ◌<◌, ◌≤◌, ◌^◌, ◌&&◌, ◌==◌, nat_lt, Bool, true, false, if◌then◌else◌, List, ◌∷◌, ◌++◌, length, take, drop, refl, sym, ap, ◌∙◌, take-take, take_all, drop_at, length-drop, length-append, ne_eqb, arith}
 use Rattle.std.proofs.lemmas.Bool.{le-ltb}
 use Rattle.krb_der.specs.Octets.{AreOctets, length_octets, when}
-use Rattle.krb_der.specs.inner.Items.{length-length_octets}
+use Rattle.krb_der.specs.inner.Items.{length-length_octets, same_from_cons, same_from_length_octets}
 use Rattle.krb_der.specs.declared.why.Why.TheVariants as why
 use Rattle.krb_der.specs.declared.verdict.Verdict.TheVariants as verdict
 use Rattle.krb_msg.specs.Term.{Term, tag_of}
+use Rattle.krb_msg.specs.Viewed.{HasNoLength}
 use Rattle.krb_msg.specs.Judgement.{Bad, Done, Got, head, has_size, contents_outcome, item_outcome, term_judgement, verdict_of}
 use Rattle.krb_msg.proofs.Grammars.{whole_outcome}
 use Rattle.krb_msg.proofs.Heads.{IsHead, IsHead-head, head-length_octets}
 use Rattle.krb_msg.proofs.Items.{item_done}
 use Rattle.krb_msg.proofs.Stable.{take-append_right}
 use Rattle.krb_msg.proofs.TermsDecided.{item-count, contents-count}
-use Rattle.krb_judge.specs.inner.Descent.{head_of}
-use Rattle.krb_judge.specs.declared.locating.head.Head.{Head as Found}
-use Rattle.krb_judge.specs.declared.locating.head.Head.TheVariants as found
 
 -- an item whose length octets are right, and fill the room if they have to
 after_head : (term : Term) (room header size : ℕ) (sole : Bool) (tag : ℕ) (rest : List ℕ) → (room == 1) ≡ false → head room (tag ∷ rest) ≡ Got header size → (sole && nat_lt (header + size) room) ≡ false →
@@ -60,15 +58,38 @@ pub whole_if_done : (term : Term) (room header size : ℕ) (octets : List ℕ) (
 whole_if_done term room header size octets count are short got e = ap verdict_of (sym (as_alone term room header size octets are short got) ∙ e)
 
 -- an item without right length octets is not done
-not_got : (f : Found) (header size : ℕ) → ((header size : ℕ) → f ≡ found.Got header size → ⊥) → head_of f ≡ Got header size → ⊥
-not_got found.Partial header size not e = absurd cc
-not_got (found.Refused offset reason) header size not e = absurd cc
-not_got (found.Got a b) header size not e = not a b refl
-
-pub not_done : (term : Term) (room : ℕ) (octets : List ℕ) (f : Found) (count : ℕ) → head_of f ≡ head room octets → ((header size : ℕ) → f ≡ found.Got header size → ⊥) → item_outcome term room false octets ≡ Done count → ⊥
-not_done term room octets f count is not e =
+pub not_done : (term : Term) (room : ℕ) (octets : List ℕ) (count : ℕ) → ((header size : ℕ) → head room octets ≡ Got header size → ⊥) → item_outcome term room false octets ≡ Done count → ⊥
+not_done term room octets count not e =
     let d = item_done (contents_outcome term) term room false octets count e in
-    not_got f d.header d.contents not (is ∙ d.found)
+    not d.header d.contents d.found
+
+-- ---- the head of an item by its length
+counted : (octets rest contents : List ℕ) (tag first size : ℕ) → octets ≡ tag ∷ first ∷ rest → first ∷ rest ≡ length_octets size ++ contents → length octets ≡ 1 + length (length_octets size) + length contents
+counted octets rest contents tag first size all parts = omega (arith, ap length all, ap length parts ∙ length-append (length_octets size) contents)
+
+-- octets that spell no length
+pub no_head : (room : ℕ) (octets rest : List ℕ) (tag first : ℕ) → AreOctets octets → room < 2 ^ 31 → octets ≡ tag ∷ first ∷ rest → HasNoLength (first ∷ rest) → (header size : ℕ) → head room octets ≡ Got header size → ⊥
+no_head room octets rest tag first are short all none header size got =
+    let h : IsHead room header size octets = IsHead-head room header size octets are got in
+    none size h.rest (omega (arith, h.within, short)) (same_from_cons _ _ _ _ (sym all ∙ h.parts)).1
+
+-- a length that fits
+pub head_found : (room : ℕ) (octets rest contents : List ℕ) (tag first size : ℕ) → room < 2 ^ 31 → octets ≡ tag ∷ first ∷ rest → first ∷ rest ≡ length_octets size ++ contents → size ≤ room → length octets - length contents ≤ room - size → head room octets ≡ Got (length octets - length contents) size
+head_found room octets rest contents tag first size short all parts small fits =
+    let count = counted octets rest contents tag first size all parts in
+    let header : length octets - length contents ≡ 1 + length (length_octets size) = omega (arith, count) in
+    ap (head room) (all ∙ ap (λ after. tag ∷ after) parts)
+    ∙ head-length_octets room tag size contents (omega (arith, small, short)) (omega (arith, header, fits, small))
+    ∙ ap (λ k. Got k size) (sym header)
+
+-- and one that does not
+pub head_overrun : (room : ℕ) (octets rest contents : List ℕ) (tag first size : ℕ) → AreOctets octets → octets ≡ tag ∷ first ∷ rest → first ∷ rest ≡ length_octets size ++ contents → room < size + (length octets - length contents) → (header found : ℕ) → head room octets ≡ Got header found → ⊥
+head_overrun room octets rest contents tag first size are all parts over header found got =
+    let h : IsHead room header found octets = IsHead-head room header found octets are got in
+    let same : (found ≡ size) × (h.rest ≡ contents) = same_from_length_octets found size h.rest contents (sym (same_from_cons _ _ _ _ (sym all ∙ h.parts)).1 ∙ parts) in
+    let count = counted octets rest contents tag first size all parts in
+    let header_is : header ≡ 1 + length (length_octets size) = h.counted ∙ ap (λ n. 1 + length (length_octets n)) same.0 in
+    absurd (omega (arith, header_is, same.0, h.within, count, over))
 
 -- a slice from a place on
 pub rest_taken : (octets : List ℕ) (count : ℕ) → take (length octets - count) (drop count octets) ≡ drop count octets

@@ -183,17 +183,14 @@ fn contents_of(item: Item) -> Option<Rest>
     if !begins(item.octets, tag_of(item.node)) {
         return None;
     }
-    match read_head(item.room, item.octets) {
-        Head::Partial | Head::Refused { .. } => None,
-        Head::Got { header, size } => if item.sole && header + size < item.room {
-            None
-        } else {
-            Some(Rest {
-                room: size,
-                octets: part(item.octets, header, size),
-            })
-        },
+    let Head { header, size } = read_head(item.room, item.octets)?;
+    if item.sole && header + size < item.room {
+        return None;
     }
+    Some(Rest {
+        room: size,
+        octets: part(item.octets, header, size),
+    })
 }
 
 /// Returns what is left after the first item, if it is done.
@@ -218,10 +215,8 @@ fn first_count(node: u16, room: u32, octets: &[u8]) -> Option<u32>
     requires short { room < 2 ^ 31 }
     ensures { MatchOption result ((count : ℕ) → item_outcome (term_at node) room false octets.now ≡ Done count → ⊥) (λ count. item_outcome (term_at node) room false octets.now ≡ Done count) }
 {
-    let Head::Got { header, size } = read_head(room, octets) else {
-        return None;
-    };
-    let count = header + size;
+    let head = read_head(room, octets)?;
+    let count = head.header + head.size;
     match judge_item(node, count, part(octets, 0, count)) {
         Verdict::Whole => Some(count),
         _ => None,

@@ -1,6 +1,6 @@
 -- The contracts of the functions that find the field at fault.
-use Rattle.std.specs.Prelude.{ℕ, ◌+◌, ◌^◌, ◌<◌, ◌≤◌, false, List, length, Option, Some, None}
-use Rattle.krb_msg.specs.Judgement.{Head, Partial, Refused, Got}
+use Rattle.std.specs.Prelude.{ℕ, ◌≡◌, ◌+◌, ◌^◌, ◌<◌, ◌≤◌, false, List, length, Option, Some, None}
+use Rattle.krb_msg.specs.Judgement.{Head, Got}
 use Rattle.krb_msg.specs.Nodes.{nodes, term_at}
 use Rattle.krb_msg.specs.Shape.{depth, depth_of_fields}
 use Rattle.krb_msg.specs.Table.{IsNode, with_slot}
@@ -9,7 +9,6 @@ use Rattle.krb_msg.specs.declared.grammar.Slot.{Slot}
 use Rattle.krb_judge.specs.FieldNames.{Named, field_at}
 use Rattle.krb_judge.specs.Paths.{within, first_item, item_path, contents_path, fields_path, field_path, element_path}
 use Rattle.krb_judge.specs.declared.locating.head.Head.{Head as Found}
-use Rattle.krb_judge.specs.declared.locating.head.Head.TheVariants as found
 use Rattle.krb_judge.specs.declared.locating.names.Names.{Names}
 use Rattle.krb_judge.specs.declared.locating.Item.{Item}
 use Rattle.krb_judge.specs.declared.locating.Rest.{Rest}
@@ -19,10 +18,10 @@ use Rattle.krb_judge.specs.declared.locating.Fault.{Fault}
 use Rattle.krb_judge.specs.declared.locating.Fault.TheVariants as fault
 use Rattle.krb_judge.specs.declared.locating.Element.{Element}
 
-abbrev pub head_of : Found → Head
-head_of found.Partial = Partial
-head_of (found.Refused offset reason) = Refused offset reason
-head_of (found.Got header size) = Got header size
+-- a head that is accepted, with its numbers of octets, or that there is none
+abbrev pub IsHeadOf : Head → Option Found → Type 0
+IsHeadOf outcome None = (header size : ℕ) → outcome ≡ Got header size → ⊥
+IsHeadOf outcome (Some found) = outcome ≡ Got found.header found.size
 
 pub record IsItem (item : Item) : Type 0 where
   pub known : IsNode item.node
