@@ -35,7 +35,7 @@ try:
 # Proves all that the program uses, compiles it, and leaves it at bin/krbls: in a fresh checkout the crates side by side, and
 # if something was built here before, only what has changed since.
 build:
-	@if ls -d crates/*/out/rlib > /dev/null 2>&1; then $(MAKE) --no-print-directory changed; else tests/program; fi
+	@if ls -d crates/*/out/rlib > /dev/null 2>&1; then $(MAKE) --no-print-directory changed; else tools/program; fi
 
 changed: $(addprefix library-,$(call uses,krbls))
 	cd crates/krbls && rt run -- stream < /dev/null > /dev/null
@@ -90,25 +90,25 @@ uninstall:
 # The merge gate alone, and the processor minutes of each of its parts.
 gate:
 	mkdir -p bin
-	tests/minutes bin/minutes rt ci
+	tools/minutes bin/minutes rt ci
 	cat bin/minutes
 
-# All that is tested: the merge gate, and the built program on tests/.
+# All that is tested: the merge gate, and the built program on tests/data.
 test: needs
-	tests/all
+	tests/run/all
 
 # The must-fail edits that the gate leaves out.
 edits:
-	tests/edits
+	tools/edits
 
 # More than `make test` tries: 100000 made-up streams, each change of the messages of krb_damage and what it counts, and
 # the marks of 2000 made-up messages.
 fuzz: build
 	cd crates/krb_damage && rt run < stdin > /dev/null
-	tests/damage | diff crates/krb_damage/stdout -
-	tests/fuzz damage
-	tests/marks
-	tests/fuzz 100000 1
+	tests/run/damage | diff crates/krb_damage/stdout -
+	tests/run/fuzz damage
+	tests/run/scanner-marks
+	tests/run/fuzz 100000 1
 
 # Octets per second: of the listing of streams, of a keytab, of a cache and of captures, of messages as JSON and back, and of
 # messages judged, scanned, parsed and encoded; and memory, of what costs most of it.

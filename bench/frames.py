@@ -8,9 +8,9 @@ LARGE_OCTETS = 8192
 
 
 def real_frames():
-    """The real messages of tests/streams that are no AP-REPs, without the few large ones."""
+    """The real messages of tests/data/streams that are no AP-REPs, without the few large ones."""
     frames = []
-    for path in sorted(pathlib.Path("tests/streams").glob("*.stream")):
+    for path in sorted(pathlib.Path("tests/data/streams").glob("*.stream")):
         if path.name.startswith("worked-"):
             continue
         lines = path.with_suffix(".want").read_text().splitlines()

@@ -18,7 +18,7 @@
 //! Before all this each call that allocates is made once. Its line is `done` if it returned what it
 //! has to; `memory` if it was out of memory, nothing was changed, and the same call then returned
 //! what it has to; `refused` if it was out of memory both times; and `wrong` otherwise. With enough
-//! memory all are done; `tests/memory` refuses allocations.
+//! memory all are done; `tests/run/refused-allocations` refuses allocations.
 //!
 //! With the word `memory` only these calls are made. With `answers` there is instead a line for
 //! each change of a message, by each profile: the place, the new octet, and the answer. With

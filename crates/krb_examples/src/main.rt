@@ -1,5 +1,5 @@
-//! The code that `docs/LIBRARIES.md` shows of each library, and a program that calls each function
-//! of it once and prints what it returns.
+//! Examples of each library, some of which `docs/LIBRARIES.md` shows, and a program that calls each
+//! of them once and prints what it returns.
 //!
 //! The functions are short examples and no library: a program that needs one copies it.
 //! [`first_kind`] and [`highest_kvno`] show a whole loop over a stream and over a file, and

@@ -1,4 +1,4 @@
-//! Captures of packets. They are files of `tests/captures`, of which it says what they are and what
+//! Captures of packets. They are files of `tests/data/captures`, of which it says what they are and what
 //! has to be listed.
 
 use crate::examples::octets_of;

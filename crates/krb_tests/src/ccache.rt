@@ -1,4 +1,4 @@
-//! Caches of versions 4 and 3, worked out by hand from the file format. `tests/compare` tests how
+//! Caches of versions 4 and 3, worked out by hand from the file format. `tests/run/compare` tests how
 //! files are refused.
 
 use crate::examples::{CACHE, CACHE3, TICKET_FIELDS, octets_of};

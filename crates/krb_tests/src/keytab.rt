@@ -1,4 +1,4 @@
-//! Keytabs worked out by hand from the file format. `tests/compare` tests how files are refused.
+//! Keytabs worked out by hand from the file format. `tests/run/compare` tests how files are refused.
 
 use crate::examples::{KEYTAB, octets_of};
 use krb_der::{KString, Many, Octets};

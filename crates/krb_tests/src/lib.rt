@@ -1,7 +1,7 @@
 //! The tests of the libraries, each in the module named after its crate or after what it tests.
 //! They test what no contract says: that definitions mean what the formats say, that calls succeed
 //! if memory is there, texts, and readers and writers that fail. What the program shows of octets
-//! is tested by `tests/compare` on the input in `tests/`.
+//! is tested by `tests/run/compare` on the input in `tests/data`.
 //!
 //! The gate proves a crate that has tests twice, with them and without. So the tests are a crate of
 //! their own, and no library is proved again for them. Each function costs its proof some seconds,

@@ -9,7 +9,7 @@ record of a capture.
 import pathlib
 import re
 
-LISTING = pathlib.Path(__file__).resolve().parent.parent / "docs/LISTING.md"
+LISTING = pathlib.Path(__file__).resolve().parents[2] / "docs/LISTING.md"
 QUOTED = re.compile(r"`([^`]+)`")
 LINK = re.compile(r"\[([^]]*)\]\([^)]*\)")
 OPTIONAL = " or `-`"

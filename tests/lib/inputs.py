@@ -1,4 +1,4 @@
-"""Makes input for tests/compare, and what has to be printed of it, in a folder.
+"""Makes input for tests/run/compare, and what has to be printed of it, in a folder.
 
   large    a frame of nearly 16 MiB, whose message is an AP-REP with a cipher of 16777000 octets
   names    a stream of KRB-ERRORs with names and texts of all octets, and of those that would break a line,

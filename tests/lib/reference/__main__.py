@@ -1,4 +1,4 @@
-"""The reference as a program: `python3 tests/reference decode [--limit OCTETS] [--strict] [--unframed]`, or `encode`, reads the
+"""The reference as a program: `python3 tests/lib/reference decode [--limit OCTETS] [--strict] [--unframed]`, or `encode`, reads the
 standard input and does as `krbls` has to."""
 
 import pathlib

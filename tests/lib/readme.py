@@ -2,16 +2,16 @@
 with `> `, and below it what it prints; and in each block `rust`, `c` or `python`, code, which has to be a part of the file of crates/ or examples/ that the
 text before it links.
 
-  python3 tests/readme.py FOLDER    writes PAGE-N.command and PAGE-N.want of the Nth example of a page, and
-                                    PAGE-N.code and PAGE-N.source of its Nth block of code: the code, and the
-                                    same again if its file has it, else the whole file
+  python3 tests/lib/readme.py FOLDER    writes PAGE-N.command and PAGE-N.want of the Nth example of a page, and
+                                        PAGE-N.code and PAGE-N.source of its Nth block of code: the code, and the
+                                        same again if its file has it, else the whole file
 """
 
 import pathlib
 import re
 import sys
 
-TOP = pathlib.Path(__file__).resolve().parent.parent
+TOP = pathlib.Path(__file__).resolve().parents[2]
 CONSOLE = re.compile(r"^```console\n(.*?)^```\n", re.DOTALL | re.MULTILINE)
 EXAMPLE = re.compile(r"^\$ (.*(?:\n> .*)*)\n((?:(?!\$ ).*\n)*)", re.MULTILINE)
 CODE = re.compile(r"^```(?:rust|c|python)\n(.*?)^```\n", re.DOTALL | re.MULTILINE)
