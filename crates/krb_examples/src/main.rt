@@ -2,7 +2,7 @@
 //! of them once and prints what it returns.
 //!
 //! The functions are short examples and no library: a program that needs one copies it.
-//! [`first_kind`] and [`highest_kvno`] show a whole loop over a stream and over a file, and
+//! [`print_names`] and [`highest_kvno`] show a whole loop over a stream and over a file, and
 //! [`ap_rep`] how a message is made.
 #![tactic(auto)]
 
@@ -117,6 +117,28 @@ fn first_kind(alloc: Global, stream: &[u8]) -> Option<Kind> {
     }
     let frame = decoder.ready()?;
     Some(frame.kind())
+}
+
+/// Feeds a piece of the stream, and prints the name of each message that ends in it.
+fn print_names(rt: &HostRuntime, decoder: &mut Decoder, piece: &[u8]) -> Result<()> {
+    let mut rest = piece;
+    for _ in 0..u64::MAX {
+        let fed = decoder.feed(rest);
+        rest = &rest[fed.used..];
+        match fed.status {
+            Status::More => break,
+            Status::Ready => {
+                if let Some(frame) = decoder.ready() {
+                    let name = frame.kind().name();
+                    println!(rt; "{name}")?;
+                }
+                decoder.next();
+            }
+            Status::Refused(refusal) => return Err(refusal.into()),
+            Status::Memory => return Err(Memory.into()),
+        }
+    }
+    Ok(())
 }
 
 /// Reads a number of 32 bits, and a string after the number of its octets in 16 bits.
@@ -353,6 +375,9 @@ fn show_stream(rt: &HostRuntime) -> Result<()> {
     if let Some(kind) = first_kind(alloc, STREAM) {
         println!(rt; "first message: {}", kind.name())?;
     }
+    let mut decoder = Decoder::new(alloc, Limit::DEFAULT);
+    print_names(rt, &mut decoder, framed.as_slice())?;
+    decoder.finish()?;
     Ok(())
 }
 
