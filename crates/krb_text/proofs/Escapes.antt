@@ -1,5 +1,5 @@
 -- A principal's text determines its components and its realm.
-use Rattle.std.proofs.Common.{◌≡◌, ℕ, ◌+◌, ◌/◌, ◌%◌, ◌<◌, ◌≤◌, ◌⊎◌, inl, inr, Bool, true, false, List, [], ◌∷◌, ◌++◌, slice_index_or, refl, sym, ◌∙◌, ap, arith, append_assoc, codes}
+use Rattle.std.proofs.Common.{◌≡◌, ℕ, ◌+◌, ◌/◌, ◌%◌, ◌<◌, ◌≤◌, ◌⊎◌, inl, inr, Bool, true, false, not, ◌&&◌, ◌==◌, List, [], ◌∷◌, ◌++◌, slice_index_or, refl, sym, ◌∙◌, ap, arith, append_assoc, codes}
 use Rattle.std.proofs.lemmas.Bool.{cases_lt}
 use Rattle.std.proofs.lemmas.Bool.Decides.{nat_tests}
 use Rattle.std.proofs.lemmas.Bool.{and_parts}
@@ -10,6 +10,7 @@ use Rattle.std.specs.Str.{IsAscii}
 use Rattle.std.specs.Fmt.{digit_glyph}
 use Rattle.krb_der.specs.Octets.{AreOctets}
 use Rattle.krb_text.specs.Text.{is_plain, two_hex, escape_octet, escape, principal_text}
+use Rattle.krb_text.specs.inner.Strings.{is_plain_in}
 
 -- ---- digits
 glyph-small : (d : ℕ) → d < 10 → digit_glyph false d ≡ 48 + d
@@ -56,16 +57,19 @@ plain-backslash : (o : ℕ) → is_plain o ≡ true → o ≡ 92 → ⊥
 plain-backslash o e h = grind (arith, nat_tests)
 
 -- ---- plain octets
+plain_in : (in_json : Bool) (o : ℕ) → is_plain_in in_json o ≡ true → is_plain o ≡ true
+plain_in in_json o e = (and_parts (is_plain o) (not (in_json && o == 0x22)) e).0
+
 -- are their own text
-pub escape_plain : (octets : List ℕ) → list_all is_plain octets ≡ true → escape octets ≡ octets
-escape_plain [] e = refl
-escape_plain (o ∷ octets) e =
-    let h = and_parts (is_plain o) (list_all is_plain octets) e in
-    rw (plain o h.0, escape_plain octets h.1) refl
+pub escape_plain : (in_json : Bool) (octets : List ℕ) → list_all (is_plain_in in_json) octets ≡ true → escape octets ≡ octets
+escape_plain in_json [] e = refl
+escape_plain in_json (o ∷ octets) e =
+    let h = and_parts (is_plain_in in_json o) (list_all (is_plain_in in_json) octets) e in
+    rw (plain o (plain_in in_json o h.0), escape_plain in_json octets h.1) refl
 
 -- and ASCII
-pub ascii_plain : (octets : List ℕ) → list_all is_plain octets ≡ true → IsAscii octets
-ascii_plain octets e = IsAscii-from_all octets (λ k d within. omega (arith, plain-range (slice_index_or octets k d) (AllPass-from_list_all is_plain octets e k d within)))
+pub ascii_plain : (in_json : Bool) (octets : List ℕ) → list_all (is_plain_in in_json) octets ≡ true → IsAscii octets
+ascii_plain in_json octets e = IsAscii-from_all octets (λ k d within. omega (arith, plain-range (slice_index_or octets k d) (plain_in in_json (slice_index_or octets k d) (AllPass-from_list_all (is_plain_in in_json) octets e k d within))))
 
 -- ---- two escaped texts
 head-same : (x y : ℕ) (xs ys : List ℕ) → x ∷ xs ≡ y ∷ ys → x ≡ y

@@ -1,11 +1,14 @@
 -- Octets as strings of JSON, octet by octet.
-use Rattle.std.proofs.Common.{◌≡◌, ℕ, List, [], ◌∷◌, ◌++◌, codes, refl, ap, ap₂, ◌∙◌}
+use Rattle.std.proofs.Common.{◌≡◌, ℕ, true, List, [], ◌∷◌, ◌++◌, codes, refl, ap, ap₂, ◌∙◌, arith}
+use Rattle.std.proofs.lemmas.Bool.{and_parts}
+use Rattle.std.proofs.lemmas.Bool.Decides.{nat_tests}
 use Rattle.std.proofs.lemmas.Grind.{flat_map-append}
-use Rattle.std.specs.List.{flat_map}
+use Rattle.std.specs.List.{flat_map, list_all}
+use Rattle.krb_text.specs.declared.json.Escape.{Escape}
 use Rattle.krb_text.specs.declared.json.Escape.TheVariants as escapes
 use Rattle.krb_text.specs.Forms.{json_character, shown_octet}
 use Rattle.krb_text.specs.Text.{components_text, escape, joined, principal_text}
-use Rattle.krb_text.specs.inner.Strings.{quoted}
+use Rattle.krb_text.specs.inner.Strings.{escaped, is_plain_in, quoted}
 
 pub flat-flat : {A B C : Type 0} (f : B → List C) (g : A → List B) (values : List A) → flat_map f (flat_map g values) ≡ flat_map (λ value. flat_map f (g value)) values
 flat-flat f g [] = refl
@@ -33,3 +36,23 @@ unfolding principal_text
 principal_part components realm =
     flat_map-append json_character (components_text components ++ codes "@") (escape realm)
     ∙ ap₂ (λ this rest. this ++ rest) (flat_map-append json_character (components_text components) (codes "@") ∙ ap (λ q. q ++ codes "@") (components_part components)) (quoted_line realm)
+
+-- ---- octets that need no escape, in a line or by JSON
+character_plain : (o : ℕ) → is_plain_in true o ≡ true → json_character o ≡ o ∷ []
+character_plain o e = grind (arith, nat_tests)
+
+octet_plain : (escape : Escape) (o : ℕ) → is_plain_in true o ≡ true → escaped escape o ≡ o ∷ []
+octet_plain escapes.Line o e = grind (arith, nat_tests)
+octet_plain escapes.Object o e = grind (arith, nat_tests)
+
+pub characters_plain : (octets : List ℕ) → list_all (is_plain_in true) octets ≡ true → flat_map json_character octets ≡ octets
+characters_plain [] e = refl
+characters_plain (o ∷ octets) e =
+    let h = and_parts (is_plain_in true o) (list_all (is_plain_in true) octets) e in
+    rw (character_plain o h.0, characters_plain octets h.1) refl
+
+pub quoted_plain : (escape : Escape) (octets : List ℕ) → list_all (is_plain_in true) octets ≡ true → quoted escape octets ≡ octets
+quoted_plain escape [] e = refl
+quoted_plain escape (o ∷ octets) e =
+    let h = and_parts (is_plain_in true o) (list_all (is_plain_in true) octets) e in
+    rw (octet_plain escape o h.0, quoted_plain escape octets h.1, character_plain o h.0) refl

@@ -2,7 +2,7 @@
 use Rattle.std.proofs.Common.{◌≡◌, ℕ, ◌+◌, ◌*◌, ◌^◌, ◌%◌, ◌-◌, ◌≤◌, Bool, true, false, not, ◌||◌, ◌&&◌, nat_eq, nat_lt, List, [], ◌∷◌, ◌++◌, map, length, take, drop, refl, sym, ap, ◌∙◌, arith, length-append, length-drop, length-take-le, take-add, w8}
 use Rattle.std.proofs.lemmas.List.{take-append-drop, take_rest}
 use Rattle.std.proofs.lemmas.List.Folds.{list_all-append}
-use Rattle.krb_text.specs.Text.{is_plain}
+use Rattle.krb_text.specs.inner.Strings.{is_plain_in}
 use Rattle.std.proofs.lemmas.Bool.Decides.{nat_tests}
 use Rattle.std.proofs.lemmas.Simd.{bitmask_splat, pick_l_whole}
 use Rattle.std.specs.List.{list_all, list_any, range_with_len}
@@ -69,13 +69,31 @@ none_is_all p q same (x ∷ xs) = not-or (p x) (list_any p xs) ∙ (λ i. same x
 abbrev is_escaped : ℕ → Bool
 is_escaped one = (((nat_lt one 33 || nat_lt 126 one) || nat_eq one 47) || nat_eq one 64) || nat_eq one 92
 
-plain_is : (one : ℕ) → not (is_escaped one) ≡ is_plain one
-plain_is one = grind (arith, nat_tests)
+any_escaped : List ℕ → Bool
+any_escaped xs = (((list_any (λ one. nat_lt one 33) xs || list_any (λ one. nat_lt 126 one) xs) || list_any (λ one. nat_eq one 47) xs) || list_any (λ one. nat_eq one 64) xs) || list_any (λ one. nat_eq one 92) xs
 
-pub all_plain : (xs : List ℕ) → not ((((list_any (λ one. nat_lt one 33) xs || list_any (λ one. nat_lt 126 one) xs) || list_any (λ one. nat_eq one 47) xs) || list_any (λ one. nat_eq one 64) xs) || list_any (λ one. nat_eq one 92) xs) ≡ list_all is_plain xs
-all_plain xs =
+escaped_is : (xs : List ℕ) → any_escaped xs ≡ list_any is_escaped xs
+unfolding any_escaped
+escaped_is xs =
     rw (any_or (λ one. nat_lt one 33) (λ one. nat_lt 126 one) xs, any_or (λ one. nat_lt one 33 || nat_lt 126 one) (λ one. nat_eq one 47) xs, any_or (λ one. (nat_lt one 33 || nat_lt 126 one) || nat_eq one 47) (λ one. nat_eq one 64) xs, any_or (λ one. ((nat_lt one 33 || nat_lt 126 one) || nat_eq one 47) || nat_eq one 64) (λ one. nat_eq one 92) xs)
-    (none_is_all is_escaped is_plain plain_is xs)
+    refl
+
+or-false : (b : Bool) → (b || false) ≡ b
+or-false true = refl
+or-false false = refl
+
+pub all_plain_in : (in_json : Bool) (xs : List ℕ) → not (((((list_any (λ one. nat_lt one 33) xs || list_any (λ one. nat_lt 126 one) xs) || list_any (λ one. nat_eq one 47) xs) || list_any (λ one. nat_eq one 64) xs) || list_any (λ one. nat_eq one 92) xs) || (in_json && list_any (λ one. nat_eq one 34) xs)) ≡ list_all (is_plain_in in_json) xs
+unfolding any_escaped
+all_plain_in false xs = ap not (or-false (any_escaped xs) ∙ escaped_is xs) ∙ none_is_all is_escaped (is_plain_in false) in_lines xs
+  where
+    in_lines : (one : ℕ) → not (is_escaped one) ≡ is_plain_in false one
+    in_lines one = grind (arith, nat_tests)
+all_plain_in true xs =
+    ap not (ap (λ some. some || list_any (λ one. nat_eq one 34) xs) (escaped_is xs) ∙ any_or is_escaped (λ one. nat_eq one 34) xs)
+    ∙ none_is_all (λ one. is_escaped one || nat_eq one 34) (is_plain_in true) in_strings xs
+  where
+    in_strings : (one : ℕ) → not (is_escaped one || nat_eq one 34) ≡ is_plain_in true one
+    in_strings one = grind (arith, nat_tests)
 
 -- ---- the first and the last, which are all
 and-twice : (a b c : Bool) → ((a && b) && (b && c)) ≡ (a && (b && c))
@@ -106,5 +124,5 @@ ends_picked n xs many =
     pick_l_whole 0 (take n xs ++ take n (drop (length xs - n) xs)) (n + n) count ∙ ap (λ l. take n xs ++ l) (last_of n xs many)
 
 -- are all, if there are no more than n between
-pub ends_plain : (n : ℕ) (xs : List ℕ) → n ≤ length xs → length xs ≤ n + n → list_all is_plain (take n xs ++ drop (length xs - n) xs) ≡ list_all is_plain xs
-ends_plain n xs many few = list_all-append is_plain (take n xs) (drop (length xs - n) xs) ∙ ends_all is_plain n (length xs - n) xs (omega (arith, many, few))
+pub ends_plain : (p : ℕ → Bool) (n : ℕ) (xs : List ℕ) → n ≤ length xs → length xs ≤ n + n → list_all p (take n xs ++ drop (length xs - n) xs) ≡ list_all p xs
+ends_plain p n xs many few = list_all-append p (take n xs) (drop (length xs - n) xs) ∙ ends_all p n (length xs - n) xs (omega (arith, many, few))

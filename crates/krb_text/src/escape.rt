@@ -5,6 +5,7 @@ ghost use Rattle.std.specs.List.{list_all, list_any};
 ghost use Rattle.std.specs.Str.{IsAscii};
 ghost use Rattle.std.specs.Fmt.{digit_glyph};
 ghost use Rattle.krb_text.specs.Text.{is_plain, hex, two_hex, escape_octet, escape};
+ghost use Rattle.krb_text.specs.inner.Strings.{is_plain_in};
 
 use crate::text_buffer::TextBuffer;
 use std::alloc::AllocError;
@@ -48,6 +49,15 @@ pub(crate) fn is_plain(octet: u8) -> bool
     PLAIN[usize::from(octet)]
 }
 
+/// Returns whether an octet needs no escape in a line, or in a string of JSON neither there nor by
+/// JSON itself, in which `"` does.
+#[inline(always)]
+fn is_plain_in(octet: u8, in_json: bool) -> bool
+    ensures { result ≡ is_plain_in in_json octet }
+{
+    is_plain(octet) & !(in_json & (octet == b'"'))
+}
+
 /// Returns whether an octet is one of N others.
 #[inline(always)]
 fn any_is<const N: usize>(octets: Simd<u8, N>, octet: u8) -> bool
@@ -80,16 +90,17 @@ fn any_is_greater<const N: usize>(octets: Simd<u8, N>, octet: u8) -> bool
 
 /// Returns whether none of N octets needs an escape. All are looked at at once.
 #[inline(always)]
-fn are_all_plain<const N: usize>(octets: Simd<u8, N>) -> bool
+fn are_all_plain<const N: usize>(octets: Simd<u8, N>, in_json: bool) -> bool
     requires few { N ≤ 64 }
     requires count { length octets ≡ N }
-    ensures { result ≡ list_all is_plain octets.entry }
+    ensures { result ≡ list_all (is_plain_in in_json) octets.entry }
 {
     let escaped = any_is_less(octets, 0x21)
         | any_is_greater(octets, 0x7E)
         | any_is(octets, b'/')
         | any_is(octets, b'@')
-        | any_is(octets, b'\\');
+        | any_is(octets, b'\\')
+        | (in_json & any_is(octets, b'"'));
     !escaped
 }
 
@@ -120,40 +131,40 @@ fn first_and_last_eight(octets: &[u8]) -> Simd<u8, 16>
 
 /// Returns whether none of 16 to 32 octets needs an escape.
 #[inline(always)]
-fn are_ends_plain(octets: &[u8]) -> bool
+fn are_ends_plain(octets: &[u8], in_json: bool) -> bool
     requires many { 16 ≤ length octets.now }
     requires few { length octets.now ≤ 32 }
-    ensures { result ≡ list_all is_plain octets.now }
+    ensures { result ≡ list_all (is_plain_in in_json) octets.now }
 {
     let others = octets.len() - 16;
-    are_all_plain(Simd::<u8, 16>::from_slice(octets))
-        & are_all_plain(Simd::<u8, 16>::from_slice(&octets[others..]))
+    are_all_plain(Simd::<u8, 16>::from_slice(octets), in_json)
+        & are_all_plain(Simd::<u8, 16>::from_slice(&octets[others..]), in_json)
 }
 
 /// Returns whether no octet needs an escape. Each is looked at, which costs less than to stop at
 /// the first that needs one: nearly none does.
 #[inline(never)]
-fn are_each_plain(octets: &[u8]) -> bool
-    ensures { result ≡ list_all is_plain octets.now }
+fn are_each_plain(octets: &[u8], in_json: bool) -> bool
+    ensures { result ≡ list_all (is_plain_in in_json) octets.now }
 {
     let mut plain = true;
     for octet in octets {
-        plain = plain & is_plain(*octet);
+        plain = plain & is_plain_in(*octet, in_json);
     }
     plain
 }
 
-/// Returns whether no octet needs an escape. Most names have 4 to 32, which are looked at many at a
-/// time.
+/// Returns whether no octet needs an escape, in a line or in a string of JSON. Most names have 4 to
+/// 32, which are looked at many at a time.
 #[inline(always)]
-fn are_plain(octets: &[u8]) -> bool
-    ensures { result ≡ list_all is_plain octets.now }
+pub(crate) fn are_plain(octets: &[u8], in_json: bool) -> bool
+    ensures { result ≡ list_all (is_plain_in in_json) octets.now }
 {
     match octets.len() {
-        4..8 => are_all_plain(first_and_last_four(octets)),
-        8..16 => are_all_plain(first_and_last_eight(octets)),
-        16..=32 => are_ends_plain(octets),
-        _ => are_each_plain(octets),
+        4..8 => are_all_plain(first_and_last_four(octets), in_json),
+        8..16 => are_all_plain(first_and_last_eight(octets), in_json),
+        16..=32 => are_ends_plain(octets, in_json),
+        _ => are_each_plain(octets, in_json),
     }
 }
 
@@ -242,7 +253,7 @@ pub fn put_escaped(line: &mut TextBuffer, octets: &[u8]) -> Result<(), AllocErro
     ensures { OnOk result (line.new ≡ line.old ++ escape octets.now) }
 {
     // Nearly all names are plain, and one copy is faster than octet by octet.
-    if are_plain(octets) {
+    if are_plain(octets, false) {
         line.push_ascii(octets)
     } else {
         put_each(line, octets)

@@ -6,7 +6,7 @@ ghost use Rattle.std.specs.Str.{IsAscii};
 ghost use Rattle.krb_text.specs.Forms.{json_character, json_string, octets_string, shown_octet};
 ghost use Rattle.krb_text.specs.inner.Strings.{escaped, is_unescaped, quoted};
 
-use crate::escape::{is_plain, put_hex};
+use crate::escape::{are_plain, is_plain, put_hex};
 use crate::text_buffer::TextBuffer;
 use std::alloc::AllocError;
 
@@ -31,8 +31,9 @@ fn put_character(object: &mut TextBuffer, character: u8) -> Result<(), AllocErro
     }
 }
 
-/// Appends the characters of a text of ASCII.
-fn put_characters(object: &mut TextBuffer, text: &[u8]) -> Result<(), AllocError>
+/// Appends the characters of a text of ASCII, one after another.
+#[inline(never)]
+fn put_each_character(object: &mut TextBuffer, text: &[u8]) -> Result<(), AllocError>
     requires { IsAscii text.now }
     ensures { OnOk result (object.new ≡ object.old ++ flat_map json_character text.now) }
 {
@@ -40,6 +41,19 @@ fn put_characters(object: &mut TextBuffer, text: &[u8]) -> Result<(), AllocError
         put_character(object, *character)?;
     }
     Ok(())
+}
+
+/// Appends the characters of a text of ASCII. Nearly all texts are plain, and one copy is faster.
+#[tactic(auto, using(crate::proofs::JsonStrings::characters_plain))]
+fn put_characters(object: &mut TextBuffer, text: &[u8]) -> Result<(), AllocError>
+    requires { IsAscii text.now }
+    ensures { OnOk result (object.new ≡ object.old ++ flat_map json_character text.now) }
+{
+    if are_plain(text, true) {
+        object.push_ascii(text)
+    } else {
+        put_each_character(object, text)
+    }
 }
 
 /// Appends a text of ASCII as a string.
@@ -76,7 +90,19 @@ fn put_octet(object: &mut TextBuffer, escape: Escape, octet: u8) -> Result<(), A
     }
 }
 
-/// Appends the octets of a string.
+/// Appends the octets of a string, one after another.
+#[inline(never)]
+fn put_each_octet(object: &mut TextBuffer, escape: Escape, octets: &[u8]) -> Result<(), AllocError>
+    ensures { OnOk result (object.new ≡ object.old ++ quoted escape octets.now) }
+{
+    for octet in octets {
+        put_octet(object, escape, *octet)?;
+    }
+    Ok(())
+}
+
+/// Appends the octets of a string. Nearly all names are plain, and one copy is faster.
+#[tactic(auto, using(crate::proofs::JsonStrings::quoted_plain, crate::proofs::Escapes::ascii_plain))]
 pub(crate) fn put_quoted(
     object: &mut TextBuffer,
     escape: Escape,
@@ -84,10 +110,11 @@ pub(crate) fn put_quoted(
 ) -> Result<(), AllocError>
     ensures { OnOk result (object.new ≡ object.old ++ quoted escape octets.now) }
 {
-    for octet in octets {
-        put_octet(object, escape, *octet)?;
+    if are_plain(octets, true) {
+        object.push_ascii(octets)
+    } else {
+        put_each_octet(object, escape, octets)
     }
-    Ok(())
 }
 
 /// Appends the octets of a string: 20 to 7E but `\` as they are, each other as `\x` and two

@@ -15,5 +15,9 @@ abbrev pub is_unescaped : Escape → ℕ → Bool
 is_unescaped escapes.Line octet = is_plain octet
 is_unescaped escapes.Object octet = nat_le 0x20 octet && nat_le octet 0x7E && not (octet == 0x5C)
 
+-- whether an octet is as it is in a line, or in a string of JSON that has the text of a line
+abbrev pub is_plain_in : (in_json : Bool) → ℕ → Bool
+is_plain_in in_json octet = is_plain octet && not (in_json && octet == 0x22)
+
 abbrev pub quoted : Escape → List ℕ → List ℕ
 quoted escape octets = flat_map (λ octet. flat_map json_character (escaped escape octet)) octets

@@ -1,6 +1,6 @@
 use Rattle.std.proofs.Common.{◌≡◌, ◌++◌, take}
 use Rattle.krb_text.specs.inner.Strings.{quoted}
-use Rattle.krb_text.proofs.json.put_quoted.Given as goal
+use Rattle.krb_text.proofs.json.put_each_octet.Given as goal
 
 -- the octets so far
 abbrev pub invariant-loop-octet : goal.invariant-loop-octet
