@@ -14,10 +14,6 @@ use Rattle.krb_keytab.specs.Spelling.{entry}
 use Rattle.krb_keytab.specs.Writing.{or_else, record_fault, records_fault, written_record}
 
 -- ---- a record
-pub length-zeros : (n : ℕ) → length (zeros n) ≡ n
-length-zeros zero = refl
-length-zeros (suc n) = ap suc (length-zeros n)
-
 pub zeros-more : (n : ℕ) → zeros (n + 1) ≡ zeros n ++ 0 ∷ []
 zeros-more zero = refl
 zeros-more (suc n) = simp unary_clauses (ap (λ (l : List ℕ). 0 ∷ l) (simp unary_clauses at (zeros-more n)))

@@ -5,6 +5,7 @@ use Rattle.std.specs.List.{flat_map, AllByRecursion}
 use Rattle.std.proofs.lemmas.List.Concat.{flat_map-cons}
 use Rattle.krb_der.specs.Octets.{AreOctets}
 use Rattle.krb_file.specs.Fields.{zeros, are_zero}
+use Rattle.krb_file.proofs.Zeros.{length-zeros}
 use Rattle.krb_keytab.specs.declared.value.Keytab.{Keytab}
 use Rattle.krb_keytab.specs.declared.value.Record.{Record}
 use Rattle.krb_keytab.specs.declared.value.Record.TheVariants as records
@@ -12,7 +13,6 @@ use Rattle.krb_keytab.specs.Spelling.{RecordSpells, RecordsSpell, stop_octets, K
 use Rattle.krb_keytab.specs.Reading.{read}
 use Rattle.krb_keytab.specs.Writing.{written_record, written, CanWrite}
 use Rattle.krb_keytab.proofs.Keytabs.{read-again}
-use Rattle.krb_keytab.proofs.Sizes.{length-zeros}
 
 AreOctets-zeros : (n : ℕ) → AreOctets (zeros n)
 AreOctets-zeros zero = tt

@@ -1,8 +1,8 @@
 -- No octet of a key has a part in what is printed of keytabs and of caches.
-use Rattle.std.proofs.Common.{◌≡◌, ℕ, zero, suc, Option, List, [], ◌∷◌, length, map, refl, ap, ◌∙◌}
+use Rattle.std.proofs.Common.{◌≡◌, ℕ, Option, List, [], ◌∷◌, length, map, refl, ap, ◌∙◌}
 use Rattle.std.proofs.lemmas.List.{length-map}
 use Rattle.std.specs.List.{flat_map}
-use Rattle.krb_file.specs.Fields.{zeros}
+use Rattle.krb_file.proofs.Zeros.{length-zeros}
 use Rattle.krb_keytab.specs.declared.value.Keytab.{Keytab}
 use Rattle.krb_keytab.specs.declared.value.Record.{Record}
 use Rattle.krb_keytab.specs.declared.value.Record.TheVariants as records
@@ -20,10 +20,6 @@ use Rattle.krb_text.specs.Forms.{record_line}
 use Rattle.krb_text.specs.Values.{Printed, Value}
 use Rattle.krb_list.specs.Keytabs.{printed_record, keytab_lines}
 use Rattle.krb_list.specs.Ccaches.{ticketed_record, config_record, state_record, credential_record, ccache_lines}
-
-length-zeros : (n : ℕ) → length (zeros n) ≡ n
-length-zeros zero = refl
-length-zeros (suc n) = ap (λ m. suc m) (length-zeros n)
 
 -- values of the same records have the same lines
 same_lines : {A : Type 0} (mask : A → A) (record_of : A → Printed) → ((a : A) → record_of (mask a) ≡ record_of a) → (form : Form) (values : List A) → flat_map (λ a. record_line form (record_of a)) (map mask values) ≡ flat_map (λ a. record_line form (record_of a)) values

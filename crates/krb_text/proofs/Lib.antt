@@ -20,3 +20,4 @@ pub mod Records
 pub mod EndOneLine
 pub mod MessageOneLine
 pub mod CaptureOneLine
+pub mod Masks

@@ -20,7 +20,8 @@ use Rattle.krb_text.specs.declared.refusal.InputFault.{InputFault}
 use Rattle.krb_text.specs.Refusals.{file_refused_line, message_refused_line, input_refused_line}
 use Rattle.krb_text.specs.Streams.{end_line, counted_end_line}
 use Rattle.krb_text.specs.Files.{file_line}
-use Rattle.krb_text.specs.Messages.{message_line}
+use Rattle.krb_text.specs.Messages.{message_record, message_line}
+use Rattle.krb_text.specs.Masks.{masked}
 use Rattle.krb_text.specs.Time.{civil_date, the_date}
 
 -- different components or realms have different texts
@@ -101,3 +102,16 @@ CaptureEndIsOneLine = (form : Form) (counts : CaptureCounts) → IsOneLine (capt
 -- the last of a capture that is refused
 abbrev pub CaptureRefusalIsOneLine : Type 0
 CaptureRefusalIsOneLine = (form : Form) (counts : CaptureCounts) (place : ℕ) (reason : FileWhy) (path : Option (List ℕ)) → IfSome path AreOctets → IsOneLine (capture_refused_line form counts place reason path)
+
+-- ---- no octet of what is sealed or opaque has a part in what is printed
+-- the record of a message, of which its line in each form is made
+abbrev pub CiphersAreNotInRecords : Type 0
+CiphersAreNotInRecords = (m : Message) → message_record (masked m) ≡ message_record m
+
+-- its line
+abbrev pub CiphersAreNotInLines : Type 0
+CiphersAreNotInLines = (form : Form) (m : Message) → message_line form (masked m) ≡ message_line form m
+
+-- its line in a capture
+abbrev pub CiphersAreNotInCaptures : Type 0
+CiphersAreNotInCaptures = (form : Form) (origin : Origin) (m : Message) → captured_message_line form origin (masked m) ≡ captured_message_line form origin m
