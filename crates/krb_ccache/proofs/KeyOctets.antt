@@ -1,13 +1,13 @@
 -- Caches that differ in octets of a key: all else is read alike.
-use Rattle.std.proofs.Common.{◌≡◌, ℕ, zero, suc, ◌+◌, ◌==◌, ◌<◌, ◌≤◌, Bool, true, false, Option, Some, None, Result, Ok, Err, List, [], ◌∷◌, ◌++◌, length, map, take, drop, refl, sym, ◌∙◌, ap, subst, arith, append_assoc, length-append, take-append-drop}
+use Rattle.std.proofs.Common.{◌≡◌, ℕ, zero, suc, ◌+◌, ◌==◌, ◌<◌, ◌≤◌, Bool, true, false, Option, None, Result, Ok, Err, List, [], ◌∷◌, ◌++◌, length, take, drop, refl, sym, ◌∙◌, ap, subst, arith, append_assoc, length-append, take-append-drop}
 use Rattle.std.specs.Int.{w8, w16, w32}
 use Rattle.krb_der.specs.Octets.{when}
-use Rattle.krb_file.specs.Fields.{Source, source_of, Fault, Bounds, limited, Reader, and_then, ◌>>=◌, succeed, called, in_part, number_at, signed_at, counted_at, times, names_at, within, is_at_end, version_at, zeros}
+use Rattle.krb_file.specs.Fields.{Source, Fault, limited, Reader, and_then, ◌>>=◌, succeed, called, in_part, number_at, signed_at, counted_at, names_at, within, is_at_end, version_at}
 use Rattle.krb_file.specs.declared.field_name.FieldName.{FieldName}
 use Rattle.krb_file.specs.declared.field_name.FieldName.TheVariants as field
 use Rattle.krb_file.specs.declared.field_name.FilePart.{FilePart}
 use Rattle.krb_file.specs.declared.field_name.FilePart.TheVariants as parts
-use Rattle.krb_file.proofs.Fields.{at, done, failed, ok_is, and_then-ok}
+use Rattle.krb_file.proofs.Fields.{at, done, ok_is, and_then-ok}
 use Rattle.krb_file.proofs.Steps.{Steps-then, Steps-called, Steps-number}
 use Rattle.krb_file.proofs.Limits.{bounded}
 use Rattle.krb_file.proofs.Stable.{IsReadBefore, Read, Fails, Stable, Stable-then, Stable-succeed, Stable-called, Stable-in_part, Stable-number, Stable-signed, Stable-counted, Stable-times, Stable-names, Stable-within, Stable-version, IsAlike, masked_read, alike, alike-then, IsSame, same-then, same-last, field-alike}

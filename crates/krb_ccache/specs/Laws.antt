@@ -112,5 +112,5 @@ pub record AreAlike (limit : Option ℕ) (file other : List ℕ) : Type 0 where
   pub credentials : masked_items (credentials limit file) ≡ masked_items (credentials limit other)
 
 -- If octets of a key are others, a file is read as the same but for these.
-abbrev pub KeysChangeNothingElse : Type 0
-KeysChangeNothingElse = (limit : Option ℕ) (before key other after : List ℕ) (size : ℕ) → IsUpToKey before size → length key ≤ size → length other ≡ length key → AreAlike limit (before ++ (key ++ after)) (before ++ (other ++ after))
+abbrev pub SessionKeysChangeNothingElse : Type 0
+SessionKeysChangeNothingElse = (limit : Option ℕ) (before key other after : List ℕ) (size : ℕ) → IsUpToKey before size → length key ≤ size → length other ≡ length key → AreAlike limit (before ++ (key ++ after)) (before ++ (other ++ after))

@@ -1,5 +1,5 @@
 //! Laws of caches and their octets. Each is the contract of a function that does nothing.
-ghost use Rattle.krb_ccache.specs.Laws.{CredentialsAreSpelled, KeysChangeNothingElse, LimitsAddTooLong, Spells3One, SpellsOne, UpgradeHoldsTheSame};
+ghost use Rattle.krb_ccache.specs.Laws.{CredentialsAreSpelled, LimitsAddTooLong, SessionKeysChangeNothingElse, Spells3One, SpellsOne, UpgradeHoldsTheSame};
 
 /// Octets spell at most one cache.
 pub fn spells_one()
@@ -31,6 +31,6 @@ pub fn limits_add_too_long()
 
 /// If octets of a key are others, as many, a file is read as before but for these, up to the same
 /// end or the same fault, under a limit too.
-pub fn keys_change_nothing_else()
-    ensures { KeysChangeNothingElse }
+pub fn session_keys_change_nothing_else()
+    ensures { SessionKeysChangeNothingElse }
 {}

@@ -4,3 +4,4 @@ pub mod Values
 mod Inside
 mod Descent
 mod KindNodes
+mod OwnNames

@@ -1,10 +1,13 @@
 -- The laws of the refusals of all slices, and of the names of fields. Each is the contract of a function of the module `law`.
-use Rattle.std.specs.Prelude.{ℕ, ◌≡◌, ◌<◌, true, List, length, Option, Some}
+use Rattle.std.specs.Prelude.{ℕ, ◌≡◌, ◌<◌, true, List, length, map, Option, Some}
+use Rattle.std.specs.List.{AllByRecursion, IsDistinct}
+use Rattle.std.specs.Str.{bytes_eq}
 use Rattle.krb_der.specs.declared.profile.Profile.{Profile}
 use Rattle.krb_der.specs.declared.verdict.Refusal.{Refusal}
 use Rattle.krb_msg.specs.Views.{kind_term}
 use Rattle.krb_msg.specs.declared.message.Kind.{Kind}
-use Rattle.krb_judge.specs.FieldNames.{are_named, names_of_kind}
+use Rattle.krb_judge.specs.FieldNames.{Named, fields_of, are_named, names_of_kind}
+use Rattle.krb_judge.specs.declared.locating.names.Names.{Names}
 use Rattle.krb_judge.specs.Parses.{refusal_of, ticket_refusal, method_data_refusal}
 
 -- A refusal of octets, if there are any, is at one of them.
@@ -19,3 +22,12 @@ pub record RefusalsAreInside : Type 0 where
 -- Each field of each message has a name: the fields are those of the grammar.
 abbrev pub FieldsHaveNames : Type 0
 FieldsHaveNames = (kind : Kind) → are_named (kind_term kind) (names_of_kind kind) ≡ true
+
+-- Fields have names, each its own.
+pub record HaveOwnNames (fields : List Named) : Type 0 where
+  pub some : AllByRecursion (λ field. 0 < length field.name) fields
+  pub distinct : IsDistinct bytes_eq (map (λ field. field.name) fields)
+
+-- The fields of each type have names of their own.
+abbrev pub NamesAreOwn : Type 0
+NamesAreOwn = (names : Names) → HaveOwnNames (fields_of names)

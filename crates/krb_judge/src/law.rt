@@ -1,6 +1,6 @@
 //! The laws of slices, each the contract of a function that does nothing.
 
-ghost use Rattle.krb_judge.specs.Laws.{FieldsHaveNames, RefusalsAreInside};
+ghost use Rattle.krb_judge.specs.Laws.{FieldsHaveNames, NamesAreOwn, RefusalsAreInside};
 
 /// Octets that are no message, no Ticket or no METHOD-DATA are refused at one of them, if there are
 /// some.
@@ -11,4 +11,10 @@ pub fn refusals_are_inside()
 /// Each field of each message has a name in its path, and the names are of no other fields.
 pub fn fields_have_names()
     ensures { FieldsHaveNames }
+{}
+
+/// No field of a type has an empty name or the name of another field of that type, so a path names
+/// one field.
+pub fn names_are_own()
+    ensures { NamesAreOwn }
 {}
