@@ -21,3 +21,4 @@ pub mod EndOneLine
 pub mod MessageOneLine
 pub mod CaptureOneLine
 pub mod Masks
+pub mod MethodMasks

@@ -18,6 +18,8 @@ use Rattle.krb_msg.specs.declared.message.Message.{Message}
 use Rattle.krb_msg.specs.declared.message.Message.TheVariants as message
 use Rattle.krb_msg.specs.declared.pa_data.PaData.{PaData}
 use Rattle.krb_msg.specs.declared.ticket.Ticket.{Ticket}
+use Rattle.krb_msg.specs.Grammar.{pa_data}
+use Rattle.krb_msg.specs.Term.{Value}
 use Rattle.krb_text.specs.Messages.{asks_for_preauth}
 
 -- ---- parts
@@ -79,3 +81,7 @@ masked (message.KrbSafe m) = message.KrbSafe (masked_krb_safe m)
 masked (message.KrbPriv m) = message.KrbPriv (masked_krb_priv m)
 masked (message.KrbCred m) = message.KrbCred (masked_krb_cred m)
 masked (message.KrbError m) = message.KrbError (masked_krb_error m)
+
+-- an item of METHOD-DATA, as a value of its term
+abbrev pub masked_method : Value pa_data → Value pa_data
+masked_method item = (item.0, (zeros (length item.1.0), tt))
