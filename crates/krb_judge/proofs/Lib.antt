@@ -5,3 +5,5 @@ mod Inside
 mod Descent
 mod KindNodes
 mod OwnNames
+mod Lies
+mod MessagePaths

@@ -1,5 +1,5 @@
 -- The laws of the refusals of all slices, and of the names of fields. Each is the contract of a function of the module `law`.
-use Rattle.std.specs.Prelude.{ℕ, ◌≡◌, ◌<◌, true, List, length, map, Option, Some}
+use Rattle.std.specs.Prelude.{ℕ, suc, ◌≡◌, ◌<◌, ◌≤◌, true, List, length, map, Option, Some}
 use Rattle.std.specs.List.{AllByRecursion, IsDistinct}
 use Rattle.std.specs.Str.{bytes_eq}
 use Rattle.krb_der.specs.declared.profile.Profile.{Profile}
@@ -8,6 +8,10 @@ use Rattle.krb_msg.specs.Views.{kind_term}
 use Rattle.krb_msg.specs.declared.message.Kind.{Kind}
 use Rattle.krb_judge.specs.FieldNames.{Named, fields_of, are_named, names_of_kind}
 use Rattle.krb_judge.specs.declared.locating.names.Names.{Names}
+use Rattle.krb_msg.specs.Judgement.{judgement}
+use Rattle.krb_der.specs.declared.verdict.Verdict.TheVariants as verdict
+use Rattle.krb_judge.specs.Located.{LiesInMessage}
+use Rattle.krb_judge.specs.Paths.{message_path}
 use Rattle.krb_judge.specs.Parses.{refusal_of, ticket_refusal, method_data_refusal}
 
 -- A refusal of octets, if there are any, is at one of them.
@@ -31,3 +35,9 @@ pub record HaveOwnNames (fields : List Named) : Type 0 where
 -- The fields of each type have names of their own.
 abbrev pub NamesAreOwn : Type 0
 NamesAreOwn = (names : Names) → HaveOwnNames (fields_of names)
+
+-- The path of a refused message, by the octets up to and with the refused one, names an item that this octet lies in, or a field that is not there.
+abbrev pub PathsLeadToRefusals : Type 0
+PathsLeadToRefusals =
+    (profile : Profile) (n : ℕ) (octets : List ℕ) (r : Refusal) (path : List ℕ) → length octets ≤ n → length octets ≡ suc r.place → judgement profile n octets ≡ verdict.Refused r → message_path profile n octets ≡ Some path
+    → LiesInMessage profile n octets r.place path

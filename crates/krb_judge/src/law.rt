@@ -1,6 +1,6 @@
 //! The laws of slices, each the contract of a function that does nothing.
 
-ghost use Rattle.krb_judge.specs.Laws.{FieldsHaveNames, NamesAreOwn, RefusalsAreInside};
+ghost use Rattle.krb_judge.specs.Laws.{FieldsHaveNames, NamesAreOwn, PathsLeadToRefusals, RefusalsAreInside};
 
 /// Octets that are no message, no Ticket or no METHOD-DATA are refused at one of them, if there are
 /// some.
@@ -17,4 +17,10 @@ pub fn fields_have_names()
 /// one field.
 pub fn names_are_own()
     ensures { NamesAreOwn }
+{}
+
+/// The path of the octets of a message up to and with the refused one names an item that this octet
+/// lies in, or a field that is to be there and is not.
+pub fn paths_lead_to_refusals()
+    ensures { PathsLeadToRefusals }
 {}
