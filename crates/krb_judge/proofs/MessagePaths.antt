@@ -15,7 +15,7 @@ use Rattle.krb_judge.specs.FieldNames.{names_of_kind}
 use Rattle.krb_judge.specs.Laws.{PathsLeadToRefusals}
 use Rattle.krb_judge.specs.Located.{LiesIn, LiesInMessage}
 use Rattle.krb_judge.specs.Paths.{item_path}
-use Rattle.krb_judge.proofs.Lies.{contents-lie, item-lies}
+use Rattle.krb_judge.proofs.Lies.{gone, contents-lie, item-lies}
 
 -- octets that begin with the tag of a kind are judged by its term
 judged-by : (profile : Profile) (k : Kind) (n : ℕ) (octets : List ℕ) → message_outcome (messages profile) n (kind_tag k ∷ octets) ≡ item_outcome (kind_term_in profile k) n true (kind_tag k ∷ octets)
@@ -44,13 +44,13 @@ some_is : (x y : List ℕ) → Some x ≡ Some y → x ≡ y
 some_is x y e = cc
 
 by_kind : (profile : Profile) (n tag : ℕ) (octets : List ℕ) (r : Refusal) (path : List ℕ) (found : Option Kind) → kind_with_tag tag ≡ found → length (tag ∷ octets) ≤ n → length (tag ∷ octets) ≡ suc r.place → message_outcome (messages profile) n (tag ∷ octets) ≡ Bad r.place r.why
-    → option_map (λ k. item_path (kind_term_in profile k) (names_of_kind k) (kind_name k) n true (tag ∷ octets)) found ≡ Some path → LiesInMessage profile n (tag ∷ octets) r.place path
+    → option_map (λ k. item_path (kind_term_in profile k) (names_of_kind k) (kind_name k) n true (tag ∷ octets)) found ≡ Some path → LiesInMessage (gone r.why) profile n (tag ∷ octets) r.place path
 by_kind profile n tag octets r path None is fits len e named = absurd cc
 by_kind profile n tag octets r path (Some k) is fits len e named =
     let term = kind_term_in profile k in
     let by_term = subst (λ (t : ℕ). message_outcome (messages profile) n (t ∷ octets) ≡ item_outcome term n true (t ∷ octets)) (kind_from_tag k tag is) (judged-by profile k n octets) in
     let lie = item-lies term (contents-lie term) (names_of_kind k) (kind_name k) n true (tag ∷ octets) r.place r.why fits len (sym by_term ∙ e) in
-    (k, is, subst (λ (p : List ℕ). LiesIn term (names_of_kind k) (kind_name k) n (tag ∷ octets) r.place p) (some_is (item_path term (names_of_kind k) (kind_name k) n true (tag ∷ octets)) path named) lie)
+    (k, is, subst (λ (p : List ℕ). LiesIn (gone r.why) term (names_of_kind k) (kind_name k) n (tag ∷ octets) r.place p) (some_is (item_path term (names_of_kind k) (kind_name k) n true (tag ∷ octets)) path named) lie)
 
 pub paths-lead : PathsLeadToRefusals
 paths-lead profile n [] r path fits len e named = absurd (omega arith)

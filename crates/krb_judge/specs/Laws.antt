@@ -10,6 +10,7 @@ use Rattle.krb_judge.specs.FieldNames.{Named, fields_of, are_named, names_of_kin
 use Rattle.krb_judge.specs.declared.locating.names.Names.{Names}
 use Rattle.krb_msg.specs.Judgement.{judgement}
 use Rattle.krb_der.specs.declared.verdict.Verdict.TheVariants as verdict
+use Rattle.krb_der.specs.declared.why.Why.TheVariants as why
 use Rattle.krb_judge.specs.Located.{LiesInMessage}
 use Rattle.krb_judge.specs.Paths.{message_path}
 use Rattle.krb_judge.specs.Parses.{refusal_of, ticket_refusal, method_data_refusal}
@@ -36,8 +37,8 @@ pub record HaveOwnNames (fields : List Named) : Type 0 where
 abbrev pub NamesAreOwn : Type 0
 NamesAreOwn = (names : Names) → HaveOwnNames (fields_of names)
 
--- The path of a refused message, by the octets up to and with the refused one, names an item that this octet lies in, or a field that is not there.
+-- The path of a refused message, by the octets up to and with the refused one, names an item that this octet lies in or, if something is missing, a field that is to be there and is not.
 abbrev pub PathsLeadToRefusals : Type 0
 PathsLeadToRefusals =
     (profile : Profile) (n : ℕ) (octets : List ℕ) (r : Refusal) (path : List ℕ) → length octets ≤ n → length octets ≡ suc r.place → judgement profile n octets ≡ verdict.Refused r → message_path profile n octets ≡ Some path
-    → LiesInMessage profile n octets r.place path
+    → LiesInMessage (r.why ≡ why.Missing) profile n octets r.place path

@@ -27,35 +27,35 @@ LiesBy Inside path room octets offset found =
     ⊎ ((header contents : ℕ) × (head room octets ≡ Got header contents) × Inside contents (take contents (drop header octets)) header)
 
 abbrev mutual
-  -- An octet of the contents of an item of a term lies in the item that `found` names.
-  pub LiesInside : Term → Names → (path : List ℕ) → (offset : ℕ) → (found : List ℕ) → (room : ℕ) → (octets : List ℕ) → (before : ℕ) → Type 0
-  LiesInside (Sequence fields) names path offset found room octets before = LiesInField fields names path 0 offset found room octets before
-  LiesInside (SequenceOf empty term) names path offset found room octets before =
-      (index size : ℕ) × BeginWithItems term index size room octets × (before + size ≤ offset)
-      × LiesBy (LiesInside term names (element_path path index) (offset - (before + size)) found) (element_path path index) (room - size) (drop size octets) (offset - (before + size)) found
-  LiesInside (Tagged index term) names path offset found room octets before = (before ≤ offset) × LiesBy (LiesInside term names path (offset - before) found) path room octets (offset - before) found
-  LiesInside (Application number term) names path offset found room octets before = (before ≤ offset) × LiesBy (LiesInside term names path (offset - before) found) path room octets (offset - before) found
-  LiesInside term names path offset found room octets before = ⊥
+  -- An octet of the contents of an item of a term lies in the item that `found` names, or, if one may be absent, a field is to be there and is not.
+  pub LiesInside : (Absent : Type 0) → Term → Names → (path : List ℕ) → (offset : ℕ) → (found : List ℕ) → (room : ℕ) → (octets : List ℕ) → (before : ℕ) → Type 0
+  LiesInside Absent (Sequence fields) names path offset found room octets before = LiesInField Absent fields names path 0 offset found room octets before
+  LiesInside Absent (SequenceOf empty term) names path offset found room octets before =
+      (index size : ℕ) × BeginWithItems term index size room octets × (before + size ≤ offset) × (begin_with (tag_of term) (drop size octets) ≡ true)
+      × LiesBy (LiesInside Absent term names (element_path path index) (offset - (before + size)) found) (element_path path index) (room - size) (drop size octets) (offset - (before + size)) found
+  LiesInside Absent (Tagged index term) names path offset found room octets before = (before ≤ offset) × LiesBy (LiesInside Absent term names path (offset - before) found) path room octets (offset - before) found
+  LiesInside Absent (Application number term) names path offset found room octets before = (before ≤ offset) × LiesBy (LiesInside Absent term names path (offset - before) found) path room octets (offset - before) found
+  LiesInside Absent term names path offset found room octets before = ⊥
 
-  -- The same of fields of a SEQUENCE, from the one at an index on. A field that is to be there and is not has no octets: the octet is the last one before it.
-  pub LiesInField : Fields → Names → (path : List ℕ) → (index : ℕ) → (offset : ℕ) → (found : List ℕ) → (room : ℕ) → (octets : List ℕ) → (before : ℕ) → Type 0
-  LiesInField End names path index offset found room octets before = ⊥
-  LiesInField (Required term fields) names path index offset found room octets before =
-      ((room ≡ 0) × (suc offset ≡ before) × (found ≡ field_path path (field_at names index).name))
+  -- The same of fields of a SEQUENCE, from the one at an index on. An absent field has no octets: the octet is the last one before it.
+  pub LiesInField : (Absent : Type 0) → Fields → Names → (path : List ℕ) → (index : ℕ) → (offset : ℕ) → (found : List ℕ) → (room : ℕ) → (octets : List ℕ) → (before : ℕ) → Type 0
+  LiesInField Absent End names path index offset found room octets before = ⊥
+  LiesInField Absent (Required term fields) names path index offset found room octets before =
+      (Absent × (room ≡ 0) × (suc offset ≡ before) × (found ≡ field_path path (field_at names index).name))
       ⊎ ((before ≤ offset) × (begin_with (tag_of term) octets ≡ true)
-      × LiesBy (LiesInside term (field_at names index).inside (field_path path (field_at names index).name) (offset - before) found) (field_path path (field_at names index).name) room octets (offset - before) found)
-      ⊎ ((count : ℕ) × (item_outcome term room false octets ≡ Done count) × LiesInField fields names path (index + 1) offset found (room - count) (drop count octets) (before + count))
-  LiesInField (Optional term fields) names path index offset found room octets before =
+      × LiesBy (LiesInside Absent term (field_at names index).inside (field_path path (field_at names index).name) (offset - before) found) (field_path path (field_at names index).name) room octets (offset - before) found)
+      ⊎ ((count : ℕ) × (item_outcome term room false octets ≡ Done count) × LiesInField Absent fields names path (index + 1) offset found (room - count) (drop count octets) (before + count))
+  LiesInField Absent (Optional term fields) names path index offset found room octets before =
       ((before ≤ offset) × (begin_with (tag_of term) octets ≡ true)
-      × LiesBy (LiesInside term (field_at names index).inside (field_path path (field_at names index).name) (offset - before) found) (field_path path (field_at names index).name) room octets (offset - before) found)
-      ⊎ ((count : ℕ) × (item_outcome term room false octets ≡ Done count) × LiesInField fields names path (index + 1) offset found (room - count) (drop count octets) (before + count))
-      ⊎ ((begin_with (tag_of term) octets ≡ false) × LiesInField fields names path (index + 1) offset found room octets before)
+      × LiesBy (LiesInside Absent term (field_at names index).inside (field_path path (field_at names index).name) (offset - before) found) (field_path path (field_at names index).name) room octets (offset - before) found)
+      ⊎ ((count : ℕ) × (item_outcome term room false octets ≡ Done count) × LiesInField Absent fields names path (index + 1) offset found (room - count) (drop count octets) (before + count))
+      ⊎ ((begin_with (tag_of term) octets ≡ false) × LiesInField Absent fields names path (index + 1) offset found room octets before)
 
 -- an octet of an item of a term
-abbrev pub LiesIn : Term → Names → (path : List ℕ) → (room : ℕ) → (octets : List ℕ) → (offset : ℕ) → (found : List ℕ) → Type 0
-LiesIn term names path room octets offset found = LiesBy (LiesInside term names path offset found) path room octets offset found
+abbrev pub LiesIn : (Absent : Type 0) → Term → Names → (path : List ℕ) → (room : ℕ) → (octets : List ℕ) → (offset : ℕ) → (found : List ℕ) → Type 0
+LiesIn Absent term names path room octets offset found = LiesBy (LiesInside Absent term names path offset found) path room octets offset found
 
 -- An octet of a message of n octets, by a profile, which begins with these octets.
-abbrev pub LiesInMessage : Profile → (n : ℕ) → (octets : List ℕ) → (place : ℕ) → (path : List ℕ) → Type 0
-LiesInMessage profile n [] place path = ⊥
-LiesInMessage profile n (tag ∷ octets) place path = (kind : Kind) × (kind_with_tag tag ≡ Some kind) × LiesIn (kind_term_in profile kind) (names_of_kind kind) (kind_name kind) n (tag ∷ octets) place path
+abbrev pub LiesInMessage : (Absent : Type 0) → Profile → (n : ℕ) → (octets : List ℕ) → (place : ℕ) → (path : List ℕ) → Type 0
+LiesInMessage Absent profile n [] place path = ⊥
+LiesInMessage Absent profile n (tag ∷ octets) place path = (kind : Kind) × (kind_with_tag tag ≡ Some kind) × LiesIn Absent (kind_term_in profile kind) (names_of_kind kind) (kind_name kind) n (tag ∷ octets) place path
